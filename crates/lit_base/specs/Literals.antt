@@ -1,5 +1,5 @@
 -- What a contract sees of a `LitList`: its fold, and its literals in normal form.
-use Rattle.std.specs.Prelude.{◌≡◌, ℕ, ◌<◌, ◌≤◌, List, [], ◌≢◌, All, AllPairs, length, map, sum_by}
+use Rattle.std.specs.Prelude.{◌≡◌, ℕ, ◌<◌, ◌≤◌, List, All, AllPairs, length, map, sum_by}
 use Rattle.std.specs.Ordering.{nat_cmp, ordering_then}
 use Rattle.std.specs.declared.cmp.Ordering.{Ordering}
 use Rattle.std.specs.declared.cmp.Ordering.TheVariants.{Less}
@@ -23,7 +23,7 @@ literal_cmp a b = ordering_then (nat_cmp (length a) (length b)) (slice_cmp nat_c
 -- literals in normal form: strictly rising, none empty or unfolded, within the limits
 pub record IsNormal (l : Literals) : Type 0 where
   pub rising : AllPairs (λ a b. literal_cmp a b ≡ Less) l.texts
-  pub nonempty : All (λ t. t ≢ []) l.texts
+  pub nonempty : All (λ t. 0 < length t) l.texts
   pub folded : All (λ t. folded_text l.folding t ≡ t) l.texts
   pub short : All (λ t. length t ≤ 4095) l.texts
   pub few : length l.texts ≤ 1024
