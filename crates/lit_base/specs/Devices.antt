@@ -1,5 +1,5 @@
 -- What a reader and a writer of bytes tell: the bytes to come and how they end, and the flag of a failed call.
-use Rattle.std.specs.Prelude.{◌≡◌, ◌≢◌, ℕ, ◌+◌, ◌<◌, ◌++◌, List, [], length, take, ⊤, Option, Some, None, Result, Ok, Err, MatchResult}
+use Rattle.std.specs.Prelude.{◌≡◌, ◌≢◌, ℕ, ◌<◌, ◌++◌, List, [], length, take, ⊤, Option, Some, None, Result, Ok, Err, MatchResult}
 use Rattle.lit_base.specs.declared.device.Failed.{Failed}
 
 -- how the bytes of a reader end: cleanly, in a failed call, or either way

@@ -1,3 +1,7 @@
 pub mod Devices
+pub mod Faults
 pub mod Folding
+pub mod Lines
 pub mod Literals
+pub mod RawLists
+pub mod Selected

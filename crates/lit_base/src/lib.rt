@@ -2,9 +2,15 @@
 #![tactic(auto)]
 
 mod device;
+mod fault;
 mod fold;
+mod limits;
+mod lines;
 mod lit_list;
 
 pub use device::{ByteIn, ByteOut, Failed};
+pub use fault::Fault;
 pub use fold::{Fold, fold_byte};
+pub use limits::{MAX_LIST_LEN, MAX_LITERAL_LEN, MAX_LITERALS, MAX_PATTERNS, MAX_TEXT_LEN};
+pub use lines::{Lines, matching_law};
 pub use lit_list::LitList;

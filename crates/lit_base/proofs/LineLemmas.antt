@@ -1,0 +1,76 @@
+-- Lines: the first one is what stands before the first newline.
+use Rattle.std.proofs.Common.{◌≡◌, ◌≢◌, ℕ, ◌+◌, ◌<◌, ◌≤◌, Bool, true, false, not, eqb, List, [], ◌∷◌, length, take, drop, All, Some, None, inl, inr, refl, sym, ap, subst, ◌∙◌, arith}
+use Rattle.std.specs.List.{slice_split, before_first, after_first, position_or_len, position}
+use Rattle.std.proofs.lemmas.Bool.{cases_lt, lt-ltb, le-ltb}
+use Rattle.std.proofs.lemmas.List.Sums.{prefix_len_passes}
+use Rattle.std.proofs.lemmas.List.Splits.{slice_split_first, slice_split_none, length-slice_split}
+use Rattle.lit_base.specs.Lines.{lines, without_empty_last}
+
+-- a piece that others follow stays
+without_empty_last-cons : (p : List ℕ) (ps : List (List ℕ)) → 0 < length ps → without_empty_last (p ∷ ps) ≡ p ∷ without_empty_last ps
+without_empty_last-cons p [] h = absurd (omega arith)
+without_empty_last-cons [] (q ∷ more) h = refl
+without_empty_last-cons (b ∷ bs) (q ∷ more) h = refl
+
+-- a lone piece that is not empty stays
+one : (p : List ℕ) → 0 < length p → without_empty_last (p ∷ []) ≡ p ∷ []
+one [] h = absurd (omega arith)
+one (b ∷ bs) h = refl
+
+-- a list that is not empty has elements
+length-positive : (xs : List ℕ) → xs ≢ [] → 0 < length xs
+length-positive [] h = absurd (h refl)
+length-positive (x ∷ xs) h = omega arith
+
+-- an empty text has no line
+pub lines-nil : lines [] ≡ []
+unfolding lines
+lines-nil = refl
+
+-- behind a newline that is there, the other lines follow
+lines-cut : (text : List ℕ) → position_or_len (λ b. eqb b 10) text < length text → lines text ≡ before_first (λ b. eqb b 10) text ∷ lines (after_first (λ b. eqb b 10) text)
+unfolding lines
+lines-cut text h =
+    ap without_empty_last (slice_split_first (λ b. eqb b 10) text 0 h)
+    ∙ without_empty_last-cons (before_first (λ b. eqb b 10) text) (slice_split (λ b. eqb b 10) (after_first (λ b. eqb b 10) text))
+    (omega (arith, length-slice_split (λ b. eqb b 10) (after_first (λ b. eqb b 10) text)))
+
+-- what a test does not pass fails it
+unset : (b : Bool) → not b ≡ true → b ≡ false
+unset true h = (cc)
+unset false h = refl
+
+-- a text without a newline is one line
+lines-whole : (text : List ℕ) → 0 < length text → length text ≤ position_or_len (λ b. eqb b 10) text → lines text ≡ text ∷ []
+unfolding lines
+lines-whole text some h =
+    let none : All (λ b. eqb b 10 ≡ false) text =
+    λ k d inside. unset _ (prefix_len_passes (λ b. not (eqb b 10)) text k d (omega arith)) in
+    ap without_empty_last (slice_split_none (λ b. eqb b 10) text none) ∙ one text some
+
+-- a newline that is there stands inside, at the first place that passes
+first_place : (text : List ℕ) (at : ℕ) → Some at ≡ position (λ b. eqb b 10) text → (at ≡ position_or_len (λ b. eqb b 10) text) × (at < length text)
+first_place text at e = elim (cases_lt (position_or_len (λ b. eqb b 10) text) (length text)) [
+  | inl inside ↦ let here : position (λ b. eqb b 10) text ≡ Some (position_or_len (λ b. eqb b 10) text) = rw (lt-ltb _ _ inside) refl in
+      let same : at ≡ position_or_len (λ b. eqb b 10) text = (cc) in (same, omega (arith, inside))
+  | inr past ↦ let none : position (λ b. eqb b 10) text ≡ None = rw (le-ltb _ _ past) refl in (cc)
+]
+
+-- where there is none, no place passes
+no_place : (text : List ℕ) → None ≡ position (λ b. eqb b 10) text → length text ≤ position_or_len (λ b. eqb b 10) text
+no_place text e = elim (cases_lt (position_or_len (λ b. eqb b 10) text) (length text)) [
+  | inl inside ↦ let here : position (λ b. eqb b 10) text ≡ Some (position_or_len (λ b. eqb b 10) text) = rw (lt-ltb _ _ inside) refl in (cc)
+  | inr past ↦ past
+]
+
+-- a text's first line stands before its first newline, and the other lines behind that
+pub lines-at : (text : List ℕ) (at : ℕ) → Some at ≡ position (λ b. eqb b 10) text → lines text ≡ take at text ∷ lines (drop (at + 1) text)
+lines-at text at e =
+    let p = first_place text at e in
+    let whole : position_or_len (λ b. eqb b 10) text < length text = omega (arith, p.0, p.1) in
+    subst (λ k. lines text ≡ take k text ∷ lines (drop (k + 1) text)) (sym p.0) (lines-cut text whole)
+
+-- a nonempty text without a newline is its one line
+pub lines-none : (text rest : List ℕ) → text ≢ [] → None ≡ position (λ b. eqb b 10) text → rest ≡ [] → lines text ≡ text ∷ lines rest
+lines-none text rest some e empty =
+    lines-whole text (length-positive text some) (no_place text e) ∙ ap (λ ls. text ∷ ls) (sym lines-nil ∙ ap lines (sym empty))

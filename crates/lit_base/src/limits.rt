@@ -1,0 +1,16 @@
+//! The limits of lists. What passes them is refused by number, never cut.
+
+/// Raw patterns in a list, at most.
+pub const MAX_PATTERNS: usize = 4096;
+
+/// Bytes of one literal, at most.
+pub const MAX_LITERAL_LEN: usize = 4095;
+
+/// Pattern bytes in a raw list, newlines not counted, and so in its normal form too, at most.
+pub const MAX_LIST_LEN: usize = 1_048_576;
+
+/// Bytes of one pattern list or pattern file, at most.
+pub const MAX_TEXT_LEN: usize = 1_052_672;
+
+/// Literals in a normal form, at most.
+pub const MAX_LITERALS: usize = 1024;
