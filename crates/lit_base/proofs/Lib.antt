@@ -1,3 +1,5 @@
 pub mod LineLemmas
 pub mod MatchLemmas
+pub mod PieceLemmas
 pub mod Places
+pub mod RefusalLemmas

@@ -1,5 +1,5 @@
 -- Which patterns a raw list refuses.
-use Rattle.std.specs.Prelude.{ℕ, ◌+◌, nat_le, nat_lt, List, [], ◌∷◌, length, sum_by, Option, Some, None, if◌then◌else◌}
+use Rattle.std.specs.Prelude.{ℕ, ◌+◌, ◌≤◌, nat_le, nat_lt, List, [], ◌∷◌, All, length, sum_by, Option, Some, None, if◌then◌else◌}
 use Rattle.lit_base.specs.declared.fault.Fault.{Fault}
 use Rattle.lit_base.specs.declared.fault.Fault.TheVariants.{TooManyPatterns, LiteralTooLong, ListTooLarge}
 use Rattle.lit_base.specs.declared.limits.TheConstants.{MAX_PATTERNS, MAX_LITERAL_LEN, MAX_LIST_LEN, MAX_TEXT_LEN}
@@ -26,3 +26,9 @@ first_refusal count bytes (p ∷ ps) = earlier (pattern_refusal count bytes (len
 abbrev pub text_refusal : List (List ℕ) → List ℕ → List (List ℕ) → Option Fault
 text_refusal list text patterns =
     if nat_lt MAX_TEXT_LEN (length text) then Some ListTooLarge else first_refusal (length list) (sum_by length list) patterns
+
+-- a list within the limits: what every raw list is
+pub record IsWithinLimits (list : List (List ℕ)) : Type 0 where
+  pub few : length list ≤ MAX_PATTERNS
+  pub short : All (λ p. length p ≤ MAX_LITERAL_LEN) list
+  pub small : sum_by length list ≤ MAX_LIST_LEN

@@ -7,6 +7,8 @@ mod fold;
 mod limits;
 mod lines;
 mod lit_list;
+mod patterns;
+mod raw_list;
 
 pub use device::{ByteIn, ByteOut, Failed};
 pub use fault::Fault;
@@ -14,3 +16,4 @@ pub use fold::{Fold, fold_byte};
 pub use limits::{MAX_LIST_LEN, MAX_LITERAL_LEN, MAX_LITERALS, MAX_PATTERNS, MAX_TEXT_LEN};
 pub use lines::{Lines, matching_law};
 pub use lit_list::LitList;
+pub use raw_list::RawList;
