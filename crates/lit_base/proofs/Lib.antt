@@ -1,5 +1,10 @@
+pub mod InsertLemmas
+pub mod LengthLemmas
 pub mod LineLemmas
 pub mod MatchLemmas
+pub mod Members
+pub mod NormalForms
 pub mod PieceLemmas
 pub mod Places
 pub mod RefusalLemmas
+pub mod SearchLemmas

@@ -3,6 +3,7 @@ pub mod Faults
 pub mod Folding
 pub mod Lines
 pub mod Literals
+pub mod NormalForm
 pub mod Patterns
 pub mod RawLists
 pub mod Selected

@@ -1,11 +1,12 @@
 -- What a contract sees of a `LitList`: its fold, and its literals in normal form.
-use Rattle.std.specs.Prelude.{◌≡◌, ℕ, ◌<◌, ◌≤◌, List, All, AllPairs, length, map, sum_by}
-use Rattle.std.specs.Ordering.{nat_cmp, ordering_then}
+use Rattle.std.specs.Prelude.{◌≡◌, ℕ, ◌<◌, ◌≤◌, List, All, length, map, sum_by}
+use Rattle.std.specs.Ordering.{nat_cmp, on, then_cmp}
 use Rattle.std.specs.declared.cmp.Ordering.{Ordering}
-use Rattle.std.specs.declared.cmp.Ordering.TheVariants.{Less}
 use Rattle.std.specs.Cmp.Lexicographic.{slice_cmp}
+use Rattle.std.specs.List.Sorted.{IsStrictlySortedBy}
 use Rattle.lit_base.specs.declared.fold.Fold.{Fold}
 use Rattle.lit_base.specs.Folding.{folded_text}
+use Rattle.lit_base.specs.declared.limits.TheConstants.{MAX_LITERALS, MAX_LITERAL_LEN, MAX_LIST_LEN}
 
 -- a fold, and literals
 pub record Literals : Type 0 where
@@ -18,13 +19,13 @@ lengths l = map length l.texts
 
 -- the order of literals: by length, then by bytes
 abbrev pub literal_cmp : List ℕ → List ℕ → Ordering
-literal_cmp a b = ordering_then (nat_cmp (length a) (length b)) (slice_cmp nat_cmp a b)
+literal_cmp = then_cmp (on length nat_cmp) (slice_cmp nat_cmp)
 
 -- literals in normal form: strictly rising, none empty or unfolded, within the limits
 pub record IsNormal (l : Literals) : Type 0 where
-  pub rising : AllPairs (λ a b. literal_cmp a b ≡ Less) l.texts
+  pub rising : IsStrictlySortedBy literal_cmp l.texts
   pub nonempty : All (λ t. 0 < length t) l.texts
   pub folded : All (λ t. folded_text l.folding t ≡ t) l.texts
-  pub short : All (λ t. length t ≤ 4095) l.texts
-  pub few : length l.texts ≤ 1024
-  pub small : sum_by length l.texts ≤ 1048576
+  pub short : All (λ t. length t ≤ MAX_LITERAL_LEN) l.texts
+  pub few : length l.texts ≤ MAX_LITERALS
+  pub small : sum_by length l.texts ≤ MAX_LIST_LEN

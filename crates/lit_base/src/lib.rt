@@ -7,6 +7,8 @@ mod fold;
 mod limits;
 mod lines;
 mod lit_list;
+mod literal;
+mod normal_form;
 mod patterns;
 mod raw_list;
 
@@ -15,5 +17,5 @@ pub use fault::Fault;
 pub use fold::{Fold, fold_byte};
 pub use limits::{MAX_LIST_LEN, MAX_LITERAL_LEN, MAX_LITERALS, MAX_PATTERNS, MAX_TEXT_LEN};
 pub use lines::{Lines, matching_law};
-pub use lit_list::LitList;
+pub use lit_list::{LitList, Normal};
 pub use raw_list::RawList;

@@ -1,34 +1,105 @@
-ghost use Rattle.std.specs.Prelude.{◌≡◌, ◌<◌, ◌≤◌, length, slice_index_or, slice_index};
+ghost use Rattle.std.specs.Prelude.{◌≡◌, ◌<◌, ◌≤◌, ◌-◌, ◌↔◌, ◌⊎◌, [], All, Contains, IfErr, IfOk, IsTrue, length, slice_index_or, slice_index};
+ghost use Rattle.std.specs.List.{AllZip};
+ghost use Rattle.std.specs.List.Sorted.{IsNonDecreasing};
 ghost use Rattle.lit_base.specs.Literals.{lengths};
+ghost use Rattle.lit_base.specs.NormalForm.{IsNormalForm, IsPlaceOf, normal_form};
+ghost use Rattle.lit_base.specs.declared.fault.Fault.TheVariants.{OutOfMemory, TooManyLiterals};
+ghost use Rattle.lit_base.specs.declared.limits.TheConstants.{MAX_LITERALS};
 
+use crate::fault::Fault;
 use crate::fold::Fold;
+use crate::literal::Literal;
+use crate::normal_form::{distinct, has_null, in_order, places};
+use crate::raw_list::RawList;
+use std::alloc::Global;
 use std::marker::Model;
 
 /// Literals in normal form: nonempty, folded, each once, ordered by length and then by bytes.
-#[derive(Drop)]
+#[derive(Debug, Drop)]
 pub struct LitList {
     folding: Fold,
-    texts: Vec<Vec<u8>>,
+    literals: Vec<Literal>,
 }
 
 impl Model for LitList {
-    ghost use Rattle.std.specs.Prelude.{map};
     ghost use Rattle.lit_base.specs.Literals.{Literals, IsNormal};
 
     ghost Value = { Literals };
 
-    ghost view = { λ l. record { folding = l.folding; texts = map (λ t. t.items) l.texts.items } };
+    ghost view = { λ l. record { folding = l.folding; texts = l.literals.items } };
 
-    ghost invariant = { λ l. IsNormal (record { folding = l.folding; texts = map (λ t. t.items) l.texts.items }) };
+    ghost invariant = { λ l. IsNormal (record { folding = l.folding; texts = l.literals.items }) };
 }
 
 impl LitList {
+    /// The normal form of the raw list under the fold, and how the two go together.
+    ///
+    /// Refusals: `TooManyLiterals` where the normal form has more than `MAX_LITERALS`, and
+    /// `OutOfMemory`. It takes time n log n, for n pattern bytes.
+    pub fn normal(alloc: Global, raw: &RawList, fold: Fold) -> Result<(LitList, Normal), Fault>
+        ensures list { IfOk result (λ found. found.0 ≡ record { folding = fold; texts = normal_form fold raw.now }) }
+        ensures form { IfOk result (λ found. IsNormalForm fold raw.now found.0.texts) }
+        ensures few { IfOk result (λ found. length found.0.texts ≤ MAX_LITERALS) }
+        ensures places { IfOk result (λ found. AllZip (IsPlaceOf fold found.0.texts) raw.now found.1.place_of.items) }
+        ensures empty { IfOk result (λ found. IsTrue found.1.has_empty ↔ Contains raw.now []) }
+        ensures refused { IfErr result (λ fault. (fault ≡ OutOfMemory)
+            ⊎ ((fault ≡ TooManyLiterals) × (MAX_LITERALS < length (normal_form fold raw.now)))) }
+    {
+        let literals = in_order(alloc, distinct(alloc, raw, fold)?)?;
+        let place_of = places(alloc, raw, fold, literals.as_slice())?;
+        let list = LitList {
+            folding: fold,
+            literals,
+        };
+        let has_empty = has_null(raw);
+        Ok((
+            list,
+            Normal {
+                has_empty,
+                place_of,
+            },
+        ))
+    }
+
     /// How many literals there are.
     pub fn len(&self) -> usize
         ensures value { result ≡ length self.now.texts }
-        ensures few { result ≤ 1024 }
+        ensures few { result ≤ MAX_LITERALS }
+        ensures rising { IsNonDecreasing (lengths self.now) }
     {
-        self.texts.len()
+        self.literals.len()
+    }
+
+    /// Whether there is no literal.
+    pub fn is_empty(&self) -> bool
+        ensures { IsTrue result ↔ (self.now.texts ≡ []) }
+    {
+        self.literals.is_empty()
+    }
+
+    /// The fold that the literals are compared under.
+    pub fn fold(&self) -> Fold
+        ensures { result ≡ self.now.folding }
+    {
+        self.folding
+    }
+
+    /// The length of the shortest literal, which is the first.
+    pub fn shortest(&self) -> usize
+        requires { 0 < length self.now.texts }
+        ensures first { result ≡ slice_index (lengths self.now) 0 }
+        ensures least { All (λ len. result ≤ len) (lengths self.now) }
+    {
+        self.literals[0].as_slice().len()
+    }
+
+    /// The length of the longest literal, which is the last.
+    pub fn longest(&self) -> usize
+        requires { 0 < length self.now.texts }
+        ensures last { result ≡ slice_index (lengths self.now) (length self.now.texts - 1) }
+        ensures greatest { All (λ len. len ≤ result) (lengths self.now) }
+    {
+        self.literals[self.literals.len() - 1].as_slice().len()
     }
 
     /// The literal at a place.
@@ -38,6 +109,15 @@ impl LitList {
         ensures len { length result.now ≡ slice_index (lengths self.now) place }
         ensures nonempty { 0 < length result.now }
     {
-        self.texts[place].as_slice()
+        self.literals[place].as_slice()
     }
+}
+
+/// How a raw list and its normal form go together.
+#[derive(Debug, Drop)]
+pub struct Normal {
+    /// Whether a raw pattern is null.
+    pub has_empty: bool,
+    /// For each raw pattern its place in the normal form; for a null one none.
+    pub place_of: Vec<Option<u16>>,
 }

@@ -1,7 +1,7 @@
-ghost use Rattle.std.specs.Prelude.{◌≡◌, ◌≢◌, ℕ, ◌+◌, ◌<◌, ◌≤◌, ◌++◌, ◌∷◌, [], length, map, sum_by, take, slice_index_or, IfOk, OnOk, OnErr, MatchResult, vec_len};
+ghost use Rattle.std.specs.Prelude.{◌≡◌, ◌≢◌, ℕ, ◌+◌, ◌<◌, ◌≤◌, ◌++◌, ◌∷◌, [], length, map, sum_by, take, slice_index_or, IfOk, OnOk, OnErr, MatchResult, IsTrue, ◌↔◌};
 ghost use Rattle.lit_base.specs.Faults.{Answers};
 ghost use Rattle.lit_base.specs.Lines.{pieces, lines};
-ghost use Rattle.lit_base.specs.RawLists.{pattern_refusal, first_refusal, text_refusal};
+ghost use Rattle.lit_base.specs.RawLists.{pattern_refusal, first_refusal, text_refusal, IsWithinLimits};
 ghost use Rattle.lit_base.specs.Patterns.{patterns_of};
 ghost use Rattle.lit_base.specs.declared.limits.TheConstants.{MAX_LIST_LEN, MAX_PATTERNS, MAX_LITERAL_LEN};
 
@@ -43,9 +43,16 @@ impl RawList {
     /// How many patterns there are.
     pub fn len(&self) -> usize
         ensures value { result ≡ length self.now }
-        ensures few { result ≤ MAX_PATTERNS }
+        ensures limits { IsWithinLimits self.now }
     {
         self.patterns.len()
+    }
+
+    /// Whether there is no pattern.
+    pub fn is_empty(&self) -> bool
+        ensures { IsTrue result ↔ (self.now ≡ []) }
+    {
+        self.patterns.is_empty()
     }
 
     /// The pattern at a place.

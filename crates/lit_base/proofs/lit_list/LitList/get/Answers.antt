@@ -1,8 +1,6 @@
 -- The literal that was read stands among the view's texts; its length and that it is not empty follow.
-use Rattle.std.proofs.Common.{◌≡◌, length, get_or}
+use Rattle.std.proofs.Common.{◌≡◌, ◌<◌, length, get_or, arith, subst}
 use Rattle.std.proofs.lemmas.Grind.{common_steps}
-use Rattle.std.proofs.Common.{arith}
-use Rattle.std.proofs.Common.{subst, ◌<◌}
 use Rattle.lit_base.proofs.Places.{mapped_at, holds_at}
 use Rattle.lit_base.specs.Literals.{IsNormal}
 use Rattle.lit_base.proofs.lit_list.LitList.get.Goals as goal

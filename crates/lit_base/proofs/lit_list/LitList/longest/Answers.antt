@@ -1,0 +1,17 @@
+-- The last length is the greatest.
+use Rattle.std.proofs.Common.{◌≡◌, ◌-◌, length, get_or, arith, subst}
+use Rattle.std.proofs.lemmas.Grind.{common_steps}
+use Rattle.lit_base.specs.Literals.{IsNormal}
+use Rattle.lit_base.proofs.LengthLemmas.{last_greatest}
+use Rattle.lit_base.proofs.Places.{mapped_at}
+use Rattle.lit_base.proofs.lit_list.LitList.longest.Goals as goal
+
+pub returns-clause-last : goal.returns-clause-last
+returns-clause-last c =
+    let last = length c.args.self.now.texts - 1 in
+    let at : c.as_slice.result.now ≡ get_or c.args.self.now.texts last c.as_slice.result.now = grind (arith, common_steps) in
+    mapped_at length c.args.self.now.texts last c.as_slice.result.now (omega (arith, c.requires)) at
+
+pub returns-clause-greatest : goal.returns-clause-greatest
+returns-clause-greatest c =
+    last_greatest c.args.self.now (subst IsNormal c.self.view_is c.self.invariant) (length c.as_slice.result.now) (returns-clause-last c)

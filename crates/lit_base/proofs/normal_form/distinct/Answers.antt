@@ -1,0 +1,11 @@
+-- At the end all patterns were seen.
+use Rattle.std.proofs.Common.{◌≡◌, [], take, fold, arith, ap, ◌∙◌}
+use Rattle.std.proofs.lemmas.Grind.{common_steps}
+use Rattle.lit_base.specs.NormalForm.{with_pattern, normal_form}
+use Rattle.lit_base.proofs.normal_form.distinct.Goals as goal
+
+pub returns-clause-keys : goal.returns-clause-keys
+unfolding normal_form
+returns-clause-keys c =
+    let all : take c.loop-place.place c.args.raw.now ≡ c.args.raw.now = grind (arith, common_steps) in
+    c.loop-place.invariant ∙ ap (fold (with_pattern c.args.fold) []) all
