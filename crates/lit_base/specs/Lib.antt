@@ -1,3 +1,4 @@
+pub mod CutDevices
 pub mod Devices
 pub mod Faults
 pub mod Folding
@@ -6,3 +7,4 @@ pub mod Literals
 pub mod Patterns
 pub mod RawLists
 pub mod Selected
+pub mod Transfers
