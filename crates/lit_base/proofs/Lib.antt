@@ -1,3 +1,4 @@
+pub mod DeviceLemmas
 pub mod InsertLemmas
 pub mod LengthLemmas
 pub mod LineLemmas
@@ -8,3 +9,4 @@ pub mod PieceLemmas
 pub mod Places
 pub mod RefusalLemmas
 pub mod SearchLemmas
+pub mod TransferLemmas

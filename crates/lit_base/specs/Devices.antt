@@ -1,5 +1,6 @@
 -- What a reader and a writer of bytes tell: the bytes to come and how they end, and the flag of a failed call.
 use Rattle.std.specs.Prelude.{◌≡◌, ◌≢◌, ℕ, ◌<◌, ◌++◌, List, [], length, take, ⊤, Option, Some, None, Result, Ok, Err, MatchResult}
+use Rattle.std.specs.Option.{option_map}
 use Rattle.lit_base.specs.declared.device.Failed.{Failed}
 
 -- how the bytes of a reader end: cleanly, in a failed call, or either way
@@ -42,3 +43,7 @@ Told (Some x) (Some y) P = P x y
 abbrev pub count_of : Result ℕ Failed → ℕ
 count_of (Ok n) = n
 count_of (Err _) = 0
+
+-- bytes to come, where they are known, of which it is not known how they end
+abbrev pub unsure : Option (List ℕ) → Option Coming
+unsure known = option_map (λ text. record { text = text; ending = Unsure }) known

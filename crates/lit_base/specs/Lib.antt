@@ -1,3 +1,4 @@
+pub mod CutDevices
 pub mod Devices
 pub mod Faults
 pub mod Folding
@@ -7,3 +8,4 @@ pub mod NormalForm
 pub mod Patterns
 pub mod RawLists
 pub mod Selected
+pub mod Transfers

@@ -1,6 +1,7 @@
 //! Lists of literals, folding, costs, and the devices that bytes come from and go to.
 #![tactic(auto)]
 
+mod cut_device;
 mod device;
 mod fault;
 mod fold;
@@ -11,7 +12,10 @@ mod literal;
 mod normal_form;
 mod patterns;
 mod raw_list;
+mod std_device;
+mod transfer;
 
+pub use cut_device::{CutIn, CutOut};
 pub use device::{ByteIn, ByteOut, Failed};
 pub use fault::Fault;
 pub use fold::{Fold, fold_byte};
@@ -19,3 +23,5 @@ pub use limits::{MAX_LIST_LEN, MAX_LITERAL_LEN, MAX_LITERALS, MAX_PATTERNS, MAX_
 pub use lines::{Lines, matching_law};
 pub use lit_list::{LitList, Normal};
 pub use raw_list::RawList;
+pub use std_device::{FromRead, ToWrite};
+pub use transfer::{MOST_TURNS, ReadError, read_to_end, write_all};
