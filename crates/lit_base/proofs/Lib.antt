@@ -1,1 +1,4 @@
+pub mod Buckets
+pub mod Cuts
 pub mod Places
+pub mod Weights

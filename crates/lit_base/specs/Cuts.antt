@@ -1,0 +1,23 @@
+-- Cuts of a list of places into runs, one behind the other, each given by the place where it ends.
+use Rattle.std.specs.Prelude.{◌≡◌, ℕ, ◌+◌, ◌<◌, ◌≤◌, List, [], ◌∷◌, length}
+use Rattle.lit_base.specs.Costs.{run_cost}
+
+-- the ends cut the places from p up to n: each lies past the one before it, and the last is n
+abbrev pub CutsFrom : ℕ → ℕ → List ℕ → Type 0
+CutsFrom n p [] = p ≡ n
+CutsFrom n p (end ∷ ends) = (p < end) × CutsFrom n end ends
+
+-- the ends cut n places, of which there are some, into at most `most` runs
+pub record IsCut (most n : ℕ) (ends : List ℕ) : Type 0 where
+  pub some : 0 < n
+  pub cuts : CutsFrom n 0 ends
+  pub few : length ends ≤ most
+
+-- the sum of what the runs from p on cost, by the costs c of a run
+abbrev pub cut_price : (ℕ → ℕ → ℕ) → ℕ → List ℕ → ℕ
+cut_price c p [] = 0
+cut_price c p (end ∷ ends) = c p end + cut_price c end ends
+
+-- no cut of literals of these lengths into at most `most` runs costs less than the price
+abbrev pub NoCutBelow : ℕ → List ℕ → ℕ → Type 0
+NoCutBelow most ls price = (ends : List ℕ) → IsCut most (length ls) ends → price ≤ cut_price (run_cost ls) 0 ends
