@@ -2,6 +2,7 @@
 use Rattle.std.specs.Prelude.{◌≡◌, ℕ, suc, ◌-◌, ◌<◌, ◌≤◌, ◌==◌, if◌then◌else◌, List, [], ◌∷◌, ◌++◌, All, length, replicate, sum_by}
 use Rattle.std.specs.List.{range_with_len}
 use Rattle.lit_base.specs.Costs.{group_cost}
+use Rattle.lit_base.specs.Literals.{Literals, lengths}
 
 -- one number below `most` for each of n literals
 pub record IsAssignment (most n : ℕ) (numbers : List ℕ) : Type 0 where
@@ -27,7 +28,7 @@ run_numbers i p (end ∷ ends) = replicate (end - p) i ++ run_numbers (suc i) en
 abbrev pub assignment_of : List ℕ → List ℕ
 assignment_of ends = run_numbers 0 0 ends
 
--- no assignment of literals of these lengths to at most `most` buckets costs less than the price
-abbrev pub NoAssignmentBelow : ℕ → List ℕ → ℕ → Type 0
-NoAssignmentBelow most ls price =
-    (numbers : List ℕ) → IsAssignment most (length ls) numbers → price ≤ assign_price most ls numbers
+-- no assignment of the literals to at most `most` buckets costs less than the price
+abbrev pub NoAssignmentBelow : ℕ → Literals → ℕ → Type 0
+NoAssignmentBelow most l price =
+    (numbers : List ℕ) → IsAssignment most (length l.texts) numbers → price ≤ assign_price most (lengths l) numbers

@@ -1,4 +1,5 @@
 ghost use Rattle.std.specs.Prelude.{◌≡◌, ◌<◌, ◌≤◌, length, slice_index_or, slice_index};
+ghost use Rattle.std.specs.List.Sorted.{IsNonDecreasing};
 ghost use Rattle.lit_base.specs.Literals.{lengths};
 
 use crate::fold::Fold;
@@ -27,6 +28,7 @@ impl LitList {
     pub fn len(&self) -> usize
         ensures value { result ≡ length self.now.texts }
         ensures few { result ≤ 1024 }
+        ensures rising { IsNonDecreasing (lengths self.now) }
     {
         self.texts.len()
     }
