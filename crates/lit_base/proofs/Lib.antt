@@ -1,5 +1,9 @@
+pub mod Assigned
+pub mod Buckets
+pub mod Cuts
 pub mod DeviceLemmas
 pub mod InsertLemmas
+pub mod Least
 pub mod LengthLemmas
 pub mod LineLemmas
 pub mod MatchLemmas
@@ -8,5 +12,7 @@ pub mod NormalForms
 pub mod PieceLemmas
 pub mod Places
 pub mod RefusalLemmas
+pub mod Runs
 pub mod SearchLemmas
 pub mod TransferLemmas
+pub mod Weights

@@ -1,4 +1,7 @@
+pub mod Assignments
+pub mod Costs
 pub mod CutDevices
+pub mod Cuts
 pub mod Devices
 pub mod Faults
 pub mod Folding
@@ -6,6 +9,7 @@ pub mod Lines
 pub mod Literals
 pub mod NormalForm
 pub mod Patterns
+pub mod Potentials
 pub mod RawLists
 pub mod Selected
 pub mod Transfers

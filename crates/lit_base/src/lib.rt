@@ -1,10 +1,12 @@
 //! Lists of literals, folding, costs, and the devices that bytes come from and go to.
 #![tactic(auto)]
 
+mod costs;
 mod cut_device;
 mod device;
 mod fault;
 mod fold;
+mod laws;
 mod limits;
 mod lines;
 mod lit_list;
@@ -15,10 +17,12 @@ mod raw_list;
 mod std_device;
 mod transfer;
 
+pub use costs::{Ends, assign_cost, cost, cut_cost, weight};
 pub use cut_device::{CutIn, CutOut};
 pub use device::{ByteIn, ByteOut, Failed};
 pub use fault::Fault;
 pub use fold::{Fold, fold_byte};
+pub use laws::{assignment_law, cut_law, least_law, run_cost_law};
 pub use limits::{MAX_LIST_LEN, MAX_LITERAL_LEN, MAX_LITERALS, MAX_PATTERNS, MAX_TEXT_LEN};
 pub use lines::{Lines, matching_law};
 pub use lit_list::{LitList, Normal};

@@ -1,0 +1,103 @@
+ghost use Rattle.std.specs.Prelude.{◌≡◌, ℕ, ◌<◌, ◌≤◌, ◌^◌, length};
+ghost use Rattle.lit_base.specs.Literals.{lengths};
+ghost use Rattle.lit_base.specs.Costs.{weight, cost, group_cost, run_cost};
+ghost use Rattle.lit_base.specs.Cuts.{IsCut, cut_price};
+ghost use Rattle.lit_base.specs.Assignments.{IsAssignment, bucket, assign_price};
+
+use crate::lit_list::LitList;
+use arrayvec::ArrayVec;
+
+/// The ends of a cut's runs, in order: a run holds the places from the end before it, 0 for the
+/// first, up to but not including its own end.
+pub type Ends = ArrayVec<u16, 8>;
+
+/// The weights of the shortest lengths from one byte to seven.
+const WEIGHTS: [u64; 7] = [4096, 512, 151, 64, 32, 18, 11];
+
+/// The weight of every greater shortest length.
+const LEAST_WEIGHT: u64 = 8;
+
+/// The weight of a group of literals whose shortest has so many bytes.
+pub fn weight(shortest: usize) -> u64
+    requires { 1 ≤ shortest }
+    ensures value { result ≡ weight shortest }
+    ensures never_rises { (longer : ℕ) → shortest ≤ longer → weight longer ≤ result }
+    ensures bound { result ≤ 4096 }
+{
+    if shortest <= WEIGHTS.len() {
+        WEIGHTS[shortest - 1]
+    } else {
+        LEAST_WEIGHT
+    }
+}
+
+/// What a group of `count` literals costs of which the shortest has so many bytes.
+pub fn cost(count: usize, shortest: usize) -> u64
+    requires some { 1 ≤ count }
+    requires few { count ≤ 4096 }
+    requires nonempty { 1 ≤ shortest }
+    ensures value { result ≡ cost count shortest }
+    ensures never_rises { (longer : ℕ) → shortest ≤ longer → cost count longer ≤ result }
+    ensures bound { result < 2 ^ 40 }
+{
+    let count = count as u64;
+    200 + weight(shortest) * (count * count)
+}
+
+/// What the literals from place `start` up to but not including `end` cost, as one run. They stand
+/// by length, so the first is the shortest.
+fn run_cost(list: &LitList, start: usize, end: usize) -> u64
+    requires some { start < end }
+    requires within { end ≤ length list.now.texts }
+    ensures value { result ≡ run_cost (lengths list.now) start end }
+    ensures bound { result < 2 ^ 40 }
+{
+    prove!(end <= list.len());
+    cost(end - start, list.get(start).len())
+}
+
+/// What a cut costs: the sum of its runs' costs.
+pub fn cut_cost(list: &LitList, ends: &Ends) -> u64
+    requires { IsCut 8 (length list.now.texts) ends.now.items }
+    ensures { result ≡ cut_price (run_cost (lengths list.now)) 0 ends.now.items }
+{
+    let mut start = 0;
+    let mut price = 0;
+    for end in ends.as_slice() {
+        let end = usize::from(*end);
+        price += run_cost(list, start, end);
+        start = end;
+    }
+    price
+}
+
+/// What an assignment costs, which gives each literal the number of its bucket: the sum of the
+/// costs of the buckets that hold a literal.
+pub fn assign_cost(list: &LitList, numbers: &[u8]) -> u64
+    requires { IsAssignment 8 (length list.now.texts) numbers.now }
+    ensures { result ≡ assign_price 8 (lengths list.now) numbers.now }
+{
+    let mut price = 0;
+    for number in 0..8 {
+        price += bucket_cost(list, numbers, number);
+    }
+    price
+}
+
+/// What the literals of a bucket cost, those with its number; 0 where there are none.
+fn bucket_cost(list: &LitList, numbers: &[u8], number: u8) -> u64
+    requires { length numbers.now ≡ length list.now.texts }
+    ensures value { result ≡ group_cost (bucket number (lengths list.now) numbers.now) }
+    ensures bound { result < 2 ^ 40 }
+{
+    prove!(numbers.len() == list.len());
+    let mut count = 0;
+    let mut shortest = usize::MAX;
+    for (place, own) in numbers.iter().enumerate() {
+        if *own == number {
+            count += 1;
+            shortest = shortest.min(list.get(place).len());
+        }
+    }
+    if count == 0 { 0 } else { cost(count, shortest) }
+}

@@ -1,0 +1,26 @@
+use arrayvec::ArrayVec;
+use std::marker::Model;
+
+/// Where the runs end, strictly rising in a cut: run i holds the places from the end before it up
+/// to its own.
+pub type Ends = ArrayVec<u16, 8>;
+
+/// A grouping of n literals into runs, with the numbers by which a reader can check that no other
+/// one is cheaper.
+#[derive(Debug, Drop)]
+pub struct Certificate {
+    /// Where the runs end.
+    pub ends: Ends,
+    /// The price of the runs together.
+    pub cost: u64,
+    /// Eight rows of n prices: `h(r, p)`, for r from 1 to 8, stands at `(r - 1) * n + p`.
+    pub potentials: Vec<u64>,
+}
+
+impl Model for Certificate {
+    ghost use Rattle.lit_cert.specs.Certificates.{CertificateParts};
+
+    ghost Value = { CertificateParts };
+
+    ghost view = { λ c. record { ends = c.ends.items; cost = c.cost; potentials = c.potentials.items } };
+}
