@@ -1,12 +1,12 @@
 -- Lemmas on what devices tell: one call after another, and what a device of the tests gives.
-use Rattle.std.proofs.Common.{◌≡◌, ◌≢◌, ℕ, ◌<◌, false, List, [], ◌++◌, Option, None, Some, Result, Ok, Err, refl, sym, ap, ◌∙◌, length, take, drop, take-append-drop, rules, tests}
+use Rattle.std.proofs.Common.{◌≡◌, ◌≢◌, ℕ, ◌<◌, false, List, ◌++◌, Option, None, Some, Result, Ok, Err, refl, sym, ap, ◌∙◌, length, take, drop, take-append-drop, rules, tests}
 use Rattle.std.proofs.lemmas.List.{nil_from_length}
 use Rattle.std.specs.Io.KnownBytes.{ReadConsumes}
 use Rattle.lit_base.specs.declared.device.Failed.{Failed}
 use Rattle.lit_base.specs.declared.cut_device.Cut.{Cut}
 use Rattle.lit_base.specs.declared.cut_device.Cut.TheVariants.{Never, AtEnd, InCalls, Past}
 use Rattle.lit_base.specs.CutDevices.{cut_after, is_cut, told_by}
-use Rattle.lit_base.specs.Devices.{Clean, Faulty, Unsure, Ending, Coming, Gives, ReadGives, Told, unsure}
+use Rattle.lit_base.specs.Devices.{Clean, Faulty, Unsure, Ending, Gives, ReadGives, Told, unsure}
 
 unsure-Clean : Unsure ≢ Clean
 unsure-Clean e = cc

@@ -14,5 +14,6 @@ pub mod Places
 pub mod RefusalLemmas
 pub mod Runs
 pub mod SearchLemmas
+pub mod SortedLists
 pub mod TransferLemmas
 pub mod Weights

@@ -17,7 +17,8 @@ use Rattle.lit_base.specs.NormalForm.{IsNormalForm, with_pattern, normal_form}
 use Rattle.lit_base.specs.RawLists.{IsWithinLimits}
 use Rattle.lit_base.specs.declared.limits.TheConstants.{MAX_LITERALS, MAX_LITERAL_LEN, MAX_LIST_LEN}
 use Rattle.lit_base.proofs.Members.{In, in_from_contains, contains_from_in, in_push_cases, in_push_old, in_push_new}
-use Rattle.lit_base.proofs.InsertLemmas.{rising-insert, in_insert_cases, in_insert_old, in_insert_new, sum_by-insert-le}
+use Rattle.lit_base.proofs.SortedLists.{same_elements}
+use Rattle.lit_base.proofs.InsertLemmas.{literal_total, rising-insert, in_insert_cases, in_insert_old, in_insert_new, sum_by-insert-le}
 
 -- the literals of the patterns seen so far: in order, and exactly the nonempty folded ones
 record Holds (folding : Fold) (seen texts : List (List ℕ)) : Type 0 where
@@ -145,3 +146,10 @@ literal_is_there folding patterns texts p i inside at is some =
     positive : (q : List ℕ) → q ≢ [] → 0 < length (folded_text folding q)
     positive [] h = absurd (h refl)
     positive (b ∷ bs) h = omega arith
+
+-- no other list is in normal form
+pub normal_form_only : (folding : Fold) (patterns texts : List (List ℕ)) → IsNormalForm folding patterns texts → texts ≡ normal_form folding patterns
+normal_form_only folding patterns texts form =
+    let is = normal_form_is folding patterns in
+    same_elements literal_cmp literal_total texts (normal_form folding patterns) form.rising is.rising
+    (λ t h. (is.members t).1 ((form.members t).0 h)) (λ t h. (form.members t).1 ((is.members t).0 h))

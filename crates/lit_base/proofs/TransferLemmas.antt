@@ -1,11 +1,11 @@
 -- Lemmas on what moves between a device and a list of bytes in many calls.
-use Rattle.std.proofs.Common.{◌≡◌, ◌≢◌, ℕ, ◌+◌, ◌-◌, ◌^◌, ◌<◌, ◌≤◌, List, [], ◌++◌, Option, None, Some, Result, Ok, Err, IfSome, OnErr, refl, sym, ap, ◌∙◌, subst, append_assoc, append-nil, add-zero, length, length-append, take, drop, take-append-drop, arith, rules}
+use Rattle.std.proofs.Common.{◌≡◌, ℕ, ◌+◌, ◌<◌, ◌≤◌, List, [], ◌++◌, Option, None, Some, Result, Ok, Err, IfSome, OnErr, refl, sym, ap, ◌∙◌, subst, append_assoc, append-nil, add-zero, length, length-append, take, drop, take-append-drop, arith}
 use Rattle.std.proofs.lemmas.List.{take_at, take-take, take-append-le}
 use Rattle.std.proofs.Math.Seq.{take-append-add}
 use Rattle.std.specs.Io.KnownBytes.{Appends, Keeps}
 use Rattle.std.proofs.KnownBytes.{Appends-nil, Appends-trans, Appends-kept}
 use Rattle.lit_base.specs.declared.device.Failed.{Failed}
-use Rattle.lit_base.specs.Devices.{Clean, Faulty, Coming, EndsHere, Gives, MayFail, ReadGives, Told}
+use Rattle.lit_base.specs.Devices.{Faulty, Coming, EndsHere, Gives, MayFail, ReadGives, Told}
 use Rattle.lit_base.specs.Transfers.{AppendsPrefix, FaultFollows, ReadsAll, ReadsInto}
 
 -- a fact that holds whatever is answered

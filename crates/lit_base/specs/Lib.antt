@@ -8,6 +8,7 @@ pub mod Folding
 pub mod Lines
 pub mod Literals
 pub mod NormalForm
+pub mod Occurrences
 pub mod Patterns
 pub mod Potentials
 pub mod RawLists

@@ -25,3 +25,8 @@ normal_form folding patterns = fold (with_pattern folding) [] patterns
 abbrev pub IsPlaceOf : Fold → List (List ℕ) → List ℕ → Option ℕ → Type 0
 IsPlaceOf folding texts [] place = place ≡ None
 IsPlaceOf folding texts (b ∷ bs) place = (k : ℕ) × (place ≡ Some k) × (slice_get texts k ≡ Some (folded_text folding (b ∷ bs)))
+
+-- what `normal_form` says: it is in normal form, and no other list is
+pub record NormalFormLaw : Type 0 where
+  pub is : (folding : Fold) (patterns : List (List ℕ)) → IsNormalForm folding patterns (normal_form folding patterns)
+  pub only : (folding : Fold) (patterns texts : List (List ℕ)) → IsNormalForm folding patterns texts → texts ≡ normal_form folding patterns

@@ -1,7 +1,7 @@
 ghost use Rattle.std.specs.Prelude.{◌≡◌, ◌≢◌, ◌==◌, ◌<◌, [], ◌∷◌, length, IfSome};
 ghost use Rattle.std.specs.List.{position};
 ghost use Rattle.std.specs.Iterator.{YieldsFirstRef, item_count};
-ghost use Rattle.lit_base.specs.Lines.{lines};
+ghost use Rattle.lit_base.specs.Lines.{lines, LinesLaw};
 ghost use Rattle.lit_base.specs.Selected.{MatchingLaw};
 
 /// The lines of a text, in order, without their newlines.
@@ -59,4 +59,10 @@ fn newline(text: &[u8]) -> Option<usize>
 /// folded; a line matches where one of the patterns does.
 pub fn matching_law()
     ensures { MatchingLaw }
+{}
+
+/// What the pieces and the lines of a text are: the pieces that newlines stand between, of which a
+/// null one at the end is no line.
+pub fn lines_law()
+    ensures { LinesLaw }
 {}

@@ -3,7 +3,7 @@ ghost use Rattle.std.specs.List.{AllZip};
 ghost use Rattle.std.specs.List.Sorted.{IsStrictlySortedBy};
 ghost use Rattle.lit_base.specs.Folding.{folded_text};
 ghost use Rattle.lit_base.specs.Literals.{literal_cmp};
-ghost use Rattle.lit_base.specs.NormalForm.{normal_form, IsPlaceOf};
+ghost use Rattle.lit_base.specs.NormalForm.{normal_form, IsPlaceOf, NormalFormLaw};
 ghost use Rattle.lit_base.specs.RawLists.{IsWithinLimits};
 ghost use Rattle.lit_base.specs.declared.limits.TheConstants.{MAX_LITERALS};
 ghost use Rattle.lit_base.specs.declared.fault.Fault.TheVariants.{OutOfMemory, TooManyLiterals};
@@ -101,3 +101,8 @@ fn place_among(
         Err(_) => unreachable!(),
     }
 }
+
+/// The law that each pattern list has one normal form.
+pub fn normal_form_law()
+    ensures { NormalFormLaw }
+{}

@@ -1,7 +1,7 @@
 -- One call more, and the rest of the piece that a call which failed leaves.
 use Rattle.std.proofs.Common.{rules}
 use Rattle.std.proofs.lemmas.List.{take_rest}
-use Rattle.lit_base.proofs.TransferLemmas.{WritesFront, WritesFront-more, WritesFront-part, OnErr-any}
+use Rattle.lit_base.proofs.TransferLemmas.{WritesFront-more, WritesFront-part, OnErr-any}
 use Rattle.lit_base.proofs.transfer.write_all.Goals as goal
 
 pub returns-in_err-taken-clause-err : goal.returns-in_err-taken-clause-err

@@ -1,5 +1,5 @@
 -- A read that is not cut gives the next bytes, since a step is at least one byte.
-use Rattle.std.proofs.Common.{◌≡◌, ℕ, ◌<◌, false, length, drop, take, arith, rules, ap, sym, ◌∙◌}
+use Rattle.std.proofs.Common.{◌≡◌, ℕ, false, length, drop, arith, rules, ap}
 use Rattle.std.proofs.lemmas.List.{drop-drop, length-append, length-drop, length-take}
 use Rattle.std.proofs.lemmas.Grind.{common_steps}
 use Rattle.lit_base.specs.CutDevices.{is_cut}

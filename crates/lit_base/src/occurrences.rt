@@ -1,0 +1,7 @@
+ghost use Rattle.lit_base.specs.Occurrences.{AreOneList};
+
+/// The law that the hits of a list in a text are one list: in their order, by end and then by
+/// literal, there are no two ways to tell the occurrences.
+pub fn hits_law()
+    ensures { AreOneList }
+{}
