@@ -121,3 +121,6 @@ pub struct Normal {
     /// For each raw pattern its place in the normal form; for a null one none.
     pub place_of: Vec<Option<u16>>,
 }
+
+#[cfg(test)]
+mod tests;
