@@ -1,17 +1,17 @@
-ghost use Rattle.std.specs.Prelude.{◌≡◌, ◌+◌, ◌<◌, ◌≤◌, length, false, IfOk};
+ghost use Rattle.std.specs.Prelude.{◌≡◌, ◌+◌, ◌<◌, ◌≤◌, ◌↔◌, length, false, IfOk, IsTrue};
+ghost use Rattle.std.specs.IoError.{error_kind};
 ghost use Rattle.std.specs.Io.KnownBytes.{ReadConsumes, WriteAppends};
 ghost use Rattle.lit_base.specs.Devices.{count_of, unsure};
 
 use crate::device::{ByteIn, ByteOut, Failed};
+use crate::limits::MAX_TURNS;
 use std::io::{Error, ErrorKind, Read, Write};
-
-/// How often a call that signals interrupt is made, before it counts as failed.
-const MOST_TRIES: u64 = 1 << 40;
 
 /// A reader of std's as a device, with no buffer of its own.
 ///
-/// A call that a signal interrupts is made again: that is no fault. One device gives fewer than
-/// 2^64 bytes, and fails where a buffer could lead past them.
+/// A call that a signal interrupts is made again: that is no fault, unless it comes `MAX_TURNS`
+/// times in a row. One device gives fewer than 2^64 bytes, and fails where a buffer could lead past
+/// them.
 #[derive(Drop)]
 pub struct FromRead<R: Read + Drop> {
     reader: R,
@@ -58,16 +58,16 @@ impl<R: Read + Drop> ByteIn for FromRead<R> {
     ghost has_failed = { λ d. d.has_failed };
 
     fn read_some(&mut self, buf: &mut [u8]) -> Result<usize, Failed> {
-        let result = self.read_counted(buf);
-        self.has_failed |= result.is_err();
-        result
+        let given = self.read_counted(buf);
+        self.has_failed |= given.is_err();
+        given
     }
 }
 
 /// A writer of std's as a device, with no buffer of its own.
 ///
-/// A call that a signal interrupts is made again: that is no fault. A call that takes nothing of a
-/// nonempty piece is one.
+/// A call that a signal interrupts is made again: that is no fault, unless it comes `MAX_TURNS`
+/// times in a row. A call that takes nothing of a nonempty piece is one.
 #[derive(Drop)]
 pub struct ToWrite<W: Write + Drop> {
     writer: W,
@@ -104,9 +104,9 @@ impl<W: Write + Drop> ByteOut for ToWrite<W> {
     ghost has_failed = { λ d. d.has_failed };
 
     fn write_some(&mut self, piece: &[u8]) -> Result<usize, Failed> {
-        let result = write_untiring(&mut self.writer, piece);
-        self.has_failed |= result.is_err();
-        result
+        let taken = write_untiring(&mut self.writer, piece);
+        self.has_failed |= taken.is_err();
+        taken
     }
 }
 
@@ -115,7 +115,7 @@ fn read_untiring<R: Read>(reader: &mut R, buf: &mut [u8]) -> Result<usize, Faile
     ensures within { IfOk result (λ n. n ≤ length buf.new) }
     ensures bytes { ReadConsumes (R.remaining reader.old) (R.remaining reader.new) result buf.new }
 {
-    for _ in 0..MOST_TRIES {
+    for _ in 0..MAX_TURNS {
         match reader.read(buf) {
             Ok(count) => return Ok(count),
             Err(error) => {
@@ -134,7 +134,7 @@ fn write_untiring<W: Write>(writer: &mut W, piece: &[u8]) -> Result<usize, Faile
     ensures takes { 0 < length piece.now → IfOk result (λ n. 0 < n) }
     ensures bytes { WriteAppends (W.contents writer.old) (W.contents writer.new) result piece.now }
 {
-    for _ in 0..MOST_TRIES {
+    for _ in 0..MAX_TURNS {
         match writer.write(piece) {
             Ok(0) if !piece.is_empty() => return Err(Failed),
             Ok(count) => return Ok(count),
@@ -149,7 +149,9 @@ fn write_untiring<W: Write>(writer: &mut W, piece: &[u8]) -> Result<usize, Faile
 }
 
 /// Whether a signal came before anything was read or written.
-fn is_interrupted(error: &Error) -> bool {
+fn is_interrupted(error: &Error) -> bool
+    ensures { IsTrue result ↔ (error_kind error.now ≡ ErrorKind.Interrupted) }
+{
     error.kind() == ErrorKind::Interrupted
 }
 

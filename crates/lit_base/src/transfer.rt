@@ -4,10 +4,8 @@ ghost use Rattle.lit_base.specs.Devices.{EndsHere, MayFail, Told};
 ghost use Rattle.lit_base.specs.Transfers.{AppendsPrefix, FaultFollows, ReadsAll, ReadsInto};
 
 use crate::device::{ByteIn, ByteOut, Failed};
+use crate::limits::MAX_TURNS;
 use std::alloc::{AllocError, Allocator};
-
-/// How many turns a loop over a reader makes at most. Then it counts as failed.
-pub const MOST_TURNS: u64 = 1 << 40;
 
 /// How many bytes are read at once.
 const CHUNK: usize = 16 * 1024;
@@ -52,7 +50,7 @@ pub fn write_all<W: ByteOut>(out: &mut W, piece: &[u8]) -> Result<(), Failed>
 /// Reads to the end, and appends what it reads to `text`: at most `limit` bytes.
 ///
 /// # Errors
-/// - `Failed` where a read failed, or the end did not come in `MOST_TURNS` reads.
+/// - `Failed` where a read failed, or the end did not come in `MAX_TURNS` reads.
 /// - `TooLong` as soon as one byte more than `limit` is read. It reads no further.
 /// - `OutOfMemory` where `text` could not grow.
 ///
@@ -79,7 +77,7 @@ pub fn read_to_end<R: ByteIn, A: Allocator>(
     ensures fault { result ≡ Err ReadError.Failed → IsTrue (R.has_failed input.new) ⊎ ((R.has_failed input.new ≡ R.has_failed input.old) × (R.given input.old + 2 ^ 40 ≤ R.given input.new)) }
 {
     let mut room = limit;
-    for _turn in 0..MOST_TURNS {
+    for _turn in 0..MAX_TURNS {
         let count = read_chunk(input, room.min(CHUNK - 1) + 1, text)?;
         if count == 0 {
             return Ok(());

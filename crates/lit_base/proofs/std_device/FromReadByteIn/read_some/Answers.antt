@@ -3,4 +3,4 @@ use Rattle.lit_base.proofs.DeviceLemmas.{unsure-reads}
 use Rattle.lit_base.proofs.std_device.FromReadByteIn.read_some.Goals as goal
 
 pub returns-clause-bytes : goal.returns-clause-bytes
-returns-clause-bytes g c = unsure-reads _ _ c.read_counted-result.result _ c.read_counted-result.ensures.bytes
+returns-clause-bytes g c = unsure-reads _ _ c.read_counted-given.result _ c.read_counted-given.ensures.bytes
