@@ -61,7 +61,13 @@ impl<'a> Model for CutIn<'a> {
 
     ghost Value = { CutReader };
 
-    ghost view = { λ d. record { text = drop d.place d.bytes.now; cut = d.cut; step = d.step; given = d.place; has_failed = d.has_failed } };
+    ghost view = { λ d. record {
+      text = drop d.place d.bytes.now;
+      cut = d.cut;
+      step = d.step;
+      given = d.place;
+      has_failed = d.has_failed;
+    } };
 
     ghost invariant = { λ d. (d.place ≤ length d.bytes.now) × (0 < d.step) };
 }
@@ -69,7 +75,13 @@ impl<'a> Model for CutIn<'a> {
 impl<'a> CutIn<'a> {
     /// A reader of the bytes, which end cleanly.
     pub fn whole(bytes: &'a [u8]) -> Self
-        ensures { result ≡ record { text = bytes.now; cut = Cut.Never; step = usize.MAX; given = 0; has_failed = false } }
+        ensures { result ≡ record {
+          text = bytes.now;
+          cut = Cut.Never;
+          step = usize.MAX;
+          given = 0;
+          has_failed = false;
+        } }
     {
         CutIn::with_cut(bytes, Cut::Never)
     }
@@ -77,7 +89,13 @@ impl<'a> CutIn<'a> {
     /// A reader of the first `count` bytes, or of all if there are fewer. Behind them each call
     /// fails.
     pub fn failing_after(bytes: &'a [u8], count: usize) -> Self
-        ensures { result ≡ record { text = take count bytes.now; cut = Cut.AtEnd; step = usize.MAX; given = 0; has_failed = false } }
+        ensures { result ≡ record {
+          text = take count bytes.now;
+          cut = Cut.AtEnd;
+          step = usize.MAX;
+          given = 0;
+          has_failed = false;
+        } }
     {
         CutIn::with_cut(&bytes[..count.min(bytes.len())], Cut::AtEnd)
     }
@@ -85,7 +103,13 @@ impl<'a> CutIn<'a> {
     /// A reader of the bytes whose call of that number fails, counted from 0. It takes no byte away,
     /// and the calls after it go on. Such a reader does not tell its bytes.
     pub fn failing_at(bytes: &'a [u8], call: u64) -> Self
-        ensures { result ≡ record { text = bytes.now; cut = Cut.InCalls call; step = usize.MAX; given = 0; has_failed = false } }
+        ensures { result ≡ record {
+          text = bytes.now;
+          cut = Cut.InCalls call;
+          step = usize.MAX;
+          given = 0;
+          has_failed = false;
+        } }
     {
         CutIn::with_cut(bytes, Cut::InCalls(call))
     }
@@ -99,7 +123,13 @@ impl<'a> CutIn<'a> {
     }
 
     fn with_cut(bytes: &'a [u8], cut: Cut) -> Self
-        ensures { result ≡ record { text = bytes.now; cut = cut; step = usize.MAX; given = 0; has_failed = false } }
+        ensures { result ≡ record {
+          text = bytes.now;
+          cut = cut;
+          step = usize.MAX;
+          given = 0;
+          has_failed = false;
+        } }
     {
         CutIn {
             bytes,
@@ -120,7 +150,8 @@ impl ByteIn for CutIn<'_> {
 
     fn read_some(&mut self, buf: &mut [u8]) -> Result<usize, Failed>
         ensures within { IfOk result (λ n. n ≤ length buf.new) }
-        ensures bytes { Told (told_by self.old.cut self.old.text) (told_by self.new.cut self.new.text) (λ old new. ReadGives old new result buf.new) }
+        ensures bytes { Told (told_by self.old.cut self.old.text)
+            (told_by self.new.cut self.new.text) (λ old new. ReadGives old new result buf.new) }
         ensures count { self.new.given ≡ self.old.given + count_of result }
         ensures flag { self.new.has_failed ≡ (self.old.has_failed || is_err result) }
 
@@ -161,7 +192,13 @@ impl<'a> Model for CutOut<'a> {
 
     ghost Value = { CutWriter };
 
-    ghost view = { λ d. record { taken = take d.place d.bytes.now; room = length d.bytes.now - d.place; cut = d.cut; step = d.step; has_failed = d.has_failed } };
+    ghost view = { λ d. record {
+      taken = take d.place d.bytes.now;
+      room = length d.bytes.now - d.place;
+      cut = d.cut;
+      step = d.step;
+      has_failed = d.has_failed;
+    } };
 
     ghost invariant = { λ d. (d.place ≤ length d.bytes.now) × (0 < d.step) };
 }
@@ -169,7 +206,13 @@ impl<'a> Model for CutOut<'a> {
 impl<'a> CutOut<'a> {
     /// A writer that fails where there is no more room.
     pub fn within(bytes: &'a mut [u8]) -> Self
-        ensures { result ≡ record { taken = []; room = length bytes.old; cut = Cut.Never; step = usize.MAX; has_failed = false } }
+        ensures { result ≡ record {
+          taken = [];
+          room = length bytes.old;
+          cut = Cut.Never;
+          step = usize.MAX;
+          has_failed = false;
+        } }
     {
         CutOut::with_cut(bytes, Cut::Never)
     }
@@ -177,7 +220,13 @@ impl<'a> CutOut<'a> {
     /// A writer whose call of that number fails, counted from 0. It takes nothing, and the calls
     /// after it go on.
     pub fn failing_at(bytes: &'a mut [u8], call: u64) -> Self
-        ensures { result ≡ record { taken = []; room = length bytes.old; cut = Cut.InCalls call; step = usize.MAX; has_failed = false } }
+        ensures { result ≡ record {
+          taken = [];
+          room = length bytes.old;
+          cut = Cut.InCalls call;
+          step = usize.MAX;
+          has_failed = false;
+        } }
     {
         CutOut::with_cut(bytes, Cut::InCalls(call))
     }
@@ -198,7 +247,13 @@ impl<'a> CutOut<'a> {
     }
 
     fn with_cut(bytes: &'a mut [u8], cut: Cut) -> Self
-        ensures { result ≡ record { taken = []; room = length bytes.old; cut = cut; step = usize.MAX; has_failed = false } }
+        ensures { result ≡ record {
+          taken = [];
+          room = length bytes.old;
+          cut = cut;
+          step = usize.MAX;
+          has_failed = false;
+        } }
     {
         CutOut {
             bytes,

@@ -21,7 +21,8 @@ pub trait ByteIn {
     /// nonempty buffer is the end.
     fn read_some(&mut self, buf: &mut [u8]) -> Result<usize, Failed>
         ensures within { IfOk result (λ n. n ≤ length buf.new) }
-        ensures bytes { Told (coming self.old) (coming self.new) (λ old new. ReadGives old new result buf.new) }
+        ensures bytes { Told (coming self.old) (coming self.new)
+            (λ old new. ReadGives old new result buf.new) }
         ensures count { given self.new ≡ given self.old + count_of result }
         ensures flag { has_failed self.new ≡ (has_failed self.old || is_err result) };
 }

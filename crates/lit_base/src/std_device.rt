@@ -23,7 +23,8 @@ impl<R: Read + Drop> FromRead<R> {
     /// The device over a reader. It tells the bytes that the reader tells, but not how they end,
     /// since a reader of std's may fail all the same.
     pub fn new(reader: R) -> Self
-        ensures coming { ⟦<FromRead<R> as ByteIn>⟧.coming result ≡ unsure (R.remaining reader) }
+        ensures coming { ⟦<FromRead<R> as ByteIn>⟧.coming result
+            ≡ unsure (R.remaining reader) }
         ensures given { ⟦<FromRead<R> as ByteIn>⟧.given result ≡ 0 }
         ensures flag { ⟦<FromRead<R> as ByteIn>⟧.has_failed result ≡ false }
     {
@@ -37,7 +38,8 @@ impl<R: Read + Drop> FromRead<R> {
     /// One read that is counted. The flag is left to the caller.
     fn read_counted(&mut self, buf: &mut [u8]) -> Result<usize, Failed>
         ensures within { IfOk result (λ n. n ≤ length buf.new) }
-        ensures bytes { ReadConsumes (R.remaining self.old.reader) (R.remaining self.new.reader) result buf.new }
+        ensures bytes { ReadConsumes (R.remaining self.old.reader)
+            (R.remaining self.new.reader) result buf.new }
         ensures count { self.new.given ≡ self.old.given + count_of result }
         ensures flag { self.new.has_failed ≡ self.old.has_failed }
     {

@@ -60,21 +60,30 @@ pub fn read_to_end<R: ByteIn, A: Allocator>(
     limit: usize,
     text: &mut Vec<u8, A>,
 ) -> Result<(), ReadError>
-    ensures bytes { ReadsInto (R.coming input.old) (R.coming input.new) text.old.items text.new.items }
+    ensures bytes { ReadsInto (R.coming input.old) (R.coming input.new)
+        text.old.items text.new.items }
     ensures count { R.given input.new + vec_len text.old ≡ R.given input.old + vec_len text.new }
 
     // What comes, where the device tells it.
-    ensures ok { OnOk result (IfSome (R.coming input.old) (ReadsAll limit text.old.items text.new.items)) }
-    ensures failed { result ≡ Err ReadError.Failed → IfSome (R.coming input.old) (λ c. length c.text < 2 ^ 40 → FaultFollows limit text.old.items text.new.items c) }
-    ensures too_long { result ≡ Err ReadError.TooLong → IfSome (R.coming input.old) (λ c. limit < length c.text) }
+    ensures ok { OnOk result
+        (IfSome (R.coming input.old) (ReadsAll limit text.old.items text.new.items)) }
+    ensures failed { result ≡ Err ReadError.Failed → IfSome (R.coming input.old)
+        (λ c. length c.text < 2 ^ 40 → FaultFollows limit text.old.items text.new.items c) }
+    ensures too_long { result ≡ Err ReadError.TooLong
+        → IfSome (R.coming input.old) (λ c. limit < length c.text) }
 
     // How many bytes are read, of any device.
-    ensures within { result ≢ Err ReadError.TooLong → vec_len text.new ≤ vec_len text.old + limit }
-    ensures one_more { result ≡ Err ReadError.TooLong → vec_len text.new ≡ vec_len text.old + limit + 1 }
+    ensures within { result ≢ Err ReadError.TooLong
+        → vec_len text.new ≤ vec_len text.old + limit }
+    ensures one_more { result ≡ Err ReadError.TooLong
+        → vec_len text.new ≡ vec_len text.old + limit + 1 }
 
     // The flag, or the turns, tell a failure.
-    ensures flag { result ≢ Err ReadError.Failed → R.has_failed input.new ≡ R.has_failed input.old }
-    ensures fault { result ≡ Err ReadError.Failed → IsTrue (R.has_failed input.new) ⊎ ((R.has_failed input.new ≡ R.has_failed input.old) × (R.given input.old + 2 ^ 40 ≤ R.given input.new)) }
+    ensures flag { result ≢ Err ReadError.Failed
+        → R.has_failed input.new ≡ R.has_failed input.old }
+    ensures fault { result ≡ Err ReadError.Failed → IsTrue (R.has_failed input.new)
+        ⊎ ((R.has_failed input.new ≡ R.has_failed input.old)
+        × (R.given input.old + 2 ^ 40 ≤ R.given input.new)) }
 {
     let mut room = limit;
     for _turn in 0..MAX_TURNS {
@@ -98,15 +107,19 @@ fn read_chunk<R: ByteIn, A: Allocator>(
 ) -> Result<usize, ReadError>
     requires some { 0 < most }
     requires few { most ≤ CHUNK }
-    ensures bytes { ReadsInto (R.coming input.old) (R.coming input.new) text.old.items text.new.items }
+    ensures bytes { ReadsInto (R.coming input.old) (R.coming input.new)
+        text.old.items text.new.items }
     ensures count { R.given input.new + vec_len text.old ≡ R.given input.old + vec_len text.new }
     ensures ok { IfOk result (λ n. (vec_len text.new ≡ vec_len text.old + n) × (n ≤ most)) }
-    ensures end { result ≡ Ok 0 → Told (R.coming input.old) (R.coming input.new) (λ _ c. EndsHere c) }
+    ensures end { result ≡ Ok 0
+        → Told (R.coming input.old) (R.coming input.new) (λ _ c. EndsHere c) }
     ensures err { OnErr result (text.new.items ≡ text.old.items) }
-    ensures failed { result ≡ Err ReadError.Failed → Told (R.coming input.old) (R.coming input.new) (λ _ c. MayFail c) }
+    ensures failed { result ≡ Err ReadError.Failed
+        → Told (R.coming input.old) (R.coming input.new) (λ _ c. MayFail c) }
     ensures fault { result ≡ Err ReadError.Failed → IsTrue (R.has_failed input.new) }
     ensures not_long { result ≢ Err ReadError.TooLong }
-    ensures flag { result ≢ Err ReadError.Failed → R.has_failed input.new ≡ R.has_failed input.old }
+    ensures flag { result ≢ Err ReadError.Failed
+        → R.has_failed input.new ≡ R.has_failed input.old }
 {
     let start = text.len();
     text.resize(start + most, 0)?;
