@@ -1,7 +1,7 @@
-ghost use Rattle.std.specs.Prelude.{◌≡◌, ℕ, ◌<◌, ◌≤◌, ◌^◌, length};
+ghost use Rattle.std.specs.Prelude.{◌≡◌, ℕ, ◌<◌, ◌≤◌, ◌^◌, ◌↔◌, IsTrue, length};
 ghost use Rattle.lit_base.specs.Literals.{lengths};
 ghost use Rattle.lit_base.specs.Costs.{weight, cost, group_cost, run_cost};
-ghost use Rattle.lit_base.specs.Cuts.{IsCut, cut_price};
+ghost use Rattle.lit_base.specs.Cuts.{CutsFrom, IsCut, cut_price};
 ghost use Rattle.lit_base.specs.Assignments.{IsAssignment, bucket, assign_price};
 
 use crate::lit_list::LitList;
@@ -56,6 +56,33 @@ fn run_cost(list: &LitList, start: usize, end: usize) -> u64
     cost(end - start, list.get(start).len())
 }
 
+/// Whether the ends cut the list into runs: they strictly rise, the first is at least 1, and the
+/// last is the number of literals.
+pub fn is_cut(list: &LitList, ends: &Ends) -> bool
+    ensures { IsTrue result ↔ IsCut 8 (length list.now.texts) ends.now.items }
+{
+    !list.is_empty() && cuts_from(0, list.len(), ends.as_slice())
+}
+
+/// Whether the ends cut the places from `start` up to `count`.
+fn cuts_from(start: usize, count: usize, ends: &[u16]) -> bool
+    ensures { IsTrue result ↔ CutsFrom count start ends.now }
+{
+    match ends {
+        [] => start == count,
+        [end, rest @ ..] => {
+            start < usize::from(*end) && cuts_from(usize::from(*end), count, rest)
+        }
+    }
+}
+
+/// Whether the numbers assign each literal to one of eight buckets.
+pub fn is_assignment(list: &LitList, numbers: &[u8]) -> bool
+    ensures { IsTrue result ↔ IsAssignment 8 (length list.now.texts) numbers.now }
+{
+    numbers.len() == list.len() && numbers.iter().all(|number| *number < 8)
+}
+
 /// What a cut costs: the sum of its runs' costs.
 pub fn cut_cost(list: &LitList, ends: &Ends) -> u64
     requires { IsCut 8 (length list.now.texts) ends.now.items }
@@ -101,3 +128,6 @@ fn bucket_cost(list: &LitList, numbers: &[u8], number: u8) -> u64
     }
     if count == 0 { 0 } else { cost(count, shortest) }
 }
+
+#[cfg(test)]
+mod tests;

@@ -1,0 +1,6 @@
+-- The ends get fewer.
+use Rattle.std.proofs.Common.{length}
+use Rattle.lit_base.proofs.costs.+cuts_from.Given as goal
+
+abbrev pub decreases-cuts_from : goal.decreases-cuts_from
+decreases-cuts_from l = length l.ends.now
