@@ -1,7 +1,7 @@
-ghost use Rattle.std.specs.Prelude.{◌≡◌, ℕ, ◌<◌, ◌≤◌, ◌^◌, length};
+ghost use Rattle.std.specs.Prelude.{◌≡◌, ℕ, ◌<◌, ◌≤◌, ◌^◌, ◌↔◌, length, IsTrue};
 ghost use Rattle.lit_base.specs.Literals.{lengths};
 ghost use Rattle.lit_base.specs.Costs.{weight, cost, group_cost, run_cost};
-ghost use Rattle.lit_base.specs.Cuts.{IsCut, cut_price};
+ghost use Rattle.lit_base.specs.Cuts.{CutsFrom, IsCut, cut_price};
 ghost use Rattle.lit_base.specs.Assignments.{IsAssignment, bucket, assign_price};
 
 use crate::lit_list::LitList;
@@ -54,6 +54,26 @@ fn run_cost(list: &LitList, start: usize, end: usize) -> u64
 {
     prove!(end <= list.len());
     cost(end - start, list.get(start).len())
+}
+
+/// Whether the ends are a cut of the literals: one to eight that strictly increase, the first at
+/// least 1, and the last the number of literals.
+pub fn is_cut(list: &LitList, ends: &Ends) -> bool
+    ensures { IsTrue result ↔ IsCut 8 (length list.now.texts) ends.now.items }
+{
+    0 < list.len() && cuts_from(0, list.len(), ends.as_slice())
+}
+
+/// Whether the ends cut the places from `start` up to `count` into runs.
+fn cuts_from(start: usize, count: usize, ends: &[u16]) -> bool
+    ensures { IsTrue result ↔ CutsFrom count start ends.now }
+{
+    match ends {
+        [] => start == count,
+        [end, rest @ ..] => {
+            start < usize::from(*end) && cuts_from(usize::from(*end), count, rest)
+        }
+    }
 }
 
 /// What a cut costs: the sum of its runs' costs.

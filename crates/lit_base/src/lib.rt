@@ -18,7 +18,7 @@ mod raw_list;
 mod std_device;
 mod transfer;
 
-pub use costs::{Ends, assign_cost, cost, cut_cost, weight};
+pub use costs::{Ends, assign_cost, cost, cut_cost, is_cut, weight};
 pub use cut_device::{CutIn, CutOut};
 pub use device::{ByteIn, ByteOut, Failed};
 pub use fault::Fault;

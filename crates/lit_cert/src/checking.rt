@@ -1,13 +1,14 @@
 ghost use Rattle.std.specs.Prelude.{◌≡◌, ◌+◌, ◌*◌, ◌<◌, ◌≤◌, ◌↔◌, length, IsTrue, IsOk, IsErrOf, OnOk, MatchOption, MatchResult};
 ghost use Rattle.lit_base.specs.Literals.{lengths};
-ghost use Rattle.lit_base.specs.Cuts.{CutsFrom, IsCut, NoCutBelow};
+ghost use Rattle.lit_base.specs.Cuts.{IsCut, NoCutBelow};
 ghost use Rattle.lit_base.specs.Assignments.{IsAssignment, NoAssignmentBelow, assign_price, assignment_of};
 ghost use Rattle.lit_cert.specs.Certified.{EndRowsHold, EndsHold, HasLength, HasTotal, IsCertified, IsFirstEnd, IsFirstEndRow, IsFirstFailure, IsFirstRun, IsFirstStep, IsFirstStepRow, IsPriced, RunsHold, StepRowsHold, StepsHold};
 ghost use Rattle.lit_cert.specs.declared.reason.Reason.{Reason};
 
 use crate::certificate::Certificate;
+use crate::dividing::row_holds;
 use crate::reason::Reason;
-use lit_base::{LitList, assignment_law, cost, cut_cost, least_law};
+use lit_base::{LitList, assignment_law, cost, cut_cost, is_cut, least_law};
 
 /// How many rows of potentials there are: one for each number of runs.
 const ROWS: usize = 8;
@@ -53,23 +54,13 @@ fn check_priced(list: &LitList, certificate: &Certificate) -> Result<(), Reason>
     if n == 0 || certificate.potentials.len() != ROWS * n {
         return Err(Reason::Length);
     }
-    if !cuts_from(0, n, certificate.ends.as_slice()) {
+    if !is_cut(list, &certificate.ends) {
         return Err(Reason::Ends);
     }
     if !has_total(list, certificate) {
         return Err(Reason::Total);
     }
     Ok(())
-}
-
-/// Whether the ends cut the places from `start` up to `n` into runs.
-fn cuts_from(start: usize, n: usize, ends: &[u16]) -> bool
-    ensures { IsTrue result ↔ CutsFrom n start ends.now }
-{
-    match ends {
-        [] => start == n,
-        [end, rest @ ..] => start < usize::from(*end) && cuts_from(usize::from(*end), n, rest),
-    }
 }
 
 /// Whether the price of the runs, the cost and `h(8, 0)` are one number.
@@ -135,7 +126,8 @@ fn first_end(list: &LitList, potentials: &[u64], r: usize) -> Option<usize>
 /// The first row r from 2 on, its first place p, and the first place q behind p, at which `h(r, p)`
 /// is above `c(p, q) + h(r - 1, q)`.
 fn first_step_row(list: &LitList, potentials: &[u64], most: usize) -> Option<(usize, usize, usize)>
-    requires { most * length list.now.texts ≤ length potentials.now }
+    requires within { most * length list.now.texts ≤ length potentials.now }
+    requires ends { EndRowsHold list.now potentials.now (most + 1) }
     ensures { MatchOption result
         (StepRowsHold list.now potentials.now (most + 1))
         (λ s. IsFirstStepRow most list.now potentials.now s.0 s.1 s.2) }
@@ -148,14 +140,19 @@ fn first_step_row(list: &LitList, potentials: &[u64], most: usize) -> Option<(us
     None
 }
 
-/// The first place p of row r, and the first place q behind it, at which that is so.
+/// The first place p of row r, and the first place q behind it, at which that is so. Where there is
+/// none it takes time n log n, else n^2.
 fn first_step(list: &LitList, potentials: &[u64], r: usize) -> Option<(usize, usize)>
     requires from_two { 2 ≤ r }
     requires within { r * length list.now.texts ≤ length potentials.now }
+    requires ends { EndRowsHold list.now potentials.now r }
     ensures { MatchOption result
         (StepsHold list.now potentials.now r (length list.now.texts))
         (λ s. IsFirstStep list.now potentials.now r s.0 s.1) }
 {
+    if row_holds(list, potentials, r) {
+        return None;
+    }
     for p in 0..list.len() {
         if let Some(q) = first_run(list, potentials, r, p) {
             return Some((p, q));

@@ -3,6 +3,7 @@
 
 mod certificate;
 mod checking;
+mod dividing;
 mod fault;
 mod reason;
 
