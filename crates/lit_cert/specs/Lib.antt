@@ -1,2 +1,4 @@
 pub mod Certificates
+pub mod Certified
 pub mod Faults
+pub mod Steps
