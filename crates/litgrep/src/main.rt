@@ -1,0 +1,16 @@
+//! `litgrep`: the lines that contain one of many literals. POSIX.1-2017 `grep` with -F, in the POSIX locale.
+#![tactic(auto)]
+
+mod fault;
+mod options;
+mod words;
+
+use std::io;
+
+fn main(rt: HostRuntime) -> io::Result<()> {
+    let words: Vec<String> = std::env::args(&rt)?.collect(rt.alloc())?;
+    match words::options(rt.alloc(), words.as_slice()) {
+        Ok(o) => println!(rt; "{o:?}"),
+        Err(e) => eprint!(rt; "{e}"),
+    }
+}
