@@ -2,6 +2,7 @@
 #![tactic(auto)]
 
 mod fault;
+mod opener;
 mod options;
 mod words;
 
