@@ -1,2 +1,4 @@
+pub mod Grep
 pub mod Options
+pub mod Patterns
 pub mod Sources

@@ -1,9 +1,13 @@
 //! `litgrep`: the lines that contain one of many literals. POSIX.1-2017 `grep` with -F, in the POSIX locale.
 #![tactic(auto)]
 
+mod ending;
 mod fault;
+mod matching;
 mod opener;
 mod options;
+mod patterns;
+mod status;
 mod words;
 
 use std::io;

@@ -1,0 +1,2 @@
+pub mod EndedLines
+pub mod PlainMatches

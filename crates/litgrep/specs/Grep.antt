@@ -1,0 +1,112 @@
+-- What grep writes and answers, for options and sources. POSIX.1-2017 `grep`: STDOUT, STDERR, EXIT STATUS and CONSEQUENCES OF ERRORS.
+use Rattle.std.specs.Prelude.{◌≡◌, ℕ, Bool, true, false, not, List, [], ◌∷◌, ◌++◌, map, length, flat_map, nat_lt, if◌then◌else◌, Option, Some, None, codes, decimal, string_bytes}
+use Rattle.lit_base.specs.declared.fold.Fold.TheVariants.{No}
+use Rattle.lit_base.specs.declared.fault.Fault.{Fault}
+use Rattle.lit_base.specs.Faults.{number_of}
+use Rattle.lit_base.specs.Lines.{lines, pieces}
+use Rattle.lit_base.specs.Selected.{selected}
+use Rattle.litgrep.specs.declared.options.GrepOptions.{GrepOptions}
+use Rattle.litgrep.specs.declared.status.Status.{Status}
+use Rattle.litgrep.specs.declared.status.Status.TheVariants.{Selected, NoneSelected, Trouble}
+use Rattle.litgrep.specs.Patterns.{lists_refusal, patterns_in}
+use Rattle.litgrep.specs.Sources.{Content, Sources, after_standard, content_of}
+
+-- what grep writes, whether a line was selected, whether there was an error, and what it leaves of its sources
+pub record Answer : Type 0 where
+  pub output : List ℕ
+  pub messages : List ℕ
+  pub has_selected : Bool
+  pub has_error : Bool
+  pub left : Sources
+
+-- 0 where a line was selected, 1 where none was, 2 at an error
+abbrev pub status_of : Answer → Status
+status_of a = if a.has_error then Trouble else if a.has_selected then Selected else NoneSelected
+
+-- a message: a line behind the program's name
+abbrev pub message : List ℕ → List ℕ
+message text = codes "litgrep: " ++ text ++ codes "\n"
+
+-- of a file that cannot be opened or read
+abbrev pub unreadable : List ℕ → List ℕ
+unreadable name = message (name ++ codes ": cannot be read")
+
+-- of patterns that are refused
+abbrev pub patterns_refused : Fault → List ℕ
+patterns_refused fault = message (codes "patterns refused (" ++ decimal (number_of fault) ++ codes ")")
+
+-- of want of memory
+abbrev pub out_of_memory : List ℕ
+out_of_memory = message (codes "out of memory")
+
+-- the name of standard input
+abbrev pub standard_name : List ℕ
+standard_name = codes "(standard input)"
+
+-- pieces without the last one
+abbrev pub without_last : List (List ℕ) → List (List ℕ)
+without_last [] = []
+without_last (p ∷ []) = []
+without_last (p ∷ q ∷ more) = p ∷ without_last (q ∷ more)
+
+-- the lines that a newline ended
+unfoldable pub ended_lines : List ℕ → List (List ℕ)
+ended_lines text = without_last (pieces text)
+
+-- the lines of a content: before a fault those alone that a newline ended
+abbrev pub lines_of : Content → List (List ℕ)
+lines_of c = if c.is_faulty then ended_lines c.text else lines c.text
+
+-- the patterns that the options give
+abbrev pub lists_of : GrepOptions → List (List ℕ)
+lists_of o = map string_bytes o.lists.items
+
+-- the lines of a content that the options select
+abbrev pub selected_of : GrepOptions → Content → List (List ℕ)
+selected_of o c = selected o.fold o.whole o.invert (patterns_in (lists_of o)) (lines_of c)
+
+-- lines as they are written, each with a newline
+abbrev pub written : List (List ℕ) → List ℕ
+written = flat_map (λ line. line ++ 10 ∷ [])
+
+-- of one content: its selected lines, and a message at its fault
+abbrev pub answer_of : GrepOptions → List ℕ → Content → Sources → Answer
+answer_of o name c s = record {
+  output = written (selected_of o c);
+  messages = if c.is_faulty then unreadable name else [];
+  has_selected = nat_lt 0 (length (selected_of o c));
+  has_error = c.is_faulty;
+  left = s;
+}
+
+-- where the patterns are refused: a message alone, and nothing is read
+abbrev pub refused_with : Fault → Sources → Answer
+refused_with fault s = record {
+  output = [];
+  messages = patterns_refused fault;
+  has_selected = false;
+  has_error = true;
+  left = s;
+}
+
+-- grep, for options without a file to search: standard input alone is read
+abbrev pub grep_from : Option Fault → GrepOptions → Sources → Answer
+grep_from (Some fault) o s = refused_with fault s
+grep_from None o s = answer_of o standard_name (content_of s.standard) (after_standard s)
+
+abbrev pub grep : GrepOptions → Sources → Answer
+grep o s = grep_from (lists_refusal [] (lists_of o)) o s
+
+-- options of the kind that is served so far: one pattern list, and nothing else
+pub record IsPlain (o : GrepOptions) : Type 0 where
+  pub fold : o.fold ≡ No
+  pub invert : o.invert ≡ false
+  pub whole : o.whole ≡ false
+  pub count : o.count ≡ false
+  pub list : o.list ≡ false
+  pub number : o.number ≡ false
+  pub quiet : o.quiet ≡ false
+  pub silent : o.silent ≡ false
+  pub one_list : length o.lists.items ≡ 1
+  pub no_file : o.files.items ≡ []
+  pub no_operand : o.operands.items ≡ []
