@@ -1,2 +1,5 @@
+pub mod AnswerLemmas
 pub mod EndedLines
+pub mod FrontLemmas
 pub mod PlainMatches
+pub mod RunLemmas

@@ -11,33 +11,28 @@ use Rattle.litgrep.specs.declared.status.Status.TheVariants.{Selected, NoneSelec
 use Rattle.litgrep.specs.Patterns.{lists_refusal, patterns_in}
 use Rattle.litgrep.specs.Sources.{Content, Sources, after_standard, content_of}
 
--- what grep writes, whether a line was selected, whether there was an error, and what it leaves of its sources
+-- what grep writes, whether a line was selected, and whether there was an error
 pub record Answer : Type 0 where
   pub output : List ℕ
   pub messages : List ℕ
   pub has_selected : Bool
   pub has_error : Bool
-  pub left : Sources
 
--- 0 where a line was selected, 1 where none was, 2 at an error
+-- 2 at an error, else 0 where a line was selected and 1 where none was
 abbrev pub status_of : Answer → Status
 status_of a = if a.has_error then Trouble else if a.has_selected then Selected else NoneSelected
 
--- a message: a line behind the program's name
-abbrev pub message : List ℕ → List ℕ
-message text = codes "litgrep: " ++ text ++ codes "\n"
-
--- of a file that cannot be opened or read
+-- the message on a file that cannot be opened or read
 abbrev pub unreadable : List ℕ → List ℕ
-unreadable name = message (name ++ codes ": cannot be read")
+unreadable name = codes "litgrep: " ++ (name ++ codes ": cannot be read\n")
 
--- of patterns that are refused
+-- the message on patterns that are refused
 abbrev pub patterns_refused : Fault → List ℕ
-patterns_refused fault = message (codes "patterns refused (" ++ decimal (number_of fault) ++ codes ")")
+patterns_refused fault = codes "litgrep: patterns refused (" ++ (decimal (number_of fault) ++ codes ")\n")
 
--- of want of memory
+-- the message on want of memory
 abbrev pub out_of_memory : List ℕ
-out_of_memory = message (codes "out of memory")
+out_of_memory = codes "litgrep: out of memory\n"
 
 -- the name of standard input
 abbrev pub standard_name : List ℕ
@@ -57,45 +52,56 @@ ended_lines text = without_last (pieces text)
 abbrev pub lines_of : Content → List (List ℕ)
 lines_of c = if c.is_faulty then ended_lines c.text else lines c.text
 
--- the patterns that the options give
+-- the pattern lists of the options
 abbrev pub lists_of : GrepOptions → List (List ℕ)
 lists_of o = map string_bytes o.lists.items
 
--- the lines of a content that the options select
-abbrev pub selected_of : GrepOptions → Content → List (List ℕ)
-selected_of o c = selected o.fold o.whole o.invert (patterns_in (lists_of o)) (lines_of c)
+-- which of some lines the options select
+abbrev pub selection_of : GrepOptions → List (List ℕ) → List (List ℕ)
+selection_of o = selected o.fold o.whole o.invert (patterns_in (lists_of o))
 
 -- lines as they are written, each with a newline
 abbrev pub written : List (List ℕ) → List ℕ
 written = flat_map (λ line. line ++ 10 ∷ [])
 
--- of one content: its selected lines, and a message at its fault
-abbrev pub answer_of : GrepOptions → List ℕ → Content → Sources → Answer
-answer_of o name c s = record {
-  output = written (selected_of o c);
+-- there is a line
+abbrev pub has_any : List (List ℕ) → Bool
+has_any selection = nat_lt 0 (length selection)
+
+-- of one content under a name: its selected lines, and a message at its fault
+abbrev pub answer_of : (List (List ℕ) → List (List ℕ)) → List ℕ → Content → Answer
+answer_of select name c = record {
+  output = written (select (lines_of c));
   messages = if c.is_faulty then unreadable name else [];
-  has_selected = nat_lt 0 (length (selected_of o c));
+  has_selected = has_any (select (lines_of c));
   has_error = c.is_faulty;
-  left = s;
 }
 
--- where the patterns are refused: a message alone, and nothing is read
-abbrev pub refused_with : Fault → Sources → Answer
-refused_with fault s = record {
+-- where the patterns are refused: a message alone
+abbrev pub refused_with : Fault → Answer
+refused_with fault = record {
   output = [];
   messages = patterns_refused fault;
   has_selected = false;
   has_error = true;
-  left = s;
 }
 
--- grep, for options without a file to search: standard input alone is read
-abbrev pub grep_from : Option Fault → GrepOptions → Sources → Answer
-grep_from (Some fault) o s = refused_with fault s
-grep_from None o s = answer_of o standard_name (content_of s.standard) (after_standard s)
+-- the patterns are refused, or else standard input is searched
+abbrev pub answer_where : Option Fault → GrepOptions → Sources → Answer
+answer_where (Some fault) o s = refused_with fault
+answer_where None o s = answer_of (selection_of o) standard_name (content_of s.standard)
 
+-- grep, for options that name no file to search
 abbrev pub grep : GrepOptions → Sources → Answer
-grep o s = grep_from (lists_refusal [] (lists_of o)) o s
+grep o s = answer_where (lists_refusal [] (lists_of o)) o s
+
+-- the sources that it leaves: it asks for standard input, unless the patterns are refused
+abbrev pub left_where : Option Fault → Sources → Sources
+left_where (Some fault) s = s
+left_where None s = after_standard s
+
+abbrev pub left_of : GrepOptions → Sources → Sources
+left_of o s = left_where (lists_refusal [] (lists_of o)) s
 
 -- options of the kind that is served so far: one pattern list, and nothing else
 pub record IsPlain (o : GrepOptions) : Type 0 where

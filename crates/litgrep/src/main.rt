@@ -1,12 +1,16 @@
 //! `litgrep`: the lines that contain one of many literals. POSIX.1-2017 `grep` with -F, in the POSIX locale.
 #![tactic(auto)]
 
+mod buffer;
 mod ending;
 mod fault;
 mod matching;
+mod message;
 mod opener;
 mod options;
 mod patterns;
+mod reading;
+mod running;
 mod status;
 mod words;
 

@@ -1,4 +1,9 @@
 //! How a run of grep ends.
+ghost use Rattle.std.specs.Prelude.{◌≡◌};
+ghost use Rattle.litgrep.specs.declared.status.Stop.TheVariants.{OutOfMemory, WriteFault};
+
+use lit_base::Failed;
+use std::alloc::{AllocError, AllocFailed};
 
 /// How a run of grep ends. POSIX.1-2017 `grep`, EXIT STATUS.
 #[derive(Clone, Copy, Debug, PartialEq, Eq)]
@@ -18,4 +23,28 @@ pub enum Stop {
     WriteFault,
     /// A growth was refused.
     OutOfMemory,
+}
+
+impl From<Failed> for Stop {
+    ghost from_gives = { λ _ e. e ≡ WriteFault };
+
+    fn from(_error: Failed) -> Stop {
+        Stop::WriteFault
+    }
+}
+
+impl From<AllocError> for Stop {
+    ghost from_gives = { λ _ e. e ≡ OutOfMemory };
+
+    fn from(_error: AllocError) -> Stop {
+        Stop::OutOfMemory
+    }
+}
+
+impl<T: Drop> From<AllocFailed<T>> for Stop {
+    ghost from_gives = { λ _ e. e ≡ OutOfMemory };
+
+    fn from(_error: AllocFailed<T>) -> Stop {
+        Stop::OutOfMemory
+    }
 }
