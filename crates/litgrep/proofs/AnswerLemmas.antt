@@ -1,5 +1,5 @@
 -- The answer to a content: what holds of it where it is whole, and where it stopped.
-use Rattle.std.proofs.Common.{◌≡◌, ℕ, Bool, true, false, cond, List, [], Option, refl, sym, ap, ◌∙◌, subst}
+use Rattle.std.proofs.Common.{◌≡◌, ℕ, Bool, true, false, cond, List, [], ◌∷◌, All, Option, None, Some, IfSome, refl, sym, ap, ◌∙◌, subst, lit<, arith}
 use Rattle.std.specs.Io.KnownBytes.{Appends}
 use Rattle.std.proofs.KnownBytes.{Appends-nil}
 use Rattle.lit_base.specs.Lines.{lines}
@@ -9,7 +9,8 @@ use Rattle.litgrep.specs.Fronts.{AppendsFront}
 use Rattle.litgrep.specs.Grep.{Answer, answer_of, lines_of, unreadable, written}
 use Rattle.litgrep.specs.Reading.{IsReadOf}
 use Rattle.litgrep.specs.Running.{IsAnswered, IsStopped}
-use Rattle.litgrep.specs.Sources.{Content}
+use Rattle.lit_base.specs.Devices.{Coming}
+use Rattle.litgrep.specs.Sources.{AreShort, Content, IsShort, Sources, coming_of, content_of}
 use Rattle.litgrep.proofs.FrontLemmas.{AppendsFront-none, AppendsFront-all}
 
 -- where nothing was written, the run stopped before its first write
@@ -51,3 +52,14 @@ IsAnswered-faulty select name {c} text {out_old} {out_new} {err_old} {err_new} e
   messages = subst (Appends err_old err_new) (same_messages select name r faulty) q;
   answer = sym (ap (λ b. cond b Trouble (cond (answer_of select name c).has_selected Selected NoneSelected)) (sym r.faulty ∙ faulty));
 }
+
+-- the content of an ask is short where all are
+short-content : (contents : List Content) → All IsShort contents → IsShort (content_of contents)
+short-content [] h = lit< tt
+short-content (d ∷ rest) h = h 0 d (omega arith)
+
+-- what holds of the content that standard input tells holds of what the opener tells of it
+pub of-standard : (known : Option Sources) (coming : Option Coming) (Q : Content → Type 0) → IfSome known (λ s. coming ≡ Some (coming_of (content_of s.standard)))
+    → ((d : Content) → coming ≡ Some (coming_of d) → IsShort d → Q d) → IfSome known (λ s. AreShort s → Q (content_of s.standard))
+of-standard None coming Q gives h = tt
+of-standard (Some s) coming Q gives h = λ short. h (content_of s.standard) gives (short-content s.standard short.standard)

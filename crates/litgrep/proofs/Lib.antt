@@ -3,3 +3,4 @@ pub mod EndedLines
 pub mod FrontLemmas
 pub mod PlainMatches
 pub mod RunLemmas
+pub mod StopLemmas

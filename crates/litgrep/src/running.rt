@@ -1,14 +1,14 @@
 //! A run of grep.
-ghost use Rattle.std.specs.Prelude.{◌≡◌, ◌||◌, IfOk, IfSome, OnErr, OnOk, Some, false, if◌then◌else◌};
+ghost use Rattle.std.specs.Prelude.{◌≡◌, ◌≢◌, ◌||◌, [], IfOk, IfSome, OnErr, OnOk, Some, false, if◌then◌else◌};
 ghost use Rattle.std.specs.Io.KnownBytes.{Appends};
 ghost use Rattle.lit_base.specs.Devices.{Told};
 ghost use Rattle.lit_base.specs.Lines.{lines};
 ghost use Rattle.lit_base.specs.Selected.{selected};
 ghost use Rattle.lit_base.specs.declared.fold.Fold.TheVariants.{No};
 ghost use Rattle.litgrep.specs.Fronts.{AppendsFront, is_write_fault};
-ghost use Rattle.litgrep.specs.Grep.{IsPlain, answer_of, grep, has_any, standard_name, written};
+ghost use Rattle.litgrep.specs.Grep.{IsPlain, answer_of, grep, has_any, patterns_refused, standard_name, written};
 ghost use Rattle.litgrep.specs.Running.{AsksAsFar, Ends, IsAnswered, IsStopped};
-ghost use Rattle.litgrep.specs.Sources.{AreShort, Content, IsShort, coming_of};
+ghost use Rattle.litgrep.specs.Sources.{AreShort, Content, IsShort, after_standard, coming_of, content_of};
 
 use crate::buffer::LineBuffer;
 use crate::matching::is_match;
@@ -74,16 +74,51 @@ pub fn answer<O: Opener, W: ByteOut, E: ByteOut>(
         ≡ (W.has_failed out.old || E.has_failed err.old || is_write_fault result) }
 {
     match gathered(alloc, options.lists.as_slice()) {
-        Ok(patterns) => search(alloc, &patterns, &mut opener.standard_input(), out, err),
-        Err(Fault::OutOfMemory) => Err(Stop::OutOfMemory),
-        Err(fault) => {
+        Ok(patterns) => search_standard(alloc, &patterns, opener, out, err),
+        Err(fault) => refuse(alloc, fault, err),
+    }
+}
+
+// Says why the patterns are refused, unless it is want of memory.
+fn refuse<E: ByteOut>(alloc: Global, fault: Fault, err: &mut E) -> Result<Status, Stop>
+    ensures ok { IfOk result (λ status. (status ≡ Status.Trouble) × (fault ≢ Fault.OutOfMemory)) }
+    ensures told { OnOk result (Appends (E.written err.old) (E.written err.new) (patterns_refused fault)) }
+    ensures stopped { OnErr result (AppendsFront (E.written err.old) (E.written err.new) (patterns_refused fault)) }
+    ensures untold { fault ≡ Fault.OutOfMemory → Appends (E.written err.old) (E.written err.new) [] }
+    ensures flag { E.has_failed err.new ≡ (E.has_failed err.old || is_write_fault result) }
+{
+    match fault {
+        Fault::OutOfMemory => Err(Stop::OutOfMemory),
+        _ => {
             say_refused(alloc, fault, err)?;
             Ok(Status::Trouble)
         }
     }
 }
 
-// Searches standard input.
+// Asks for standard input, and searches it.
+fn search_standard<O: Opener, W: ByteOut, E: ByteOut>(
+    alloc: Global,
+    patterns: &RawList,
+    opener: &mut O,
+    out: &mut W,
+    err: &mut E,
+) -> Result<Status, Stop>
+    ensures ok { IfOk result (λ status. IfSome (O.sources opener.old) (λ s. AreShort s
+        → IsAnswered (answer_of (selected No false false patterns.now) standard_name (content_of s.standard)) status
+        (W.written out.old) (W.written out.new) (E.written err.old) (E.written err.new))) }
+    ensures stopped { OnErr result (IfSome (O.sources opener.old) (λ s. AreShort s
+        → IsStopped (answer_of (selected No false false patterns.now) standard_name (content_of s.standard))
+        (W.written out.old) (W.written out.new) (E.written err.old) (E.written err.new))) }
+    ensures takes { Told (O.sources opener.old) (O.sources opener.new) (λ s left. left ≡ after_standard s) }
+    ensures flag { (W.has_failed out.new || E.has_failed err.new)
+        ≡ (W.has_failed out.old || E.has_failed err.old || is_write_fault result) }
+{
+    let mut input = opener.standard_input();
+    search(alloc, patterns, &mut input, out, err)
+}
+
+// Searches one input, which messages call standard input.
 fn search<I: ByteIn, W: ByteOut, E: ByteOut>(
     alloc: Global,
     patterns: &RawList,

@@ -13,7 +13,7 @@ loop-line-preserved-then-is_match g c =
       progress = Progress-taken _ c.in-Some.line.now c.next.new.self.rest.now c.push.new.self c.loop-line.invariant.progress c.in-Some.ensures.steps (sym c.is_match.ensures ∙ c.if-is_match.true) c.in_ok-push.ensures.ok;
       flag = search rules;
       can_next = tt;
-      is_finite = tt
+      is_finite = tt;
     }
 
 pub returns-in_err-flush-clause-stopped : goal.returns-in_err-flush-clause-stopped

@@ -8,5 +8,5 @@ invariant-loop-line g l = record {
   progress : Progress l.patterns l.text l.line-iterator.rest.now l.buffer l.is_any (g.W.ByteOut.written l.fn.out) (g.W.ByteOut.written l.out);
   flag : g.W.ByteOut.has_failed l.out ≡ g.W.ByteOut.has_failed l.fn.out;
   can_next : (goal.iterator-loop-line g).can_next l.line-iterator;
-  is_finite : (goal.iterator-loop-line g).is_finite l.line-iterator
+  is_finite : (goal.iterator-loop-line g).is_finite l.line-iterator;
 }
