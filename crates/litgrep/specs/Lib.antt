@@ -5,3 +5,4 @@ pub mod Patterns
 pub mod Reading
 pub mod Running
 pub mod Sources
+pub mod Statuses

@@ -1,25 +1,27 @@
-//! `litgrep`: the lines that contain one of many literals. POSIX.1-2017 `grep` with -F, in the POSIX locale.
+//! `litgrep`: the lines that contain one of many literals. POSIX.1-2017 `grep` with -F, in the POSIX
+//! locale.
 #![tactic(auto)]
 
 mod buffer;
 mod ending;
 mod fault;
+mod files;
 mod matching;
 mod message;
 mod opener;
 mod options;
 mod patterns;
+mod program;
 mod reading;
 mod running;
 mod status;
 mod words;
 
-use std::io;
+use lit_base::ToWrite;
+use std::process::ExitCode;
 
-fn main(rt: HostRuntime) -> io::Result<()> {
-    let words: Vec<String> = std::env::args(&rt)?.collect(rt.alloc())?;
-    match words::options(rt.alloc(), words.as_slice()) {
-        Ok(o) => println!(rt; "{o:?}"),
-        Err(e) => eprint!(rt; "{e}"),
-    }
+fn main(rt: HostRuntime) -> ExitCode {
+    let mut out = ToWrite::new(rt.stdout());
+    let mut err = ToWrite::new(rt.stderr());
+    ExitCode::from(program::serve(&rt, &mut out, &mut err).code())
 }

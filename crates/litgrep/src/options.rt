@@ -1,5 +1,5 @@
 //! What the command line asks for. POSIX.1-2017 `grep`, OPTIONS and OPERANDS.
-ghost use Rattle.std.specs.Prelude.{◌≡◌, IfErr, IfOk, OnOk, codes, if◌then◌else◌, map, string_bytes, true};
+ghost use Rattle.std.specs.Prelude.{◌≡◌, ◌↔◌, IsTrue, IfErr, IfOk, OnOk, codes, if◌then◌else◌, map, string_bytes, true};
 ghost use Rattle.lit_base.specs.declared.fold.Fold.TheVariants.{Ascii, No};
 ghost use Rattle.litgrep.specs.Options.{IsNoPattern, IsOptionsOf, IsRefusalOf, Tells, gives_pattern, is_used, texts, texts_of};
 
@@ -33,6 +33,28 @@ pub struct GrepOptions {
     pub files: Vec<String>,
     /// The files to search.
     pub operands: Vec<String>,
+}
+
+impl GrepOptions {
+    ghost use Rattle.litgrep.specs.Grep.{IsPlain};
+
+    /// Whether the options are of the kind that is served so far: one pattern list, and nothing else.
+    pub fn is_plain(&self) -> bool
+        ensures { IsTrue result ↔ IsPlain self.now }
+    {
+        let has_flag = self.invert
+            || self.whole
+            || self.count
+            || self.list
+            || self.number
+            || self.quiet
+            || self.silent;
+        matches!(self.fold, Fold::No)
+            && !has_flag
+            && self.lists.len() == 1
+            && self.files.is_empty()
+            && self.operands.is_empty()
+    }
 }
 
 /// The options that clap's matches tell, each under the name of its field as id.

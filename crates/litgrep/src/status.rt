@@ -1,5 +1,6 @@
 //! How a run of grep ends.
 ghost use Rattle.std.specs.Prelude.{◌≡◌};
+ghost use Rattle.litgrep.specs.Statuses.{code_of};
 ghost use Rattle.litgrep.specs.declared.status.Stop.TheVariants.{OutOfMemory, WriteFault};
 
 use lit_base::Failed;
@@ -14,6 +15,19 @@ pub enum Status {
     NoneSelected,
     /// There was an error: 2.
     Trouble,
+}
+
+impl Status {
+    /// The status that the program exits with.
+    pub fn code(self) -> u8
+        ensures { result ≡ code_of self }
+    {
+        match self {
+            Status::Selected => 0,
+            Status::NoneSelected => 1,
+            Status::Trouble => 2,
+        }
+    }
 }
 
 /// Why a run stops before its end.
