@@ -25,3 +25,6 @@ fn main(rt: HostRuntime) -> ExitCode {
     let mut err = ToWrite::new(rt.stderr());
     ExitCode::from(program::serve(&rt, &mut out, &mut err).code())
 }
+
+#[cfg(test)]
+mod tests;
