@@ -1,0 +1,55 @@
+//! The files and the standard input of the system.
+use crate::opener::{Missing, Opener};
+use lit_base::FromRead;
+use std::fs::File;
+use std::io;
+use std::io::{Input, Read};
+use std::rt::Files;
+
+/// A file or standard input, as one reader.
+#[derive(Drop)]
+pub enum FileOrInput<F: Drop, S: Drop> {
+    File(F),
+    Input(S),
+}
+
+impl<F: Read + Drop, S: Read + Drop> Read for FileOrInput<F, S> {
+    fn read(&mut self, buf: &mut [u8]) -> io::Result<usize> {
+        match self {
+            FileOrInput::File(file) => file.read(buf),
+            FileOrInput::Input(input) => input.read(buf),
+        }
+    }
+}
+
+/// Opens the files of the system, for reading alone, and its standard input. It tells nothing of
+/// what they hold.
+#[derive(Drop)]
+pub struct SystemOpener<'a, R> {
+    rt: &'a R,
+}
+
+impl<'a, R: Files + Input> SystemOpener<'a, R> {
+    pub fn new(rt: &'a R) -> SystemOpener<'a, R> {
+        SystemOpener { rt }
+    }
+}
+
+impl<'a, R: Files + Input> Opener for SystemOpener<'a, R> {
+    type Input = FromRead<FileOrInput<R::File, R::Reader>>;
+
+    ghost use Rattle.std.specs.Prelude.{None};
+
+    ghost sources = { λ _. None };
+
+    fn open_named(&mut self, name: &str) -> Result<Self::Input, Missing> {
+        match File::open(self.rt, name) {
+            Ok(file) => Ok(FromRead::new(FileOrInput::File(file))),
+            Err(_) => Err(Missing),
+        }
+    }
+
+    fn standard_input(&mut self) -> Self::Input {
+        FromRead::new(FileOrInput::Input(self.rt.reader()))
+    }
+}

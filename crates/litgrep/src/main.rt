@@ -1,0 +1,30 @@
+//! `litgrep`: the lines that contain one of many literals. POSIX.1-2017 `grep` with -F, in the POSIX
+//! locale.
+#![tactic(auto)]
+
+mod buffer;
+mod ending;
+mod fault;
+mod files;
+mod matching;
+mod message;
+mod opener;
+mod options;
+mod patterns;
+mod program;
+mod reading;
+mod running;
+mod status;
+mod words;
+
+use lit_base::ToWrite;
+use std::process::ExitCode;
+
+fn main(rt: HostRuntime) -> ExitCode {
+    let mut out = ToWrite::new(rt.stdout());
+    let mut err = ToWrite::new(rt.stderr());
+    ExitCode::from(program::serve(&rt, &mut out, &mut err).code())
+}
+
+#[cfg(test)]
+mod tests;

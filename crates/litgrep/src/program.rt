@@ -1,0 +1,51 @@
+//! The program: words in, a status out.
+ghost use Rattle.std.specs.Prelude.{◌≡◌};
+
+use crate::fault::Fault;
+use crate::files::SystemOpener;
+use crate::message::{say_out_of_memory, write_whole};
+use crate::running::run;
+use crate::status::{Status, Stop};
+use crate::words::{options, words};
+use lit_base::ByteOut;
+use std::io::Input;
+use std::rt::{Env, Files};
+
+/// Serves the words of the command line, and answers how the program ends.
+pub fn serve<R: Env + Files + Input + AllocGlobal, W: ByteOut, E: ByteOut>(
+    rt: &R,
+    out: &mut W,
+    err: &mut E,
+) -> Status {
+    match words(rt) {
+        Ok(words) => serve_words(rt, words.as_slice(), out, err),
+        Err(fault) => refuse(&fault, err),
+    }
+}
+
+fn serve_words<R: Files + Input + AllocGlobal, W: ByteOut, E: ByteOut>(
+    rt: &R,
+    words: &[String],
+    out: &mut W,
+    err: &mut E,
+) -> Status {
+    match options(rt.alloc(), words) {
+        Ok(options) => run(rt.alloc(), &options, &mut SystemOpener::new(rt), out, err),
+        Err(fault) => refuse(&fault, err),
+    }
+}
+
+// Says what is wrong with the words. Where that cannot be written, the status alone tells it.
+fn refuse<E: ByteOut>(fault: &Fault, err: &mut E) -> Status
+    ensures { result ≡ Status.Trouble }
+{
+    let _ = say_fault(fault, err);
+    Status::Trouble
+}
+
+fn say_fault<E: ByteOut>(fault: &Fault, err: &mut E) -> Result<(), Stop> {
+    match fault {
+        Fault::Usage { text } => write_whole(text.as_bytes(), err),
+        Fault::OutOfMemory => say_out_of_memory(err),
+    }
+}
