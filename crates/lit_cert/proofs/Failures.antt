@@ -1,11 +1,11 @@
 -- Which condition fails first: there is one answer, and none where the certificate holds.
-use Rattle.std.proofs.Common.{◌≡◌, ℕ, suc, ◌+◌, ◌-◌, ◌<◌, ◌≤◌, ◌↔◌, inl, inr, List, length, refl, sym, ap, ◌∙◌, subst, arith, Result, Ok, Err}
+use Rattle.std.proofs.Common.{◌≡◌, ℕ, ◌+◌, ◌<◌, ◌≤◌, ◌↔◌, inl, inr, List, length, refl, sym, ap, ◌∙◌, subst, arith, Result, Ok, Err}
 use Rattle.std.specs.Prelude.{IsOk, IsErrAnd, IsErrOf, MatchResult}
 use Rattle.std.proofs.lemmas.Bool.{cases_order, cases_lt, false≢true}
 use Rattle.lit_base.specs.Literals.{Literals}
 use Rattle.lit_base.specs.Potentials.{BoundsBelow}
 use Rattle.lit_cert.specs.Certificates.{CertificateParts}
-use Rattle.lit_cert.specs.Certified.{cost_of, potential_of, EndRowsHold, EndsHold, HasLength, HasTotal, IsCertified, IsFirstEnd, IsFirstEndRow, IsFirstFailure, IsFirstRun, IsFirstStep, IsFirstStepRow, IsPriced, RunsHold, StepRowsHold, StepsHold, FailsAtEnd, FailsAtStep}
+use Rattle.lit_cert.specs.Certified.{cost_of, potential_of, EndRowsHold, IsCertified, IsFirstEnd, IsFirstEndRow, IsFirstFailure, IsFirstRun, IsFirstStep, IsFirstStepRow, StepRowsHold}
 use Rattle.lit_cert.specs.declared.reason.Reason.{Reason}
 use Rattle.lit_cert.specs.declared.reason.Reason.TheVariants.{Length, Ends, Total, EndRow, Step}
 
@@ -13,8 +13,8 @@ use Rattle.lit_cert.specs.declared.reason.Reason.TheVariants.{Length, Ends, Tota
 pub rows_more : (P : ℕ → Type 0) (a i : ℕ) → ((s : ℕ) → a ≤ s → s < i → P s) → P i → (s : ℕ) → a ≤ s → s < i + 1 → P s
 rows_more P a i rows here s low high =
     elim (cases_lt s i) [
-      inl before ↦ rows s low before
-    | inr last ↦ let at : i ≡ s = omega arith in subst P at here
+      | inl before ↦ rows s low before
+      | inr last ↦ let at : i ≡ s = omega arith in subst P at here
     ]
 
 -- where all end rows and all steps hold, the potentials bound from below
@@ -52,10 +52,10 @@ certified_or_fails most l c (Step r p q) holds fails =
 same_end_place : (l : Literals) (hs : List ℕ) (r p o : ℕ) → IsFirstEnd l hs r p → IsFirstEnd l hs r o → p ≡ o
 same_end_place l hs r p o first second =
     elim (cases_order p o) [
-      inl same ↦ same
-    | inr apart ↦ elim apart [
-        inl earlier ↦ absurd (omega (arith, second.places p earlier, first.above))
-      | inr later ↦ absurd (omega (arith, first.places o later, second.above))
+      | inl same ↦ same
+      | inr apart ↦ elim apart [
+        | inl earlier ↦ absurd (omega (arith, second.places p earlier, first.above))
+        | inr later ↦ absurd (omega (arith, first.places o later, second.above))
       ]
     ]
 
@@ -63,10 +63,10 @@ same_end_place l hs r p o first second =
 same_run : (l : Literals) (hs : List ℕ) (r p q k : ℕ) → IsFirstRun l hs r p q → IsFirstRun l hs r p k → q ≡ k
 same_run l hs r p q k first second =
     elim (cases_order q k) [
-      inl same ↦ same
-    | inr apart ↦ elim apart [
-        inl earlier ↦ absurd (omega (arith, second.runs q first.some earlier, first.above))
-      | inr later ↦ absurd (omega (arith, first.runs k second.some later, second.above))
+      | inl same ↦ same
+      | inr apart ↦ elim apart [
+        | inl earlier ↦ absurd (omega (arith, second.runs q first.some earlier, first.above))
+        | inr later ↦ absurd (omega (arith, first.runs k second.some later, second.above))
       ]
     ]
 
@@ -74,10 +74,10 @@ same_run l hs r p q k first second =
 same_step_place : (l : Literals) (hs : List ℕ) (r p q o k : ℕ) → IsFirstStep l hs r p q → IsFirstStep l hs r o k → p ≡ o
 same_step_place l hs r p q o k first second =
     elim (cases_order p o) [
-      inl same ↦ same
-    | inr apart ↦ elim apart [
-        inl earlier ↦ absurd (omega (arith, second.places p earlier q first.here.some first.here.inner, first.here.above))
-      | inr later ↦ absurd (omega (arith, first.places o later k second.here.some second.here.inner, second.here.above))
+      | inl same ↦ same
+      | inr apart ↦ elim apart [
+        | inl earlier ↦ absurd (omega (arith, second.places p earlier q first.here.some first.here.inner, first.here.above))
+        | inr later ↦ absurd (omega (arith, first.places o later k second.here.some second.here.inner, second.here.above))
       ]
     ]
 
@@ -85,12 +85,12 @@ same_step_place l hs r p q o k first second =
 same_end : (most : ℕ) (l : Literals) (c : CertificateParts) (r p s o : ℕ) → IsFirstEndRow most l c.potentials r p → IsFirstEndRow most l c.potentials s o → EndRow r p ≡ EndRow s o
 same_end most l c r p s o first second =
     elim (cases_order r s) [
-      inl rows ↦
-        let place = same_end_place l c.potentials r p o first.here (subst (λ x. IsFirstEnd l c.potentials x o) (sym rows) second.here) in
-        ap (λ x. EndRow x p) rows ∙ ap (EndRow s) place
-    | inr apart ↦ elim apart [
-        inl earlier ↦ absurd (ends_or_fails most l c r p s earlier second.rows first)
-      | inr later ↦ absurd (ends_or_fails most l c s o r later first.rows second)
+      | inl rows ↦
+          let place = same_end_place l c.potentials r p o first.here (subst (λ x. IsFirstEnd l c.potentials x o) (sym rows) second.here) in
+          ap (λ x. EndRow x p) rows ∙ ap (EndRow s) place
+      | inr apart ↦ elim apart [
+        | inl earlier ↦ absurd (ends_or_fails most l c r p s earlier second.rows first)
+        | inr later ↦ absurd (ends_or_fails most l c s o r later first.rows second)
       ]
     ]
 
@@ -98,14 +98,14 @@ same_end most l c r p s o first second =
 same_step : (most : ℕ) (l : Literals) (c : CertificateParts) (r p q s o k : ℕ) → IsFirstStepRow most l c.potentials r p q → IsFirstStepRow most l c.potentials s o k → Step r p q ≡ Step s o k
 same_step most l c r p q s o k first second =
     elim (cases_order r s) [
-      inl rows ↦
-        let here = subst (λ x. IsFirstStep l c.potentials x o k) (sym rows) second.here in
-        let place = same_step_place l c.potentials r p q o k first.here here in
-        let run = same_run l c.potentials r p q k first.here.here (subst (λ x. IsFirstRun l c.potentials r x k) (sym place) here.here) in
-        ap (λ x. Step x p q) rows ∙ (ap (λ x. Step s x q) place ∙ ap (Step s o) run)
-    | inr apart ↦ elim apart [
-        inl earlier ↦ absurd (steps_or_fails most l c r p q s earlier second.rows first)
-      | inr later ↦ absurd (steps_or_fails most l c s o k r later first.rows second)
+      | inl rows ↦
+          let here = subst (λ x. IsFirstStep l c.potentials x o k) (sym rows) second.here in
+          let place = same_step_place l c.potentials r p q o k first.here here in
+          let run = same_run l c.potentials r p q k first.here.here (subst (λ x. IsFirstRun l c.potentials r x k) (sym place) here.here) in
+          ap (λ x. Step x p q) rows ∙ (ap (λ x. Step s x q) place ∙ ap (Step s o) run)
+      | inr apart ↦ elim apart [
+        | inl earlier ↦ absurd (steps_or_fails most l c r p q s earlier second.rows first)
+        | inr later ↦ absurd (steps_or_fails most l c s o k r later first.rows second)
       ]
     ]
 

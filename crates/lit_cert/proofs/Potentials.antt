@@ -1,5 +1,5 @@
 -- What the checker reads: potentials from the list that holds them row by row, and costs of runs.
-use Rattle.std.proofs.Common.{◌≡◌, ℕ, zero, suc, ◌+◌, ◌-◌, ◌*◌, ◌<◌, ◌≤◌, List, length, get_or, take, drop, refl, sym, ap, ◌∙◌, subst, arith, length-take}
+use Rattle.std.proofs.Common.{◌≡◌, ℕ, zero, suc, ◌+◌, ◌-◌, ◌*◌, ◌<◌, ◌≤◌, List, length, get_or, drop, refl, sym, ap, ◌∙◌, subst, arith, length-take}
 use Rattle.std.specs.List.{slice_range}
 use Rattle.std.proofs.lemmas.List.{get_or-take, get_or-drop, get_or_read}
 use Rattle.lit_base.specs.Costs.{cost}

@@ -181,3 +181,6 @@ fn first_run(list: &LitList, potentials: &[u64], r: usize, p: usize) -> Option<u
     }
     None
 }
+
+#[cfg(test)]
+mod tests;

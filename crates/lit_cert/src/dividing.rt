@@ -1,6 +1,6 @@
 //! Whether the steps of a row hold, by divide and conquer: in time n log n, and with no memory.
 
-ghost use Rattle.std.specs.Prelude.{◌≡◌, ◌+◌, ◌*◌, ◌^◌, ◌<◌, ◌≤◌, length, All, IsTrue};
+ghost use Rattle.std.specs.Prelude.{◌≡◌, ◌+◌, ◌*◌, ◌^◌, ◌<◌, ◌≤◌, ◌↔◌, length, All, IsTrue};
 ghost use Rattle.lit_base.specs.Costs.{MeetQuadrangle};
 ghost use Rattle.lit_cert.specs.Certified.{EndRowsHold, StepsHold, cost_of};
 ghost use Rattle.lit_cert.specs.Steps.{AllFit, IsLeastRun, Suffice};
@@ -12,7 +12,7 @@ pub fn row_holds(list: &LitList, potentials: &[u64], r: usize) -> bool
     requires from_two { 2 ≤ r }
     requires within { r * length list.now.texts ≤ length potentials.now }
     requires ends { EndRowsHold list.now potentials.now r }
-    ensures { IsTrue result → StepsHold list.now potentials.now r (length list.now.texts) }
+    ensures { IsTrue result ↔ StepsHold list.now potentials.now r (length list.now.texts) }
 {
     let n = list.len();
     if n < 2 {
@@ -28,7 +28,15 @@ pub fn row_holds(list: &LitList, potentials: &[u64], r: usize) -> bool
 /// behind it. Ends from `first` up to `end` suffice for them. A cheapest run from the middle place
 /// divides the work: by the quadrangle inequality the places before it need no later end than that
 /// run's, and the places behind it no earlier one.
-fn places_hold(list: &LitList, here: &[u64], before: &[u64], low: usize, high: usize, first: usize, end: usize) -> bool
+fn places_hold(
+    list: &LitList,
+    here: &[u64],
+    before: &[u64],
+    low: usize,
+    high: usize,
+    first: usize,
+    end: usize,
+) -> bool
     requires quadrangle { MeetQuadrangle (cost_of list.now) (length list.now.texts) }
     requires small { All (λ h. h < 2 ^ 40) before.now }
     requires behind { high < end }
@@ -37,7 +45,7 @@ fn places_hold(list: &LitList, here: &[u64], before: &[u64], low: usize, high: u
     requires here { length here.now ≡ length list.now.texts }
     requires first { first < end }
     requires suffice { Suffice list.now here.now before.now low high first end }
-    ensures { IsTrue result → AllFit list.now here.now before.now low high }
+    ensures { IsTrue result ↔ AllFit list.now here.now before.now low high }
 {
     if high <= low {
         return true;

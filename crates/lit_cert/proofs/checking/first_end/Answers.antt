@@ -1,6 +1,5 @@
 -- Each turn compares one end row.
-use Rattle.std.proofs.Common.{◌<◌, below_more, arith}
-use Rattle.lit_cert.specs.Certified.{cost_of, potential_of}
+use Rattle.std.proofs.Common.{below_more, arith}
 use Rattle.lit_cert.proofs.Potentials.{row_within, end_read}
 use Rattle.lit_cert.proofs.checking.first_end.Goals as goal
 

@@ -1,7 +1,7 @@
 -- A cheapest run from the middle place bounds the ends of both halves.
-use Rattle.std.proofs.Common.{◌≡◌, ◌+◌, ◌-◌, ◌/◌, ◌≤◌, max, length, subst, arith}
-use Rattle.lit_cert.specs.Steps.{IsLeastRun, Suffice}
-use Rattle.lit_cert.proofs.LeastRuns.{suffice_before, suffice_behind, all_fit}
+use Rattle.std.proofs.Common.{◌+◌, ◌-◌, ◌/◌, ◌≤◌, length, subst, arith}
+use Rattle.lit_cert.specs.Steps.{IsLeastRun}
+use Rattle.lit_cert.proofs.LeastRuns.{suffice_before, suffice_behind}
 use Rattle.lit_cert.proofs.dividing.+places_hold.Goals as goal
 use Rattle.lit_cert.proofs.dividing.+places_hold.Goals.{then-here-p, else-here-p}
 

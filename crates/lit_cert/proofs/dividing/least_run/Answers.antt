@@ -22,8 +22,8 @@ loop-q-preserved c =
     let run = c.cost-in-loop-q.ensures.value ∙ cost-run (lengths l) c.args.p so.q _ _ refl c.get-shortest.ensures.len in
     let is : c.cost-in-loop-q.result + get_or before so.q 0 ≡ price_of l before c.args.p so.q = ap (λ x. x + get_or before so.q 0) run in
     elim c.if-price-least.branch [
-      then-price-least w ↦
-        rw (w.best-is, w.least-is) (least_takes l before c.args.p c.args.first so.q so.best so.least _ so.invariant (omega arith) is w.if-price-least.true)
-    | else-price-least w ↦
-        rw (w.best-is, w.least-is) (least_keeps l before c.args.p c.args.first so.q so.best so.least _ so.invariant is w.if-price-least.false)
+      | then-price-least w ↦
+          rw (w.best-is, w.least-is) (least_takes l before c.args.p c.args.first so.q so.best so.least _ so.invariant (omega arith) is w.if-price-least.true)
+      | else-price-least w ↦
+          rw (w.best-is, w.least-is) (least_keeps l before c.args.p c.args.first so.q so.best so.least _ so.invariant is w.if-price-least.false)
     ]
