@@ -5,7 +5,7 @@ use Rattle.std.specs.Fmt.{decimal}
 use Rattle.std.proofs.lemmas.Fmt.{decimal_injective}
 use Rattle.std.proofs.lemmas.List.Elements.{All-nil, All-cons, All-head, All-tail}
 use Rattle.lit_cert.specs.Spelling.{line_text, row_words}
-use Rattle.lit_cert.specs.Reading.{AreNumbers, IsRow, NoLine}
+use Rattle.lit_cert.specs.Reading.{AreNumbers, HasNumbers, IsRow, NoLine}
 use Rattle.lit_cert.proofs.Lines.{Lacks, lacks_decimals, line_is, is_line}
 use Rattle.lit_cert.proofs.Splits.{words_in, words_of_numbers}
 
@@ -39,3 +39,7 @@ no_row text line rest n number small is lacks none row after row_is e =
 pub is_row : (numbers : List ℕ) (n number : ℕ) → length numbers ≡ n + 1 → get_or numbers 0 0 ≡ number → AreNumbers numbers → IsRow n (drop 1 numbers) × (numbers ≡ number ∷ drop 1 numbers)
 is_row [] n number len first small = absurd (omega arith)
 is_row (x ∷ xs) n number len first small = (record { len = omega arith; numbers = All-tail (λ y. y < 2 ^ 64) x xs small }, cc)
+
+-- a row's line has its number and its potentials
+pub row_has_numbers : (line : List ℕ) (n number : ℕ) (row : List ℕ) → number < 2 ^ 64 → IsRow n row → line ≡ join_with_byte 32 (map decimal (number ∷ row)) → HasNumbers (n + 1) line (number ∷ row)
+row_has_numbers line n number row small is e = record { some = omega arith; few = omega (arith, is.len); small = row_numbers n number row small is; line_is = e }

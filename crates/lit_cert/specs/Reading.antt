@@ -1,6 +1,7 @@
 -- Which line of a text is the first that is wrong.
-use Rattle.std.specs.Prelude.{◌≡◌, ◌≢◌, ℕ, ◌+◌, ◌-◌, ◌*◌, ◌^◌, ◌<◌, ◌≤◌, List, [], ◌++◌, length, take, All, ⊤}
-use Rattle.std.specs.List.{flat_map}
+use Rattle.std.specs.Prelude.{◌≡◌, ◌≢◌, ℕ, ◌+◌, ◌-◌, ◌*◌, ◌^◌, ◌<◌, ◌≤◌, List, [], ◌++◌, length, take, map, All, ⊤}
+use Rattle.std.specs.List.{flat_map, join_with_byte}
+use Rattle.std.specs.Fmt.{decimal}
 use Rattle.lit_cert.specs.declared.fault.Fault.{Fault}
 use Rattle.lit_cert.specs.declared.fault.Fault.TheVariants.{OutOfMemory, BadCertText, ReadFault, WriteFault}
 use Rattle.lit_cert.specs.Certificates.{CertificateParts}
@@ -39,6 +40,13 @@ IsBadLine line so WriteFault = ⊥
 -- numbers of 64 bits
 abbrev pub AreNumbers : List ℕ → Type 0
 AreNumbers xs = All (λ x. x < 2 ^ 64) xs
+
+-- the line is these numbers with single spaces between them, at least one and at most so many
+pub record HasNumbers (most : ℕ) (line numbers : List ℕ) : Type 0 where
+  pub some : 1 ≤ length numbers
+  pub few : length numbers ≤ most
+  pub small : AreNumbers numbers
+  pub line_is : line ≡ join_with_byte 32 (map decimal numbers)
 
 -- the lines before the rows stand at the front of the text
 pub record StartsWithHead (most n cost : ℕ) (ends text rest : List ℕ) : Type 0 where

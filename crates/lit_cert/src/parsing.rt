@@ -3,11 +3,11 @@ ghost use Rattle.std.specs.Prelude.{◌≡◌, ◌≢◌, ℕ, ◌+◌, ◌*◌,
 ghost use Rattle.std.specs.List.{join_with_byte};
 ghost use Rattle.std.specs.Fmt.{decimal};
 ghost use Rattle.lit_cert.specs.Spelling.{HasEnds, HasText, IsCount, line_text, literals_words, ends_words, cost_words, row_words, rows_of, spelling};
-ghost use Rattle.lit_cert.specs.Reading.{NoLine, IsBadLine, AreNumbers, IsRow, StartsWithHead, StartsWithRows, IsBadRow, IsBadText};
+ghost use Rattle.lit_cert.specs.Reading.{NoLine, IsBadLine, AreNumbers, IsRow, HasNumbers, StartsWithHead, StartsWithRows, IsBadRow, IsBadText};
 
 use crate::certificate::Certificate;
 use crate::fault::Fault;
-use lit_base::Ends;
+use lit_base::{Ends, MAX_LITERALS};
 use std::alloc::Global;
 
 /// The number that the word is, in decimal, with no sign and no leading zero.
@@ -27,7 +27,8 @@ fn number_of(word: &[u8]) -> Option<u64>
 
 /// The first line, and the text after it, where a newline ends the line.
 fn first_line(text: &[u8]) -> Option<(&[u8], &[u8])>
-    ensures found { IfSome result (λ x. (text.now ≡ x.0.now ++ 10 ∷ x.1.now) × All (λ b. b ≢ 10) x.0.now) }
+    ensures found { IfSome result (λ x.
+        (text.now ≡ x.0.now ++ 10 ∷ x.1.now) × All (λ b. b ≢ 10) x.0.now) }
     ensures none { IfNone result (All (λ b. b ≢ 10) text.now) }
 {
     let end = text.iter().position(|byte| *byte == b'\n')?;
@@ -47,12 +48,13 @@ fn after_fixed<'a>(text: &'a [u8], fixed: &[u8]) -> Option<&'a [u8]>
 
 /// The number of literals that the second line tells, and the text after it.
 fn literals_line(text: &[u8]) -> Option<(usize, &[u8])>
-    ensures found { IfSome result (λ x. IsCount x.0 × (text.now ≡ line_text (literals_words x.0) ++ x.1.now)) }
+    ensures found { IfSome result (λ x.
+        IsCount x.0 × (text.now ≡ line_text (literals_words x.0) ++ x.1.now)) }
     ensures none { IfNone result (NoLine IsCount literals_words text.now) }
 {
     let (line, rest) = first_line(text)?;
     let n = number_of(line.strip_prefix(b"literals ")?)?;
-    if n < 1 || n > 1024 {
+    if n < 1 || n > MAX_LITERALS as u64 {
         return None;
     }
     Some((n as usize, rest))
@@ -60,7 +62,8 @@ fn literals_line(text: &[u8]) -> Option<(usize, &[u8])>
 
 /// The ends that the third line tells, and the text after it.
 fn ends_line(text: &[u8]) -> Option<(Ends, &[u8])>
-    ensures found { IfSome result (λ x. HasEnds 8 x.0.items × (text.now ≡ line_text (ends_words x.0.items) ++ x.1.now)) }
+    ensures found { IfSome result (λ x.
+        HasEnds 8 x.0.items × (text.now ≡ line_text (ends_words x.0.items) ++ x.1.now)) }
     ensures none { IfNone result (NoLine (HasEnds 8) ends_words text.now) }
 {
     let (line, rest) = first_line(text)?;
@@ -70,8 +73,10 @@ fn ends_line(text: &[u8]) -> Option<(Ends, &[u8])>
 
 /// The ends that words are.
 fn ends_of(words: &[u8]) -> Option<Ends>
-    ensures found { IfSome result (λ ends. HasEnds 8 ends.items × (words.now ≡ join_with_byte 32 (map decimal ends.items))) }
-    ensures none { IfNone result ((ends : List ℕ) → HasEnds 8 ends → words.now ≢ join_with_byte 32 (map decimal ends)) }
+    ensures found { IfSome result (λ ends.
+        HasEnds 8 ends.items × (words.now ≡ join_with_byte 32 (map decimal ends.items))) }
+    ensures none { IfNone result ((ends : List ℕ) →
+        HasEnds 8 ends → words.now ≢ join_with_byte 32 (map decimal ends)) }
 {
     let mut ends = Ends::new();
     for word in words.split(|byte| *byte == b' ') {
@@ -83,7 +88,8 @@ fn ends_of(words: &[u8]) -> Option<Ends>
 
 /// The price that the fourth line tells, and the text after it.
 fn cost_line(text: &[u8]) -> Option<(u64, &[u8])>
-    ensures found { IfSome result (λ x. (x.0 < 2 ^ 64) × (text.now ≡ line_text (cost_words x.0) ++ x.1.now)) }
+    ensures found { IfSome result (λ x.
+        (x.0 < 2 ^ 64) × (text.now ≡ line_text (cost_words x.0) ++ x.1.now)) }
     ensures none { IfNone result (NoLine (λ cost. cost < 2 ^ 64) cost_words text.now) }
 {
     let (line, rest) = first_line(text)?;
@@ -91,12 +97,12 @@ fn cost_line(text: &[u8]) -> Option<(u64, &[u8])>
     Some((cost, rest))
 }
 
-/// The numbers that the words of a line are, at most so many.
-fn numbers_of(alloc: Global, number: u32, line: &[u8], most: usize) -> Result<Vec<u64>, Fault>
-    ensures found { IfOk result (λ v. (1 ≤ length v.items) × (length v.items ≤ most) × AreNumbers v.items × (line.now ≡ join_with_byte 32 (map decimal v.items))) }
-    ensures wrong { IfErr result (IsBadLine number ((xs : List ℕ) → 1 ≤ length xs → length xs ≤ most → AreNumbers xs → line.now ≢ join_with_byte 32 (map decimal xs))) }
+/// The numbers that the words of the line at this place are, at most so many.
+fn numbers_of(alloc: Global, place: u32, line: &[u8], most: usize) -> Result<Vec<u64>, Fault>
+    ensures found { IfOk result (λ v. HasNumbers most line.now v.items) }
+    ensures wrong { IfErr result (IsBadLine place ((xs : List ℕ) → HasNumbers most line.now xs → ⊥)) }
 {
-    let wrong = Fault::BadCertText { line: number };
+    let wrong = Fault::BadCertText { line: place };
     let mut numbers = Vec::new(alloc);
     for word in line.split(|byte| *byte == b' ') {
         if numbers.len() == most {
@@ -110,9 +116,12 @@ fn numbers_of(alloc: Global, number: u32, line: &[u8], most: usize) -> Result<Ve
 /// The numbers of row r + 1, its own number first, and the text after it.
 fn row_line(alloc: Global, text: &[u8], r: u32, n: usize) -> Result<(Vec<u64>, &[u8]), Fault>
     requires few_rows { r < 8 }
-    requires count { n ≤ 1024 }
-    ensures found { IfOk result (λ x. (row : List ℕ) × IsRow n row × (x.0.items ≡ (r + 1) ∷ row) × (text.now ≡ line_text (row_words (r + 1) row) ++ x.1.now)) }
-    ensures wrong { IfErr result (IsBadLine (r + 5) (NoLine (IsRow n) (row_words (r + 1)) text.now)) }
+    requires few_literals { n ≤ MAX_LITERALS }
+    ensures found { IfOk result (λ x.
+        (row : List ℕ) × IsRow n row × (x.0.items ≡ (r + 1) ∷ row)
+        × (text.now ≡ line_text (row_words (r + 1) row) ++ x.1.now)) }
+    ensures wrong { IfErr result (IsBadLine (r + 5)
+        (NoLine (IsRow n) (row_words (r + 1)) text.now)) }
 {
     let wrong = Fault::BadCertText { line: r + 5 };
     let (line, rest) = first_line(text).ok_or(wrong)?;
@@ -125,7 +134,7 @@ fn row_line(alloc: Global, text: &[u8], r: u32, n: usize) -> Result<(Vec<u64>, &
 
 /// The potentials of the eight rows, one after the other, and the text after them.
 fn rows(alloc: Global, text: &[u8], n: usize) -> Result<(Vec<u64>, &[u8]), Fault>
-    requires { n ≤ 1024 }
+    requires { n ≤ MAX_LITERALS }
     ensures found { IfOk result (λ x. StartsWithRows 8 n text.now x.0.items x.1.now) }
     ensures wrong { IfErr result (IsBadRow 8 n text.now) }
 {
@@ -149,7 +158,8 @@ struct Head {
 
 /// What the four lines before the rows tell, and the text after them.
 fn head_of(text: &[u8]) -> Result<(Head, &[u8]), Fault>
-    ensures found { IfOk result (λ x. StartsWithHead 8 x.0.literals x.0.cost x.0.ends.items text.now x.1.now) }
+    ensures found { IfOk result (λ x.
+        StartsWithHead 8 x.0.literals x.0.cost x.0.ends.items text.now x.1.now) }
     ensures wrong { IfErr result (IsBadText 8 text.now) }
 {
     let rest = after_fixed(text, b"litcert 1").ok_or(Fault::BadCertText { line: 1 })?;

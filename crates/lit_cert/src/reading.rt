@@ -25,13 +25,20 @@ const LONGEST_TEXT: usize = 1 << 18;
 /// After each of them an unknown part of the reader was read.
 pub fn read_cert<R: ByteIn>(alloc: Global, input: &mut R) -> Result<Certificate, Fault>
     // What is read is spelled so, and nothing follows it.
-    ensures found { Told (R.coming input.old) (R.coming input.new) (λ old new. IfOk result (λ c. HasText 8 c × (old.text ≡ spelling 8 c) × EndsHere new)) }
+    ensures found { Told (R.coming input.old) (R.coming input.new) (λ old new.
+        IfOk result (λ c. HasText 8 c × (old.text ≡ spelling 8 c) × EndsHere new)) }
     // What is spelled so is read, unless memory runs out.
-    ensures only { IfSome (R.coming input.old) (λ old. old.ending ≡ Clean → (c : CertificateParts) → HasText 8 c → old.text ≡ spelling 8 c → result ≢ Err Fault.OutOfMemory → result ≡ Ok c) }
+    ensures only { IfSome (R.coming input.old) (λ old.
+        old.ending ≡ Clean → (c : CertificateParts) → HasText 8 c → old.text ≡ spelling 8 c →
+        result ≢ Err Fault.OutOfMemory → result ≡ Ok c) }
 
     // The line that is named is the first that is wrong, and the first that is wrong is named.
-    ensures bad_line { IfSome (R.coming input.old) (λ old. (line : ℕ) → result ≡ Err (Fault.BadCertText line) → IsFirstBad 8 old.text line) }
-    ensures exact { IfSome (R.coming input.old) (λ old. old.ending ≡ Clean → length old.text < 2 ^ 40 → (line : ℕ) → IsFirstBad 8 old.text line → result ≢ Err Fault.OutOfMemory → result ≡ Err (Fault.BadCertText line)) }
+    ensures bad_line { IfSome (R.coming input.old) (λ old.
+        (line : ℕ) → result ≡ Err (Fault.BadCertText line) → IsFirstBad 8 old.text line) }
+    ensures exact { IfSome (R.coming input.old) (λ old.
+        old.ending ≡ Clean → length old.text < 2 ^ 40 →
+        (line : ℕ) → IsFirstBad 8 old.text line →
+        result ≢ Err Fault.OutOfMemory → result ≡ Err (Fault.BadCertText line)) }
 
     // A fault is told only where a read failed.
     ensures fault { result ≡ Err Fault.ReadFault → IsTrue (R.has_failed input.new) }
@@ -44,10 +51,13 @@ pub fn read_cert<R: ByteIn>(alloc: Global, input: &mut R) -> Result<Certificate,
 
 /// The same, of which each clause tells what an answer means, and none which answer comes.
 fn read_longest<R: ByteIn>(alloc: Global, input: &mut R) -> Result<Certificate, Fault>
-    ensures found { Told (R.coming input.old) (R.coming input.new) (λ old new. IfOk result (λ c. HasText 8 c × (old.text ≡ spelling 8 c) × EndsHere new)) }
-    ensures bad_line { IfSome (R.coming input.old) (λ old. (line : ℕ) → result ≡ Err (Fault.BadCertText line) → IsFirstBad 8 old.text line) }
+    ensures found { Told (R.coming input.old) (R.coming input.new) (λ old new.
+        IfOk result (λ c. HasText 8 c × (old.text ≡ spelling 8 c) × EndsHere new)) }
+    ensures bad_line { IfSome (R.coming input.old) (λ old.
+        (line : ℕ) → result ≡ Err (Fault.BadCertText line) → IsFirstBad 8 old.text line) }
     ensures fault { result ≡ Err Fault.ReadFault → IsTrue (R.has_failed input.new) }
-    ensures clean { IfSome (R.coming input.old) (λ old. old.ending ≡ Clean → length old.text < 2 ^ 40 → result ≢ Err Fault.ReadFault) }
+    ensures clean { IfSome (R.coming input.old) (λ old.
+        old.ending ≡ Clean → length old.text < 2 ^ 40 → result ≢ Err Fault.ReadFault) }
     ensures flag { result ≢ Err Fault.ReadFault → R.has_failed input.new ≡ R.has_failed input.old }
     ensures faults { IfErr result IsReadersFault }
     ensures bounded { R.given input.new ≤ R.given input.old + 2 ^ 18 + 1 }

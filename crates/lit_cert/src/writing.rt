@@ -3,7 +3,7 @@ ghost use Rattle.std.specs.Fmt.{decimal};
 ghost use Rattle.std.specs.Io.KnownBytes.{Appends};
 ghost use Rattle.lit_base.specs.Transfers.{AppendsPrefix};
 ghost use Rattle.lit_cert.specs.Faults.{IsWritersFault};
-ghost use Rattle.lit_cert.specs.Spelling.{IsShaped, line_text, spelling};
+ghost use Rattle.lit_cert.specs.Spelling.{IsShaped, ends_words, line_text, row_words, spelling};
 
 use crate::certificate::Certificate;
 use crate::fault::Fault;
@@ -14,7 +14,8 @@ use std::fmt::Write;
 /// Appends the line of ends.
 #[tactic(auto, using(crate::proofs::Words::writes_number))]
 fn push_ends(text: &mut String, ends: &Ends) -> Result<(), AllocError>
-    ensures { OnOk result (string_bytes text.new ≡ string_bytes text.old ++ line_text (codes "ends" ∷ map decimal ends.now.items)) }
+    ensures { OnOk result (string_bytes text.new
+        ≡ string_bytes text.old ++ line_text (ends_words ends.now.items)) }
 {
     text.push_str("ends")?;
     for end in ends.as_slice() {
@@ -26,7 +27,8 @@ fn push_ends(text: &mut String, ends: &Ends) -> Result<(), AllocError>
 /// Appends the line of a row of potentials, with its number from 1.
 #[tactic(auto, using(crate::proofs::Words::writes_number))]
 fn push_row(text: &mut String, number: usize, row: &[u64]) -> Result<(), AllocError>
-    ensures { OnOk result (string_bytes text.new ≡ string_bytes text.old ++ line_text (map decimal (number ∷ row.now))) }
+    ensures { OnOk result (string_bytes text.new
+        ≡ string_bytes text.old ++ line_text (row_words number row.now)) }
 {
     write!(text, "{number}")?;
     for potential in row {
@@ -67,8 +69,10 @@ pub fn write_cert<W: ByteOut>(
     out: &mut W,
 ) -> Result<(), Fault>
     requires shape { IsShaped 8 certificate.now }
-    ensures ok { OnOk result (Appends (W.written out.old) (W.written out.new) (spelling 8 certificate.now)) }
-    ensures err { OnErr result (AppendsPrefix (W.written out.old) (W.written out.new) (spelling 8 certificate.now)) }
+    ensures ok { OnOk result
+        (Appends (W.written out.old) (W.written out.new) (spelling 8 certificate.now)) }
+    ensures err { OnErr result
+        (AppendsPrefix (W.written out.old) (W.written out.new) (spelling 8 certificate.now)) }
 
     // A fault is told only where a write failed.
     ensures fault { result ≡ Err Fault.WriteFault → IsTrue (W.has_failed out.new) }

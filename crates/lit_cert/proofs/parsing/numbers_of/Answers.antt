@@ -11,10 +11,10 @@ pub returns-then-len-most-clause-wrong : goal.returns-then-len-most-clause-wrong
 returns-then-len-most-clause-wrong c =
     let turn = yielded_next c.loop-word.yielded _ c.loop-word.yielded_by _ _ c.in-Some.word c.in-Some.is c.next.ensures.steps (λ w. w.now) (words_in c.args.line.now) (YieldsList-at c.into_iter-word-iterator.ensures.into_iter_gives (YieldsList-from_slice_split _ (λ b. eqb b 32) c.args.line.now c.split-word-items.ensures.rest c.split-word-items.ensures.done c.split-word-items.ensures.closure (λ x b q k. search (rules, tests)))) in (
       refl,
-      λ xs some few numbers e.
-          let at = word_at c.args.line.now xs (length c.loop-word.yielded) c.in-Some.word.now some numbers e turn.0 turn.1 in
+      λ xs has.
+          let at = word_at c.args.line.now xs (length c.loop-word.yielded) c.in-Some.word.now has.some has.small has.line_is turn.0 turn.1 in
           let count = same_count (map (λ w. w.now) c.loop-word.yielded) c.loop-word.numbers.items c.args.most (2 ^ 64) c.loop-word.invariant in
-          omega (arith, at.0, c.loop-word.numbers.ok.0, length-map c.loop-word.yielded (λ w. w.now)),
+          omega (arith, at.0, has.few, c.loop-word.numbers.ok.0, length-map c.loop-word.yielded (λ w. w.now)),
     )
 
 pub returns-in_err-ok_or-clause-wrong : goal.returns-in_err-ok_or-clause-wrong
@@ -22,9 +22,9 @@ returns-in_err-ok_or-clause-wrong c =
     let turn = yielded_next c.loop-word.yielded _ c.loop-word.yielded_by _ _ c.in-Some.word c.in-Some.is c.next.ensures.steps (λ w. w.now) (words_in c.args.line.now) (YieldsList-at c.into_iter-word-iterator.ensures.into_iter_gives (YieldsList-from_slice_split _ (λ b. eqb b 32) c.args.line.now c.split-word-items.ensures.rest c.split-word-items.ensures.done c.split-word-items.ensures.closure (λ x b q k. search (rules, tests)))) in
     from_none c.from_residual.result c.number_of.result c.in_err-ok_or.field-0.0 _ _ c.from_residual.ensures.1 c.in_err-ok_or.ensures.value (λ none. (
       refl,
-      λ xs some few numbers e.
-          let at = word_at c.args.line.now xs (length c.loop-word.yielded) c.in-Some.word.now some numbers e turn.0 turn.1 in
-          at_none c.number_of.result _ none c.number_of.ensures.none (get_or xs (length c.loop-word.yielded) 0) (numbers _ 0 at.0) at.1,
+      λ xs has.
+          let at = word_at c.args.line.now xs (length c.loop-word.yielded) c.in-Some.word.now has.some has.small has.line_is turn.0 turn.1 in
+          at_none c.number_of.result _ none c.number_of.ensures.none (get_or xs (length c.loop-word.yielded) 0) (has.small _ 0 at.0) at.1,
     ))
 
 pub returns-clause-found : goal.returns-clause-found
@@ -32,4 +32,4 @@ returns-clause-found c =
     let all = yielded_all c.loop-word.yielded _ c.loop-word.yielded_by _ _ c.in-None.is c.next.ensures.steps (λ w. w.now) (words_in c.args.line.now) (YieldsList-at c.into_iter-word-iterator.ensures.into_iter_gives (YieldsList-from_slice_split _ (λ b. eqb b 32) c.args.line.now c.split-word-items.ensures.rest c.split-word-items.ensures.done c.split-word-items.ensures.closure (λ x b q k. search (rules, tests)))) in
     let so_far = c.loop-word.invariant in
     let read = reads_all c.args.line.now (map (λ w. w.now) c.loop-word.yielded) c.loop-word.numbers.items c.args.most (2 ^ 64) so_far all in
-    (read.0, so_far.few, so_far.small, read.1)
+    record { some = read.0; few = so_far.few; small = so_far.small; line_is = read.1 }
