@@ -1,9 +1,5 @@
-use arrayvec::ArrayVec;
+use lit_base::Ends;
 use std::marker::Model;
-
-/// Where the runs end, strictly rising in a cut: run i holds the places from the end before it up
-/// to its own.
-pub type Ends = ArrayVec<u16, 8>;
 
 /// A grouping of n literals into runs, with the numbers by which a reader can check that no other
 /// one is cheaper.

@@ -1,0 +1,22 @@
+use Rattle.std.proofs.Common.{◌≡◌, ◌+◌, ◌*◌, ◌<◌, ◌∙◌, length, sym, subst, vec_len, ap, Result, Err, arith}
+use Rattle.lit_base.specs.declared.transfer.ReadError.{ReadError}
+use Rattle.lit_cert.proofs.Received.{Spells, found_long, bad_long}
+use Rattle.lit_cert.specs.Reading.{IsBadText}
+use Rattle.lit_cert.proofs.reading.read_longest.Goals as goal
+
+abbrev too_long : ReadError → Result (Unit {0}) ReadError
+too_long e = Err e
+
+pub returns-in-Err-TooLong-clause-found : goal.returns-in-Err-TooLong-clause-found
+returns-in-Err-TooLong-clause-found g c =
+    let text = c.read_to_end.new.text.items in
+    let long : 200 + 8 * 21600 < length text = omega (arith, c.read_to_end.new.text.ok.0, c.in-Err-TooLong.ensures.one_more (ap too_long c.in-Err-TooLong.field-0-is)) in
+    let found = rw c.deref-in-Err-TooLong.ensures.value at c.certificate_of-in-Err-TooLong.ensures.found in
+    found_long (g.R.ByteIn.coming c.args.input.now) (g.R.ByteIn.coming c.read_to_end.new.input) c.new-text.result.items text c.certificate_of-in-Err-TooLong.result long c.read_to_end.ensures.bytes found
+
+pub returns-in-Err-TooLong-clause-bad_line : goal.returns-in-Err-TooLong-clause-bad_line
+returns-in-Err-TooLong-clause-bad_line g c =
+    let text = c.read_to_end.new.text.items in
+    let long : 200 + 8 * 21600 < length text = omega (arith, c.read_to_end.new.text.ok.0, c.in-Err-TooLong.ensures.one_more (ap too_long c.in-Err-TooLong.field-0-is)) in
+    let wrong = rw c.deref-in-Err-TooLong.ensures.value at c.certificate_of-in-Err-TooLong.ensures.wrong in
+    bad_long (g.R.ByteIn.coming c.args.input.now) (g.R.ByteIn.coming c.read_to_end.new.input) c.new-text.result.items text c.certificate_of-in-Err-TooLong.result c.new-text.ensures.items long c.read_to_end.ensures.bytes wrong

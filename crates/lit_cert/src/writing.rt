@@ -1,0 +1,87 @@
+ghost use Rattle.std.specs.Prelude.{◌≡◌, ◌≢◌, ◌+◌, ◌<◌, ◌++◌, ◌∷◌, map, codes, string_bytes, IsTrue, IfOk, IfErr, OnOk, OnErr};
+ghost use Rattle.std.specs.Fmt.{decimal};
+ghost use Rattle.std.specs.Io.KnownBytes.{Appends};
+ghost use Rattle.lit_base.specs.Transfers.{AppendsPrefix};
+ghost use Rattle.lit_cert.specs.Faults.{IsWritersFault};
+ghost use Rattle.lit_cert.specs.Spelling.{IsShaped, ends_words, line_text, row_words, spelling};
+
+use crate::certificate::Certificate;
+use crate::fault::Fault;
+use lit_base::{ByteOut, Ends, Failed, write_all};
+use std::alloc::{AllocError, Global};
+use std::fmt::Write;
+
+/// Appends the line of ends.
+#[tactic(auto, using(crate::proofs::Words::writes_number))]
+fn push_ends(text: &mut String, ends: &Ends) -> Result<(), AllocError>
+    ensures { OnOk result (string_bytes text.new
+        ≡ string_bytes text.old ++ line_text (ends_words ends.now.items)) }
+{
+    text.push_str("ends")?;
+    for end in ends.as_slice() {
+        write!(text, " {end}")?;
+    }
+    text.push_str("\n")
+}
+
+/// Appends the line of a row of potentials, with its number from 1.
+#[tactic(auto, using(crate::proofs::Words::writes_number))]
+fn push_row(text: &mut String, number: usize, row: &[u64]) -> Result<(), AllocError>
+    ensures { OnOk result (string_bytes text.new
+        ≡ string_bytes text.old ++ line_text (row_words number row.now)) }
+{
+    write!(text, "{number}")?;
+    for potential in row {
+        write!(text, " {potential}")?;
+    }
+    text.push_str("\n")
+}
+
+/// The whole text.
+fn text_of(alloc: Global, certificate: &Certificate) -> Result<String, AllocError>
+    requires { IsShaped 8 certificate.now }
+    ensures { IfOk result (λ text. string_bytes text ≡ spelling 8 certificate.now) }
+{
+    let n = certificate.potentials.len() / 8;
+    let cost = certificate.cost;
+    let mut text = String::new(alloc);
+    write!(text, "litcert 1\nliterals {n}\n")?;
+    push_ends(&mut text, &certificate.ends)?;
+    write!(text, "cost {cost}\n")?;
+    for r in 0..8 {
+        let row = &certificate.potentials[r * n..(r + 1) * n];
+        push_row(&mut text, r + 1, row)?;
+    }
+    text.push_str("end\n")?;
+    Ok(text)
+}
+
+/// Writes the text of a certificate.
+///
+/// # Errors
+/// - `WriteFault`, where a write failed or took nothing.
+/// - `OutOfMemory`, where a growth was refused.
+///
+/// After both of them a front of the text was written.
+pub fn write_cert<W: ByteOut>(
+    alloc: Global,
+    certificate: &Certificate,
+    out: &mut W,
+) -> Result<(), Fault>
+    requires shape { IsShaped 8 certificate.now }
+    ensures ok { OnOk result
+        (Appends (W.written out.old) (W.written out.new) (spelling 8 certificate.now)) }
+    ensures err { OnErr result
+        (AppendsPrefix (W.written out.old) (W.written out.new) (spelling 8 certificate.now)) }
+
+    // A fault is told only where a write failed.
+    ensures fault { result ≡ Err Fault.WriteFault → IsTrue (W.has_failed out.new) }
+    ensures flag { result ≢ Err Fault.WriteFault → W.has_failed out.new ≡ W.has_failed out.old }
+    ensures faults { IfErr result IsWritersFault }
+{
+    let text = text_of(alloc, certificate)?;
+    match write_all(out, text.as_bytes()) {
+        Ok(()) => Ok(()),
+        Err(Failed) => Err(Fault::WriteFault),
+    }
+}
