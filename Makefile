@@ -1,0 +1,48 @@
+# Builds the programs into bin/, tests and installs them. Only a proved program is built: the first
+# build proves each crate below it, which takes minutes; later ones only what changed.
+#
+#   make                    the programs, in bin/
+#   make check              proves and tests everything from nothing, then runs the programs' tests
+#   make test               the programs' tests alone
+#   make install PREFIX=..  copies the programs into PREFIX/bin
+#   CPU=x86-64-v3           builds for newer processors
+
+PROGRAMS = litgrep
+PREFIX = /usr/local
+CPU =
+
+SOURCES := crates.txt $(shell find crates -name out -prune -o -type f -print)
+
+all: $(PROGRAMS:%=bin/%)
+
+# A build ends with the program's stored run, whose output is compared.
+bin/%: $(SOURCES) bin/.cpu
+	@echo "proving and building $*"
+	@cd crates/$* && mkdir -p out && \
+	if rt run $(CPU:%=--cpu=%) -- $$(cat args) < stdin > out/build.stdout 2> out/build.log; \
+	then cmp out/build.stdout stdout; else cat out/build.log >&2; exit 1; fi
+	@cp crates/$*/out/$* $@
+
+# The processor of the last build, so that another one builds anew.
+bin/.cpu: FORCE
+	@mkdir -p bin
+	@echo '$(CPU)' | cmp -s - $@ || echo '$(CPU)' > $@
+
+check:
+	rt ci
+	$(MAKE) test
+
+test: all
+	python3 tests/run.py
+
+install: all
+	install -d '$(DESTDIR)$(PREFIX)/bin'
+	install -m 755 $(PROGRAMS:%=bin/%) '$(DESTDIR)$(PREFIX)/bin'
+
+clean:
+	rm -rf bin crates/*/out
+
+FORCE:
+
+.PHONY: all check test install clean FORCE
+.DELETE_ON_ERROR:
