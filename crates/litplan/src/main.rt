@@ -1,0 +1,18 @@
+//! `litplan`: plans how literals are grouped, and certifies that no grouping is cheaper.
+#![tactic(auto)]
+
+mod command;
+mod files;
+mod message;
+mod system;
+mod words;
+
+use lit_base::ToWrite;
+use std::process::ExitCode;
+use system::{SystemFiles, serve};
+
+fn main(rt: HostRuntime) -> ExitCode {
+    let mut out = ToWrite::new(rt.stdout());
+    let mut err = ToWrite::new(rt.stderr());
+    ExitCode::from(serve(&rt, &mut SystemFiles::new(&rt), &mut out, &mut err))
+}
