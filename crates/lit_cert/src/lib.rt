@@ -2,7 +2,11 @@
 #![tactic(auto)]
 
 mod certificate;
+mod checking;
 mod fault;
+mod reason;
 
 pub use certificate::{Certificate, Ends};
+pub use checking::{certified_law, check};
 pub use fault::Fault;
+pub use reason::Reason;

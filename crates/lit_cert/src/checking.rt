@@ -1,0 +1,186 @@
+ghost use Rattle.std.specs.Prelude.{◌≡◌, ◌+◌, ◌*◌, ◌<◌, ◌≤◌, ◌↔◌, length, IsTrue, IsOk, IsErrOf, OnOk, MatchOption, MatchResult};
+ghost use Rattle.lit_base.specs.Literals.{lengths};
+ghost use Rattle.lit_base.specs.Cuts.{CutsFrom, IsCut, NoCutBelow};
+ghost use Rattle.lit_base.specs.Assignments.{IsAssignment, NoAssignmentBelow, assign_price, assignment_of};
+ghost use Rattle.lit_cert.specs.Certified.{EndRowsHold, EndsHold, HasLength, HasTotal, IsCertified, IsFirstEnd, IsFirstEndRow, IsFirstFailure, IsFirstRun, IsFirstStep, IsFirstStepRow, IsPriced, RunsHold, StepRowsHold, StepsHold};
+ghost use Rattle.lit_cert.specs.declared.reason.Reason.{Reason};
+
+use crate::certificate::Certificate;
+use crate::reason::Reason;
+use lit_base::{LitList, assignment_law, cost, cut_cost, least_law};
+
+/// How many rows of potentials there are: one for each number of runs.
+const ROWS: usize = 8;
+
+/// Whether the certificate shows that its runs are the cheapest: then no assignment of the literals
+/// to at most eight buckets costs less than the certificate says, and its runs cost exactly that.
+/// Else the answer is the first condition that fails. Whoever made the certificate is not trusted.
+pub fn check(list: &LitList, certificate: &Certificate) -> Result<(), Reason>
+    ensures yes { IsOk result ↔ IsCertified 8 list.now certificate.now }
+    ensures no { (reason : Reason) → IsErrOf result reason ↔ IsFirstFailure 8 list.now certificate.now reason }
+
+    ensures least { OnOk result (NoAssignmentBelow 8 list.now certificate.now.cost) }
+    ensures least_cut { OnOk result (NoCutBelow 8 list.now certificate.now.cost) }
+    ensures assignment { OnOk result (IsAssignment 8 (length list.now.texts) (assignment_of certificate.now.ends)) }
+    ensures reached { OnOk result (assign_price 8 (lengths list.now) (assignment_of certificate.now.ends) ≡ certificate.now.cost) }
+{
+    check_priced(list, certificate)?;
+    check_bounds(list, certificate)?;
+    certified_law(list, certificate);
+    Ok(())
+}
+
+/// The law that a certificate which holds is right: no assignment to at most eight buckets and no
+/// cut costs less than it says, and its runs, read as an assignment, cost exactly that.
+pub fn certified_law(list: &LitList, certificate: &Certificate)
+    requires { IsCertified 8 list.now certificate.now }
+    ensures least { NoAssignmentBelow 8 list.now certificate.now.cost }
+    ensures least_cut { NoCutBelow 8 list.now certificate.now.cost }
+    ensures assignment { IsAssignment 8 (length list.now.texts) (assignment_of certificate.now.ends) }
+    ensures reached { assign_price 8 (lengths list.now) (assignment_of certificate.now.ends) ≡ certificate.now.cost }
+{
+    least_law(list, ROWS, certificate.potentials.as_slice());
+    assignment_law(list, ROWS, certificate.ends.as_slice());
+}
+
+/// Checks that the certificate is one for the literals, and tells what its runs cost.
+fn check_priced(list: &LitList, certificate: &Certificate) -> Result<(), Reason>
+    ensures { MatchResult result
+        (λ _. IsPriced 8 list.now certificate.now)
+        (λ reason. IsFirstFailure 8 list.now certificate.now reason) }
+{
+    let n = list.len();
+    if n == 0 || certificate.potentials.len() != ROWS * n {
+        return Err(Reason::Length);
+    }
+    if !cuts_from(0, n, certificate.ends.as_slice()) {
+        return Err(Reason::Ends);
+    }
+    if !has_total(list, certificate) {
+        return Err(Reason::Total);
+    }
+    Ok(())
+}
+
+/// Whether the ends cut the places from `start` up to `n` into runs.
+fn cuts_from(start: usize, n: usize, ends: &[u16]) -> bool
+    ensures { IsTrue result ↔ CutsFrom n start ends.now }
+{
+    match ends {
+        [] => start == n,
+        [end, rest @ ..] => start < usize::from(*end) && cuts_from(usize::from(*end), n, rest),
+    }
+}
+
+/// Whether the price of the runs, the cost and `h(8, 0)` are one number.
+fn has_total(list: &LitList, certificate: &Certificate) -> bool
+    requires size { HasLength 8 list.now certificate.now.potentials }
+    requires cut { IsCut 8 (length list.now.texts) certificate.now.ends }
+    ensures { IsTrue result ↔ HasTotal 8 list.now certificate.now }
+{
+    let bound = certificate.potentials[(ROWS - 1) * list.len()];
+    cut_cost(list, &certificate.ends) == certificate.cost && bound == certificate.cost
+}
+
+/// Checks that the potentials bound from below what runs cost.
+fn check_bounds(list: &LitList, certificate: &Certificate) -> Result<(), Reason>
+    requires { IsPriced 8 list.now certificate.now }
+    ensures { MatchResult result
+        (λ _. IsCertified 8 list.now certificate.now)
+        (λ reason. IsFirstFailure 8 list.now certificate.now reason) }
+{
+    let potentials = certificate.potentials.as_slice();
+    if let Some((r, p)) = first_end_row(list, potentials, ROWS) {
+        return Err(Reason::EndRow { r, p });
+    }
+    if let Some((r, p, q)) = first_step_row(list, potentials, ROWS) {
+        return Err(Reason::Step { r, p, q });
+    }
+    Ok(())
+}
+
+/// The first row r, and its first place p, at which `h(r, p)` is above `c(p, n)`.
+fn first_end_row(list: &LitList, potentials: &[u64], most: usize) -> Option<(usize, usize)>
+    requires { most * length list.now.texts ≤ length potentials.now }
+    ensures { MatchOption result
+        (EndRowsHold list.now potentials.now (most + 1))
+        (λ s. IsFirstEndRow most list.now potentials.now s.0 s.1) }
+{
+    for r in 1..=most {
+        if let Some(p) = first_end(list, potentials, r) {
+            return Some((r, p));
+        }
+    }
+    None
+}
+
+/// The first place p at which `h(r, p)` is above `c(p, n)`.
+fn first_end(list: &LitList, potentials: &[u64], r: usize) -> Option<usize>
+    requires from_one { 1 ≤ r }
+    requires within { r * length list.now.texts ≤ length potentials.now }
+    ensures { MatchOption result
+        (EndsHold list.now potentials.now r (length list.now.texts))
+        (λ p. IsFirstEnd list.now potentials.now r p) }
+{
+    let n = list.len();
+    let row = &potentials[(r - 1) * n..r * n];
+    for (p, here) in row.iter().enumerate() {
+        if *here > cost(n - p, list.get(p).len()) {
+            return Some(p);
+        }
+    }
+    None
+}
+
+/// The first row r from 2 on, its first place p, and the first place q behind p, at which `h(r, p)`
+/// is above `c(p, q) + h(r - 1, q)`.
+fn first_step_row(list: &LitList, potentials: &[u64], most: usize) -> Option<(usize, usize, usize)>
+    requires { most * length list.now.texts ≤ length potentials.now }
+    ensures { MatchOption result
+        (StepRowsHold list.now potentials.now (most + 1))
+        (λ s. IsFirstStepRow most list.now potentials.now s.0 s.1 s.2) }
+{
+    for r in 2..=most {
+        if let Some((p, q)) = first_step(list, potentials, r) {
+            return Some((r, p, q));
+        }
+    }
+    None
+}
+
+/// The first place p of row r, and the first place q behind it, at which that is so.
+fn first_step(list: &LitList, potentials: &[u64], r: usize) -> Option<(usize, usize)>
+    requires from_two { 2 ≤ r }
+    requires within { r * length list.now.texts ≤ length potentials.now }
+    ensures { MatchOption result
+        (StepsHold list.now potentials.now r (length list.now.texts))
+        (λ s. IsFirstStep list.now potentials.now r s.0 s.1) }
+{
+    for p in 0..list.len() {
+        if let Some(q) = first_run(list, potentials, r, p) {
+            return Some((p, q));
+        }
+    }
+    None
+}
+
+/// The first place q behind p at which `h(r, p)` is above `c(p, q) + h(r - 1, q)`.
+fn first_run(list: &LitList, potentials: &[u64], r: usize, p: usize) -> Option<usize>
+    requires from_two { 2 ≤ r }
+    requires within { r * length list.now.texts ≤ length potentials.now }
+    requires inner { p < length list.now.texts }
+    ensures { MatchOption result
+        (RunsHold list.now potentials.now r p (length list.now.texts))
+        (λ q. IsFirstRun list.now potentials.now r p q) }
+{
+    let n = list.len();
+    let shortest = list.get(p).len();
+    let here = potentials[(r - 1) * n + p];
+    let before = &potentials[(r - 2) * n..(r - 1) * n];
+    for q in p + 1..n {
+        if here.saturating_sub(before[q]) > cost(q - p, shortest) {
+            return Some(q);
+        }
+    }
+    None
+}
