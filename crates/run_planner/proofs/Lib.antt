@@ -1,2 +1,3 @@
+pub mod FirstTails
 pub mod Splitting
 pub mod Tails

@@ -3,6 +3,7 @@
 #![tactic(auto)]
 
 mod fault;
+mod first_cut;
 mod meter;
 mod split_row;
 mod tail_row;
