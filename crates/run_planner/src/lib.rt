@@ -5,8 +5,10 @@
 mod fault;
 mod first_cut;
 mod meter;
+mod planning;
 mod split_row;
 mod tail_row;
 
 pub use fault::Fault;
 pub use meter::{ListMeter, Meter};
+pub use planning::{plan, plan_counted};
