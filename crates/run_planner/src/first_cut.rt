@@ -2,16 +2,38 @@
 //! of all, and for each run the first end that reaches its potential.
 
 ghost use Rattle.std.specs.Prelude.{◌≡◌, ◌≢◌, ℕ, ◌+◌, ◌-◌, ◌*◌, ◌^◌, ◌<◌, ◌≤◌, All, List, ◌∷◌, length, slice_index};
+ghost use Rattle.lit_base.specs.Cuts.{cut_price};
 ghost use Rattle.lit_base.specs.Potentials.{potential};
-ghost use Rattle.run_planner.specs.FirstCut.{IsFirstTail};
+ghost use Rattle.run_planner.specs.FirstCut.{IsFirstCut, IsFirstTail};
 ghost use Rattle.run_planner.specs.Splits.{IsFirstReaching};
 ghost use Rattle.run_planner.specs.TailCosts.{AreTailCosts};
 
 use crate::meter::Meter;
 use lit_cert::Ends;
 
+/// The ends of the first of the cheapest cuts into at most `most` runs, by the rows of potentials. It
+/// asks for at most n prices.
+pub(crate) fn first_cut<M: Meter>(meter: &mut M, n: u16, rows: &[u64], most: usize) -> Ends
+    requires size { M.size meter.old ≡ n }
+    requires some { 0 < n }
+    requires few { n ≤ 4096 }
+    requires from_one { 1 ≤ most }
+    requires few_runs { most ≤ 8 }
+    requires len { length rows.now ≡ most * n }
+    requires filled { AreTailCosts (M.prices meter.old) n most rows.now }
+    requires room { M.count meter.old + 8192 < 2 ^ 64 }
+    ensures first { IsFirstCut (M.prices meter.old) most n result.items }
+    ensures price { potential rows.now n most 0 ≡ cut_price (M.prices meter.old) 0 result.items }
+    ensures prices { M.prices meter.new ≡ M.prices meter.old }
+    ensures size { M.size meter.new ≡ M.size meter.old }
+    ensures count { M.count meter.new ≤ M.count meter.old + n }
+{
+    let runs = fewest_runs(rows, n, most);
+    first_ends(meter, n, rows, runs)
+}
+
 /// The fewest runs that cost no more than up to `most` runs do.
-pub(crate) fn fewest_runs(rows: &[u64], n: u16, most: usize) -> usize
+fn fewest_runs(rows: &[u64], n: u16, most: usize) -> usize
     requires some { 0 < n }
     requires from_one { 1 ≤ most }
     requires len { length rows.now ≡ most * n }
@@ -31,7 +53,7 @@ pub(crate) fn fewest_runs(rows: &[u64], n: u16, most: usize) -> usize
 }
 
 /// The ends of the first of the cheapest cuts into at most `runs` runs. It asks for at most n prices.
-pub(crate) fn first_ends<M: Meter>(meter: &mut M, n: u16, rows: &[u64], runs: usize) -> Ends
+fn first_ends<M: Meter>(meter: &mut M, n: u16, rows: &[u64], runs: usize) -> Ends
     requires size { M.size meter.old ≡ n }
     requires some { 0 < n }
     requires few { n ≤ 4096 }

@@ -9,7 +9,7 @@ ghost use Rattle.run_planner.specs.TailCosts.{AreTailCosts};
 ghost use Rattle.run_planner.specs.declared.fault.Fault.TheVariants.{NoLiterals};
 
 use crate::fault::Fault;
-use crate::first_cut::{fewest_runs, first_ends};
+use crate::first_cut::first_cut;
 use crate::meter::{ListMeter, Meter};
 use crate::tail_row::fill_rows;
 use lit_base::LitList;
@@ -73,8 +73,7 @@ pub fn plan_counted<M: Meter>(
     }
     let mut potentials = vec![in alloc; 0; MOST * usize::from(n)]?;
     fill_rows(meter, n, MOST, potentials.as_mut_slice());
-    let runs = fewest_runs(potentials.as_slice(), n, MOST);
-    let ends = first_ends(meter, n, potentials.as_slice(), runs);
+    let ends = first_cut(meter, n, potentials.as_slice(), MOST);
     let cost = potentials[(MOST - 1) * usize::from(n)];
     Ok(Certificate {
         ends,
