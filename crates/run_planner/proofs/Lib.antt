@@ -1,0 +1,4 @@
+pub mod Certificates
+pub mod FirstTails
+pub mod Splitting
+pub mod Tails

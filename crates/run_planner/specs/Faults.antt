@@ -1,0 +1,9 @@
+-- The refusals of this crate, and the numbers that messages give them.
+use Rattle.std.specs.Prelude.{ℕ}
+use Rattle.run_planner.specs.declared.fault.Fault.{Fault}
+use Rattle.run_planner.specs.declared.fault.Fault.TheVariants.{OutOfMemory, NoLiterals}
+
+-- the number of a refusal, the same in every crate
+abbrev pub number_of : Fault → ℕ
+number_of OutOfMemory = 1
+number_of NoLiterals = 5

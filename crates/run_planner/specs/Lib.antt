@@ -1,0 +1,5 @@
+pub mod Faults
+pub mod FirstCut
+pub mod ListPrices
+pub mod Splits
+pub mod TailCosts
