@@ -1,7 +1,7 @@
 //! What a command does.
 use crate::files::Files;
 use crate::message::{OUT_OF_MEMORY, Trouble, WRITE_FAULT, say, say_out_of_memory, say_text};
-use crate::words::{NoRequest, Request, request};
+use crate::words::{NoRequest, Request, requested};
 use lit_base::{
     ByteIn, ByteOut, Failed, Fold, LitList, MAX_TEXT_LEN, RawList, ReadError, read_to_end,
     write_all,
@@ -22,7 +22,7 @@ pub fn command<F: Files, W: ByteOut, E: ByteOut>(
     out: &mut W,
     err: &mut E,
 ) -> u8 {
-    match request(alloc, words) {
+    match requested(alloc, words) {
         Ok(request) => served(alloc, &request, files, out, err),
         Err(none) => {
             let _ = match &none {
@@ -47,7 +47,14 @@ fn served<F: Files, W: ByteOut, E: ByteOut>(
             fold,
             file,
             certificate,
-        } => checked(alloc, *fold, file.as_str(), certificate.as_str(), files, out),
+        } => checked(
+            alloc,
+            *fold,
+            file.as_str(),
+            certificate.as_str(),
+            files,
+            out,
+        ),
     };
     match answer {
         Ok(status) => status,

@@ -3,11 +3,10 @@ use crate::command::command;
 use crate::files::{Files, Missing};
 use crate::message::{say_out_of_memory, say_text};
 use lit_base::{ByteOut, FromRead, ToWrite};
-use std::fs;
 use std::fs::File;
-use std::io;
 use std::io::{Input, Read};
 use std::rt::Env;
+use std::{fs, io};
 
 /// Serves the words of the command line, and answers the status.
 pub fn serve<R: Env + AllocGlobal, F: Files, W: ByteOut, E: ByteOut>(

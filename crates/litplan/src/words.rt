@@ -8,7 +8,10 @@ use std::alloc::{AllocError, Global};
 #[derive(Debug, Drop)]
 pub enum Request {
     /// Plan the patterns of a file.
-    Plan { fold: Fold, file: String },
+    Plan {
+        fold: Fold,
+        file: String,
+    },
     /// Check a certificate against the patterns of a file.
     Check {
         fold: Fold,
@@ -32,7 +35,7 @@ impl From<AllocError> for NoRequest {
 }
 
 /// What the words after the program's name ask for.
-pub fn request(alloc: Global, words: &[String]) -> Result<Request, NoRequest> {
+pub fn requested(alloc: Global, words: &[String]) -> Result<Request, NoRequest> {
     match litplan(alloc)?.try_get_matches_from(words) {
         Ok(matches) => request_of(alloc, &matches),
         Err(error) => Err(refusal(alloc, &error)),

@@ -9,7 +9,7 @@ ghost use Rattle.run_planner.specs.Splits.{IsFirstReaching};
 ghost use Rattle.run_planner.specs.TailCosts.{AreTailCosts};
 
 use crate::meter::Meter;
-use lit_cert::Ends;
+use lit_base::Ends;
 
 /// The ends of the first of the cheapest cuts into at most `most` runs, by the rows of potentials. It
 /// asks for at most n prices.
