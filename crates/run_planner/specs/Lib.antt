@@ -2,4 +2,5 @@ pub mod Faults
 pub mod FirstCut
 pub mod ListPrices
 pub mod Splits
+pub mod Squares
 pub mod TailCosts
