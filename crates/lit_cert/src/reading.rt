@@ -71,3 +71,6 @@ fn read_longest<R: ByteIn>(alloc: Global, input: &mut R) -> Result<Certificate, 
         Err(ReadError::OutOfMemory) => Err(Fault::OutOfMemory),
     }
 }
+
+#[cfg(test)]
+mod tests;
