@@ -8,7 +8,7 @@
 #   make install PREFIX=..  copies the programs into PREFIX/bin
 #   CPU=x86-64-v3           builds for newer processors
 
-PROGRAMS = litgrep
+PROGRAMS = litgrep litplan
 MEASURES = bench_check
 PREFIX = /usr/local
 CPU =

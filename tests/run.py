@@ -8,6 +8,7 @@ import tempfile
 
 TOP = os.path.dirname(os.path.dirname(os.path.abspath(__file__)))
 LITGREP = os.path.join(TOP, "bin", "litgrep")
+LITPLAN = os.path.join(TOP, "bin", "litplan")
 
 OUT_OF_MEMORY = b"litgrep: out of memory\n"
 UNREADABLE = b"litgrep: (standard input): cannot be read\n"
@@ -38,14 +39,67 @@ ROWS = [
 MANY = b"".join(b"%d cat\n%d dog\n" % (n, n) for n in range(9000))
 
 
+# The certificate of three literals, and of one.
+THREE = b"""litcert 1
+literals 3
+ends 1 2 3
+cost 934
+1 1559 804 232
+2 1036 583 232
+3 934 583 232
+4 934 583 232
+5 934 583 232
+6 934 583 232
+7 934 583 232
+8 934 583 232
+end
+"""
+CAT = b"litcert 1\nliterals 1\nends 1\ncost 351\n%bend\n" % b"".join(b"%d 351\n" % r for r in range(1, 9))
+REFUSED = b"litplan: refused (%d)\n"
+
+# Files by name, the words of litplan, standard input, and what must come. Words name files of the folder.
+PLANS = [
+    ({}, ["plan", "-"], b"horse\ncat\ndog\n", THREE, b"", 0),
+    ({"words": b"dog\nhorse\ncat\n\ncat"}, ["plan", "words"], b"", THREE, b"", 0),
+    ({}, ["plan", "-i", "-"], b"Cat\ncat\n", CAT, b"", 0),
+    ({}, ["plan", "-"], b"\n", b"", REFUSED % 5, 2),
+    ({}, ["plan", "-"], b"", b"", REFUSED % 5, 2),
+    ({}, ["plan", "-"], b"".join(b"%d\n" % n for n in range(1025)), b"", REFUSED % 6, 2),
+    ({}, ["plan", "-"], b"\n" * 1052672, b"", REFUSED % 2, 2),
+    ({}, ["plan", "-"], b"\n" * 1052673, b"", REFUSED % 7, 2),
+    ({}, ["plan", "-"], b"a" * 4096, b"", REFUSED % 3, 2),
+    ({}, ["plan", "none"], b"", b"", b"litplan: none: cannot be used\n", 2),
+    ({}, ["plan", "/"], b"", b"", b"litplan: /: cannot be used\n", 2),
+    ({"c": THREE}, ["check", "-", "c"], b"dog\nhorse\ncat", b"optimal 934\n", b"", 0),
+    ({"c": CAT}, ["check", "-i", "-", "c"], b"CAT", b"optimal 351\n", b"", 0),
+    ({"c": CAT}, ["check", "-", "c"], b"", b"not certified: length\n", b"", 1),
+    ({"c": THREE}, ["check", "-", "c"], b"a\n", b"not certified: length\n", b"", 1),
+    ({"c": THREE.replace(b"3 934 583", b"3 934 584")}, ["check", "-", "c"], b"cat\ndog\nhorse", b"not certified: step 3 1 2\n", b"", 1),
+    ({"c": THREE.replace(b"8 934", b"8 935")}, ["check", "-", "c"], b"cat\ndog\nhorse", b"not certified: total\n", b"", 1),
+    ({"c": THREE.replace(b"1 2 3", b"1 1 3")}, ["check", "-", "c"], b"cat\ndog\nhorse", b"not certified: ends\n", b"", 1),
+    ({"c": CAT.replace(b"1 351", b"1 352")}, ["check", "-", "c"], b"cat", b"not certified: end row 1 0\n", b"", 1),
+    ({"c": THREE + b"x\n"}, ["check", "-", "c"], b"cat\ndog\nhorse", b"", REFUSED % 9, 2),
+    ({"c": THREE[:50]}, ["check", "-", "c"], b"cat\ndog\nhorse", b"", REFUSED % 9, 2),
+    ({"c": b"1" * 1000000}, ["check", "-", "c"], b"cat\ndog\nhorse", b"", REFUSED % 9, 2),
+    ({}, ["check", "-", "-"], b"cat", b"", b"litplan: -: cannot be used\n", 2),
+    ({"-": CAT}, ["check", "-", "-"], b"cat", b"optimal 351\n", b"", 0),
+    ({"-": CAT}, ["check", "none", "-"], b"cat", b"", b"litplan: none: cannot be used\n", 2),
+    ({}, ["check", "-", "/"], b"cat", b"", b"litplan: /: cannot be used\n", 2),
+    ({}, ["plan"], b"", b"", b"error: the following required arguments...", 2),
+    ({}, [], b"", b"", b"...", 2),
+    ({}, ["plan", "--help"], b"", b"", b"Prints the certificate...", 2),
+]
+
+
 def run(words, stdin=b"", **how):
-    """Runs litgrep; answers its status, output and messages."""
+    """Runs a program, litgrep unless another is named; answers its status, output and messages."""
     if isinstance(stdin, bytes):
         how["input"] = stdin
     else:
         how["stdin"] = stdin
     how.setdefault("stdout", subprocess.PIPE)
-    done = subprocess.run([LITGREP] + words, stderr=subprocess.PIPE, timeout=60, **how)
+    program = how.pop("program", LITGREP)
+    done = subprocess.run([program] + words, stderr=subprocess.PIPE, timeout=60, **how)
     return done.returncode, done.stdout, done.stderr
 
 
@@ -77,6 +131,36 @@ def edges():
     os.close(writer)
 
 
+def plans():
+    """Each row of litplan's table, in a folder with its files, and a full device."""
+    for files, words, stdin, stdout, stderr, status in PLANS:
+        with tempfile.TemporaryDirectory() as folder:
+            for name, text in files.items():
+                with open(os.path.join(folder, name), "wb") as file:
+                    file.write(text)
+            got = run(words, stdin, program=LITPLAN, cwd=folder)
+        if stderr.endswith(b"..."):
+            got = got[0], got[1], got[2][: len(stderr) - 3] + b"..."
+        yield f"litplan {words!r:.40} on {stdin!r:.20}", got, (status, stdout, stderr)
+    with open("/dev/full", "wb") as full:
+        got = run(["plan", "-"], b"cat\n", program=LITPLAN, stdout=full)
+        yield "litplan on a full device", got, (2, None, REFUSED % 18)
+
+
+def refused_plans(env, mark):
+    """A plan with each of its growths refused in turn, until none is."""
+    whole = run(["plan", "-"], b"horse\ncat\ndog\n", program=LITPLAN)
+    for number in range(1, 1000):
+        env = dict(env, REFUSED=str(number))
+        got = run(["plan", "-"], b"horse\ncat\ndog\n", program=LITPLAN, env=env)
+        if not os.path.exists(mark):
+            break
+        os.remove(mark)
+        starved = got[0] == 2 and whole[1].startswith(got[1]) and got[2] == REFUSED % 1
+        yield f"litplan, growth {number} refused", got, got if starved else whole
+    yield "litplan, growths to refuse", (number > 5, *got), (True, *whole)
+
+
 def refused_growths():
     """Some runs with each of their growths refused in turn, until none is."""
     with tempfile.TemporaryDirectory() as folder:
@@ -95,11 +179,12 @@ def refused_growths():
                 starved = got[0] == 2 and whole[1].startswith(got[1]) and got[2] == OUT_OF_MEMORY
                 yield f"{words!r:.20}, growth {number} refused", got, got if starved else whole
             yield f"{words!r:.20}, growths to refuse", (number > 5, *got), (True, *whole)
+        yield from refused_plans(env, mark)
 
 
 def main():
     passed = failed = 0
-    for part in (rows, edges, refused_growths):
+    for part in (rows, edges, plans, refused_growths):
         for name, got, want in part():
             if got == want:
                 passed += 1
