@@ -1,14 +1,14 @@
 -- What the parts of a plan make together: its certificate holds, and its prices are few.
-use Rattle.std.proofs.Common.{◌≡◌, ◌⊎◌, inl, inr, ℕ, zero, suc, ◌+◌, ◌-◌, ◌*◌, ◌^◌, ◌<◌, ◌≤◌, List, ◌∷◌, ◌++◌, length, take, drop, refl, sym, ap, ◌∙◌, subst, arith}
+use Rattle.std.proofs.Common.{◌≡◌, inl, inr, ℕ, zero, suc, ◌+◌, ◌-◌, ◌*◌, ◌^◌, ◌<◌, ◌≤◌, List, ◌∷◌, ◌++◌, length, take, drop, sym, ap, ◌∙◌, subst, arith}
 use Rattle.std.proofs.lemmas.Nat.{mul-le}
 use Rattle.std.proofs.Math.Seq.{take-append_seam}
 use Rattle.lit_base.specs.Costs.{run_cost}
-use Rattle.lit_base.specs.Cuts.{CutsFrom, IsCut, cut_price}
+use Rattle.lit_base.specs.Cuts.{IsCut, cut_price}
 use Rattle.lit_base.specs.Literals.{Literals, lengths}
 use Rattle.lit_base.specs.Potentials.{BoundsBelow, potential}
 use Rattle.lit_cert.specs.Certificates.{CertificateParts}
 use Rattle.lit_cert.specs.Certified.{IsCertified}
-use Rattle.run_planner.specs.FirstCut.{IsFirstCut, IsNoLaterCut}
+use Rattle.run_planner.specs.FirstCut.{IsFirstCut}
 use Rattle.run_planner.specs.TailCosts.{AreTailCosts}
 use Rattle.run_planner.proofs.Tails.{tail_cost-le}
 
@@ -62,7 +62,7 @@ pub certified-from_meter : (most : ℕ) (l : Literals) (c : CertificateParts) (n
 certified-from_meter most l c n prices from_one size same first cost tails len =
     let costs = run_cost (lengths l) in
     certified-from_plan most l c from_one
-      (subst (λ k. IsFirstCut costs most k c.ends) size (subst (λ p. IsFirstCut p most n c.ends) same first))
-      (cost ∙ ap (λ p. cut_price p 0 c.ends) same)
-      (subst (λ k. AreTailCosts costs k most c.potentials) size (subst (λ p. AreTailCosts p n most c.potentials) same tails))
-      (len ∙ ap (λ k. most * k) size)
+    (subst (λ k. IsFirstCut costs most k c.ends) size (subst (λ p. IsFirstCut p most n c.ends) same first))
+    (cost ∙ ap (λ p. cut_price p 0 c.ends) same)
+    (subst (λ k. AreTailCosts costs k most c.potentials) size (subst (λ p. AreTailCosts p n most c.potentials) same tails))
+    (len ∙ ap (λ k. most * k) size)

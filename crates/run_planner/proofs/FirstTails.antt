@@ -1,5 +1,5 @@
 -- First cheapest cuts: each begins with the first end that reaches the potential, and goes on as one.
-use Rattle.std.proofs.Common.{append-nil, ◌≡◌, ◌⊎◌, inl, inr, ℕ, zero, suc, ◌+◌, ◌-◌, ◌*◌, ◌^◌, ◌<◌, ◌≤◌, List, [], ◌∷◌, ◌++◌, length, get_or, All, refl, sym, ap, ◌∙◌, subst, arith}
+use Rattle.std.proofs.Common.{append-nil, ◌≡◌, inl, inr, ℕ, zero, suc, ◌+◌, ◌-◌, ◌*◌, ◌^◌, ◌<◌, ◌≤◌, List, [], ◌∷◌, ◌++◌, length, get_or, All, refl, sym, ap, ◌∙◌, subst, arith}
 use Rattle.std.specs.List.{slice_range}
 use Rattle.std.proofs.lemmas.Bool.{cases_lt}
 use Rattle.std.proofs.lemmas.List.Elements.{All-from_get_or}
@@ -9,7 +9,6 @@ use Rattle.lit_base.specs.Potentials.{potential}
 use Rattle.lit_base.proofs.Cuts.{cuts-le}
 use Rattle.lit_base.proofs.Least.{potential-inner, potential-end}
 use Rattle.lit_cert.proofs.Potentials.{row_at, row_within}
-use Rattle.run_planner.specs.Splits.{IsFirstReaching}
 use Rattle.run_planner.specs.TailCosts.{IsTailCost, AreTailCosts}
 use Rattle.run_planner.specs.FirstCut.{ComeNoLater, IsNoLaterCut, IsFirstCut, IsFirstTail}
 use Rattle.run_planner.proofs.Tails.{tail_cost-end, tail_cost-le}
@@ -60,12 +59,12 @@ none_earlier c rest n s p v end ends (other ∷ others) tail behind past within 
     elim (cases_lt other end) [
       | inl earlier ↦ absurd (before other cuts.0 earlier (more_runs n s other others cuts.1 (omega (arith, few)) (omega (arith, earlier, within))) here)
       | inr no_earlier ↦ elim (cases_lt end other) [
-          | inl later ↦ inl later
-          | inr no_later ↦
-              let same : end ≡ other = omega (arith, no_earlier, no_later) in
-              let price : cut_price c other others ≡ rest other = omega (arith, here, is) in
-              inr (same, first.first others (subst (λ e. CutsFrom n e others) (sym same) cuts.1) (omega (arith, few)) (subst (λ e. cut_price c e others ≡ rest e) (sym same) price))
-        ]
+        | inl later ↦ inl later
+        | inr no_later ↦
+            let same : end ≡ other = omega (arith, no_earlier, no_later) in
+            let price : cut_price c other others ≡ rest other = omega (arith, here, is) in
+            inr (same, first.first others (subst (λ e. CutsFrom n e others) (sym same) cuts.1) (omega (arith, few)) (subst (λ e. cut_price c e others ≡ rest e) (sym same) price))
+      ]
     ]
 
 -- so it is the first cheapest cut from there on
@@ -105,7 +104,7 @@ goes_on c n rows zero p end some tails past within = absurd (omega (arith, some)
 goes_on c n rows (suc s) p end some tails past within =
     let one : s ≡ suc s - 1 = omega arith in
     subst (λ k. GoesOn c n rows k (suc s) p end) one (λ reached before ends first.
-        first_tail-next c (potential rows n s) n s p (potential rows n (suc s) p) end ends (tails (suc s) p some (omega arith) (omega (arith, past, within))) (behind-rows c n s rows tails) past within reached before first)
+    first_tail-next c (potential rows n s) n s p (potential rows n (suc s) p) end ends (tails (suc s) p some (omega arith) (omega (arith, past, within))) (behind-rows c n s rows tails) past within reached before first)
 
 -- the row of one run fewer, as it is read
 pub fewer_at : (rows : List ℕ) (n r w q : ℕ) → w ≡ n → 2 ≤ r → q < n → get_or (slice_range rows ((r - 2) * w) ((r - 1) * w)) q 0 ≡ potential rows n (r - 1) q
@@ -118,9 +117,9 @@ pub fewer-small : (c : ℕ → ℕ → ℕ) (rows : List ℕ) (n r w : ℕ) → 
 fewer-small c rows n r w width some tails small =
     let two : r - 2 ≡ (r - 1) - 1 = omega arith in
     All-from_get_or (λ v. v < 2 ^ 40) (slice_range rows ((r - 2) * w) ((r - 1) * w)) 0 (λ q h.
-        let inner : q < n = row_within rows n (r - 1) q (omega (arith, some)) (rw (width, two) at h) in
-        let tail = tails (r - 1) q (omega (arith, some)) (omega arith) inner in
-        omega (arith, fewer_at rows n r w q width some inner, small q n inner (omega arith), tail_cost-le c n (r - 1) q (potential rows n (r - 1) q) (omega (arith, some)) inner tail))
+    let inner : q < n = row_within rows n (r - 1) q (omega (arith, some)) (rw (width, two) at h) in
+    let tail = tails (r - 1) q (omega (arith, some)) (omega arith) inner in
+    omega (arith, fewer_at rows n r w q width some inner, small q n inner (omega arith), tail_cost-le c n (r - 1) q (potential rows n (r - 1) q) (omega (arith, some)) inner tail))
 
 -- where no place is left, the ends so far are the first cheapest cut
 pub first_tail-done : (c : ℕ → ℕ → ℕ) (n : ℕ) (rows : List ℕ) (r left place v : ℕ) (ends : List ℕ) → place ≡ n → ((rest : List ℕ) → IsFirstTail c n left place (potential rows n left place) rest → IsFirstTail c n r 0 v (ends ++ rest)) → IsFirstTail c n r 0 v ends

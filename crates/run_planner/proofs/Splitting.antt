@@ -1,9 +1,9 @@
 -- Best ends of runs: they never move back, as the prices meet the quadrangle inequality.
-use Rattle.std.proofs.Common.{◌≡◌, ◌⊎◌, inl, inr, ℕ, zero, suc, ◌+◌, ◌/◌, max, ◌-◌, ◌*◌, ◌^◌, ◌<◌, ◌≤◌, refl, sym, ap, ◌∙◌, subst, arith}
+use Rattle.std.proofs.Common.{◌≡◌, inl, inr, ℕ, zero, suc, ◌+◌, ◌/◌, max, ◌-◌, ◌*◌, ◌^◌, ◌<◌, ◌≤◌, arith}
 use Rattle.std.proofs.lemmas.Bool.{cases_lt}
 use Rattle.std.proofs.Math.Nat.{pow-suc}
 use Rattle.lit_base.specs.Costs.{MeetQuadrangle}
-use Rattle.run_planner.specs.Splits.{IsBestEnd, IsLeastSplit, Suffice, SufficeAt}
+use Rattle.run_planner.specs.Splits.{IsBestEnd, Suffice, SufficeAt}
 
 -- the places before one whose best end is known need no later end
 pub suffice-before : (c : ℕ → ℕ → ℕ) (rest : ℕ → ℕ) (n low middle high first last end : ℕ) → MeetQuadrangle c n → last ≤ n → middle < high → first ≤ end → IsBestEnd c rest n middle end → Suffice c rest n low high first last → Suffice c rest n low middle first end

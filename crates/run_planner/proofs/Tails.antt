@@ -1,5 +1,5 @@
 -- Tail costs: those of one run, and those of one run more.
-use Rattle.std.proofs.Common.{◌≡◌, ◌⊎◌, inl, inr, ℕ, zero, suc, ◌+◌, ◌-◌, ◌*◌, ◌^◌, ◌<◌, ◌≤◌, List, [], ◌∷◌, ◌++◌, length, get_or, take, drop, All, refl, sym, ap, ◌∙◌, subst, arith}
+use Rattle.std.proofs.Common.{◌≡◌, inl, inr, ℕ, zero, suc, ◌+◌, ◌-◌, ◌*◌, ◌^◌, ◌<◌, ◌≤◌, List, [], ◌∷◌, ◌++◌, length, get_or, take, drop, All, refl, sym, ap, ◌∙◌, subst, arith}
 use Rattle.std.specs.List.{slice_index}
 use Rattle.std.proofs.lemmas.Bool.{cases_lt}
 use Rattle.std.proofs.lemmas.List.{get_or-take, get_or-drop, get_or_past, get_or-append-add, length-drop, length-take-le}
@@ -11,7 +11,7 @@ use Rattle.lit_base.specs.Cuts.{CutsFrom, cut_price}
 use Rattle.lit_base.specs.Potentials.{potential}
 use Rattle.lit_base.proofs.Cuts.{cuts-le}
 use Rattle.lit_base.proofs.Least.{potential-inner}
-use Rattle.run_planner.specs.Splits.{IsBestEnd, IsLeastSplit}
+use Rattle.run_planner.specs.Splits.{IsLeastSplit}
 use Rattle.run_planner.specs.TailCosts.{IsTailCost, AreTailCosts}
 
 -- nothing is left after the last place, and costs nothing
@@ -80,7 +80,7 @@ later_at n r q rows done later some front back inner =
     let row : (r - 1) * n + n ≡ r * n = row_end n r some in
     let at : get_or later q 0 ≡ get_or done ((r - 1) * n + q) 0 = ap (λ l. get_or l q 0) back ∙ get_or-drop ((r - 1) * n) done q 0 in
     let before : get_or done ((r - 1) * n + q) 0 ≡ get_or rows ((r - 1) * n + q) 0 =
-        ap (λ l. get_or l ((r - 1) * n + q) 0) front ∙ get_or-take (r * n) rows ((r - 1) * n + q) 0 (omega (arith, row, inner)) in
+    ap (λ l. get_or l ((r - 1) * n + q) 0) front ∙ get_or-take (r * n) rows ((r - 1) * n + q) 0 (omega (arith, row, inner)) in
     at ∙ (before ∙ sym (potential-inner rows n r q inner))
 
 -- and how many entries the row behind has
@@ -100,9 +100,9 @@ pub later-small : (c : ℕ → ℕ → ℕ) (n r : ℕ) (rows done later : List 
 later-small c n r rows done later some within front back tails small =
     let size = later-length n r rows done later some within front back in
     All-from_get_or (λ v. v < 2 ^ 40) later 0 (λ q h.
-        let inner : q < n = omega (arith, h, size) in
-        let tail = later_tails c n r rows done later some within front back tails q (omega arith) in
-        omega (arith, small q n inner (omega arith), tail_cost-le c n r q (get_or later q 0) some inner tail))
+    let inner : q < n = omega (arith, h, size) in
+    let tail = later_tails c n r rows done later some within front back tails q (omega arith) in
+    omega (arith, small q n inner (omega arith), tail_cost-le c n r q (get_or later q 0) some inner tail))
 
 -- one row more, each entry the least split by the row behind
 pub rows_next : (c : ℕ → ℕ → ℕ) (n r : ℕ) (rows done later rest : List ℕ) → 1 ≤ r → r * n ≤ length rows → done ≡ take (r * n) rows → later ≡ drop ((r - 1) * n) done → AreTailCosts c n r rows → ((p : ℕ) → p < n → IsLeastSplit c (slice_index later) n p (slice_index rest p)) → AreTailCosts c n (r + 1) (done ++ rest)
@@ -114,13 +114,13 @@ rows_next c n r rows done later rest some within front back tails filled s p fro
           let here : s ≡ r + 1 = omega (arith, last, to) in
           let index : (s - 1) * n + p ≡ length done + p = omega (arith, size, row, ap (λ k. k * n) here) in
           let at : potential (done ++ rest) n s p ≡ get_or rest p 0 =
-              potential-inner (done ++ rest) n s p inner ∙ (ap (λ i. get_or (done ++ rest) i 0) index ∙ get_or-append-add done rest p 0) in
+          potential-inner (done ++ rest) n s p inner ∙ (ap (λ i. get_or (done ++ rest) i 0) index ∙ get_or-append-add done rest p 0) in
           let next = tail_cost-next c (slice_index later) n r p (slice_index rest p) (later_tails c n r rows done later some within front back tails) (filled p inner) in
           subst (λ k. IsTailCost c n k p (potential (done ++ rest) n s p)) (sym here) (subst (λ v. IsTailCost c n (r + 1) p v) (sym at) next)
       | inr earlier ↦
           let below : (s - 1) * n + p < length done = omega (arith, size, row, inner, mul-le s n r n earlier (omega arith)) in
           let same : potential (done ++ rest) n s p ≡ potential rows n s p =
-              potential-inner (done ++ rest) n s p inner ∙ (get_or-append done rest 0 ((s - 1) * n + p) below ∙ (ap (λ l. get_or l ((s - 1) * n + p) 0) front ∙ (get_or-take (r * n) rows ((s - 1) * n + p) 0 (omega (arith, below, size)) ∙ sym (potential-inner rows n s p inner)))) in
+          potential-inner (done ++ rest) n s p inner ∙ (get_or-append done rest 0 ((s - 1) * n + p) below ∙ (ap (λ l. get_or l ((s - 1) * n + p) 0) front ∙ (get_or-take (r * n) rows ((s - 1) * n + p) 0 (omega (arith, below, size)) ∙ sym (potential-inner rows n s p inner)))) in
           subst (λ v. IsTailCost c n s p v) (sym same) (tails s p from_one earlier inner)
     ]
 

@@ -13,7 +13,7 @@ abbrev pub IsNoLaterCut : (ℕ → ℕ → ℕ) → List ℕ → List ℕ → Ty
 IsNoLaterCut c ends others =
     (cut_price c 0 ends < cut_price c 0 others)
     ⊎ ((cut_price c 0 ends ≡ cut_price c 0 others)
-        × ((length ends < length others) ⊎ ((length ends ≡ length others) × ComeNoLater ends others)))
+    × ((length ends < length others) ⊎ ((length ends ≡ length others) × ComeNoLater ends others)))
 
 -- by the prices c of a run, the first of the cuts of n places into at most `most` runs
 pub record IsFirstCut (c : ℕ → ℕ → ℕ) (most n : ℕ) (ends : List ℕ) : Type 0 where

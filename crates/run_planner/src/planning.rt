@@ -51,11 +51,7 @@ pub fn plan(alloc: Global, list: &LitList) -> Result<Certificate, Fault>
 /// # Errors
 /// - `NoLiterals` where n is 0.
 /// - `OutOfMemory` where the potentials, eight for each place, found no memory.
-pub fn plan_counted<M: Meter>(
-    alloc: Global,
-    n: u16,
-    meter: &mut M,
-) -> Result<Certificate, Fault>
+pub fn plan_counted<M: Meter>(alloc: Global, n: u16, meter: &mut M) -> Result<Certificate, Fault>
     requires size { n ≡ M.size meter.old }
     requires few { n ≤ 1024 }
     requires room { M.count meter.old ≤ 2 ^ 63 }

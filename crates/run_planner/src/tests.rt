@@ -32,15 +32,27 @@ fn plans_the_worked_lists(rt: HostRuntime) -> Result<(), Fail> {
         (&[b"a", b"the"], &[1, 2], 4647),
         (
             &[
-                b"aaaaaaaa", b"bbbbbbbb", b"cccccccc", b"dddddddd", b"eeeeeeee", b"ffffffff",
-                b"gggggggg", b"hhhhhhhh", b"iiiiiiii",
+                b"aaaaaaaa",
+                b"bbbbbbbb",
+                b"cccccccc",
+                b"dddddddd",
+                b"eeeeeeee",
+                b"ffffffff",
+                b"gggggggg",
+                b"hhhhhhhh",
+                b"iiiiiiii",
             ],
             &[4, 9],
             728,
         ),
         (
             &[
-                b"aaaaa", b"aaaaaaa", b"bbbbbbb", b"aaaaaaaa", b"bbbbbbbb", b"cccccccc",
+                b"aaaaa",
+                b"aaaaaaa",
+                b"bbbbbbb",
+                b"aaaaaaaa",
+                b"bbbbbbbb",
+                b"cccccccc",
                 b"dddddddd",
             ],
             &[2, 7],
@@ -58,8 +70,8 @@ fn plans_the_worked_lists(rt: HostRuntime) -> Result<(), Fail> {
 #[test]
 fn gives_the_worked_potentials(rt: HostRuntime) -> Result<(), Fail> {
     let three = [
-        1559, 804, 232, 1036, 583, 232, 934, 583, 232, 934, 583, 232, 934, 583, 232, 934, 583,
-        232, 934, 583, 232, 934, 583, 232,
+        1559, 804, 232, 1036, 583, 232, 934, 583, 232, 934, 583, 232, 934, 583, 232, 934, 583, 232,
+        934, 583, 232, 934, 583, 232,
     ];
     let list = list_of(rt.alloc(), &[b"cat", b"dog", b"horse"])?;
     let found = plan(rt.alloc(), &list)?;
@@ -201,7 +213,11 @@ fn agrees_with_the_whole_table(rt: HostRuntime) -> Result<(), Fail> {
         let (list, _) = LitList::normal(rt.alloc(), &raw, Fold::Ascii)?;
         let found = plan(rt.alloc(), &list)?;
         let rows = table(rt.alloc(), &list)?;
-        assert_eq!(rt; found.potentials.as_slice(), rows.as_slice(), "{count} patterns");
+        assert_eq!(rt;
+            found.potentials.as_slice(),
+            rows.as_slice(),
+            "{count} patterns"
+        );
         assert!(rt; check(&list, &found).is_ok());
     }
     Ok(())

@@ -21,5 +21,5 @@ loop-r-preserved c r from_one before same = elim (cases_lt r c.loop-r.r) [
       let here : r ≡ c.loop-r.r = omega (arith, last, before) in
       let alike = subst (λ k. potential rows c.args.n k 0 ≡ potential rows c.args.n c.args.most 0) here same in
       c.if-rows-r.false (sym (first_entry rows c.args.n c.loop-r.r width c.from-width.ensures c.requires.some)
-        ∙ (alike ∙ first_entry rows c.args.n c.args.most width c.from-width.ensures c.requires.some))
+      ∙ (alike ∙ first_entry rows c.args.n c.args.most width c.from-width.ensures c.requires.some))
 ]

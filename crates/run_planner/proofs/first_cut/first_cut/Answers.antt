@@ -1,6 +1,5 @@
 -- Into the fewest runs with the price of all, the first cheapest cut is the first of all.
-use Rattle.std.proofs.Common.{◌≡◌, ◌*◌, ◌≤◌, ◌∙◌, length, sym, subst, arith}
-use Rattle.std.proofs.lemmas.Nat.{mul-le}
+use Rattle.std.proofs.Common.{◌∙◌, sym, arith}
 use Rattle.run_planner.proofs.FirstTails.{first_cut-from_tail}
 use Rattle.run_planner.proofs.first_cut.first_cut.Goals as goal
 

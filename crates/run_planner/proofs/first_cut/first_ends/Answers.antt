@@ -1,5 +1,5 @@
 -- The potentials serve each run, and at the end no place is left.
-use Rattle.std.proofs.Common.{◌≡◌, sym, subst, arith}
+use Rattle.std.proofs.Common.{sym, subst, arith}
 use Rattle.lit_base.specs.Potentials.{potential}
 use Rattle.run_planner.specs.TailCosts.{IsTailCost}
 use Rattle.run_planner.proofs.FirstTails.{first_tail-done}

@@ -1,5 +1,5 @@
 -- With one run left it goes to the end; else the end is the first that reaches the potential.
-use Rattle.std.proofs.Common.{◌≡◌, ℕ, ◌+◌, ◌-◌, ◌*◌, ◌<◌, get_or, sym, ap, ◌∙◌, subst, arith}
+use Rattle.std.proofs.Common.{◌≡◌, ◌+◌, ◌-◌, ◌*◌, get_or, sym, subst, arith}
 use Rattle.lit_base.specs.Costs.{AreSmall}
 use Rattle.lit_base.specs.Potentials.{potential}
 use Rattle.lit_base.proofs.Least.{potential-inner}
@@ -23,5 +23,5 @@ returns-clause-first g c =
     let by_width = subst (λ w. get_or rows ((c.args.runs - 1) * w + c.args.place) 0 ≡ potential rows c.args.n c.args.runs c.args.place) (sym c.from-width.ensures) price in
     let price_is = subst (λ p. get_or rows ((c.args.runs - 1) * c.from-width.result + p) 0 ≡ potential rows c.args.n c.args.runs c.args.place) (sym c.from.ensures) by_width in
     goes_on (g.M.Meter.prices c.args.meter.now) c.args.n rows c.args.runs c.args.place c.first_reaching.result c.requires.from_one c.requires.filled end.past end.within
-      (λ inner. omega (arith, end.reaches inner, price_is, fewer_at rows c.args.n c.args.runs c.from-width.result c.first_reaching.result c.from-width.ensures (omega arith) inner))
-      (λ q past before some is. end.before q past before (omega (arith, is, price_is, fewer_at rows c.args.n c.args.runs c.from-width.result q c.from-width.ensures (omega arith) (omega (arith, before, end.within)))))
+    (λ inner. omega (arith, end.reaches inner, price_is, fewer_at rows c.args.n c.args.runs c.from-width.result c.first_reaching.result c.from-width.ensures (omega arith) inner))
+    (λ q past before some is. end.before q past before (omega (arith, is, price_is, fewer_at rows c.args.n c.args.runs c.from-width.result q c.from-width.ensures (omega arith) (omega (arith, before, end.within)))))

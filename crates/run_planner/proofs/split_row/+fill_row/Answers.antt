@@ -1,5 +1,5 @@
 -- The middle place is filled by its best end, which bounds the ends of both sides.
-use Rattle.std.proofs.Common.{ℕ, ◌≡◌, ◌+◌, ◌-◌, ◌*◌, ◌/◌, ◌^◌, ◌<◌, ◌≤◌, ◌∙◌, sym, subst, length, arith, rules}
+use Rattle.std.proofs.Common.{◌+◌, ◌-◌, ◌/◌, ◌∙◌, sym, subst, length, arith, rules}
 use Rattle.std.specs.List.{slice_index}
 use Rattle.std.proofs.Math.ListN.{length-set}
 use Rattle.lit_base.specs.Costs.{MeetQuadrangle}

@@ -1,5 +1,5 @@
 -- The best of the ends before this one, and a price for each.
-use Rattle.std.proofs.Common.{◌≡◌, ℕ, ◌+◌, ◌-◌, ◌<◌, ◌≤◌, get_or}
+use Rattle.std.proofs.Common.{◌≡◌, ℕ, ◌+◌, ◌<◌, ◌≤◌, get_or}
 use Rattle.run_planner.proofs.split_row.best_end.Given as goal
 
 abbrev pub invariant-loop-end : goal.invariant-loop-end

@@ -1,5 +1,5 @@
 -- One row more.
-use Rattle.std.proofs.Common.{◌≡◌, ℕ, ◌+◌, ◌-◌, ◌*◌, ◌<◌, ◌∙◌, sym, subst, arith}
+use Rattle.std.proofs.Common.{◌+◌, ◌-◌, ◌*◌, ◌∙◌, sym, subst, arith}
 use Rattle.run_planner.specs.TailCosts.{AreTailCosts}
 use Rattle.run_planner.proofs.Tails.{times_more}
 use Rattle.run_planner.proofs.tail_row.fill_rows.Goals as goal

@@ -1,5 +1,5 @@
 -- The cost of as many literals as the run has, by its first.
-use Rattle.std.proofs.Common.{◌≡◌, ◌-◌, ◌∙◌, length, get_or, subst, arith}
+use Rattle.std.proofs.Common.{◌≡◌, ◌∙◌, length, get_or, subst, arith}
 use Rattle.lit_base.specs.Literals.{lengths}
 use Rattle.lit_base.proofs.Runs.{cost-run}
 use Rattle.run_planner.proofs.meter.ListMeterMeter.price.Goals as goal
