@@ -1,4 +1,6 @@
 //! What a command does.
+ghost use Rattle.std.specs.Prelude.{◌≡◌, ◌≢◌, ◌||◌, OnOk};
+
 use crate::files::Files;
 use crate::message::{OUT_OF_MEMORY, Trouble, WRITE_FAULT, say, say_out_of_memory, say_text};
 use crate::words::{NoRequest, Request, requested};
@@ -14,14 +16,18 @@ use std::alloc::{AllocError, Global};
 const LIST_TOO_LARGE: u8 = 7;
 
 /// Serves the words after the program's name: its answer goes to `out`, its messages to `err`.
-/// Answers the status: 0, 1 for a certificate that does not hold, 2 with a message.
+/// Answers the status: 0, 1 for a certificate that does not hold, 2 with a message. A write that
+/// failed is told by 2.
 pub fn command<F: Files, W: ByteOut, E: ByteOut>(
     alloc: Global,
     words: &[String],
     files: &mut F,
     out: &mut W,
     err: &mut E,
-) -> u8 {
+) -> u8
+    ensures { result ≢ 2
+        → (W.has_failed out.new || E.has_failed err.new) ≡ (W.has_failed out.old || E.has_failed err.old) }
+{
     match requested(alloc, words) {
         Ok(request) => served(alloc, &request, files, out, err),
         Err(none) => {
@@ -40,7 +46,10 @@ fn served<F: Files, W: ByteOut, E: ByteOut>(
     files: &mut F,
     out: &mut W,
     err: &mut E,
-) -> u8 {
+) -> u8
+    ensures { result ≢ 2
+        → (W.has_failed out.new || E.has_failed err.new) ≡ (W.has_failed out.old || E.has_failed err.old) }
+{
     let answer = match request {
         Request::Plan { fold, file } => planned(alloc, *fold, file.as_str(), files, out),
         Request::Check {
@@ -72,7 +81,9 @@ fn planned<'a, F: Files, W: ByteOut>(
     file: &'a str,
     files: &mut F,
     out: &mut W,
-) -> Result<u8, Trouble<'a>> {
+) -> Result<u8, Trouble<'a>>
+    ensures { OnOk result (W.has_failed out.new ≡ W.has_failed out.old) }
+{
     let list = list_of(alloc, fold, file, files)?;
     match plan(alloc, &list) {
         Ok(certificate) => match write_cert(alloc, &certificate, out) {
@@ -91,7 +102,9 @@ fn checked<'a, F: Files, W: ByteOut>(
     certificate: &'a str,
     files: &mut F,
     out: &mut W,
-) -> Result<u8, Trouble<'a>> {
+) -> Result<u8, Trouble<'a>>
+    ensures { OnOk result (W.has_failed out.new ≡ W.has_failed out.old) }
+{
     let list = list_of(alloc, fold, file, files)?;
     let Ok(mut input) = files.open_named(certificate) else {
         return Err(Trouble::Unusable(certificate));
@@ -119,7 +132,9 @@ fn told<'a, W: ByteOut>(
     answer: Result<String, AllocError>,
     status: u8,
     out: &mut W,
-) -> Result<u8, Trouble<'a>> {
+) -> Result<u8, Trouble<'a>>
+    ensures { OnOk result (W.has_failed out.new ≡ W.has_failed out.old) }
+{
     match answer {
         Ok(text) => match write_all(out, text.as_bytes()) {
             Ok(()) => Ok(status),

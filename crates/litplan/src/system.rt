@@ -1,4 +1,6 @@
 //! The system's words, files and streams.
+ghost use Rattle.std.specs.Prelude.{◌≡◌, ◌≢◌, ◌||◌};
+
 use crate::command::command;
 use crate::files::{Files, Missing};
 use crate::message::{say_out_of_memory, say_text};
@@ -14,7 +16,10 @@ pub fn serve<R: Env + AllocGlobal, F: Files, W: ByteOut, E: ByteOut>(
     files: &mut F,
     out: &mut W,
     err: &mut E,
-) -> u8 {
+) -> u8
+    ensures { result ≢ 2
+        → (W.has_failed out.new || E.has_failed err.new) ≡ (W.has_failed out.old || E.has_failed err.old) }
+{
     match words(rt) {
         Ok(words) => command(rt.alloc(), &words, files, out, err),
         Err(error) => {
