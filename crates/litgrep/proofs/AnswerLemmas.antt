@@ -1,12 +1,11 @@
 -- The answer to a content: what holds of it where it is whole, and where it stopped.
-use Rattle.std.proofs.Common.{◌≡◌, ℕ, Bool, true, false, cond, List, [], ◌∷◌, All, Option, None, Some, IfSome, refl, sym, ap, ◌∙◌, subst, lit<, arith}
+use Rattle.std.proofs.Common.{◌≡◌, ℕ, true, cond, List, [], ◌∷◌, All, Option, None, Some, IfSome, sym, ap, ◌∙◌, subst, lit<, arith}
 use Rattle.std.specs.Io.KnownBytes.{Appends}
-use Rattle.std.proofs.KnownBytes.{Appends-nil}
 use Rattle.lit_base.specs.Lines.{lines}
 use Rattle.litgrep.specs.declared.reading.ReadText.{ReadText}
 use Rattle.litgrep.specs.declared.status.Status.TheVariants.{Trouble, Selected, NoneSelected}
 use Rattle.litgrep.specs.Fronts.{AppendsFront}
-use Rattle.litgrep.specs.Grep.{Answer, answer_of, lines_of, unreadable, written}
+use Rattle.litgrep.specs.Grep.{Answer, answer_of, unreadable, written}
 use Rattle.litgrep.specs.Reading.{IsReadOf}
 use Rattle.litgrep.specs.Running.{IsAnswered, IsStopped}
 use Rattle.lit_base.specs.Devices.{Coming}

@@ -1,7 +1,6 @@
 -- Matches where no case is ignored and a part of the line suffices: some pattern occurs in the line.
-use Rattle.std.proofs.Common.{◌≡◌, ℕ, ◌+◌, ◌<◌, ◌≤◌, Bool, true, false, ◌||◌, List, [], ◌∷◌, length, take, get_or, refl, sym, ap, ◌∙◌}
+use Rattle.std.proofs.Common.{◌≡◌, ℕ, false, ◌||◌, List, [], ◌∷◌, refl, ap, ◌∙◌}
 use Rattle.std.specs.List.{list_any}
-use Rattle.std.proofs.lemmas.List.Folds.{list_any_more}
 use Rattle.lit_base.specs.declared.fold.Fold.TheVariants.{No}
 use Rattle.lit_base.specs.Folding.{folded_text}
 use Rattle.lit_base.specs.Selected.{matches, matches_pattern, occurs_in}

@@ -11,7 +11,7 @@ use Rattle.litgrep.specs.declared.status.Stop.{Stop}
 use Rattle.litgrep.specs.declared.status.Stop.TheVariants as stop
 use Rattle.litgrep.specs.Fronts.{AppendsFront, is_write_fault}
 use Rattle.litgrep.specs.Grep.{Answer, answer_where, grep, out_of_memory, patterns_refused}
-use Rattle.litgrep.specs.Running.{AsksAsFar, AsksSome, Ends, IsStarved, IsStopped, Starved}
+use Rattle.litgrep.specs.Running.{AsksSome, Ends, IsStarved, IsStopped, Starved}
 use Rattle.litgrep.specs.Sources.{AreShort, Sources}
 use Rattle.litgrep.proofs.FrontLemmas.{AppendsFront-none}
 

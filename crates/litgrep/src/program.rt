@@ -1,5 +1,5 @@
 //! The program: words in, a status out.
-ghost use Rattle.std.specs.Prelude.{◌≡◌};
+ghost use Rattle.std.specs.Prelude.{◌≡◌, ◌≢◌, ◌||◌};
 
 use crate::fault::Fault;
 use crate::files::SystemOpener;
@@ -11,12 +11,16 @@ use lit_base::ByteOut;
 use std::io::Input;
 use std::rt::{Env, Files};
 
-/// Serves the words of the command line, and answers how the program ends.
+/// Serves the words of the command line, and answers how the program ends. A write that fails ends
+/// it with `Trouble`.
 pub fn serve<R: Env + Files + Input + AllocGlobal, W: ByteOut, E: ByteOut>(
     rt: &R,
     out: &mut W,
     err: &mut E,
-) -> Status {
+) -> Status
+    ensures { result ≢ Status.Trouble
+        → (W.has_failed out.new || E.has_failed err.new) ≡ (W.has_failed out.old || E.has_failed err.old) }
+{
     match words(rt) {
         Ok(words) => serve_words(rt, words.as_slice(), out, err),
         Err(fault) => refuse(&fault, err),
@@ -28,7 +32,10 @@ fn serve_words<R: Files + Input + AllocGlobal, W: ByteOut, E: ByteOut>(
     words: &[String],
     out: &mut W,
     err: &mut E,
-) -> Status {
+) -> Status
+    ensures { result ≢ Status.Trouble
+        → (W.has_failed out.new || E.has_failed err.new) ≡ (W.has_failed out.old || E.has_failed err.old) }
+{
     match options(rt.alloc(), words) {
         Ok(options) => run(rt.alloc(), &options, &mut SystemOpener::new(rt), out, err),
         Err(fault) => refuse(&fault, err),

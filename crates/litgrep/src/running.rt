@@ -36,9 +36,13 @@ pub fn run<O: Opener, W: ByteOut, E: ByteOut>(
     err: &mut E,
 ) -> Status
     requires { IsPlain options.now }
-    ensures { Told (O.sources opener.old) (O.sources opener.new) (λ s left. AreShort s
+    ensures ends { Told (O.sources opener.old) (O.sources opener.new) (λ s left. AreShort s
         → Ends options.now s left result (W.has_failed out.new || E.has_failed err.new)
         (W.written out.old) (W.written out.new) (E.written err.old) (E.written err.new)) }
+
+    // Whatever the opener tells, a write that failed is told.
+    ensures fault { result ≢ Status.Trouble
+        → (W.has_failed out.new || E.has_failed err.new) ≡ (W.has_failed out.old || E.has_failed err.old) }
 {
     match answer(alloc, options, opener, out, err) {
         Ok(status) => status,

@@ -1,4 +1,5 @@
-use Rattle.std.proofs.Common.{◌≡◌, false, true, ◌∙◌, sym, arith}
+-- Where a piece occurs the line matches, and where none does it does not.
+use Rattle.std.proofs.Common.{arith}
 use Rattle.std.proofs.lemmas.Grind.{common_steps}
 use Rattle.litgrep.proofs.PlainMatches.{matches-plain}
 use Rattle.litgrep.proofs.matching.is_match.Goals as goal

@@ -1,3 +1,4 @@
+-- Where there is no memory for the text, nothing is written.
 use Rattle.lit_base.proofs.TransferLemmas.{OnErr-any}
 use Rattle.litgrep.proofs.FrontLemmas.{AppendsFront-none}
 use Rattle.litgrep.proofs.message.say_refused.Goals as goal

@@ -1,3 +1,4 @@
+-- A write that fails leaves a front of the text.
 use Rattle.lit_base.proofs.TransferLemmas.{OnErr-any}
 use Rattle.litgrep.proofs.FrontLemmas.{AppendsFront-part}
 use Rattle.litgrep.proofs.message.write_whole.Goals as goal

@@ -1,3 +1,4 @@
+-- What is told of refused patterns is a front of the whole message.
 use Rattle.std.proofs.Common.{[], ap, map, string_bytes, sym, ◌∙◌}
 use Rattle.std.proofs.lemmas.Result.{on_err_weaker}
 use Rattle.litgrep.specs.Patterns.{lists_refusal}

@@ -1,3 +1,4 @@
+-- For want of memory nothing is written.
 use Rattle.litgrep.proofs.FrontLemmas.{AppendsFront-none}
 use Rattle.litgrep.proofs.running.refuse.Goals as goal
 

@@ -1,3 +1,4 @@
+-- What was written of the lines that were read, and of the message, at each exit.
 use Rattle.lit_base.proofs.TransferLemmas.{OnErr-any}
 use Rattle.litgrep.specs.Grep.{standard_name}
 use Rattle.litgrep.proofs.AnswerLemmas.{IsStopped-none, IsStopped-output, IsStopped-message, IsAnswered-faulty}

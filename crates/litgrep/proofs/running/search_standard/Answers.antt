@@ -1,3 +1,4 @@
+-- What holds of the content that the device tells holds of the one that the opener tells.
 use Rattle.std.proofs.lemmas.Result.{IfOk-weaker, on_err_weaker}
 use Rattle.litgrep.specs.Grep.{answer_of, standard_name}
 use Rattle.litgrep.specs.Running.{IsAnswered, IsStopped}

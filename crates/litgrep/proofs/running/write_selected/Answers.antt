@@ -1,6 +1,7 @@
+-- A line that matches is written or held, and what a failed write leaves is a front of the whole output.
 use Rattle.std.proofs.Common.{◌∙◌, sym, rules}
 use Rattle.lit_base.proofs.TransferLemmas.{OnErr-any}
-use Rattle.litgrep.proofs.RunLemmas.{Progress-none, Progress-passed, Progress-taken, Progress-stopped, Progress-written, Progress-any}
+use Rattle.litgrep.proofs.RunLemmas.{Progress-taken, Progress-stopped}
 use Rattle.litgrep.proofs.running.write_selected.Goals as goal
 
 pub returns-in_err-push-clause-stopped : goal.returns-in_err-push-clause-stopped

@@ -1,4 +1,5 @@
-use Rattle.std.proofs.Common.{◌≡◌, ◌<◌, ap, length, map, sym, ◌∙◌, arith}
+-- The entry that is found is the first of its name.
+use Rattle.std.proofs.Common.{◌<◌, ap, length, map, sym, ◌∙◌, arith}
 use Rattle.std.proofs.lemmas.Grind.{common_steps}
 use Rattle.litgrep.specs.Sources.{source_of}
 use Rattle.litgrep.proofs.SourceLemmas.{first-at}
