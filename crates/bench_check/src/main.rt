@@ -1,5 +1,6 @@
 //! How long the checker of certificates takes, beside a plain pass over as many numbers as it has
-//! conditions. It prints nothing without arguments; `bench/README.md` says how it is run.
+//! conditions, and the planner, beside the whole table of potentials. It prints nothing without
+//! arguments; `bench/README.md` says how it is run.
 #![tactic(auto)]
 
 mod table;
@@ -7,6 +8,7 @@ mod table;
 use anyhow::{Context, Result, ensure};
 use lit_base::{Fold, LitList, RawList};
 use lit_cert::{Certificate, check};
+use run_planner::plan;
 use std::alloc::Global;
 use std::env;
 use std::rt::Clock;
@@ -32,20 +34,50 @@ fn main(rt: HostRuntime) -> Result<()> {
 fn measure<R: Clock + Print + AllocGlobal>(rt: &R, count: u16) -> Result<()> {
     let list = list_of(rt.alloc(), count)?;
     let certificate = certificate_of(rt.alloc(), &list)?;
-    let conditions = 4 * u64::from(count) * u64::from(count);
+    measure_check(rt, &list, &certificate)?;
+    measure_plan(rt, &list, &certificate)
+}
+
+fn measure_check<R: Clock + Print>(
+    rt: &R,
+    list: &LitList,
+    certificate: &Certificate,
+) -> Result<()> {
+    let count = list.len() as u64;
+    let conditions = 4 * count * count;
     let turns = conditions / (certificate.potentials.len() as u64).max(1);
     let (mut checks, mut passes) = (u128::MAX, u128::MAX);
     for _ in 0..ROUNDS {
         let start = Instant::now(rt)?;
-        ensure!(check(&list, &certificate).is_ok(), "the table is wrong");
+        ensure!(check(list, certificate).is_ok(), "the table is wrong");
         checks = checks.min(start.elapsed(rt)?.as_nanos());
         let start = Instant::now(rt)?;
-        let sum = plain_pass(&certificate, turns);
+        let sum = plain_pass(certificate, turns);
         passes = passes.min(start.elapsed(rt)?.as_nanos());
         ensure!(sum != 1, "a pass that is not left out");
     }
     println!(rt; "{count} literals, {conditions} conditions, the least of {ROUNDS} rounds")?;
     println!(rt; "check {checks} ns, a plain pass over as many u64 {passes} ns")?;
+    Ok(())
+}
+
+fn measure_plan<R: Clock + Print + AllocGlobal>(
+    rt: &R,
+    list: &LitList,
+    certificate: &Certificate,
+) -> Result<()> {
+    let (mut plans, mut tables) = (u128::MAX, u128::MAX);
+    for _ in 0..ROUNDS {
+        let start = Instant::now(rt)?;
+        let planned = plan(rt.alloc(), list)?;
+        plans = plans.min(start.elapsed(rt)?.as_nanos());
+        ensure!(planned.cost == certificate.cost, "the table is wrong");
+        let start = Instant::now(rt)?;
+        let whole = certificate_of(rt.alloc(), list)?;
+        tables = tables.min(start.elapsed(rt)?.as_nanos());
+        ensure!(whole.cost == certificate.cost, "the table is wrong");
+    }
+    println!(rt; "plan {plans} ns, the whole table {tables} ns")?;
     Ok(())
 }
 
