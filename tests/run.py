@@ -148,17 +148,22 @@ def plans():
 
 
 def refused_plans(env, mark):
-    """A plan with each of its growths refused in turn, until none is."""
-    whole = run(["plan", "-"], b"horse\ncat\ndog\n", program=LITPLAN)
-    for number in range(1, 1000):
-        env = dict(env, REFUSED=str(number))
-        got = run(["plan", "-"], b"horse\ncat\ndog\n", program=LITPLAN, env=env)
-        if not os.path.exists(mark):
-            break
-        os.remove(mark)
-        starved = got[0] == 2 and whole[1].startswith(got[1]) and got[2] == REFUSED % 1
-        yield f"litplan, growth {number} refused", got, got if starved else whole
-    yield "litplan, growths to refuse", (number > 5, *got), (True, *whole)
+    """A plan and a check, each with each of its growths refused in turn, until none is."""
+    with tempfile.TemporaryDirectory() as folder:
+        with open(os.path.join(folder, "c"), "wb") as file:
+            file.write(THREE)
+        for words in ["plan", "-"], ["check", "-", "c"]:
+            how = {"program": LITPLAN, "cwd": folder}
+            whole = run(words, b"horse\ncat\ndog\n", **how)
+            for number in range(1, 1000):
+                how["env"] = dict(env, REFUSED=str(number))
+                got = run(words, b"horse\ncat\ndog\n", **how)
+                if not os.path.exists(mark):
+                    break
+                os.remove(mark)
+                starved = got[0] == 2 and whole[1].startswith(got[1]) and got[2] == REFUSED % 1
+                yield f"litplan {words}, growth {number} refused", got, got if starved else whole
+            yield f"litplan {words}, growths to refuse", (number > 5, *got), (True, *whole)
 
 
 def refused_growths():
