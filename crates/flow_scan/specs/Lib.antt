@@ -1,2 +1,4 @@
 pub mod Ends
 pub mod Plans
+pub mod Scanners
+pub mod Tails

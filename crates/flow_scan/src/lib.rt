@@ -4,8 +4,10 @@
 
 mod compiled;
 mod fault;
+mod hit;
 mod searching;
 
 pub use compiled::Compiled;
 pub use fault::Fault;
+pub use hit::Hit;
 pub use searching::next_end;

@@ -6,7 +6,7 @@ ghost use Rattle.lit_base.specs.Literals.{lengths};
 ghost use Rattle.lit_base.specs.Occurrences.{IsFirstEnding, NoneEnds, Occurs};
 ghost use Rattle.lit_base.specs.NormalForm.{IsNormalForm, IsPlaceOf, normal_form};
 ghost use Rattle.lit_base.specs.declared.fault.Fault.TheVariants.{OutOfMemory, TooManyLiterals};
-ghost use Rattle.lit_base.specs.declared.limits.TheConstants.{MAX_LITERALS};
+ghost use Rattle.lit_base.specs.declared.limits.TheConstants.{MAX_LITERALS, MAX_LITERAL_LEN};
 
 use crate::fault::Fault;
 use crate::fold::{Fold, fold_byte};
@@ -100,6 +100,7 @@ impl LitList {
         requires { 0 < length self.now.texts }
         ensures last { result ≡ slice_index (lengths self.now) (length self.now.texts - 1) }
         ensures greatest { All (λ len. len ≤ result) (lengths self.now) }
+        ensures short { result ≤ MAX_LITERAL_LEN }
     {
         self.literals[self.literals.len() - 1].as_slice().len()
     }
