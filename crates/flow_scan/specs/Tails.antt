@@ -1,5 +1,6 @@
 -- The hits that a piece of a stream adds, seen from the last bytes before it.
-use Rattle.std.specs.Prelude.{◌≡◌, ℕ, ◌+◌, ◌-◌, ◌<◌, ◌↔◌, List, [], ◌∷◌, ◌++◌, length, drop, Contains, slice_index}
+use Rattle.std.specs.Prelude.{◌≡◌, ℕ, ◌+◌, ◌-◌, ◌<◌, ◌≤◌, ◌↔◌, List, [], ◌∷◌, ◌++◌, length, drop, Contains, slice_index, Some}
+use Rattle.std.specs.List.{slice_get}
 use Rattle.std.specs.List.Sorted.{IsStrictlySortedBy}
 use Rattle.lit_base.specs.Literals.{Literals, lengths}
 use Rattle.lit_base.specs.Occurrences.{Occurs, hit_cmp}
@@ -11,6 +12,11 @@ last_bytes most text = drop (length text - most) text
 -- how many bytes a literal may have before a piece in which it ends: one fewer than the longest, which is the last
 abbrev pub carry_of : Literals → ℕ
 carry_of l = slice_index (lengths l) (length l.texts - 1) - 1
+
+-- no literal is null, nor longer than the carry and one byte
+pub record HasBounds (l : Literals) : Type 0 where
+  pub some : (place : ℕ) (literal : List ℕ) → slice_get l.texts place ≡ Some literal → 0 < length literal
+  pub fits : (place : ℕ) (literal : List ℕ) → slice_get l.texts place ≡ Some literal → length literal ≤ carry_of l + 1
 
 -- the tail behind a piece: the last bytes of the tail before it and the piece
 abbrev pub tail_after : Literals → List ℕ → List ℕ → List ℕ
