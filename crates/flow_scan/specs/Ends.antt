@@ -1,5 +1,5 @@
 -- The places of a text at which some literal ends.
-use Rattle.std.specs.Prelude.{◌≡◌, ℕ, ◌<◌, ◌≤◌, ◌↔◌, List, Contains, length}
+use Rattle.std.specs.Prelude.{◌≡◌, ℕ, ◌<◌, ◌≤◌, ◌↔◌, List, ◌++◌, Contains, length}
 use Rattle.std.specs.List.Sorted.{IsStrictlySortedBy}
 use Rattle.lit_base.specs.Literals.{Literals}
 use Rattle.lit_base.specs.Occurrences.{Occurs, hit_cmp}
@@ -23,3 +23,13 @@ pub record IsNextEnd (l : Literals) (text : List ℕ) (from end : ℕ) : Type 0 
 pub record AreHitsAt (l : Literals) (text : List ℕ) (end at : ℕ) (found : List (ℕ × ℕ)) : Type 0 where
   pub rising : IsStrictlySortedBy hit_cmp found
   pub members : (place told : ℕ) → Contains found (place, told) ↔ ((told ≡ at) × Occurs l text place end)
+
+-- a list of hits has gained them, at its end
+pub record GainsHitsAt (l : Literals) (text : List ℕ) (end at : ℕ) (old new : List (ℕ × ℕ)) : Type 0 where
+  pub found : List (ℕ × ℕ)
+  pub grown : new ≡ old ++ found
+  pub added : AreHitsAt l text end at found
+
+-- a list of hits has gained some, at its end
+abbrev pub Extends : List (ℕ × ℕ) → List (ℕ × ℕ) → Type 0
+Extends old new = (more : List (ℕ × ℕ)) × (new ≡ old ++ more)

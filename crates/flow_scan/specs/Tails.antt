@@ -38,8 +38,12 @@ AreSteps l tail at (piece ∷ pieces) hits =
     (found : List (ℕ × ℕ)) × (rest : List (ℕ × ℕ)) × (hits ≡ found ++ rest) × AreAdded l tail piece at found
     × AreSteps l (tail_after l tail piece) (at + length piece) pieces rest
 
--- a list of hits has gained those that a piece adds, at its end
-pub record GainsHits (l : Literals) (tail piece : List ℕ) (at : ℕ) (old new : List (ℕ × ℕ)) : Type 0 where
+-- a list of hits has gained those that end in a text behind a place, at its end
+pub record GainsHitsBehind (l : Literals) (text : List ℕ) (from at : ℕ) (old new : List (ℕ × ℕ)) : Type 0 where
   pub found : List (ℕ × ℕ)
   pub grown : new ≡ old ++ found
-  pub added : AreAdded l tail piece at found
+  pub added : AreHitsBehind l text from at found
+
+-- it has gained those that a piece adds
+abbrev pub GainsHits : Literals → List ℕ → List ℕ → ℕ → List (ℕ × ℕ) → List (ℕ × ℕ) → Type 0
+GainsHits l tail piece at = GainsHitsBehind l (tail ++ piece) (length tail) at

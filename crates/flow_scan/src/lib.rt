@@ -2,9 +2,12 @@
 //! whatever pieces the stream comes.
 #![tactic(auto)]
 
+mod carry;
 mod compiled;
+mod endings;
 mod fault;
 mod hit;
+mod seam;
 mod searching;
 
 pub use compiled::Compiled;
