@@ -8,7 +8,7 @@ use Rattle.lit_base.specs.Occurrences.{Occurs}
 use Rattle.flow_scan.specs.Tails.{HasBounds, carry_of, last_bytes}
 
 -- a front of two texts joined, long enough, drops the first text
-drop-behind : (a b : List ℕ) (n : ℕ) → drop (length a + n) (a ++ b) ≡ drop n b
+pub drop-behind : (a b : List ℕ) (n : ℕ) → drop (length a + n) (a ++ b) ≡ drop n b
 drop-behind a b n = sym (drop-drop n (length a) (a ++ b)) ∙ ap (drop n) (drop_at a b (length a) refl)
 
 -- the last m of the bytes up to an end in the second text are the same in both

@@ -1,9 +1,10 @@
 -- The hits that a piece of a stream adds, seen from the last bytes before it.
-use Rattle.std.specs.Prelude.{◌≡◌, ℕ, ◌+◌, ◌-◌, ◌<◌, ◌≤◌, ◌↔◌, List, [], ◌∷◌, ◌++◌, length, drop, Contains, slice_index, Some}
-use Rattle.std.specs.List.{slice_get}
+use Rattle.std.specs.Prelude.{◌≡◌, ℕ, ◌+◌, ◌-◌, ◌<◌, ◌≤◌, ◌↔◌, List, [], ◌∷◌, ◌++◌, length, drop, Contains, map, slice_index, Some}
+use Rattle.std.specs.List.{concat, slice_get}
+use Rattle.std.specs.Global.{Vec}
 use Rattle.std.specs.List.Sorted.{IsStrictlySortedBy}
 use Rattle.lit_base.specs.Literals.{Literals, lengths}
-use Rattle.lit_base.specs.Occurrences.{Occurs, hit_cmp}
+use Rattle.lit_base.specs.Occurrences.{IsHits, Occurs, hit_cmp}
 
 -- the last bytes of a text, at most so many
 abbrev pub last_bytes : ℕ → List ℕ → List ℕ
@@ -47,3 +48,12 @@ pub record GainsHitsBehind (l : Literals) (text : List ℕ) (from at : ℕ) (old
 -- it has gained those that a piece adds
 abbrev pub GainsHits : Literals → List ℕ → List ℕ → ℕ → List (ℕ × ℕ) → List (ℕ × ℕ) → Type 0
 GainsHits l tail piece at = GainsHitsBehind l (tail ++ piece) (length tail) at
+
+-- steps from no bytes on give the hits of the pieces joined, counted from where the steps begin; from 0 on, these are the text's hits
+pub record PiecesLaw (l : Literals) (pieces : List (List ℕ)) : Type 0 where
+  pub counted : (base : ℕ) (hits : List (ℕ × ℕ)) → AreSteps l [] base pieces hits → AreHitsBehind l (concat pieces) 0 base hits
+  pub hits : (hits : List (ℕ × ℕ)) → AreSteps l [] 0 pieces hits → IsHits l (concat pieces) hits
+
+-- the bytes of each piece
+abbrev pub bytes_of : List (Vec ℕ) → List (List ℕ)
+bytes_of pieces = map (λ piece. piece.items) pieces

@@ -1,5 +1,5 @@
 //! The bytes at the seam of two pieces of a stream.
-ghost use Rattle.std.specs.Prelude.{◌≡◌, ◌+◌, ◌^◌, ◌<◌, ◌≤◌, ◌++◌, [], IfOk, drop, length, take, vec_len};
+ghost use Rattle.std.specs.Prelude.{◌≡◌, ◌+◌, ◌*◌, ◌^◌, ◌<◌, ◌≤◌, ◌++◌, [], IfOk, drop, length, take, vec_len};
 ghost use Rattle.flow_scan.specs.Seams.{Seaming};
 ghost use Rattle.flow_scan.specs.Tails.{last_bytes};
 
@@ -68,21 +68,9 @@ impl Seam {
         ensures { self.new ≡ record self.old { front = take self.old.carry piece.now } }
     {
         let front = piece.len().min(self.carry);
-        if self.held + front > self.room.len() {
-            self.slide();
-        }
+        self.held = make_room(&mut self.room, self.carry, self.held, front);
         write(&mut self.room, self.held, &piece[..front]);
         self.ahead = front;
-    }
-
-    /// Moves the tail to the front of the room.
-    fn slide(&mut self)
-        ensures { self.new ≡ record self.old { front = [] } }
-    {
-        let start = self.held - self.tail_len();
-        self.room.copy_within(start..self.held, 0);
-        self.held -= start;
-        self.ahead = 0;
     }
 
     /// Takes the piece that was offered as a part of the stream.
@@ -90,12 +78,7 @@ impl Seam {
         requires { self.old.front ≡ take self.old.carry piece.now }
         ensures { self.new ≡ record self.old { tail = last_bytes self.old.carry (self.old.tail ++ piece.now); front = [] } }
     {
-        if piece.len() <= self.carry {
-            self.held += piece.len();
-        } else {
-            write(&mut self.room, 0, &piece[piece.len() - self.carry..]);
-            self.held = self.carry;
-        }
+        self.held = keep_last(&mut self.room, self.carry, self.held, piece);
         self.ahead = 0;
     }
 
@@ -110,6 +93,42 @@ impl Seam {
             ahead: self.ahead,
         })
     }
+}
+
+/// Makes room for some more bytes behind those held: where they would not fit, only the tail is
+/// kept, at the front. The answer is how many bytes are held then.
+fn make_room(room: &mut Vec<u8>, carry: usize, held: usize, more: usize) -> usize
+    requires small { carry < 2 ^ 32 }
+    requires room { vec_len room.old ≡ 2 * carry }
+    requires held { held ≤ vec_len room.old }
+    requires more { more ≤ carry }
+    ensures tail { last_bytes carry (take result room.new.items) ≡ last_bytes carry (take held room.old.items) }
+    ensures fits { result + more ≤ vec_len room.new }
+    ensures len { vec_len room.new ≡ vec_len room.old }
+{
+    if held + more <= room.len() {
+        return held;
+    }
+    room.copy_within(held - carry..held, 0);
+    carry
+}
+
+/// Keeps the last bytes of those held and a piece, whose first bytes stand behind those held
+/// already. The answer is how many bytes are held then.
+fn keep_last(room: &mut Vec<u8>, carry: usize, held: usize, piece: &[u8]) -> usize
+    requires small { carry < 2 ^ 32 }
+    requires room { vec_len room.old ≡ 2 * carry }
+    requires held { held + length (take carry piece.now) ≤ vec_len room.old }
+    requires front { take (length (take carry piece.now)) (drop held room.old.items) ≡ take carry piece.now }
+    ensures tail { last_bytes carry (take result room.new.items) ≡ last_bytes carry (take held room.old.items ++ piece.now) }
+    ensures fits { result ≤ vec_len room.new }
+    ensures len { vec_len room.new ≡ vec_len room.old }
+{
+    if piece.len() <= carry {
+        return held + piece.len();
+    }
+    write(room, 0, &piece[piece.len() - carry..]);
+    carry
 }
 
 /// Writes the bytes into the room at a place.
