@@ -1,19 +1,18 @@
 -- Lists of hits: in their order, of a text, and joined.
-use Rattle.std.proofs.Common.{◌≡◌, ℕ, ◌+◌, ◌-◌, ◌<◌, ◌≤◌, List, [], ◌∷◌, ◌++◌, length, take, drop, Contains, ◌↔◌, ◌⊎◌, inl, inr, refl, sym, ap, ◌∙◌, subst, arith, Bool, true, false, cond, eqb, ltb, eq-eqb}
+use Rattle.std.proofs.Common.{◌≡◌, ℕ, ◌+◌, ◌-◌, ◌<◌, ◌≤◌, List, [], ◌∷◌, ◌++◌, length, take, drop, Contains, ◌↔◌, inl, inr, refl, sym, ap, ◌∙◌, subst, arith, Bool, true, false, cond, eqb, ltb, eq-eqb}
 use Rattle.std.specs.declared.cmp.Ordering.TheVariants.{Less, Equal, Greater}
 use Rattle.std.specs.declared.cmp.Ordering.{Ordering}
-use Rattle.std.specs.Ordering.{nat_cmp, ordering_then}
-use Rattle.std.specs.List.{AllByRecursion}
+use Rattle.std.specs.Ordering.{ordering_then}
 use Rattle.std.specs.List.Sorted.{IsStrictlySortedBy}
 use Rattle.std.proofs.lemmas.Bool.Decides.{Decides-ltb}
 use Rattle.std.proofs.lemmas.Bool.{cases_lt}
-use Rattle.std.proofs.lemmas.List.{append-nil, append_assoc, length-append, length-take, take-append-drop, take-take, take_at}
+use Rattle.std.proofs.lemmas.List.{append-nil, length-take, take-append-drop, take-take}
 use Rattle.std.proofs.lemmas.List.Elements.{All-from_recursion, recursion_from_All, All-append, Contains-get_or, Contains-append_left, Contains-append_right, Contains-append_cases, Contains-push, Contains-push_cases}
 use Rattle.lit_base.specs.Literals.{Literals}
 use Rattle.lit_base.specs.Occurrences.{IsFirstEnding, NoneEnds, Occurs, hit_cmp}
 use Rattle.flow_scan.specs.Ends.{AreHitsAt, HasEnd, NoEndAfter}
-use Rattle.flow_scan.specs.Tails.{AreAdded, AreHitsBehind, HasBounds, carry_of, last_bytes}
-use Rattle.flow_scan.proofs.Occurring.{occurs_behind_all, occurs_behind_last, occurs_in_front, occurs_of_front}
+use Rattle.flow_scan.specs.Tails.{AreHitsBehind}
+use Rattle.flow_scan.proofs.Occurring.{occurs_in_front, occurs_of_front}
 
 -- two lists in strict order are one where each element of the first is below each of the second
 sorted_joined : {K : Type 0} (R : K → K → Ordering) (xs ys : List K) → IsStrictlySortedBy R xs → IsStrictlySortedBy R ys → ((x y : K) → Contains xs x → Contains ys y → R x y ≡ Less) → IsStrictlySortedBy R (xs ++ ys)
@@ -21,7 +20,7 @@ unfolding IsStrictlySortedBy
 sorted_joined R [] ys s t below = t
 sorted_joined R (x ∷ xs) ys s t below = (
   recursion_from_All (λ y. R x y ≡ Less) (xs ++ ys)
-    (All-append (λ y. R x y ≡ Less) xs ys (All-from_recursion (λ y. R x y ≡ Less) xs s.0)
+      (All-append (λ y. R x y ≡ Less) xs ys (All-from_recursion (λ y. R x y ≡ Less) xs s.0)
       (λ k d within. below x _ (0, omega arith, refl) (Contains-get_or ys k d within))),
   sorted_joined R xs ys s.1 t (λ z y inside there. below z y (Contains-append_right (x ∷ []) xs z inside) there),
 )
@@ -50,7 +49,7 @@ to_front l text m place e within o =
 pub hits_joined : (l : Literals) (text : List ℕ) (from m at : ℕ) (found rest : List (ℕ × ℕ)) → from ≤ m → m ≤ length text → AreHitsBehind l (take m text) from at found → AreHitsBehind l text m (at + (m - from)) rest → AreHitsBehind l text from at (found ++ rest)
 hits_joined l text from m at found rest starts within early late = record {
   rising = sorted_joined hit_cmp found rest early.rising late.rising
-    (λ h i inside there.
+      (λ h i inside there.
       let before = (early.members h.0 h.1).0 inside in
       let after = (late.members i.0 i.1).0 there in
       earlier_below h i (omega (arith, before.0, before.1.ends, after.0, length-take m text)));
@@ -62,9 +61,9 @@ hits_joined l text from m at found rest starts within early late = record {
     ],
     λ w. elim (cases_lt m (from + (end - at))) [
       | inl later ↦ Contains-append_right found rest (place, end)
-        ((late.members place end).1 (omega (arith, later, w.0), at_end l text place (from + (end - at)) (m + (end - (at + (m - from)))) (omega (arith, later, w.0)) w.1))
+          ((late.members place end).1 (omega (arith, later, w.0), at_end l text place (from + (end - at)) (m + (end - (at + (m - from)))) (omega (arith, later, w.0)) w.1))
       | inr sooner ↦ Contains-append_left found rest (place, end)
-        ((early.members place end).1 (w.0, to_front l text m place (from + (end - at)) (omega (arith, sooner, length-take m text)) w.1))
+          ((early.members place end).1 (w.0, to_front l text m place (from + (end - at)) (omega (arith, sooner, length-take m text)) w.1))
     ],
   );
 }
@@ -103,8 +102,8 @@ hits_further l text from m end at found here starts after within first early hit
     let same : at + (end - from) ≡ at + (m - from) + (end - m) = omega (arith, starts, after) in
     let front : take m (take end text) ≡ take m text = take-take m end text (omega (arith, after)) in
     hits_joined l (take end text) from m at found here starts (omega (arith, length-take end text, after, within))
-      (subst (λ t. AreHitsBehind l t from at found) (sym front) early)
-      (hits_here l text m end (at + (m - from)) here after within first (subst (λ x. AreHitsAt l text end x here) same hits))
+    (subst (λ t. AreHitsBehind l t from at found) (sym front) early)
+    (hits_here l text m end (at + (m - from)) here after within first (subst (λ x. AreHitsAt l text end x here) same hits))
 
 -- the hits up to a place behind which nothing ends are all hits
 pub hits_ended : (l : Literals) (text : List ℕ) (from m at : ℕ) (found : List (ℕ × ℕ)) → from ≤ m → m ≤ length text → NoEndAfter l text m → AreHitsBehind l (take m text) from at found → AreHitsBehind l text from at found
@@ -149,7 +148,7 @@ pub hits_at_more : (l : Literals) (text : List ℕ) (end at from place : ℕ) (f
 unfolding IsStrictlySortedBy
 hits_at_more l text end at from place found early next = record {
   rising = sorted_joined hit_cmp found ((place, at) ∷ []) early.rising (tt, tt)
-    (λ h i inside there.
+      (λ h i inside there.
       let before = (early.members h.0 h.1).0 inside in
       let same : (place, at) ≡ i = only_one (place, at) i there in
       subst (λ x. hit_cmp h x ≡ Less) same (lower_below h (place, at) before.0 (omega (arith, before.1, next.counted))));

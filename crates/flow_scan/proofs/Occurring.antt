@@ -1,9 +1,8 @@
 -- Where literals occur in a text and in its parts.
-use Rattle.std.proofs.Common.{◌≡◌, ℕ, ◌+◌, ◌-◌, ◌<◌, ◌≤◌, List, ◌++◌, length, take, drop, slice_range, Some, All, refl, sym, ap, ◌∙◌, subst, arith}
-use Rattle.std.specs.List.{slice_get}
+use Rattle.std.proofs.Common.{◌≡◌, ℕ, ◌+◌, ◌-◌, ◌<◌, ◌≤◌, List, ◌++◌, length, take, drop, slice_range, refl, sym, ap, ◌∙◌, subst, arith}
 use Rattle.std.proofs.lemmas.List.{length-append, length-drop, length-take, drop-append-le, take-append-le, drop-drop, drop_at, append_assoc, take-append-drop}
 use Rattle.lit_base.specs.Folding.{folded_text}
-use Rattle.lit_base.specs.Literals.{Literals, lengths}
+use Rattle.lit_base.specs.Literals.{Literals}
 use Rattle.lit_base.specs.Occurrences.{Occurs}
 use Rattle.flow_scan.specs.Tails.{HasBounds, carry_of, last_bytes}
 
@@ -90,9 +89,9 @@ occurs_behind_last l text piece place d f some o =
     let last = last_bytes carry text in
     let at : length text + d ≡ length front + (length last + d) = omega (arith, before_len carry text, last_len carry text) in
     let moved : Occurs l (front ++ (last ++ piece)) place (length front + (length last + d)) =
-      subst (λ e. Occurs l (front ++ (last ++ piece)) place e) at (subst (λ t. Occurs l t place (length text + d)) (regrouped carry text piece) o) in
+    subst (λ e. Occurs l (front ++ (last ++ piece)) place e) at (subst (λ t. Occurs l t place (length text + d)) (regrouped carry text piece) o) in
     occurs_in_rest l front (last ++ piece) place (length last + d) moved
-      (omega (arith, f.fits place moved.literal moved.stands, moved.begins, before_len carry text, last_len carry text))
+    (omega (arith, f.fits place moved.literal moved.stands, moved.begins, before_len carry text, last_len carry text))
 
 -- and the other way round
 pub occurs_behind_all : (l : Literals) (carry : ℕ) (text piece : List ℕ) (place d : ℕ) → Occurs l (last_bytes carry text ++ piece) place (length (last_bytes carry text) + d) → Occurs l (text ++ piece) place (length text + d)

@@ -1,11 +1,11 @@
 -- The last bytes of a text are enough to tell what a piece behind it adds, piece by piece.
-use Rattle.std.proofs.Common.{◌≡◌, ℕ, ◌+◌, ◌-◌, ◌<◌, ◌≤◌, List, [], ◌∷◌, ◌++◌, length, take, drop, Contains, refl, sym, ap, ◌∙◌, subst, arith}
+use Rattle.std.proofs.Common.{◌≡◌, ℕ, ◌+◌, ◌-◌, ◌≤◌, List, [], ◌∷◌, ◌++◌, length, take, drop, refl, sym, ap, ◌∙◌, subst, arith}
 use Rattle.std.specs.List.{concat}
-use Rattle.std.proofs.lemmas.List.{append-nil, append_assoc, length-append, length-drop, length-take, take-append-drop, take_at, drop_at, drop-append-le, drop-drop, drop_all}
+use Rattle.std.proofs.lemmas.List.{append-nil, append_assoc, length-append, length-take, take-append-drop, take_at, drop_at, drop-append-le, drop-drop}
 use Rattle.lit_base.specs.Literals.{Literals}
 use Rattle.lit_base.specs.Occurrences.{IsHits, Occurs}
-use Rattle.flow_scan.specs.Ends.{HasEnd, NoEndAfter}
-use Rattle.flow_scan.specs.Tails.{AreAdded, AreHitsBehind, AreSteps, GainsHits, GainsHitsBehind, HasBounds, carry_of, last_bytes, tail_after}
+use Rattle.flow_scan.specs.Ends.{NoEndAfter}
+use Rattle.flow_scan.specs.Tails.{AreAdded, AreHitsBehind, AreSteps, GainsHits, GainsHitsBehind, HasBounds, carry_of, last_bytes}
 use Rattle.flow_scan.proofs.Occurring.{last_len, occurs_behind, occurs_behind_all, occurs_behind_last, occurs_of_front}
 use Rattle.flow_scan.proofs.HitLists.{hits_joined, hits_none, none_past}
 
@@ -37,9 +37,9 @@ added_joined l text first second at found rest early late =
     let front : take m whole ≡ text ++ first = take_at (text ++ first) second m refl in
     let told : at + length first ≡ at + (m - length text) = omega (arith, length-append text first) in
     let all : AreHitsBehind l whole (length text) at (found ++ rest) =
-      hits_joined l whole (length text) m at found rest (omega (arith, length-append text first)) (omega (arith, length-append (text ++ first) second))
-        (subst (λ t. AreHitsBehind l t (length text) at found) (sym front) early)
-        (subst (λ x. AreHitsBehind l whole m x rest) told late) in
+    hits_joined l whole (length text) m at found rest (omega (arith, length-append text first)) (omega (arith, length-append (text ++ first) second))
+    (subst (λ t. AreHitsBehind l t (length text) at found) (sym front) early)
+    (subst (λ x. AreHitsBehind l whole m x rest) told late) in
     subst (λ t. AreHitsBehind l t (length text) at (found ++ rest)) (append_assoc text first second) all
 
 -- the last bytes of a text and a piece are those of the text's last bytes and the piece
@@ -49,7 +49,7 @@ last_of_last most text piece =
     let front : drop skip (text ++ piece) ≡ last_bytes most text ++ piece = drop-append-le skip text piece (omega arith) in
     let more = length (last_bytes most text ++ piece) - most in
     let count : skip + more ≡ length (text ++ piece) - most =
-      omega (arith, length-append text piece, length-append (last_bytes most text) piece, last_len most text) in
+    omega (arith, length-append text piece, length-append (last_bytes most text) piece, last_len most text) in
     ap (drop more) (sym front) ∙ drop-drop more skip (text ++ piece) ∙ ap (λ n. drop n (text ++ piece)) count
 
 -- of a text that is no longer, they are the text
@@ -65,9 +65,9 @@ pub steps_behind : (l : Literals) (text : List ℕ) (at : ℕ) (pieces : List (L
 steps_behind l text at [] hits b none = subst (AreAdded l text [] at) (sym none) (added_nothing l text at)
 steps_behind l text at (piece ∷ pieces) hits b s =
     let next : AreSteps l (last_bytes (carry_of l) (text ++ piece)) (at + length piece) pieces s.1 =
-      subst (λ t. AreSteps l t (at + length piece) pieces s.1) (last_of_last (carry_of l) text piece) s.4 in
+    subst (λ t. AreSteps l t (at + length piece) pieces s.1) (last_of_last (carry_of l) text piece) s.4 in
     subst (AreAdded l text (piece ++ concat pieces) at) (sym s.2)
-      (added_joined l text piece (concat pieces) at s.0 s.1 (added_behind_all l text piece at s.0 b s.3) (steps_behind l (text ++ piece) (at + length piece) pieces s.1 b next))
+    (added_joined l text piece (concat pieces) at s.0 s.1 (added_behind_all l text piece at s.0 b s.3) (steps_behind l (text ++ piece) (at + length piece) pieces s.1 b next))
 
 -- steps from no bytes on give the hits of the pieces joined, counted from where the steps begin
 pub steps_are_hits : (l : Literals) (base : ℕ) (pieces : List (List ℕ)) (hits : List (ℕ × ℕ)) → HasBounds l → AreSteps l [] base pieces hits → AreHitsBehind l (concat pieces) 0 base hits
@@ -94,9 +94,9 @@ added_in_place l tail piece at found rest b long early late =
     let skip : length (tail ++ front) - carry ≡ length tail = omega (arith, length-append tail front, len) in
     let last : last_bytes carry (tail ++ front) ≡ front = ap (λ n. drop n (tail ++ front)) skip ∙ drop_at tail front (length tail) refl in
     let here : AreHitsBehind l (front ++ back) (length front) (at + length front) rest =
-      subst (λ n. AreHitsBehind l (front ++ back) n (at + n) rest) (sym len) (subst (λ t. AreHitsBehind l t carry (at + carry) rest) (sym whole) late) in
+    subst (λ n. AreHitsBehind l (front ++ back) n (at + n) rest) (sym len) (subst (λ t. AreHitsBehind l t carry (at + carry) rest) (sym whole) late) in
     let behind : AreAdded l (tail ++ front) back (at + length front) rest =
-      added_behind_all l (tail ++ front) back (at + length front) rest b (subst (λ t. AreAdded l t back (at + length front) rest) (sym last) here) in
+    added_behind_all l (tail ++ front) back (at + length front) rest b (subst (λ t. AreAdded l t back (at + length front) rest) (sym last) here) in
     subst (λ t. AreAdded l tail t at (found ++ rest)) whole (added_joined l tail front back at found rest early behind)
 
 -- where nothing ends in a piece, nothing ends in its first bytes
@@ -123,11 +123,16 @@ hits_fed l text piece place old new b reached before gains =
     let more : AreAdded l text piece place gains.found = added_behind_all l text piece place gains.found b gains.added in
     let told : place ≡ 0 + (length text - 0) = omega (arith, reached) in
     subst (AreHitsBehind l whole 0 0) (sym gains.grown)
-      (hits_joined l whole 0 (length text) 0 old gains.found (omega arith) (omega (arith, length-append text piece))
-        (subst (λ t. AreHitsBehind l t 0 0 old) (sym (take_at text piece (length text) refl)) before)
-        (subst (λ x. AreHitsBehind l whole (length text) x gains.found) told more))
+    (hits_joined l whole 0 (length text) 0 old gains.found (omega arith) (omega (arith, length-append text piece))
+    (subst (λ t. AreHitsBehind l t 0 0 old) (sym (take_at text piece (length text) refl)) before)
+    (subst (λ x. AreHitsBehind l whole (length text) x gains.found) told more))
 
 -- one more piece, joined
 pub concat_push : (pieces : List (List ℕ)) (piece : List ℕ) → concat (pieces ++ piece ∷ []) ≡ concat pieces ++ piece
 concat_push [] piece = append-nil piece
 concat_push (p ∷ pieces) piece = ap (λ t. p ++ t) (concat_push pieces piece) ∙ sym (append_assoc p (concat pieces) piece)
+
+-- pieces behind others, joined
+pub concat_append : (pieces more : List (List ℕ)) → concat (pieces ++ more) ≡ concat pieces ++ concat more
+concat_append [] more = refl
+concat_append (p ∷ pieces) more = ap (λ t. p ++ t) (concat_append pieces more) ∙ sym (append_assoc p (concat pieces) (concat more))

@@ -51,11 +51,7 @@ impl<'p> Scanner<'p> {
     }
 
     /// A scan that counts its places from `base`. The only refusal is `OutOfMemory`.
-    pub fn new_at(
-        alloc: Global,
-        compiled: &'p Compiled,
-        base: u64,
-    ) -> Result<Scanner<'p>, Fault>
+    pub fn new_at(alloc: Global, compiled: &'p Compiled, base: u64) -> Result<Scanner<'p>, Fault>
         ensures ok { IfOk result (λ s. s ≡ started compiled.now base) }
         ensures refused { IsOkUnless result OutOfMemory }
     {

@@ -1,10 +1,9 @@
 -- By the order of lengths the shortest literal and the longest bound all.
-use Rattle.std.proofs.Common.{◌≡◌, ℕ, ◌<◌, ◌≤◌, List, All, Some, length, map, get_or, ap, ◌∙◌, subst, arith}
+use Rattle.std.proofs.Common.{◌≡◌, ℕ, ◌<◌, ◌≤◌, List, All, Some, length, ap, ◌∙◌, subst, arith}
 use Rattle.std.specs.List.{slice_get}
 use Rattle.std.proofs.lemmas.List.{get_or-map, length-map}
 use Rattle.std.proofs.lemmas.Option.{slice_get_within, get_or_from_slice_get}
 use Rattle.lit_base.specs.Literals.{Literals, lengths}
-use Rattle.flow_scan.specs.Tails.{HasBounds}
 use Rattle.flow_scan.proofs.carry.carry.Goals as goal
 
 -- what holds of all lengths holds of a literal's
@@ -12,7 +11,7 @@ of_literal : (P : ℕ → Type 0) (l : Literals) (place : ℕ) (literal : List �
 of_literal P l place literal all stands =
     let within : place < length l.texts = slice_get_within l.texts place literal stands in
     subst P (get_or-map length l.texts place literal 0 within ∙ ap length (get_or_from_slice_get l.texts place literal literal stands))
-      (all place 0 (omega (arith, within, length-map l.texts length)))
+    (all place 0 (omega (arith, within, length-map l.texts length)))
 
 pub returns-clause-bounds : goal.returns-clause-bounds
 returns-clause-bounds c = record {

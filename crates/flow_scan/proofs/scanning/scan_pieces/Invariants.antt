@@ -1,4 +1,4 @@
-use Rattle.std.proofs.Common.{◌≡◌, ℕ, List, length, take}
+use Rattle.std.proofs.Common.{◌≡◌, length, take}
 use Rattle.std.specs.List.{concat}
 use Rattle.flow_scan.specs.Tails.{AreHitsBehind, bytes_of, carry_of, last_bytes}
 use Rattle.flow_scan.proofs.scanning.scan_pieces.Given as goal

@@ -1,7 +1,6 @@
 -- One place after the other is gone to, until nothing ends behind it.
-use Rattle.std.proofs.Common.{◌≡◌, ℕ, ◌+◌, ◌-◌, ◌<◌, ◌≤◌, List, [], ◌∷◌, ◌++◌, length, take, sym, ap, ◌∙◌, subst, arith}
+use Rattle.std.proofs.Common.{◌≡◌, ℕ, ◌+◌, ◌-◌, List, [], ◌++◌, take, sym, ap, ◌∙◌, subst, arith}
 use Rattle.std.proofs.lemmas.List.{append-nil, append_assoc, length-take}
-use Rattle.lit_base.specs.Literals.{Literals}
 use Rattle.flow_scan.specs.Ends.{GainsHitsAt, IsNextEnd, NoEndAfter}
 use Rattle.flow_scan.specs.Tails.{AreHitsBehind}
 use Rattle.flow_scan.proofs.HitLists.{hits_ended, hits_further, hits_none, none_past}
@@ -18,7 +17,7 @@ loop-end-init c =
       found = [];
       grown = sym (append-nil c.args.out.now.items);
       added = hits_none c.args.compiled.now.literals front c.args.from c.args.at
-        (none_past c.args.compiled.now.literals front c.args.from (omega (arith, start, length-take c.new-endings.result.at c.args.text.now)));
+          (none_past c.args.compiled.now.literals front c.args.from (omega (arith, start, length-take c.new-endings.result.at c.args.text.now)));
     }
 
 pub loop-end-preserved : goal.loop-end-preserved
@@ -34,7 +33,7 @@ loop-end-preserved c =
     let found = before.found ++ here.found in
     let reached : c.next_ending.new.self.at ≡ end = c.in-Some.ensures.at in
     let further : AreHitsBehind l (take end text) from at found =
-      hits_further l text from c.loop-end.endings.at end at before.found here.found before.ahead next.after next.within next.first before.added here.added in
+    hits_further l text from c.loop-end.endings.at end at before.found here.found before.ahead next.after next.within next.first before.added here.added in
     record {
       list = c.next_ending.ensures.list ∙ before.list;
       text = c.next_ending.ensures.text ∙ before.text;

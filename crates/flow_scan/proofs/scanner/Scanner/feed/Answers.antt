@@ -17,7 +17,7 @@ returns-then-is_err-clause-quiet c = λ none.
     let tail : c.offer.new.self.tail ≡ c.args.self.now.tail = ap (λ (s : Seaming). s.tail) c.offer.ensures ∙ ap (λ (s : Scanning). s.tail) c.self.view_is in
     let list : c.self.inside.compiled.now.literals ≡ c.args.self.now.plan.literals = ap (λ (s : Scanning). s.plan.literals) c.self.view_is in
     let here : NoEndAfter c.self.inside.compiled.now.literals (c.offer.new.self.tail ++ piece) (length c.offer.new.self.tail) =
-      subst (λ (l : Literals). NoEndAfter l (c.offer.new.self.tail ++ piece) (length c.offer.new.self.tail)) (sym list)
-        (subst (λ (t : List ℕ). NoEndAfter c.args.self.now.plan.literals (t ++ piece) (length t)) (sym tail) none) in
+    subst (λ (l : Literals). NoEndAfter l (c.offer.new.self.tail ++ piece) (length c.offer.new.self.tail)) (sym list)
+    (subst (λ (t : List ℕ). NoEndAfter c.args.self.now.plan.literals (t ++ piece) (length t)) (sym tail) none) in
     let ok : IsOk c.add_piece.result = c.add_piece.ensures.quiet here in
     absurd (ok_not_err c.add_piece.result c.is_err.result ok c.is_err.ensures.negation c.if-is_err.true)
