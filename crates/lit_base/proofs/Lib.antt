@@ -2,6 +2,7 @@ pub mod Assigned
 pub mod Buckets
 pub mod Cuts
 pub mod DeviceLemmas
+pub mod EndedLemmas
 pub mod InsertLemmas
 pub mod Least
 pub mod LengthLemmas
