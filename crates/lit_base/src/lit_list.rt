@@ -1,13 +1,15 @@
-ghost use Rattle.std.specs.Prelude.{◌≡◌, ◌<◌, ◌≤◌, ◌-◌, ◌↔◌, ◌⊎◌, [], All, Contains, IfErr, IfOk, IsTrue, length, slice_index_or, slice_index};
+ghost use Rattle.std.specs.Prelude.{◌≡◌, ◌<◌, ◌≤◌, ◌-◌, ◌↔◌, ◌⊎◌, [], All, Contains, IfErr, IfOk, IfSome, IsTrue, MatchOption, length, slice_index_or, slice_index};
 ghost use Rattle.std.specs.List.{AllZip};
 ghost use Rattle.std.specs.List.Sorted.{IsNonDecreasing};
+ghost use Rattle.lit_base.specs.Folding.{folded_text};
 ghost use Rattle.lit_base.specs.Literals.{lengths};
+ghost use Rattle.lit_base.specs.Occurrences.{IsFirstEnding, NoneEnds, Occurs};
 ghost use Rattle.lit_base.specs.NormalForm.{IsNormalForm, IsPlaceOf, normal_form};
 ghost use Rattle.lit_base.specs.declared.fault.Fault.TheVariants.{OutOfMemory, TooManyLiterals};
 ghost use Rattle.lit_base.specs.declared.limits.TheConstants.{MAX_LITERALS};
 
 use crate::fault::Fault;
-use crate::fold::Fold;
+use crate::fold::{Fold, fold_byte};
 use crate::literal::Literal;
 use crate::normal_form::{distinct, has_null, in_order, places};
 use crate::raw_list::RawList;
@@ -102,6 +104,32 @@ impl LitList {
         self.literals[self.literals.len() - 1].as_slice().len()
     }
 
+    /// The first of the literals from place `from` on that ends at `end` in the text, if there is one.
+    pub fn next_ending(&self, text: &[u8], end: usize, from: usize) -> Option<usize>
+        requires { end ≤ length text.now }
+        ensures first { MatchOption result
+            (NoneEnds self.now text.now from end)
+            (λ place. IsFirstEnding self.now text.now from end place) }
+        ensures within { IfSome result (λ place. place < length self.now.texts) }
+    {
+        for place in from..self.len() {
+            if self.ends_at(place, text, end) {
+                return Some(place);
+            }
+        }
+        None
+    }
+
+    /// Whether the literal at a place ends at `end` in the text.
+    fn ends_at(&self, place: usize, text: &[u8], end: usize) -> bool
+        requires within { place < length self.now.texts }
+        requires inside { end ≤ length text.now }
+        ensures { IsTrue result ↔ Occurs self.now text.now place end }
+    {
+        let literal = self.get(place);
+        literal.len() <= end && is_folded(self.folding, &text[end - literal.len()..end], literal)
+    }
+
     /// The literal at a place.
     pub fn get(&self, place: usize) -> &[u8]
         requires { place < length self.now.texts }
@@ -111,6 +139,17 @@ impl LitList {
     {
         self.literals[place].as_slice()
     }
+}
+
+/// Whether the text, folded, is the literal.
+fn is_folded(fold: Fold, text: &[u8], literal: &[u8]) -> bool
+    ensures { IsTrue result ↔ (folded_text fold text.now ≡ literal.now) }
+{
+    text.len() == literal.len()
+        && text
+            .iter()
+            .zip(literal.iter())
+            .all(|(byte, folded)| fold_byte(fold, *byte) == *folded)
 }
 
 /// How a raw list and its normal form go together.
