@@ -32,5 +32,5 @@ pub use lit_list::{LitList, Normal};
 pub use normal_form::normal_form_law;
 pub use occurrences::hits_law;
 pub use raw_list::RawList;
-pub use std_device::{FromRead, ToWrite};
+pub use std_device::{FileOrInput, FromRead, ToWrite};
 pub use transfer::{ReadError, read_to_end, write_all};
