@@ -1,5 +1,6 @@
 pub mod Assigned
 pub mod Buckets
+pub mod ChainLemmas
 pub mod Cuts
 pub mod DeviceLemmas
 pub mod InsertLemmas
@@ -15,5 +16,6 @@ pub mod RefusalLemmas
 pub mod Runs
 pub mod SearchLemmas
 pub mod SortedLists
+pub mod SuffixLemmas
 pub mod TransferLemmas
 pub mod Weights
