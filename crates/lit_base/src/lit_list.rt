@@ -3,7 +3,7 @@ ghost use Rattle.std.specs.List.{AllZip};
 ghost use Rattle.std.specs.List.Sorted.{IsNonDecreasing};
 ghost use Rattle.lit_base.specs.Chains.{IsClassOf};
 ghost use Rattle.lit_base.specs.Folding.{folded_text};
-ghost use Rattle.lit_base.specs.Literals.{lengths};
+ghost use Rattle.lit_base.specs.Literals.{lengths, IsNormal};
 ghost use Rattle.lit_base.specs.Occurrences.{IsFirstEnding, NoneEnds, Occurs};
 ghost use Rattle.lit_base.specs.NormalForm.{IsNormalForm, IsPlaceOf, normal_form};
 ghost use Rattle.lit_base.specs.Suffixes.{suffix_key};
@@ -112,6 +112,13 @@ impl LitList {
         ensures greatest { All (λ len. len ≤ result) (lengths self.now) }
     {
         self.literals[self.literals.len() - 1].as_slice().len()
+    }
+
+    /// The law that the literals are in normal form.
+    pub fn normal_law(&self)
+        ensures { IsNormal self.now }
+    {
+        let _literals = &self.literals;
     }
 
     /// The first of the literals from place `from` on that ends at `end` in the text, if there is one.
