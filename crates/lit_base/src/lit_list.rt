@@ -235,6 +235,16 @@ impl LitList {
 fn is_folded(fold: Fold, text: &[u8], literal: &[u8]) -> bool
     ensures { IsTrue result ↔ (folded_text fold text.now ≡ literal.now) }
 {
+    match fold {
+        Fold::No => text == literal,
+        Fold::Ascii => is_folded_by_bytes(Fold::Ascii, text, literal),
+    }
+}
+
+/// What `is_folded` says, byte by byte.
+fn is_folded_by_bytes(fold: Fold, text: &[u8], literal: &[u8]) -> bool
+    ensures { IsTrue result ↔ (folded_text fold text.now ≡ literal.now) }
+{
     text.len() == literal.len()
         && text
             .iter()

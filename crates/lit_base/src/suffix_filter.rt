@@ -19,11 +19,7 @@ pub(crate) struct SuffixFilter {
 }
 
 impl SuffixFilter {
-    pub fn new(
-        alloc: Global,
-        fold: Fold,
-        literals: &[Literal],
-    ) -> Result<SuffixFilter, AllocError>
+    pub fn new(alloc: Global, fold: Fold, literals: &[Literal]) -> Result<SuffixFilter, AllocError>
         requires nonempty { All (λ t. 0 < length t) literals.now }
         requires few { length literals.now ≤ MAX_LITERALS }
         ensures { IfOk result (IsFilterOf (record { folding = fold; texts = literals.now })) }
@@ -37,11 +33,7 @@ impl SuffixFilter {
             let key = suffix_key(fold, literal, literal.len(), width);
             mark(&mut marks, hash_of(bits, key));
         }
-        Ok(SuffixFilter {
-            width,
-            bits,
-            marks,
-        })
+        Ok(SuffixFilter { width, bits, marks })
     }
 
     /// Whether the bytes before `end` have a hash that is not marked. It does not look at fewer than

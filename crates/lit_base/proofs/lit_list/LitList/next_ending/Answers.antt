@@ -14,7 +14,7 @@ returns-then-rules_out-clause-first c = λ place low occurs.
     let is : IsFilterOf c.args.self.now filter = subst (λ l. IsFilterOf l filter) c.self.view_is c.self.invariant.2 in
     let marked = marked-occurs c.args.self.now filter text place c.args.end is (are_bytes text c.type_inv.text) occurs in
     let there : IsMarked filter.marks.items (hash_of filter.bits (suffix_key c.self.inside.folding text c.args.end filter.width)) =
-        subst (λ l. IsMarked filter.marks.items (hash_of filter.bits (suffix_key l.folding text c.args.end filter.width))) (sym c.self.view_is) marked in
+    subst (λ l. IsMarked filter.marks.items (hash_of filter.bits (suffix_key l.folding text c.args.end filter.width))) (sym c.self.view_is) marked in
     (c.rules_out.ensures.0 c.if-rules_out.true).1 there
 
 pub returns-clause-within : goal.returns-clause-within
