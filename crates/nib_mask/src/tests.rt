@@ -98,11 +98,7 @@ fn marks_the_halves_of_two_literals(rt: HostRuntime) -> Result<(), Fail> {
     let found = masks_of(rt.alloc(), Fold::Ascii, words, &[2])?;
     let wanted = Masks {
         low,
-        high: [
-            only(&[4, 6]),
-            only(&[4, 5, 6, 7]),
-            only(&[4, 5, 6, 7]),
-        ],
+        high: [only(&[4, 6]), only(&[4, 5, 6, 7]), only(&[4, 5, 6, 7])],
     };
     assert_eq!(rt; found, Some(wanted));
     assert_eq!(rt; plain_byte(&wanted, b'f', b'g', b'y'), 1);
