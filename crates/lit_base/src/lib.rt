@@ -16,6 +16,10 @@ mod occurrences;
 mod patterns;
 mod raw_list;
 mod std_device;
+mod suffix_chains;
+mod suffix_class;
+mod suffix_filter;
+mod suffix_key;
 mod transfer;
 
 pub use costs::{Ends, assign_cost, cost, cut_cost, is_assignment, is_cut, weight};
