@@ -14,11 +14,4 @@ returns-clause-last c =
 
 pub returns-clause-greatest : goal.returns-clause-greatest
 returns-clause-greatest c =
-    last_greatest c.args.self.now (subst IsNormal c.self.view_is c.self.invariant) (length c.as_slice.result.now) (returns-clause-last c)
-
-pub returns-clause-short : goal.returns-clause-short
-returns-clause-short c =
-    let normal : IsNormal c.args.self.now = subst IsNormal c.self.view_is c.self.invariant in
-    let last = length c.args.self.now.texts - 1 in
-    let at : c.as_slice.result.now ≡ get_or c.args.self.now.texts last c.as_slice.result.now = grind (arith, common_steps) in
-    rw at (normal.short last c.as_slice.result.now (omega (arith, c.requires)))
+    last_greatest c.args.self.now (subst IsNormal c.self.view_is c.self.invariant.0) (length c.as_slice.result.now) (returns-clause-last c)
