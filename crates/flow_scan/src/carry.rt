@@ -13,7 +13,6 @@ pub(crate) fn carry(list: &LitList) -> usize
     ensures small { result < MAX_LITERAL_LEN }
     ensures bounds { HasBounds list.now }
 {
-    let _first = list.get(0);
-    let _shortest = list.shortest();
+    list.normal_law();
     list.longest() - 1
 }
