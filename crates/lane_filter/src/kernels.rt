@@ -2,9 +2,28 @@
 ghost use Rattle.std.specs.Prelude.{◌≡◌, length};
 ghost use Rattle.lane_filter.specs.Filtered.{IsFiltered};
 
+use crate::entries::MaskEntries;
 use crate::lanes::{load, store};
 use crate::plain::filter_rest;
 use crate::wide_masks::WideMasks;
+use nib_mask::Masks;
+
+/// Writes the filter byte of each three bytes that stand at the same place of the three slices, by
+/// comparisons and selections of lanes alone.
+pub fn filter(masks: &Masks, x0: &[u8], x1: &[u8], x2: &[u8], out: &mut [u8])
+    requires x1_length { length x1.now ≡ length x0.now }
+    requires x2_length { length x2.now ≡ length x0.now }
+    requires out_length { length out.old ≡ length x0.now }
+    ensures { IsFiltered masks.now x0.now x1.now x2.now out.new }
+{
+    let entries = MaskEntries::of(masks);
+    let mut at = 0;
+    while out.len() - at >= 128 {
+        entries.filter(x0, x1, x2, at).store(out, at);
+        at += 128;
+    }
+    filter_rest(masks, x0, x1, x2, out, at);
+}
 
 /// As `filter`, by look-ups in the wide tables. It is faster where the processor permutes the bytes
 /// of a vector by another.

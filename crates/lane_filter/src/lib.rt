@@ -3,6 +3,8 @@
 
 mod bits;
 mod candidates;
+mod entries;
+mod four;
 mod kernels;
 mod lanes;
 mod plain;
@@ -10,5 +12,5 @@ mod tables;
 mod wide_masks;
 
 pub use candidates::Candidates;
-pub use kernels::filter_wide;
+pub use kernels::{filter, filter_wide};
 pub use wide_masks::WideMasks;
