@@ -1,9 +1,10 @@
 //! The filter over slices.
-ghost use Rattle.std.specs.Prelude.{◌≡◌, length};
+ghost use Rattle.std.specs.Prelude.{◌≡◌, ◌≢◌, ◌↔◌, length, IsTrue};
+ghost use Rattle.std.specs.List.{Any};
 ghost use Rattle.lane_filter.specs.Filtered.{IsFiltered};
 
 use crate::entries::MaskEntries;
-use crate::lanes::{load, store};
+use crate::lanes::{load, nonzero_bits, store};
 use crate::plain::filter_rest;
 use crate::wide_masks::WideMasks;
 use nib_mask::Masks;
@@ -41,4 +42,26 @@ pub fn filter_wide(masks: &WideMasks, x0: &[u8], x1: &[u8], x2: &[u8], out: &mut
         at += 32;
     }
     filter_rest(&masks.masks, x0, x1, x2, out, at);
+}
+
+/// Whether a byte is not zero.
+pub fn any_set(bytes: &[u8]) -> bool
+    ensures { IsTrue result ↔ Any (λ byte. byte ≢ 0) bytes.now }
+{
+    let mut at = 0;
+    while bytes.len() - at >= 64 {
+        if nonzero_bits(load(bytes, at), load(bytes, at + 32)) != 0 {
+            return true;
+        }
+        at += 64;
+    }
+    let (_, rest) = bytes.split_at(at);
+    any_set_in(rest)
+}
+
+/// The same of a few bytes, one after the other.
+fn any_set_in(bytes: &[u8]) -> bool
+    ensures { IsTrue result ↔ Any (λ byte. byte ≢ 0) bytes.now }
+{
+    bytes.iter().any(|byte| *byte != 0)
 }

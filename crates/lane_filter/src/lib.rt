@@ -12,5 +12,5 @@ mod tables;
 mod wide_masks;
 
 pub use candidates::Candidates;
-pub use kernels::{filter, filter_wide};
+pub use kernels::{any_set, filter, filter_wide};
 pub use wide_masks::WideMasks;
