@@ -1,7 +1,9 @@
 pub mod Assigned
 pub mod Buckets
+pub mod ChainLemmas
 pub mod Cuts
 pub mod DeviceLemmas
+pub mod EndedLemmas
 pub mod InsertLemmas
 pub mod Least
 pub mod LengthLemmas
@@ -15,5 +17,6 @@ pub mod RefusalLemmas
 pub mod Runs
 pub mod SearchLemmas
 pub mod SortedLists
+pub mod SuffixLemmas
 pub mod TransferLemmas
 pub mod Weights

@@ -1,4 +1,5 @@
 pub mod Assignments
+pub mod Chains
 pub mod Costs
 pub mod CutDevices
 pub mod Cuts
@@ -13,4 +14,5 @@ pub mod Patterns
 pub mod Potentials
 pub mod RawLists
 pub mod Selected
+pub mod Suffixes
 pub mod Transfers

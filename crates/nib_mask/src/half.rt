@@ -1,3 +1,5 @@
+//! The halves of a byte, by which the tables are looked up.
+
 ghost use Rattle.std.specs.Prelude.{◌≡◌};
 ghost use Rattle.nib_mask.specs.FilterSet.{half_of};
 

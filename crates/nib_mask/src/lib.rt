@@ -11,3 +11,6 @@ mod masks;
 
 pub use candidates::candidate_law;
 pub use masks::{Masks, plain_byte};
+
+#[cfg(test)]
+mod tests;
