@@ -3,7 +3,7 @@ ghost use Rattle.std.specs.Prelude.{◌≤◌, ◌^◌};
 
 use crate::texts::{literals, quiet_text, rare_text};
 use anyhow::{Result, ensure};
-use lane_filter::{Candidates, WideMasks, filter, filter_wide};
+use lane_filter::{Candidates, filter, filter_wide};
 use lit_base::{Ends, LitList, is_cut};
 use memchr::memchr;
 use nib_mask::Masks;
@@ -51,13 +51,6 @@ impl Contestant {
 /// The times of the turns of each contestant, in nanoseconds.
 type Times = [[u64; TURNS]; 6];
 
-/// The same masks in both forms.
-#[derive(Drop)]
-struct Tables {
-    masks: Masks,
-    wide: WideMasks,
-}
-
 /// Measures all contestants over texts of `len` bytes, with the tables of `count` literals.
 pub fn measure<R: Clock + Print + AllocGlobal>(rt: &R, len: usize, count: u16) -> Result<()>
     requires { len ≤ 2 ^ 30 }
@@ -66,10 +59,6 @@ pub fn measure<R: Clock + Print + AllocGlobal>(rt: &R, len: usize, count: u16) -
     let ends = equal_runs(&list);
     ensure!(is_cut(&list, &ends), "no cut of the literals");
     let masks = Masks::of(&list, &ends);
-    let tables = Tables {
-        masks,
-        wide: WideMasks::new(&masks),
-    };
     let mut quiet = quiet_text(rt.alloc(), len + 2)?;
     let mut rare = rare_text(rt.alloc(), len + 2, &list)?;
     let mut out: Vec<u8> = vec![in rt.alloc(); 0; len]?;
@@ -83,7 +72,7 @@ pub fn measure<R: Clock + Print + AllocGlobal>(rt: &R, len: usize, count: u16) -
                 _ => &mut quiet,
             };
             let start = Instant::now(rt)?;
-            let found = take_turn(contestant, &tables, text, &mut out);
+            let found = take_turn(contestant, &masks, text, &mut out);
             let nanos = start.elapsed(rt)?.as_nanos();
             times[place][turn] = u64::try_from(nanos).unwrap_or(u64::MAX);
             sum = sum.wrapping_add(found);
@@ -113,13 +102,13 @@ fn rounds(len: usize) -> u64 {
 }
 
 /// The text changes in each round, so that none can be left out.
-fn take_turn(contestant: Contestant, tables: &Tables, text: &mut [u8], out: &mut [u8]) -> u64 {
+fn take_turn(contestant: Contestant, masks: &Masks, text: &mut [u8], out: &mut [u8]) -> u64 {
     let mut sum = 0u64;
     for round in 0..rounds(out.len()) {
         if let Some(byte) = text.get_mut(round as usize) {
             *byte ^= 1;
         }
-        sum = sum.wrapping_add(go_over(contestant, tables, text, out));
+        sum = sum.wrapping_add(go_over(contestant, masks, text, out));
     }
     sum
 }
@@ -133,7 +122,9 @@ fn report<R: Print>(rt: &R, times: &Times, bytes: u64) -> Result<()> {
         let name = CONTESTANTS[place].name();
         let (whole, part) = (speed / 100, speed % 100);
         let (times_whole, times_part) = (ratio / 100, ratio % 100);
-        println!(rt; "{name}: {whole}.{part:02} GB/s, {times_whole}.{times_part:02} times the scalar loop")?;
+        println!(rt;
+            "{name}: {whole}.{part:02} GB/s, {times_whole}.{times_part:02} times the scalar loop"
+        )?;
     }
     Ok(())
 }
@@ -145,22 +136,20 @@ fn median(mut times: [u64; TURNS]) -> u64 {
 
 /// How many places a contestant finds, or one of the bytes that it writes.
 #[inline(never)]
-fn go_over(
-    contestant: Contestant,
-    tables: &Tables,
-    text: &[u8],
-    out: &mut [u8],
-) -> u64 {
+fn go_over(contestant: Contestant, masks: &Masks, text: &[u8], out: &mut [u8]) -> u64 {
     let len = out.len();
-    let (Some(x0), Some(x1), Some(x2)) = (text.get(..len), text.get(1..len + 1), text.get(2..len + 2)) else {
+    let (Some(x0), Some(x1), Some(x2)) = (
+        text.get(..len),
+        text.get(1..len + 1),
+        text.get(2..len + 2),
+    ) else {
         return 0;
     };
-    let Tables { masks, wide } = tables;
     match contestant {
         Contestant::Scalar => filter_scalar(masks, x0, x1, x2, out),
         Contestant::Comparisons => filter(masks, x0, x1, x2, out),
-        Contestant::Swizzles => filter_wide(wide, x0, x1, x2, out),
-        Contestant::QuietCursor | Contestant::RareCursor => return candidates(wide, text),
+        Contestant::Swizzles => filter_wide(masks, x0, x1, x2, out),
+        Contestant::QuietCursor | Contestant::RareCursor => return candidates(masks, text),
         Contestant::OneByte => return memchr(b'~', text).map_or(0, |place| place as u64),
     }
     u64::from(out.last().copied().unwrap_or(0))
@@ -181,7 +170,7 @@ fn filter_scalar(masks: &Masks, x0: &[u8], x1: &[u8], x2: &[u8], out: &mut [u8])
 
 /// How many candidates a text has.
 #[inline(never)]
-fn candidates(masks: &WideMasks, text: &[u8]) -> u64 {
+fn candidates(masks: &Masks, text: &[u8]) -> u64 {
     let mut cursor = Candidates::new(masks, text, 0);
     let mut count = 0u64;
     for _ in 0..=text.len() {

@@ -1,5 +1,5 @@
 -- Whether a byte is not zero: by the bits of lanes, and behind places that are.
-use Rattle.std.proofs.Common.{◌≡◌, ◌≢◌, ◌↔◌, ◌⊎◌, ℕ, ◌+◌, ◌-◌, ◌^◌, ◌<◌, ◌≤◌, ◌++◌, List, length, get_or, drop, sym, ap, subst, ◌∙◌, arith, w64, length-drop, ⊎_elim}
+use Rattle.std.proofs.Common.{◌≡◌, ◌≢◌, ◌↔◌, ℕ, ◌+◌, ◌-◌, ◌^◌, ◌<◌, ◌≤◌, ◌++◌, List, length, get_or, drop, sym, ap, ◌∙◌, arith, w64, length-drop, ⊎_elim}
 use Rattle.std.specs.Int.{bit_at, trailing_zeros}
 use Rattle.std.specs.List.{Any}
 use Rattle.std.proofs.lemmas.Bool.{cases_lt, cases_eq}
@@ -33,13 +33,14 @@ module _ (front back : List ℕ) (f : ℕ → ℕ) (mask : ℕ) (p : HasLanes fr
 
 -- zeros in front do not matter
 pub any_behind : (xs : List ℕ) (at : ℕ) → at ≤ length xs → HoldsBelow (λ _. 0) at xs → Any (λ byte. byte ≢ 0) (drop at xs) ↔ Any (λ byte. byte ≢ 0) xs
-any_behind xs at le zeros =
-    (λ (k, x, l, is, set).
-    let within : at + k < length xs = omega (arith, length-drop at xs) in
-    (at + k, x, within, sym (get_or-drop at xs k x) ∙ is, set),
-    λ (k, x, l, is, set).
-    ⊎_elim (λ (below : k < at). absurd (set (sym is ∙ get_or_default_zero xs k x l ∙ zeros k below)))
-    (λ (from : at ≤ k).
-    let place : at + (k - at) ≡ k = omega arith in
-    (k - at, x, omega (arith, length-drop at xs), get_or-drop at xs (k - at) x ∙ ap (λ j. get_or xs j x) place ∙ is, set))
-    (cases_lt k at))
+any_behind xs at le zeros = (
+  λ (k, x, l, is, set).
+      let within : at + k < length xs = omega (arith, length-drop at xs) in
+      (at + k, x, within, sym (get_or-drop at xs k x) ∙ is, set),
+  λ (k, x, l, is, set).
+      ⊎_elim (λ (below : k < at). absurd (set (sym is ∙ get_or_default_zero xs k x l ∙ zeros k below)))
+      (λ (from : at ≤ k).
+      let place : at + (k - at) ≡ k = omega arith in
+      (k - at, x, omega (arith, length-drop at xs), get_or-drop at xs (k - at) x ∙ ap (λ j. get_or xs j x) place ∙ is, set))
+      (cases_lt k at),
+)

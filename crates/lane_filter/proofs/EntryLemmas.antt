@@ -1,7 +1,7 @@
 -- What the entries of a table that are not zero give a half of a byte.
-use Rattle.std.proofs.Common.{◌≡◌, ◌≢◌, ◌⊎◌, ℕ, zero, suc, ◌+◌, ◌<◌, ◌≤◌, List, cond, eqb, length, get_or, set, refl, sym, ap, ◌∙◌, arith, bit_or, add-one, get_or-set_other, get_or-set_same, length-set, ⊎_elim}
+use Rattle.std.proofs.Common.{◌≡◌, ◌≢◌, ℕ, zero, suc, ◌+◌, ◌<◌, ◌≤◌, List, cond, eqb, length, get_or, set, refl, sym, ap, ◌∙◌, arith, bit_or, add-one, get_or-set_other, get_or-set_same, length-set, ⊎_elim}
 use Rattle.std.specs.Int.Bits.{or_zero_l, or_zero_r}
-use Rattle.std.proofs.lemmas.Bool.{cases_lt, cases_eq, ne_eqb, eq-eqb}
+use Rattle.std.proofs.lemmas.Bool.{cases_eq, ne_eqb, eq-eqb}
 use Rattle.lane_filter.specs.Entries.{entries_value}
 
 pub entries_value-none : (halves values : List ℕ) (half : ℕ) → entries_value halves values 0 half ≡ 0
@@ -28,7 +28,7 @@ pub entries_value-push : (halves values : List ℕ) (n x y half : ℕ) → n < l
 entries_value-push halves values n x y half in_halves in_values =
     entries_value-more (set halves n x) (set values n y) n half
     ∙ (λ i. bit_or (entries_value-set halves values n x y n half (omega arith) i)
-      (cond (eqb half (get_or-set_same halves n x 0 in_halves i)) (get_or-set_same values n y 0 in_values i) 0))
+    (cond (eqb half (get_or-set_same halves n x 0 in_halves i)) (get_or-set_same values n y 0 in_values i) 0))
 
 -- the entries of the first places of a table
 pub record AreEntriesBelow (table halves values : List ℕ) (count n : ℕ) : Type 0 where
@@ -41,7 +41,9 @@ pub record AreEntriesBelow (table halves values : List ℕ) (count n : ℕ) : Ty
 -- before the first
 pub entries_below_none : (table halves values : List ℕ) → length halves ≡ 16 → length values ≡ 16 → AreEntriesBelow table halves values 0 0
 entries_below_none table halves values p q = record {
-  few = omega arith; halves_long = p; values_long = q;
+  few = omega arith;
+  halves_long = p;
+  values_long = q;
   below = λ half l. absurd (omega arith);
   above = λ half l. entries_value-none halves values half;
 }
@@ -52,7 +54,9 @@ pub entries_below_skipped : (table halves values : List ℕ) (count n : ℕ) →
 entries_below_skipped table halves values count n none h =
     let few = h.few in
     record {
-      few = omega arith; halves_long = h.halves_long; values_long = h.values_long;
+      few = omega arith;
+      halves_long = h.halves_long;
+      values_long = h.values_long;
       below = λ half l.
           ⊎_elim (λ (same : half ≡ n). h.above half (omega arith) ∙ sym none ∙ ap (λ j. get_or table j 0) (sym same))
           (λ (other : half ≢ n). h.below half (omega arith)) (cases_eq half n);
@@ -68,16 +72,16 @@ entries_below_pushed table halves values count n small h =
     let long_values = h.values_long in
     let value = get_or table n 0 in
     let step : (half : ℕ) → entries_value (set halves count n) (set values count value) (count + 1) half ≡ bit_or (entries_value halves values count half) (cond (eqb half n) value 0) =
-        λ half. entries_value-push halves values count n value half (omega arith) (omega arith) in
+    λ half. entries_value-push halves values count n value half (omega arith) (omega arith) in
     let other : (half : ℕ) → half ≢ n → entries_value (set halves count n) (set values count value) (count + 1) half ≡ entries_value halves values count half =
-        λ half ne. step half ∙ ap (λ b. bit_or (entries_value halves values count half) (cond b value 0)) (ne_eqb half n ne) ∙ or_zero_r (entries_value halves values count half) in
+    λ half ne. step half ∙ ap (λ b. bit_or (entries_value halves values count half) (cond b value 0)) (ne_eqb half n ne) ∙ or_zero_r (entries_value halves values count half) in
     record {
       few = omega arith;
       halves_long = length-set halves count n ∙ long;
       values_long = length-set values count value ∙ long_values;
       below = λ half l.
           ⊎_elim (λ (same : half ≡ n).
-            step half ∙ (λ i. bit_or (h.above half (omega arith) i) (cond (eq-eqb half n same i) value 0)) ∙ or_zero_l value ∙ ap (λ j. get_or table j 0) (sym same))
+          step half ∙ (λ i. bit_or (h.above half (omega arith) i) (cond (eq-eqb half n same i) value 0)) ∙ or_zero_l value ∙ ap (λ j. get_or table j 0) (sym same))
           (λ (ne : half ≢ n). other half ne ∙ h.below half (omega arith)) (cases_eq half n);
       above = λ half l. let ne : half ≢ n = omega arith in other half ne ∙ h.above half (omega arith);
     }

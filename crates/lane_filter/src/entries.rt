@@ -103,7 +103,7 @@ impl MaskEntries {
         requires { at + 128 ≤ length bytes.now }
         ensures { (of_low of_high : List ℕ) → AreEntriesOf of_low low.now → AreEntriesOf of_high high.now
             → HasFour result (λ k. bit_and (slice_index of_low (slice_index bytes.now (at + k) % 16))
-                (slice_index of_high (slice_index bytes.now (at + k) / 16))) }
+            (slice_index of_high (slice_index bytes.now (at + k) / 16))) }
     {
         let bytes = Four::load(bytes, at);
         let by_low = low.look_up(&bytes.low_halves());

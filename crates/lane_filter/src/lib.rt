@@ -9,8 +9,6 @@ mod kernels;
 mod lanes;
 mod plain;
 mod tables;
-mod wide_masks;
 
 pub use candidates::Candidates;
 pub use kernels::{any_set, filter, filter_wide};
-pub use wide_masks::WideMasks;

@@ -1,4 +1,4 @@
-use Rattle.std.proofs.Common.{ℕ, ◌+◌, ◌≤◌, length, get_or, arith}
+use Rattle.std.proofs.Common.{ℕ, get_or, arith}
 use Rattle.nib_mask.specs.Tables.{table_value}
 use Rattle.lane_filter.proofs.kernels.filter.Goals as goal
 

@@ -1,6 +1,5 @@
 use Rattle.std.proofs.Common.{sym, arith, ap, ◌≡◌}
 use Rattle.lane_filter.specs.Entries.{entries_value}
-use Rattle.lane_filter.specs.Fours.{HasFour}
 use Rattle.lane_filter.proofs.EntryLemmas.{entries_value-none, entries_value-more}
 use Rattle.lane_filter.proofs.FourLemmas.{four_named}
 use Rattle.lane_filter.proofs.entries.Entries.look_up.Goals as goal

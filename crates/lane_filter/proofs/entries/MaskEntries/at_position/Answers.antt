@@ -1,4 +1,4 @@
-use Rattle.std.proofs.Common.{◌≡◌, ◌+◌, ◌%◌, ◌/◌, ◌<◌, ℕ, get_or, arith, bit_and}
+use Rattle.std.proofs.Common.{◌+◌, ◌%◌, ◌/◌, ℕ, get_or, arith}
 use Rattle.lane_filter.proofs.FourLemmas.{four_named}
 use Rattle.lane_filter.proofs.entries.MaskEntries.at_position.Goals as goal
 

@@ -1,4 +1,4 @@
-use Rattle.std.proofs.Common.{◌+◌, get_or, ap, ◌∙◌}
+use Rattle.std.proofs.Common.{get_or, ap, ◌∙◌}
 use Rattle.lane_filter.proofs.FourLemmas.{holds_after_four}
 use Rattle.lane_filter.proofs.four.Four.store.Goals as goal
 
