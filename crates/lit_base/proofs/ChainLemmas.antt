@@ -1,5 +1,5 @@
 -- The walk along a chain, and what the classes answer one after another.
-use Rattle.std.proofs.Common.{◌≡◌, ◌≢◌, ℕ, ◌+◌, ◌-◌, ◌<◌, true, false, ◌≤◌, List, length, get_or, set, max, MatchOption, Option, Some, None, inl, inr, refl, sym, ap, ◌∙◌, subst, arith}
+use Rattle.std.proofs.Common.{◌≡◌, ◌≢◌, ℕ, ◌+◌, ◌-◌, ◌<◌, true, false, ◌≤◌, List, length, get_or, set, max, IfSome, MatchOption, Option, Some, None, inl, inr, refl, sym, ap, ◌∙◌, subst, arith}
 use Rattle.std.specs.Option.{is_some}
 use Rattle.std.proofs.lemmas.Bool.{cases_eq, cases_lt}
 use Rattle.std.proofs.lemmas.Option.{slice_get_within}
@@ -85,3 +85,9 @@ pub with_last : (l : Literals) (text : List ℕ) (from end : ℕ) (r : Option �
     → MatchOption r (NoneEnds l text from end) (λ place. IsFirstEnding l text from end place)
 with_last l text from end None found = λ place low occurs. found place low (slice_get_within l.texts place occurs.literal occurs.stands) occurs
 with_last l text from end (Some p) found = found
+
+-- what is found is one of the literals
+pub found_within : (l : Literals) (text : List ℕ) (from end : ℕ) (r : Option ℕ) → MatchOption r (NoneEnds l text from end) (λ place. IsFirstEnding l text from end place)
+    → IfSome r (λ place. place < length l.texts)
+found_within l text from end None found = tt
+found_within l text from end (Some p) found = slice_get_within l.texts p found.occurs.literal found.occurs.stands

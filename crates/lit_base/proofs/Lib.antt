@@ -8,6 +8,7 @@ pub mod InsertLemmas
 pub mod Least
 pub mod LengthLemmas
 pub mod LineLemmas
+pub mod MarkLemmas
 pub mod MatchLemmas
 pub mod Members
 pub mod NormalForms

@@ -8,6 +8,7 @@ pub mod Faults
 pub mod Folding
 pub mod Lines
 pub mod Literals
+pub mod Marks
 pub mod NormalForm
 pub mod Occurrences
 pub mod Patterns

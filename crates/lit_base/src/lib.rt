@@ -18,6 +18,7 @@ mod raw_list;
 mod std_device;
 mod suffix_chains;
 mod suffix_class;
+mod suffix_filter;
 mod suffix_key;
 mod transfer;
 

@@ -17,6 +17,7 @@ use crate::normal_form::{distinct, has_null, in_order, places};
 use crate::raw_list::RawList;
 use crate::suffix_chains::SuffixChains;
 use crate::suffix_class::SuffixClass;
+use crate::suffix_filter::SuffixFilter;
 use crate::suffix_key::suffix_key;
 use std::alloc::Global;
 use std::marker::Model;
@@ -27,18 +28,21 @@ pub struct LitList {
     folding: Fold,
     literals: Vec<Literal>,
     chains: SuffixChains,
+    filter: SuffixFilter,
 }
 
 impl Model for LitList {
     ghost use Rattle.lit_base.specs.Chains.{AreChainsOf};
     ghost use Rattle.lit_base.specs.Literals.{Literals, IsNormal};
+    ghost use Rattle.lit_base.specs.Marks.{IsFilterOf};
 
     ghost Value = { Literals };
 
     ghost view = { λ l. record { folding = l.folding; texts = l.literals.items } };
 
     ghost invariant = { λ l. IsNormal (record { folding = l.folding; texts = l.literals.items })
-        × AreChainsOf (record { folding = l.folding; texts = l.literals.items }) l.chains };
+        × AreChainsOf (record { folding = l.folding; texts = l.literals.items }) l.chains
+        × IsFilterOf (record { folding = l.folding; texts = l.literals.items }) l.filter };
 }
 
 impl LitList {
@@ -58,10 +62,12 @@ impl LitList {
         let literals = in_order(alloc, distinct(alloc, raw, fold)?)?;
         let place_of = places(alloc, raw, fold, literals.as_slice())?;
         let chains = SuffixChains::new(alloc, fold, literals.as_slice())?;
+        let filter = SuffixFilter::new(alloc, fold, literals.as_slice())?;
         let list = LitList {
             folding: fold,
             literals,
             chains,
+            filter,
         };
         let has_empty = has_null(raw);
         Ok((
@@ -122,6 +128,7 @@ impl LitList {
     }
 
     /// The first of the literals from place `from` on that ends at `end` in the text, if there is one.
+    #[inline]
     pub fn next_ending(&self, text: &[u8], end: usize, from: usize) -> Option<usize>
         requires { end ≤ length text.now }
         ensures first { MatchOption result
@@ -129,9 +136,13 @@ impl LitList {
             (λ place. IsFirstEnding self.now text.now from end place) }
         ensures within { IfSome result (λ place. place < length self.now.texts) }
     {
+        if from == 0 && self.filter.rules_out(self.folding, text, end) {
+            return None;
+        }
         self.next_in_chains(text, end, from)
     }
 
+    #[inline(never)]
     fn next_in_chains(&self, text: &[u8], end: usize, from: usize) -> Option<usize>
         requires { end ≤ length text.now }
         ensures { MatchOption result
@@ -222,6 +233,16 @@ impl LitList {
 
 /// Whether the text, folded, is the literal.
 fn is_folded(fold: Fold, text: &[u8], literal: &[u8]) -> bool
+    ensures { IsTrue result ↔ (folded_text fold text.now ≡ literal.now) }
+{
+    match fold {
+        Fold::No => text == literal,
+        Fold::Ascii => is_folded_by_bytes(Fold::Ascii, text, literal),
+    }
+}
+
+/// What `is_folded` says, byte by byte.
+fn is_folded_by_bytes(fold: Fold, text: &[u8], literal: &[u8]) -> bool
     ensures { IsTrue result ↔ (folded_text fold text.now ≡ literal.now) }
 {
     text.len() == literal.len()
