@@ -6,12 +6,12 @@ use Rattle.std.specs.List.{enumerate_from}
 use Rattle.grep_run.specs.declared.options.GrepOptions.{GrepOptions}
 use Rattle.grep_run.specs.declared.block.Next.{Next}
 use Rattle.grep_run.specs.declared.block.Next.TheVariants.{More, Stop}
-use Rattle.grep_run.specs.Blocks.{block_of, has_any, is_selected, prefix_of, selected_of, written_line}
+use Rattle.grep_run.specs.Blocks.{block_of, has_any, prefix_of, selected_of, selects, written_line}
 use Rattle.grep_run.specs.Growing.{IsFilling, added_line, ending_of, next_of}
 
 -- the selected ones of lines from a number on
 abbrev pub selected_from : GrepOptions → List (List ℕ) → ℕ → List (List ℕ) → List (ℕ × List ℕ)
-selected_from o patterns number texts = filter (λ numbered. is_selected o patterns numbered.1) (enumerate_from number texts)
+selected_from o patterns number texts = filter (λ numbered. selects o patterns numbered.1) (enumerate_from number texts)
 
 -- the lines before those that are left are dealt with: the selected ones came, and these are they
 pub record LentSoFar (o : GrepOptions) (patterns : List (List ℕ)) (name : List ℕ) (all rest : List (List ℕ)) (number total : ℕ) (held : List ℕ) : Type 0 where
@@ -32,7 +32,7 @@ flat_map-more f (y ∷ xs) x = ap (λ t. f y ++ t) (flat_map-more f xs x) ∙ sy
 
 module _ (o : GrepOptions) (patterns : List (List ℕ)) (name : List ℕ) {all rest : List (List ℕ)} {number count : ℕ} {text : List ℕ} (line : List ℕ) (behind : List (List ℕ)) where
   -- a line that is not selected is passed over
-  pub LentSoFar-passed : LentSoFar o patterns name all rest number count text → rest ≡ line ∷ behind → is_selected o patterns line ≡ false → LentSoFar o patterns name all behind (number + 1) count text
+  pub LentSoFar-passed : LentSoFar o patterns name all rest number count text → rest ≡ line ∷ behind → selects o patterns line ≡ false → LentSoFar o patterns name all behind (number + 1) count text
   LentSoFar-passed p e missed = record {
     lent = p.lent;
     parts = p.parts ∙ ap (λ ls. p.lent ++ selected_from o patterns (number + 1) ls) e
@@ -43,7 +43,7 @@ module _ (o : GrepOptions) (patterns : List (List ℕ)) (name : List ℕ) {all r
   }
 
   -- the parts, with a selected line taken off
-  parts-taken : (p : LentSoFar o patterns name all rest number count text) → rest ≡ line ∷ behind → is_selected o patterns line ≡ true
+  parts-taken : (p : LentSoFar o patterns name all rest number count text) → rest ≡ line ∷ behind → selects o patterns line ≡ true
       → selected_of o patterns all ≡ (p.lent ++ (number + 1, line) ∷ []) ++ selected_from o patterns (number + 1 + 1) behind
   parts-taken p e taken =
       p.parts ∙ ap (λ ls. p.lent ++ selected_from o patterns (number + 1) ls) e
@@ -51,7 +51,7 @@ module _ (o : GrepOptions) (patterns : List (List ℕ)) (name : List ℕ) {all r
       ∙ sym (append_assoc p.lent ((number + 1, line) ∷ []) (selected_from o patterns (number + 1 + 1) behind))
 
   -- one that is selected comes
-  pub LentSoFar-taken : (new_count : ℕ) (new_text : List ℕ) → LentSoFar o patterns name all rest number count text → rest ≡ line ∷ behind → is_selected o patterns line ≡ true
+  pub LentSoFar-taken : (new_count : ℕ) (new_text : List ℕ) → LentSoFar o patterns name all rest number count text → rest ≡ line ∷ behind → selects o patterns line ≡ true
       → number + 1 < 2 ^ 64 → new_count ≡ min (count + 1) (2 ^ 64 - 1) → new_text ≡ text ++ added_line o name (number + 1, line)
       → LentSoFar o patterns name all behind (number + 1) new_count new_text
   LentSoFar-taken new_count new_text p e taken small counted grown = record {
@@ -144,11 +144,11 @@ wants-none false false e = (cc)
 
 module _ (o : GrepOptions) (patterns : List (List ℕ)) (name : List ℕ) {all rest : List (List ℕ)} {number count : ℕ} {text : List ℕ} (line : List ℕ) (behind : List (List ℕ)) (next : ℕ) where
   -- the line with the next number is passed over
-  pub passed-next : LentSoFar o patterns name all rest number count text → rest ≡ line ∷ behind → next ≡ number + 1 → is_selected o patterns line ≡ false → LentSoFar o patterns name all behind next count text
+  pub passed-next : LentSoFar o patterns name all rest number count text → rest ≡ line ∷ behind → next ≡ number + 1 → selects o patterns line ≡ false → LentSoFar o patterns name all behind next count text
   passed-next p e number_is missed = subst (λ n. LentSoFar o patterns name all behind n count text) (sym number_is) (LentSoFar-passed o patterns name line behind p e missed)
 
   -- it comes
-  pub taken-next : (new_count : ℕ) (new_text : List ℕ) → LentSoFar o patterns name all rest number count text → rest ≡ line ∷ behind → next ≡ number + 1 → is_selected o patterns line ≡ true
+  pub taken-next : (new_count : ℕ) (new_text : List ℕ) → LentSoFar o patterns name all rest number count text → rest ≡ line ∷ behind → next ≡ number + 1 → selects o patterns line ≡ true
       → next < 2 ^ 64 → new_count ≡ min (count + 1) (2 ^ 64 - 1) → new_text ≡ text ++ added_line o name (next, line) → LentSoFar o patterns name all behind next new_count new_text
   taken-next new_count new_text p e number_is taken small counted grown =
       subst (λ n. LentSoFar o patterns name all behind n new_count new_text) (sym number_is)

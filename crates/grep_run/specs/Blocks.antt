@@ -1,34 +1,23 @@
 -- What one input gives: its block of output, its message, whether a line is selected, and whether it is an error. POSIX.1-2017 `grep`, OPTIONS, STDOUT, CONSEQUENCES OF ERRORS.
 use Rattle.std.specs.Prelude.{ℕ, ◌&&◌, ◌||◌, not, Bool, true, false, List, [], ◌∷◌, ◌++◌, filter, length, flat_map, nat_lt, if◌then◌else◌, Option, Some, None, codes, decimal}
 use Rattle.std.specs.List.{enumerate_from}
-use Rattle.lit_base.specs.Lines.{lines, pieces}
-use Rattle.lit_base.specs.Selected.{matches}
+use Rattle.lit_base.specs.Lines.{ended_lines, lines}
+use Rattle.lit_base.specs.Selected.{is_selected}
 use Rattle.grep_run.specs.declared.options.GrepOptions.{GrepOptions}
 use Rattle.grep_run.specs.Messages.{unreadable}
 use Rattle.grep_run.specs.Sources.{Content, Input, name_of}
-
--- pieces without the last one
-abbrev pub without_last : List (List ℕ) → List (List ℕ)
-without_last [] = []
-without_last (p ∷ []) = []
-without_last (p ∷ q ∷ more) = p ∷ without_last (q ∷ more)
-
--- the lines that a newline ended
-unfoldable pub ended_lines : List ℕ → List (List ℕ)
-ended_lines text = without_last (pieces text)
 
 -- the lines of a content: before a fault those alone that a newline ended
 abbrev pub lines_of : Content → List (List ℕ)
 lines_of c = if c.is_faulty then ended_lines c.text else lines c.text
 
 -- a line is selected: it matches one of the patterns, or under -v none
-abbrev pub is_selected : GrepOptions → List (List ℕ) → List ℕ → Bool
-is_selected o patterns line =
-    if o.invert then not (matches o.fold o.whole patterns line) else matches o.fold o.whole patterns line
+abbrev pub selects : GrepOptions → List (List ℕ) → List ℕ → Bool
+selects o = is_selected o.fold o.whole o.invert
 
 -- the selected lines with their numbers, which start at 1
 abbrev pub selected_of : GrepOptions → List (List ℕ) → List (List ℕ) → List (ℕ × List ℕ)
-selected_of o patterns texts = filter (λ numbered. is_selected o patterns numbered.1) (enumerate_from 1 texts)
+selected_of o patterns texts = filter (λ numbered. selects o patterns numbered.1) (enumerate_from 1 texts)
 
 -- those of an input, none where it cannot be opened
 abbrev pub selected_in : GrepOptions → List (List ℕ) → Option Content → List (ℕ × List ℕ)

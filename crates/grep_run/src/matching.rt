@@ -2,20 +2,20 @@
 ghost use Rattle.std.specs.Prelude.{◌≡◌, IfOk};
 ghost use Rattle.lit_base.specs.Folding.{folded_text};
 ghost use Rattle.lit_base.specs.Selected.{matches, matches_pattern, occurs_in};
-ghost use Rattle.grep_run.specs.Blocks.{is_selected};
+ghost use Rattle.grep_run.specs.Blocks.{selects};
 
 use crate::options::GrepOptions;
 use lit_base::{Fold, RawList, fold_byte};
 use std::alloc::{AllocError, Global};
 
 /// Whether the line is selected: it matches one of the patterns, or under -v none.
-pub fn selects(
+pub fn is_selected(
     alloc: Global,
     options: &GrepOptions,
     patterns: &RawList,
     line: &[u8],
 ) -> Result<bool, AllocError>
-    ensures { IfOk result (λ selects. selects ≡ is_selected options.now patterns.now line.now) }
+    ensures { IfOk result (λ selected. selected ≡ selects options.now patterns.now line.now) }
 {
     let is_match = is_match(alloc, options.fold, options.whole, patterns, line)?;
     if options.invert {

@@ -13,7 +13,7 @@ ghost use Rattle.grep_run.specs.Searching.{Scans, Searches, SearchesAll};
 ghost use Rattle.grep_run.specs.Sources.{AreShort, Content, IsShort, after, coming_of, found, name_of, taken_by};
 
 use crate::block::{Block, Next};
-use crate::matching::selects;
+use crate::matching::is_selected;
 use crate::message::{say_unreadable, write_whole};
 use crate::opener::{Opener, open_operand, shown_name};
 use crate::options::GrepOptions;
@@ -256,7 +256,7 @@ fn selected<'a>(
     let mut number: u64 = 0;
     for line in Lines::new(text) {
         number = number.checked_add(1).ok_or(AllocError)?;
-        if selects(alloc, options, patterns, line)? && block.line(number, line)? == Next::Stop {
+        if is_selected(alloc, options, patterns, line)? && block.line(number, line)? == Next::Stop {
             return Ok(block);
         }
     }

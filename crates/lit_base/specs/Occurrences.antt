@@ -1,5 +1,5 @@
 -- Where literals occur in a text, and the list of all hits.
-use Rattle.std.specs.Prelude.{◌≡◌, ℕ, ◌-◌, ◌≤◌, ◌↔◌, List, length, Contains, Some, slice_range}
+use Rattle.std.specs.Prelude.{◌≡◌, ℕ, ◌-◌, ◌<◌, ◌≤◌, ◌↔◌, List, length, Contains, Some, slice_range}
 use Rattle.std.specs.Ordering.{nat_cmp, on, then_cmp}
 use Rattle.std.specs.declared.cmp.Ordering.{Ordering}
 use Rattle.std.specs.List.{slice_get}
@@ -14,6 +14,16 @@ pub record Occurs (l : Literals) (text : List ℕ) (place end : ℕ) : Type 0 wh
   pub begins : length literal ≤ end
   pub ends : end ≤ length text
   pub bytes : folded_text l.folding (slice_range text (end - length literal) end) ≡ literal
+
+-- none of the literals from a place of the list on ends at a place of the text
+abbrev pub NoneEnds : Literals → List ℕ → ℕ → ℕ → Type 0
+NoneEnds l text from end = (place : ℕ) → from ≤ place → ¬ Occurs l text place end
+
+-- of the literals from a place of the list on, the first that ends at a place of the text
+pub record IsFirstEnding (l : Literals) (text : List ℕ) (from end place : ℕ) : Type 0 where
+  pub counted : from ≤ place
+  pub occurs : Occurs l text place end
+  pub first : (other : ℕ) → from ≤ other → other < place → ¬ Occurs l text other end
 
 -- the order of hits, each a literal's place and an end: by end, and by place where they end together
 abbrev pub hit_cmp : ℕ × ℕ → ℕ × ℕ → Ordering

@@ -5,7 +5,24 @@ ghost use Rattle.lit_base.specs.Devices.{count_of, unsure};
 
 use crate::device::{ByteIn, ByteOut, Failed};
 use crate::limits::MAX_TURNS;
+use std::io;
 use std::io::{Error, ErrorKind, Read, Write};
+
+/// A file or standard input, as one reader.
+#[derive(Drop)]
+pub enum FileOrInput<F: Drop, S: Drop> {
+    File(F),
+    Input(S),
+}
+
+impl<F: Read + Drop, S: Read + Drop> Read for FileOrInput<F, S> {
+    fn read(&mut self, buf: &mut [u8]) -> io::Result<usize> {
+        match self {
+            FileOrInput::File(file) => file.read(buf),
+            FileOrInput::Input(input) => input.read(buf),
+        }
+    }
+}
 
 /// A reader of std's as a device, with no buffer of its own.
 ///

@@ -4,9 +4,9 @@ ghost use Rattle.std.specs.Prelude.{◌≡◌, ◌≢◌, ◌||◌};
 use crate::command::command;
 use crate::files::{Files, Missing};
 use crate::message::{say_out_of_memory, say_text};
-use lit_base::{ByteOut, FromRead, ToWrite};
+use lit_base::{ByteOut, FileOrInput, FromRead, ToWrite};
 use std::fs::File;
-use std::io::{Input, Read};
+use std::io::Input;
 use std::rt::Env;
 use std::{fs, io};
 
@@ -37,22 +37,6 @@ pub fn serve<R: Env + AllocGlobal, F: Files, W: ByteOut, E: ByteOut>(
 fn words<R: Env + AllocGlobal>(rt: &R) -> io::Result<Vec<String>> {
     let words = std::env::args(rt)?;
     Ok(words.skip(1).collect(rt.alloc())?)
-}
-
-/// A file or standard input, as one reader.
-#[derive(Drop)]
-pub enum FileOrInput<F: Drop, S: Drop> {
-    File(F),
-    Input(S),
-}
-
-impl<F: Read + Drop, S: Read + Drop> Read for FileOrInput<F, S> {
-    fn read(&mut self, buf: &mut [u8]) -> io::Result<usize> {
-        match self {
-            FileOrInput::File(file) => file.read(buf),
-            FileOrInput::Input(input) => input.read(buf),
-        }
-    }
 }
 
 /// The files of the system, and its standard input. Contracts tell nothing of what they hold.

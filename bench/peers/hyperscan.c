@@ -1,0 +1,86 @@
+// Times Hyperscan on a text: all occurrences of the literals of a file, one a line.
+//
+//   hyperscan TEXT LITERALS block|stream TURNS
+//
+// It prints the median seconds of a scan and the number of hits.
+#include <hs/hs.h>
+#include <stdio.h>
+#include <stdlib.h>
+#include <string.h>
+#include <time.h>
+
+enum { PIECE = 65536 };
+
+static char *read_file(const char *name, size_t *length) {
+    FILE *file = fopen(name, "rb");
+    if (!file) { perror(name); exit(2); }
+    fseek(file, 0, SEEK_END);
+    *length = ftell(file);
+    rewind(file);
+    char *bytes = malloc(*length + 1);
+    if (fread(bytes, 1, *length, file) != *length) { perror(name); exit(2); }
+    bytes[*length] = 0;
+    fclose(file);
+    return bytes;
+}
+
+static int count_hit(unsigned id, unsigned long long from, unsigned long long to, unsigned flags, void *hits) {
+    (void)id; (void)from; (void)to; (void)flags;
+    ++*(unsigned long long *)hits;
+    return 0;
+}
+
+static double now(void) {
+    struct timespec at;
+    clock_gettime(CLOCK_MONOTONIC, &at);
+    return at.tv_sec + at.tv_nsec * 1e-9;
+}
+
+static int by_size(const void *a, const void *b) {
+    double x = *(const double *)a, y = *(const double *)b;
+    return (x > y) - (x < y);
+}
+
+int main(int count, char **words) {
+    if (count != 5) { fprintf(stderr, "hyperscan TEXT LITERALS block|stream TURNS\n"); return 2; }
+    size_t length, list_length;
+    char *text = read_file(words[1], &length), *list = read_file(words[2], &list_length);
+    int streams = !strcmp(words[3], "stream"), turns = atoi(words[4]);
+    const char **literals = malloc(sizeof *literals * (list_length + 1));
+    unsigned *flags = calloc(list_length + 1, sizeof *flags), *ids = malloc(sizeof *ids * (list_length + 1));
+    size_t *lengths = malloc(sizeof *lengths * (list_length + 1));
+    unsigned n = 0;
+    for (char *at = list; at < list + list_length;) {
+        char *end = memchr(at, '\n', list + list_length - at);
+        if (!end) end = list + list_length;
+        if (end > at) { literals[n] = at; lengths[n] = end - at; ids[n] = n; n++; }
+        at = end + 1;
+    }
+    hs_database_t *database;
+    hs_compile_error_t *error;
+    if (hs_compile_lit_multi(literals, flags, ids, lengths, n, streams ? HS_MODE_STREAM : HS_MODE_BLOCK, NULL, &database, &error)) {
+        fprintf(stderr, "%s\n", error->message);
+        return 2;
+    }
+    hs_scratch_t *scratch = NULL;
+    hs_alloc_scratch(database, &scratch);
+    double *times = malloc(sizeof *times * turns);
+    unsigned long long hits = 0;
+    for (int turn = 0; turn < turns; turn++) {
+        hits = 0;
+        double before = now();
+        if (streams) {
+            hs_stream_t *stream;
+            hs_open_stream(database, 0, &stream);
+            for (size_t at = 0; at < length; at += PIECE)
+                hs_scan_stream(stream, text + at, length - at < PIECE ? length - at : PIECE, 0, scratch, count_hit, &hits);
+            hs_close_stream(stream, scratch, count_hit, &hits);
+        } else {
+            hs_scan(database, text, length, 0, scratch, count_hit, &hits);
+        }
+        times[turn] = now() - before;
+    }
+    qsort(times, turns, sizeof *times, by_size);
+    printf("%.9f %llu\n", times[turns / 2], hits);
+    return 0;
+}

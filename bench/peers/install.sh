@@ -1,0 +1,12 @@
+#!/bin/sh
+# Installs what bench/ measures against, as Debian's packages, and builds the two that are libraries
+# into bench/peers/bin. Run as root on Debian 12.
+set -e
+cd "$(dirname "$0")"
+apt-get update -qq
+apt-get install -y -qq ripgrep ugrep busybox gcc cargo libhyperscan-dev librust-aho-corasick-dev librust-memchr-dev
+mkdir -p bin
+gcc -O3 -o bin/hyperscan hyperscan.c -lhs
+cd automaton
+cargo build --release --offline --quiet
+cp target/release/automaton ../bin/

@@ -1,0 +1,328 @@
+#!/usr/bin/env python3
+"""Measures litgrep beside the greps that people use, as whole processes, side by side in one run.
+
+    python3 bench/programs.py [--size MB] [--turns N] [--only WORD] [--litgrep NAME=PATH ..] [--write]
+
+Each row is one search. Each program runs it in turn, N times over, its output read through a pipe;
+the figures are medians: processor time (user and system), wall time and peak memory of the process.
+Output bytes and status are compared with GNU grep's in the same run. With --write the table goes to
+bench/PROGRAMS.md and the plot to bench/programs.svg. The texts are made anew by a seeded generator.
+"""
+import argparse
+import hashlib
+import os
+import platform
+import random
+import resource
+import shutil
+import statistics
+import subprocess
+import sys
+import tempfile
+import time
+
+HERE = os.path.dirname(os.path.abspath(__file__))
+MB = 1 << 20
+
+# ---------------------------------------------------------------- texts
+
+LEVELS = ["DEBUG", "INFO", "INFO", "INFO", "INFO", "WARN", "ERROR"]
+UNITS = ["auth", "billing", "cache", "gateway", "ingest", "mailer", "planner", "search", "session", "storage"]
+ACTIONS = ["request served", "connection opened", "connection closed", "retry scheduled", "lock acquired",
+           "lock released", "queue drained", "token refreshed", "page evicted", "job finished"]
+SYLLABLES = ["an", "ber", "cor", "den", "el", "fer", "gan", "hol", "in", "jor", "kel", "lor", "men", "nis", "or",
+             "per", "quin", "ros", "sen", "tal", "ur", "ven", "wes", "yor", "zen"]
+COMMON = ("the of and to a in is it you that he was for on are with as his they be at one have this from or had by "
+          "not but what all were we when your can said there use an each which she do how their if will up other "
+          "about out many then them these so some her would make like him into time has look two more write go see "
+          "number no way could people my than first water been call who oil its now find long down day did get come "
+          "made may part").split()
+
+
+def log_block(seed, size):
+    """About `size` bytes of log lines."""
+    rng = random.Random(seed)
+    lines, total = [], 0
+    while total < size:
+        line = "2026-11-%02d %02d:%02d:%02d.%03d %s [%s-%d] %s id=%08x user=%d ms=%d" % (
+            rng.randint(1, 30), rng.randint(0, 23), rng.randint(0, 59), rng.randint(0, 59), rng.randint(0, 999),
+            rng.choice(LEVELS), rng.choice(UNITS), rng.randint(1, 32), rng.choice(ACTIONS),
+            rng.getrandbits(32), rng.randint(1, 99999), rng.randint(0, 4000))
+        lines.append(line)
+        total += len(line) + 1
+    return ("\n".join(lines) + "\n").encode()
+
+
+def word(rng):
+    return "".join(rng.choice(SYLLABLES) for _ in range(rng.randint(2, 4)))
+
+
+def english_block(seed, size):
+    """About `size` bytes of lines with the word lengths and frequencies of English prose."""
+    rng = random.Random(seed)
+    rare = [word(rng) for _ in range(4000)]
+    lines, total = [], 0
+    while total < size:
+        words = [rng.choice(COMMON) if rng.random() < 0.55 else rng.choice(rare) for _ in range(rng.randint(8, 14))]
+        line = " ".join(words).capitalize() + rng.choice([".", ".", ",", ";"])
+        lines.append(line)
+        total += len(line) + 1
+    return ("\n".join(lines) + "\n").encode()
+
+
+def fill(path, size, block):
+    """A file of about `size` bytes made of different blocks of 8 MB, repeated in turn."""
+    blocks = [block(seed, min(size, 8 * MB)) for seed in range(max(1, min(4, size // (8 * MB))))]
+    with open(path, "wb") as out:
+        written, turn = 0, 0
+        while written < size:
+            out.write(blocks[turn % len(blocks)])
+            written += len(blocks[turn % len(blocks)])
+            turn += 1
+
+
+def make_texts(folder, size):
+    path = lambda name: os.path.join(folder, name)
+    fill(path("log"), size, log_block)
+    fill(path("english"), size, english_block)
+    rng = random.Random(7)
+    with open(path("random"), "wb") as out:
+        for _ in range(max(1, size // MB // 4)):
+            out.write(rng.randbytes(MB))
+    with open(path("long"), "wb") as out:
+        line = english_block(3, MB).replace(b"\n", b" ")
+        for _ in range(max(1, size // MB)):
+            out.write(line + b"\n")
+    with open(path("endless"), "wb") as out:
+        line = log_block(3, MB).replace(b"\n", b" ")
+        for _ in range(max(1, size // MB // 4)):
+            out.write(line)
+    os.mkdir(path("small"))
+    text = log_block(5, 4 * MB)
+    for k in range(10000):
+        with open(path("small/%05d" % k), "wb") as out:
+            out.write(text[k * 400:k * 400 + 2000])
+    lists(path)
+
+
+def lists(path):
+    """Pattern files: rare ones that hardly occur, frequent ones that occur in many lines."""
+    rng = random.Random(11)
+    for count in (10, 100, 1000):
+        rare = ["%s%s %04x" % (word(rng), word(rng), rng.getrandbits(16)) for _ in range(count)]
+        often = ["id=%03x" % (7 * k % 4096) if k % 3 else "user=%d" % (100 + k) for k in range(count)]
+        for name, patterns in (("rare", rare), ("often", often)):
+            with open(path("%s%d" % (name, count)), "w") as out:
+                out.write("\n".join(patterns) + "\n")
+    with open(path("bytes1000"), "wb") as out:
+        for _ in range(1000):
+            out.write(bytes(b for b in rng.randbytes(6) if b != 10) + b"\n")
+    with open(path("lines1000"), "wb") as out:
+        for k, line in enumerate(log_block(0, 4 * MB).split(b"\n")):
+            if k % 30 == 0 and k < 30000:
+                out.write(line + b"\n")
+
+
+# ---------------------------------------------------------------- rows
+
+class Row:
+    def __init__(self, name, options, files, stdin=None, compare=True):
+        self.name, self.options, self.files, self.stdin, self.compare = name, options, files, stdin, compare
+
+
+def rows(folder):
+    p = lambda name: os.path.join(folder, name)
+    small = sorted(os.path.join(p("small"), name) for name in os.listdir(p("small")))
+    found = []
+    for text, rare, often in (("log", "zebraquux", "ERROR"), ("english", "zebraquux", "people")):
+        found += [
+            Row(text + ": one rare", ["-e", rare], [p(text)]),
+            Row(text + ": one frequent", ["-e", often], [p(text)]),
+            Row(text + ": -c frequent", ["-c", "-e", often], [p(text)]),
+            Row(text + ": -v frequent", ["-v", "-e", often], [p(text)]),
+            Row(text + ": -n frequent", ["-n", "-e", often], [p(text)]),
+            Row(text + ": -i rare", ["-i", "-e", rare.upper()], [p(text)]),
+            Row(text + ": -i frequent", ["-i", "-e", often.lower()], [p(text)]),
+            Row(text + ": -c null pattern", ["-c", "-e", ""], [p(text)]),
+        ]
+        for count in (10, 100, 1000):
+            found.append(Row("%s: -f %d rare" % (text, count), ["-f", p("rare%d" % count)], [p(text)]))
+            found.append(Row("%s: -i -f %d rare" % (text, count), ["-i", "-f", p("rare%d" % count)], [p(text)]))
+    for count in (10, 100, 1000):
+        found.append(Row("log: -f %d frequent" % count, ["-f", p("often%d" % count)], [p("log")]))
+    found += [
+        Row("log: -x -f 1000", ["-x", "-f", p("lines1000")], [p("log")]),
+        Row("log: -q late", ["-q", "-e", "zebraquux"], [p("log")]),
+        Row("log: -q early", ["-q", "-e", "ERROR"], [p("log")]),
+        Row("log: -l early", ["-l", "-e", "ERROR"], [p("log")]),
+        Row("log: standard input", ["-e", "zebraquux"], [], stdin=p("log")),
+        Row("megabyte lines: one rare", ["-e", "zebraquux"], [p("long")]),
+        Row("one endless line", ["-c", "-e", "zebraquux"], [p("endless")]),
+        Row("random bytes: -c -f 1000", ["-c", "-f", p("bytes1000")], [p("random")]),
+        Row("10,000 small files", ["-e", "zebraquux"], small),
+        Row("10,000 small files: -l frequent", ["-l", "-e", "ERROR"], small),
+        Row("start-up", ["-e", "x"], [], stdin=os.devnull),
+    ]
+    return found
+
+
+# ---------------------------------------------------------------- programs
+
+def peers():
+    known = [
+        ("GNU grep", ["grep", "-F", "-a"], "grep"),
+        ("ripgrep", ["rg", "-F", "-a", "--no-config", "--no-heading", "--color=never", "--no-ignore", "-j1"], "rg"),
+        ("ugrep", ["ugrep", "-F", "-a", "--color=never", "--no-config", "-J1"], "ugrep"),
+        ("busybox", ["busybox", "grep", "-F"], "busybox"),
+    ]
+    return [(name, words) for name, words, tool in known if shutil.which(tool)]
+
+
+class Run:
+    def __init__(self, status, digest, size, cpu, wall, memory):
+        self.status, self.digest, self.size, self.cpu, self.wall, self.memory = status, digest, size, cpu, wall, memory
+
+
+def run(words, stdin, limit):
+    """One process, its output read through a pipe."""
+    environment = dict(os.environ, LC_ALL="C")
+    source = open(stdin or os.devnull, "rb")
+    before = time.monotonic()
+    child = subprocess.Popen(words, stdin=source, stdout=subprocess.PIPE, stderr=subprocess.DEVNULL, env=environment)
+    digest, size = hashlib.blake2b(), 0
+    while True:
+        piece = child.stdout.read1(MB)
+        if not piece:
+            break
+        size += len(piece)
+        if size <= limit:
+            digest.update(piece)
+    _, status, usage = os.wait4(child.pid, 0)
+    wall = time.monotonic() - before
+    child.returncode = os.waitstatus_to_exitcode(status)
+    source.close()
+    child.stdout.close()
+    return Run(child.returncode, digest.hexdigest(), size, usage.ru_utime + usage.ru_stime, wall, usage.ru_maxrss)
+
+
+def command(program, row):
+    name, words = program
+    files = row.files
+    options = list(row.options)
+    if name == "ripgrep":
+        options = [word for word in options]
+        if len(files) > 1 and "-l" not in options:
+            options.append("-H")
+        if not files:
+            files = ["-"]
+    return words + options + files
+
+
+def measure(row, programs, turns):
+    """The runs of each program, in turn, so that what the machine does meanwhile meets all alike."""
+    found = {program[0]: [] for program in programs}
+    for _ in range(turns):
+        for program in programs:
+            found[program[0]].append(run(command(program, row), row.stdin, 1 << 40))
+    return found
+
+
+def differs(row, ours, gnu):
+    return row.compare and (ours.status, ours.size, ours.digest) != (gnu.status, gnu.size, gnu.digest)
+
+
+def median(runs, figure):
+    return statistics.median(getattr(r, figure) for r in runs)
+
+
+# ---------------------------------------------------------------- output
+
+def read_size(row):
+    return sum(os.path.getsize(f) for f in row.files) or (os.path.getsize(row.stdin) if row.stdin else 0)
+
+
+def as_table(results, names, ours, machine):
+    lines = [machine, "",
+             "Processor time in milliseconds (user and system), the median of the turns; `ahead` is the best of the other greps",
+             "by that of %s: above 1, %s is ahead. Memory is the peak of %s in MiB." % (ours, ours, ours), "",
+             "| search | " + " | ".join(names) + " | ahead | memory |", "|---" * (len(names) + 3) + "|"]
+    for row, found in results:
+        times = {name: median(found[name], "cpu") * 1000 for name in names}
+        best = min(times[name] for name in names if not name.startswith("litgrep"))
+        lines.append("| %s | %s | %.2f | %.1f |" % (
+            row.name, " | ".join("%.1f" % times[name] for name in names), best / max(times[ours], 0.001),
+            median(found[ours], "memory") / 1024))
+    return "\n".join(lines) + "\n"
+
+
+def as_plot(results, names, ours):
+    """One bar a row: how far ahead of the best of the others, on a scale of powers of two."""
+    import math
+    height, left, width = 16, 270, 700
+    bars = []
+    for k, (row, found) in enumerate(results):
+        best = min(median(found[name], "cpu") for name in names if not name.startswith("litgrep"))
+        ratio = best / max(median(found[ours], "cpu"), 1e-6)
+        span = max(-3.0, min(5.0, math.log2(ratio)))
+        zero = left + 3 * (width - left) / 8
+        unit = (width - left) / 8
+        x, w = (zero, span * unit) if span >= 0 else (zero + span * unit, -span * unit)
+        y = 30 + k * height
+        colour = "#2a7" if ratio >= 1 else "#c53"
+        bars.append('<text x="%d" y="%d" text-anchor="end">%s</text>' % (left - 8, y + 11, row.name.replace("&", "&amp;")))
+        bars.append('<rect x="%.1f" y="%d" width="%.1f" height="%d" fill="%s"/>' % (x, y, max(w, 1), height - 4, colour))
+        bars.append('<text x="%.1f" y="%d">%.2f</text>' % (max(x + w, zero) + 4, y + 11, ratio))
+    total = 40 + len(results) * height
+    head = '<text x="%d" y="16">processor time of the best other grep / that of %s</text>' % (left, ours)
+    return ('<svg xmlns="http://www.w3.org/2000/svg" width="%d" height="%d" font-family="sans-serif" font-size="11">'
+            '<rect width="100%%" height="100%%" fill="white"/>%s%s</svg>\n' % (width + 60, total, head, "".join(bars)))
+
+
+def machine(size):
+    model = "unknown processor"
+    for line in open("/proc/cpuinfo"):
+        if line.startswith("model name"):
+            model = line.split(":", 1)[1].strip()
+            break
+    return "%s, %d processors, Linux %s; texts of %d MB; %s." % (
+        model, os.cpu_count(), platform.release().split("-")[0], size, time.strftime("%Y-%m-%d"))
+
+
+def main():
+    parser = argparse.ArgumentParser(description=__doc__, formatter_class=argparse.RawDescriptionHelpFormatter)
+    parser.add_argument("--size", type=int, default=256, help="megabytes of log and of English text")
+    parser.add_argument("--turns", type=int, default=5)
+    parser.add_argument("--only", default="", help="rows whose name holds this")
+    parser.add_argument("--litgrep", action="append", default=[], metavar="NAME=PATH")
+    parser.add_argument("--write", action="store_true")
+    options = parser.parse_args()
+    given = [g.split("=", 1) for g in options.litgrep] or [["litgrep", os.path.join(HERE, "../bin/litgrep")]]
+    programs = [(name, [os.path.abspath(path), "-F"]) for name, path in given] + peers()
+    names = [name for name, _ in programs]
+    results, wrong = [], []
+    with tempfile.TemporaryDirectory(prefix="litgrep-bench-") as folder:
+        make_texts(folder, options.size * MB)
+        for row in rows(folder):
+            if options.only not in row.name:
+                continue
+            found = measure(row, programs, options.turns)
+            results.append((row, found))
+            for name in names:
+                if name.startswith("litgrep") and differs(row, found[name][0], found["GNU grep"][0]):
+                    wrong.append("%s: %s" % (row.name, name))
+            print("%-32s %s" % (row.name, "  ".join(
+                "%s %.0f" % (name, median(found[name], "cpu") * 1000) for name in names)), flush=True)
+    table = as_table(results, names, names[0], machine(options.size))
+    print("\n" + table)
+    if options.write:
+        with open(os.path.join(HERE, "PROGRAMS.md"), "w") as out:
+            out.write("# litgrep beside other greps\n\n" + table)
+        with open(os.path.join(HERE, "programs.svg"), "w") as out:
+            out.write(as_plot(results, names, names[0]))
+    for line in wrong:
+        print("other output or status than GNU grep: " + line)
+    return 1 if wrong else 0
+
+
+if __name__ == "__main__":
+    sys.exit(main())

@@ -1,0 +1,96 @@
+//! How long a scan takes: `bench_scan TEXT LITERALS all|stream TURNS` reads both files and prints the
+//! median seconds of a scan and the number of hits. It prints nothing without arguments;
+//! `bench/README.md` says what it is measured beside.
+#![tactic(auto)]
+
+use anyhow::{Result, bail, ensure};
+use flow_scan::{Compiled, Hit, Scanner, scan_all};
+use lit_base::{Fold, LitList, RawList};
+use run_planner::plan;
+use std::alloc::Global;
+use std::env;
+use std::fs;
+use std::rt::{Clock, Fs};
+use std::time::Instant;
+
+/// Bytes of a piece of a stream.
+const PIECE: usize = 65536;
+
+/// How a text is fed.
+#[derive(Clone, Copy)]
+enum Mode {
+    /// In one call.
+    Whole,
+    /// As a stream, in pieces.
+    Pieces,
+}
+
+fn main(rt: HostRuntime) -> Result<()> {
+    let words: Vec<String> = env::args(&rt)?.skip(1).collect(rt.alloc())?;
+    let [text, literals, mode, turns] = words.as_slice() else {
+        return Ok(());
+    };
+    let mode = match mode.as_str() {
+        "all" => Mode::Whole,
+        "stream" => Mode::Pieces,
+        _ => bail!("all or stream"),
+    };
+    let text = fs::read(&rt, text.as_str())?;
+    let compiled = compiled_of(rt.alloc(), fs::read(&rt, literals.as_str())?.as_slice())?;
+    measure(&rt, &compiled, text.as_slice(), mode, turns.as_str().parse::<usize>()?)
+}
+
+/// The literals of a file with their plan.
+fn compiled_of(alloc: Global, file: &[u8]) -> Result<Compiled> {
+    let mut raw = RawList::new(alloc);
+    raw.add_file_bytes(file)?;
+    let (list, _) = LitList::normal(alloc, &raw, Fold::No)?;
+    let certificate = plan(alloc, &list)?;
+    match Compiled::new(list, certificate) {
+        Ok(compiled) => Ok(compiled),
+        Err(_) => bail!("the plan is not certified"),
+    }
+}
+
+fn measure<R: Clock + Print + AllocGlobal>(
+    rt: &R,
+    compiled: &Compiled,
+    text: &[u8],
+    mode: Mode,
+    turns: usize,
+) -> Result<()> {
+    ensure!(turns > 0, "no turn");
+    let mut times = Vec::new(rt.alloc());
+    let mut hits = 0;
+    for _ in 0..turns {
+        let start = Instant::now(rt)?;
+        hits = scan(rt.alloc(), compiled, text, mode)?;
+        times.push(start.elapsed(rt)?.as_nanos() as u64)?;
+    }
+    times.sort()?;
+    let nanoseconds = times[turns / 2];
+    let (seconds, rest) = (nanoseconds / 1_000_000_000, nanoseconds % 1_000_000_000);
+    println!(rt; "{seconds}.{rest:09} {hits}")?;
+    Ok(())
+}
+
+/// How many hits a text has.
+fn scan(alloc: Global, compiled: &Compiled, text: &[u8], mode: Mode) -> Result<usize> {
+    match mode {
+        Mode::Whole => Ok(scan_all(alloc, compiled, text)?.len()),
+        Mode::Pieces => scan_pieces(alloc, compiled, text),
+    }
+}
+
+/// The same in pieces, the hits of each let go before the next.
+fn scan_pieces(alloc: Global, compiled: &Compiled, text: &[u8]) -> Result<usize> {
+    let mut scanner = Scanner::new(alloc, compiled)?;
+    let mut out: Vec<Hit> = Vec::new(alloc);
+    let mut count = 0usize;
+    for piece in text.chunks(PIECE) {
+        scanner.feed(piece, &mut out)?;
+        count = count.saturating_add(out.len());
+        out.clear();
+    }
+    Ok(count)
+}

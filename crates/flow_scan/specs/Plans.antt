@@ -1,0 +1,21 @@
+-- What a contract sees of a `Compiled`.
+use Rattle.std.specs.Prelude.{◌≡◌}
+use Rattle.lit_base.specs.Literals.{Literals}
+use Rattle.lit_cert.specs.Certificates.{CertificateParts}
+use Rattle.lit_cert.specs.Certified.{IsFirstFailure}
+use Rattle.lit_cert.specs.declared.reason.Reason.{Reason}
+use Rattle.flow_scan.specs.declared.fault.Fault.{Fault}
+use Rattle.flow_scan.specs.declared.fault.Fault.TheVariants.{NotCertified}
+
+-- literals, and a certificate that shows how they are grouped
+pub record Plan : Type 0 where
+  pub literals : Literals
+  pub certificate : CertificateParts
+
+-- the answer where a list and a certificate are no plan: the first condition that fails, and both as they were
+pub record IsRefusalOf (list : Literals) (certificate : CertificateParts) (fault : Fault) (old_list : Literals) (old_certificate : CertificateParts) : Type 0 where
+  pub reason : Reason
+  pub told : fault ≡ NotCertified reason
+  pub first : IsFirstFailure 8 list certificate reason
+  pub same_list : old_list ≡ list
+  pub same_certificate : old_certificate ≡ certificate

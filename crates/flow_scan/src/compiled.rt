@@ -1,0 +1,83 @@
+//! Literals with a certified plan.
+ghost use Rattle.std.specs.Prelude.{◌≡◌, ◌<◌, ◌↔◌, IfErr, IfOk, IsOk, OnOk, length};
+ghost use Rattle.lit_base.specs.Literals.{lengths};
+ghost use Rattle.lit_base.specs.Assignments.{NoAssignmentBelow, assign_price, assignment_of};
+ghost use Rattle.lit_cert.specs.Certified.{IsCertified};
+ghost use Rattle.lit_base.specs.declared.limits.TheConstants.{MAX_LITERAL_LEN};
+ghost use Rattle.flow_scan.specs.Plans.{IsRefusalOf, Plan};
+ghost use Rattle.flow_scan.specs.Tails.{HasBounds, carry_of};
+
+use crate::carry::carry;
+use crate::fault::Fault;
+use lit_base::LitList;
+use lit_cert::{Certificate, certified_law, check};
+use std::marker::Model;
+
+/// Literals with a plan that was checked: who holds one needs no other check.
+#[derive(Debug, Drop)]
+pub struct Compiled {
+    list: LitList,
+    certificate: Certificate,
+}
+
+impl Model for Compiled {
+    ghost Value = { Plan };
+
+    ghost view = { λ p. record { literals = p.list; certificate = p.certificate } };
+
+    ghost invariant = { λ p. IsCertified 8 p.list p.certificate };
+}
+
+impl Compiled {
+    /// The plan, if the certificate shows that no assignment of the literals to at most eight
+    /// buckets is cheaper. Else `NotCertified` with the first condition that fails, and list and
+    /// certificate as they were. It takes no memory.
+    pub fn new(
+        list: LitList,
+        certificate: Certificate,
+    ) -> Result<Compiled, (Fault, LitList, Certificate)>
+        ensures certified { IsOk result ↔ IsCertified 8 list certificate }
+        ensures ok { IfOk result (λ p. p ≡ record { literals = list; certificate = certificate }) }
+        ensures refused { IfErr result (λ refusal. IsRefusalOf list certificate refusal.0 refusal.1 refusal.2) }
+        ensures least { OnOk result (NoAssignmentBelow 8 list certificate.cost) }
+    {
+        match check(&list, &certificate) {
+            Ok(()) => Ok(Compiled { list, certificate }),
+            Err(reason) => Err((Fault::NotCertified { reason }, list, certificate)),
+        }
+    }
+
+    /// The literals.
+    pub fn list(&self) -> &LitList
+        ensures { result.now ≡ self.now.literals }
+    {
+        &self.list
+    }
+
+    /// The certificate of the plan.
+    pub fn certificate(&self) -> &Certificate
+        ensures same { result.now ≡ self.now.certificate }
+        ensures certified { IsCertified 8 self.now.literals self.now.certificate }
+    {
+        &self.certificate
+    }
+
+    /// How many bytes a literal may have before a piece in which it ends.
+    pub(crate) fn carry(&self) -> usize
+        ensures value { result ≡ carry_of self.now.literals }
+        ensures small { result < MAX_LITERAL_LEN }
+        ensures bounds { HasBounds self.now.literals }
+    {
+        carry(&self.list)
+    }
+}
+
+/// The law that a plan is the cheapest: no assignment of its literals to at most eight buckets costs
+/// less than its certificate says, and its runs, read as an assignment, cost exactly that.
+pub fn least_law(compiled: &Compiled)
+    ensures certified { IsCertified 8 compiled.now.literals compiled.now.certificate }
+    ensures least { NoAssignmentBelow 8 compiled.now.literals compiled.now.certificate.cost }
+    ensures reached { assign_price 8 (lengths compiled.now.literals) (assignment_of compiled.now.certificate.ends) ≡ compiled.now.certificate.cost }
+{
+    certified_law(compiled.list(), compiled.certificate());
+}

@@ -1,0 +1,28 @@
+//! Why a plan is refused, or a scan stops.
+ghost use Rattle.std.specs.Prelude.{◌≡◌};
+ghost use Rattle.flow_scan.specs.declared.fault.Fault.TheVariants.{OutOfMemory};
+
+use lit_cert::Reason;
+use std::alloc::AllocError;
+use thiserror::Error;
+
+/// Why a plan is refused, or a scan stops.
+#[derive(Clone, Copy, Debug, PartialEq, Eq, Error)]
+pub enum Fault {
+    #[error("out of memory")]
+    OutOfMemory,
+    /// The certificate does not show that its grouping is the cheapest.
+    #[error("the plan is not certified: {reason}")]
+    NotCertified { reason: Reason },
+    /// The place in the stream would pass 2^64 - 1.
+    #[error("the stream is too long")]
+    StreamTooLong,
+}
+
+impl From<AllocError> for Fault {
+    ghost from_gives = { λ _ e. e ≡ OutOfMemory };
+
+    fn from(_e: AllocError) -> Fault {
+        Fault::OutOfMemory
+    }
+}

@@ -1,0 +1,14 @@
+//! The filter of a packed search over many places at once, by vectors of 32 bytes.
+#![tactic(auto)]
+
+mod bits;
+mod candidates;
+mod entries;
+mod four;
+mod kernels;
+mod lanes;
+mod plain;
+mod tables;
+
+pub use candidates::Candidates;
+pub use kernels::{any_set, filter, filter_wide};
