@@ -197,7 +197,7 @@ def options():
     with open(os.path.join(TOP, "man", "litgrep.1")) as file:
         manual = file.read().split(".SH OPTIONS\n")[1].split(".SH ")[0]
     tagged = [line for tag, line in zip(manual.split("\n"), manual.split("\n")[1:]) if tag == ".TP"]
-    listed = [re.sub(r'^\.BI? |[\\"]', "", line) for line in tagged]
+    listed = [" ".join(re.sub(r'^\.BI? |[\\"]', "", line).split()) for line in tagged]
     yield "options of the help text and of the manual", helped, listed
 
 

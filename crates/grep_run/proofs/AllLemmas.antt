@@ -14,23 +14,23 @@ use Rattle.grep_run.proofs.SearchLemmas.{InputsSoFar, InputsSoFar-all, InputsSoF
 use Rattle.grep_run.proofs.ToldLemmas.{Told-weaker}
 
 -- one input alone
-one-alone : (o : GrepOptions) (patterns : List (List ℕ)) (ask : Ask) (s left : Sources) (r : Result Found Stop) (out_old out_new err_old err_new : Option (List ℕ)) → AreShort s → left ≡ after ask s
-    → Searches o patterns (name_of ask) (taken_by ask s) r out_old out_new err_old err_new → SearchesAll o patterns (searched o patterns (found (ask ∷ []) s)) s left r out_old out_new err_old err_new
-one-alone o patterns ask s left (Ok one) out_old out_new err_old err_new short e p =
-    let first = InputsSoFar-none o patterns (ask ∷ []) s out_old err_old short in
-    elim (o.quiet && one.is_selected) as (λ b. (o.quiet && one.is_selected) ≡ b → SearchesAll o patterns (searched o patterns (found (ask ∷ []) s)) s left (Ok one) out_old out_new err_old err_new) [
+one-alone : (o : GrepOptions) (test : List ℕ → Bool) (ask : Ask) (s left : Sources) (r : Result Found Stop) (out_old out_new err_old err_new : Option (List ℕ)) → AreShort s → left ≡ after ask s
+    → Searches o test (name_of ask) (taken_by ask s) r out_old out_new err_old err_new → SearchesAll o test (searched o test (found (ask ∷ []) s)) s left r out_old out_new err_old err_new
+one-alone o test ask s left (Ok one) out_old out_new err_old err_new short e p =
+    let first = InputsSoFar-none o test (ask ∷ []) s out_old err_old short in
+    elim (o.quiet && one.is_selected) as (λ b. (o.quiet && one.is_selected) ≡ b → SearchesAll o test (searched o test (found (ask ∷ []) s)) s left (Ok one) out_old out_new err_old err_new) [
       | true ↦ λ ends. InputsSoFar-last ask [] left one one out_new err_new first e p ends refl refl
       | false ↦ λ goes. InputsSoFar-all one (InputsSoFar-more ask [] left one out_new err_new first e p goes)
     ] refl
-one-alone o patterns ask s left (Err stop) out_old out_new err_old err_new short e p =
-    InputsSoFar-cut ask [] left out_new err_new (InputsSoFar-none o patterns (ask ∷ []) s out_old err_old short) e p
+one-alone o test ask s left (Err stop) out_old out_new err_old err_new short e p =
+    InputsSoFar-cut ask [] left out_new err_new (InputsSoFar-none o test (ask ∷ []) s out_old err_old short) e p
 
-pub search-alone : (o : GrepOptions) (patterns : List (List ℕ)) (ask : Ask) (known left : Option Sources) (r : Result Found Stop) (out_old out_new err_old err_new : Option (List ℕ))
-    → Told known left (λ s l. AreShort s → (l ≡ after ask s) × Searches o patterns (name_of ask) (taken_by ask s) r out_old out_new err_old err_new)
-    → Told known left (λ s l. AreShort s → SearchesAll o patterns (searched o patterns (found (ask ∷ []) s)) s l r out_old out_new err_old err_new)
-search-alone o patterns ask known left r out_old out_new err_old err_new p =
-    Told-weaker known left _ (λ s l. AreShort s → SearchesAll o patterns (searched o patterns (found (ask ∷ []) s)) s l r out_old out_new err_old err_new) p
-        (λ s l h short. let both = h short in one-alone o patterns ask s l r out_old out_new err_old err_new short both.0 both.1)
+pub search-alone : (o : GrepOptions) (test : List ℕ → Bool) (ask : Ask) (known left : Option Sources) (r : Result Found Stop) (out_old out_new err_old err_new : Option (List ℕ))
+    → Told known left (λ s l. AreShort s → (l ≡ after ask s) × Searches o test (name_of ask) (taken_by ask s) r out_old out_new err_old err_new)
+    → Told known left (λ s l. AreShort s → SearchesAll o test (searched o test (found (ask ∷ []) s)) s l r out_old out_new err_old err_new)
+search-alone o test ask known left r out_old out_new err_old err_new p =
+    Told-weaker known left _ (λ s l. AreShort s → SearchesAll o test (searched o test (found (ask ∷ []) s)) s l r out_old out_new err_old err_new) p
+        (λ s l h short. let both = h short in one-alone o test ask s l r out_old out_new err_old err_new short both.0 both.1)
 
 -- where there are operands, their inputs are all
 pub asks-some : (operands : List (List ℕ)) → 0 < length operands → asks_or_standard operands ≡ map ask_of operands

@@ -1,8 +1,8 @@
 -- What one input gives: its block of output, its message, whether a line is selected, and whether it is an error. POSIX.1-2017 `grep`, OPTIONS, STDOUT, CONSEQUENCES OF ERRORS.
-use Rattle.std.specs.Prelude.{ℕ, ◌&&◌, ◌||◌, not, Bool, true, false, List, [], ◌∷◌, ◌++◌, filter, length, flat_map, nat_lt, if◌then◌else◌, Option, Some, None, codes, decimal}
-use Rattle.std.specs.List.{enumerate_from}
+use Rattle.std.specs.Prelude.{ℕ, ◌&&◌, ◌||◌, not, Bool, true, false, List, [], ◌∷◌, ◌++◌, length, flat_map, nat_lt, if◌then◌else◌, Option, Some, None, codes, decimal}
 use Rattle.lit_base.specs.Lines.{ended_lines, lines}
 use Rattle.lit_base.specs.Selected.{is_selected}
+use Rattle.line_pick.specs.Lending.{numbered}
 use Rattle.grep_run.specs.declared.options.GrepOptions.{GrepOptions}
 use Rattle.grep_run.specs.Messages.{unreadable}
 use Rattle.grep_run.specs.Sources.{Content, Input, name_of}
@@ -11,18 +11,14 @@ use Rattle.grep_run.specs.Sources.{Content, Input, name_of}
 abbrev pub lines_of : Content → List (List ℕ)
 lines_of c = if c.is_faulty then ended_lines c.text else lines c.text
 
--- a line is selected: it matches one of the patterns, or under -v none
+-- which lines are selected: those that match one of the patterns, or under -v the others
 abbrev pub selects : GrepOptions → List (List ℕ) → List ℕ → Bool
 selects o = is_selected o.fold o.whole o.invert
 
--- the selected lines with their numbers, which start at 1
-abbrev pub selected_of : GrepOptions → List (List ℕ) → List (List ℕ) → List (ℕ × List ℕ)
-selected_of o patterns texts = filter (λ numbered. selects o patterns numbered.1) (enumerate_from 1 texts)
-
--- those of an input, none where it cannot be opened
-abbrev pub selected_in : GrepOptions → List (List ℕ) → Option Content → List (ℕ × List ℕ)
-selected_in o patterns None = []
-selected_in o patterns (Some c) = selected_of o patterns (lines_of c)
+-- of an input the selected lines with their numbers, which start at 1; none where it cannot be opened
+abbrev pub selected_in : (List ℕ → Bool) → Option Content → List (ℕ × List ℕ)
+selected_in test None = []
+selected_in test (Some c) = numbered test 0 (lines_of c)
 
 -- there is one
 abbrev pub has_any : List (ℕ × List ℕ) → Bool
@@ -46,28 +42,28 @@ block_of o name selected =
     else flat_map (written_line o name) selected
 
 -- an input that cannot be opened has no block
-abbrev pub block_in : GrepOptions → List (List ℕ) → List ℕ → Option Content → List ℕ
-block_in o patterns name None = []
-block_in o patterns name (Some c) = block_of o name (selected_of o patterns (lines_of c))
+abbrev pub block_in : GrepOptions → (List ℕ → Bool) → List ℕ → Option Content → List ℕ
+block_in o test name None = []
+block_in o test name (Some c) = block_of o name (numbered test 0 (lines_of c))
 
-abbrev pub block : GrepOptions → List (List ℕ) → Input → List ℕ
-block o patterns input = block_in o patterns (name_of input.ask) input.source
+abbrev pub block : GrepOptions → (List ℕ → Bool) → Input → List ℕ
+block o test input = block_in o test (name_of input.ask) input.source
 
 -- a line is selected of the input
-abbrev pub has_selected : GrepOptions → List (List ℕ) → Input → Bool
-has_selected o patterns input = has_any (selected_in o patterns input.source)
+abbrev pub has_selected : (List ℕ → Bool) → Input → Bool
+has_selected test input = has_any (selected_in test input.source)
 
 -- it is an error: it cannot be opened, or ends in a fault, unless -q or -l ended its reading at a selected line before
-abbrev pub is_trouble : GrepOptions → List (List ℕ) → Option Content → Bool
-is_trouble o patterns None = true
-is_trouble o patterns (Some c) = c.is_faulty && not ((o.quiet || o.list) && has_any (selected_of o patterns (lines_of c)))
+abbrev pub is_trouble : GrepOptions → (List ℕ → Bool) → Option Content → Bool
+is_trouble o test None = true
+is_trouble o test (Some c) = c.is_faulty && not ((o.quiet || o.list) && has_any (numbered test 0 (lines_of c)))
 
-abbrev pub is_error : GrepOptions → List (List ℕ) → Input → Bool
-is_error o patterns input = is_trouble o patterns input.source
+abbrev pub is_error : GrepOptions → (List ℕ → Bool) → Input → Bool
+is_error o test input = is_trouble o test input.source
 
 -- its message, which -s drops
-abbrev pub message_in : GrepOptions → List (List ℕ) → List ℕ → Option Content → List ℕ
-message_in o patterns name source = if is_trouble o patterns source && not o.silent then unreadable name else []
+abbrev pub message_in : GrepOptions → (List ℕ → Bool) → List ℕ → Option Content → List ℕ
+message_in o test name source = if is_trouble o test source && not o.silent then unreadable name else []
 
-abbrev pub message : GrepOptions → List (List ℕ) → Input → List ℕ
-message o patterns input = message_in o patterns (name_of input.ask) input.source
+abbrev pub message : GrepOptions → (List ℕ → Bool) → Input → List ℕ
+message o test input = message_in o test (name_of input.ask) input.source

@@ -4,7 +4,7 @@ use Rattle.std.specs.List.{list_any}
 use Rattle.grep_run.specs.declared.options.GrepOptions.{GrepOptions}
 use Rattle.grep_run.specs.declared.status.Status.{Status}
 use Rattle.grep_run.specs.declared.status.Status.TheVariants.{Selected, NoneSelected, Trouble}
-use Rattle.grep_run.specs.Blocks.{block, has_selected, is_error, message}
+use Rattle.grep_run.specs.Blocks.{block, has_selected, is_error, message, selects}
 use Rattle.grep_run.specs.Options.{searched_of}
 use Rattle.grep_run.specs.Patterns.{files_asked, patterns_message, patterns_of}
 use Rattle.grep_run.specs.Sources.{Ask, Input, Sources, after_all, found}
@@ -33,16 +33,16 @@ up_to passes [] = []
 up_to passes (input ∷ inputs) = input ∷ (if passes input then [] else up_to passes inputs)
 
 -- the inputs that are searched: under -q none behind the first with a selected line
-abbrev pub searched : GrepOptions → List (List ℕ) → List Input → List Input
-searched o patterns = up_to (λ input. o.quiet && has_selected o patterns input)
+abbrev pub searched : GrepOptions → (List ℕ → Bool) → List Input → List Input
+searched o test = up_to (λ input. o.quiet && has_selected test input)
 
 -- of inputs: all blocks and all messages in order
-abbrev pub answer_to : GrepOptions → List (List ℕ) → List Input → Answer
-answer_to o patterns inputs = record {
-  output = flat_map (block o patterns) inputs;
-  messages = flat_map (message o patterns) inputs;
-  has_selected = list_any (has_selected o patterns) inputs;
-  has_error = list_any (is_error o patterns) inputs;
+abbrev pub answer_to : GrepOptions → (List ℕ → Bool) → List Input → Answer
+answer_to o test inputs = record {
+  output = flat_map (block o test) inputs;
+  messages = flat_map (message o test) inputs;
+  has_selected = list_any (has_selected test) inputs;
+  has_error = list_any (is_error o test) inputs;
 }
 
 -- where the patterns are not had: a message alone
@@ -59,11 +59,11 @@ behind_files o s = after_all (asks (files_asked o s)) s
 
 -- the inputs of a run whose patterns are had
 abbrev pub inputs_of : GrepOptions → Sources → List Input
-inputs_of o s = searched o (patterns_of o s) (found (searched_of o) (behind_files o s))
+inputs_of o s = searched o (selects o (patterns_of o s)) (found (searched_of o) (behind_files o s))
 
 abbrev pub answer_where : Option (List ℕ) → GrepOptions → Sources → Answer
 answer_where (Some text) o s = refused_with text
-answer_where None o s = answer_to o (patterns_of o s) (inputs_of o s)
+answer_where None o s = answer_to o (selects o (patterns_of o s)) (inputs_of o s)
 
 -- grep
 abbrev pub grep : GrepOptions → Sources → Answer

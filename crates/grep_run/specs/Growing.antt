@@ -22,11 +22,11 @@ abbrev pub next_of : GrepOptions → Next
 next_of o = if o.quiet || o.list then Stop else More
 
 -- the lines came, as far as they were wanted, and the end is still to come
-pub record IsFilling (o : GrepOptions) (patterns : List (List ℕ)) (name : List ℕ) (lines : List (List ℕ)) (count : ℕ) (text : List ℕ) : Type 0 where
-  pub whole : text ++ ending_of o name count ≡ block_of o name (selected_of o patterns lines)
-  pub any : nat_lt 0 count ≡ has_any (selected_of o patterns lines)
+pub record IsFilling (o : GrepOptions) (test : List ℕ → Bool) (name : List ℕ) (lines : List (List ℕ)) (count : ℕ) (text : List ℕ) : Type 0 where
+  pub whole : text ++ ending_of o name count ≡ block_of o name (selected_of test lines)
+  pub any : nat_lt 0 count ≡ has_any (selected_of test lines)
 
 -- it is the block
-pub record IsFilled (o : GrepOptions) (patterns : List (List ℕ)) (name : List ℕ) (lines : List (List ℕ)) (count : ℕ) (text : List ℕ) : Type 0 where
-  pub whole : text ≡ block_of o name (selected_of o patterns lines)
-  pub any : nat_lt 0 count ≡ has_any (selected_of o patterns lines)
+pub record IsFilled (o : GrepOptions) (test : List ℕ → Bool) (name : List ℕ) (lines : List (List ℕ)) (count : ℕ) (text : List ℕ) : Type 0 where
+  pub whole : text ≡ block_of o name (selected_of test lines)
+  pub any : nat_lt 0 count ≡ has_any (selected_of test lines)

@@ -11,31 +11,31 @@ use Rattle.grep_run.specs.Running.{AsksFront, IsStopped}
 use Rattle.grep_run.specs.Sources.{Content, Input, Sources, after_all}
 
 -- the block of a content is written, and this was found
-pub record IsScanned (o : GrepOptions) (patterns : List (List ℕ)) (name : List ℕ) (c : Content) (found : Found) (out_old out_new : Option (List ℕ)) : Type 0 where
-  pub output : Appends out_old out_new (block_in o patterns name (Some c))
-  pub selected : found.is_selected ≡ has_any (selected_in o patterns (Some c))
-  pub error : found.is_error ≡ is_trouble o patterns (Some c)
+pub record IsScanned (o : GrepOptions) (test : List ℕ → Bool) (name : List ℕ) (c : Content) (found : Found) (out_old out_new : Option (List ℕ)) : Type 0 where
+  pub output : Appends out_old out_new (block_in o test name (Some c))
+  pub selected : found.is_selected ≡ has_any (selected_in test (Some c))
+  pub error : found.is_error ≡ is_trouble o test (Some c)
 
 -- or a front of it
-abbrev pub Scans : GrepOptions → List (List ℕ) → List ℕ → Content → Result Found Stop → Option (List ℕ) → Option (List ℕ) → Type 0
-Scans o patterns name c (Ok found) out_old out_new = IsScanned o patterns name c found out_old out_new
-Scans o patterns name c (Err stop) out_old out_new = AppendsFront out_old out_new (block_in o patterns name (Some c))
+abbrev pub Scans : GrepOptions → (List ℕ → Bool) → List ℕ → Content → Result Found Stop → Option (List ℕ) → Option (List ℕ) → Type 0
+Scans o test name c (Ok found) out_old out_new = IsScanned o test name c found out_old out_new
+Scans o test name c (Err stop) out_old out_new = AppendsFront out_old out_new (block_in o test name (Some c))
 
 -- one input: its block and its message are written, and this was found
-pub record IsSearched (o : GrepOptions) (patterns : List (List ℕ)) (name : List ℕ) (source : Option Content) (found : Found) (out_old out_new err_old err_new : Option (List ℕ)) : Type 0 where
-  pub output : Appends out_old out_new (block_in o patterns name source)
-  pub messages : Appends err_old err_new (message_in o patterns name source)
-  pub selected : found.is_selected ≡ has_any (selected_in o patterns source)
-  pub error : found.is_error ≡ is_trouble o patterns source
+pub record IsSearched (o : GrepOptions) (test : List ℕ → Bool) (name : List ℕ) (source : Option Content) (found : Found) (out_old out_new err_old err_new : Option (List ℕ)) : Type 0 where
+  pub output : Appends out_old out_new (block_in o test name source)
+  pub messages : Appends err_old err_new (message_in o test name source)
+  pub selected : found.is_selected ≡ has_any (selected_in test source)
+  pub error : found.is_error ≡ is_trouble o test source
 
 -- fronts of both are
-pub record IsCut (o : GrepOptions) (patterns : List (List ℕ)) (name : List ℕ) (source : Option Content) (out_old out_new err_old err_new : Option (List ℕ)) : Type 0 where
-  pub output : AppendsFront out_old out_new (block_in o patterns name source)
-  pub messages : AppendsFront err_old err_new (message_in o patterns name source)
+pub record IsCut (o : GrepOptions) (test : List ℕ → Bool) (name : List ℕ) (source : Option Content) (out_old out_new err_old err_new : Option (List ℕ)) : Type 0 where
+  pub output : AppendsFront out_old out_new (block_in o test name source)
+  pub messages : AppendsFront err_old err_new (message_in o test name source)
 
-abbrev pub Searches : GrepOptions → List (List ℕ) → List ℕ → Option Content → Result Found Stop → Option (List ℕ) → Option (List ℕ) → Option (List ℕ) → Option (List ℕ) → Type 0
-Searches o patterns name source (Ok found) = IsSearched o patterns name source found
-Searches o patterns name source (Err stop) = IsCut o patterns name source
+abbrev pub Searches : GrepOptions → (List ℕ → Bool) → List ℕ → Option Content → Result Found Stop → Option (List ℕ) → Option (List ℕ) → Option (List ℕ) → Option (List ℕ) → Type 0
+Searches o test name source (Ok found) = IsSearched o test name source found
+Searches o test name source (Err stop) = IsCut o test name source
 
 -- several inputs: all is written, and this was found
 pub record AreSearched (o : GrepOptions) (a : Answer) (found : Found) (out_old out_new err_old err_new : Option (List ℕ)) : Type 0 where
@@ -44,8 +44,8 @@ pub record AreSearched (o : GrepOptions) (a : Answer) (found : Found) (out_old o
   pub selected : found.is_selected ≡ a.has_selected
   pub error : found.is_error ≡ a.has_error
 
-abbrev pub SearchesAll : GrepOptions → List (List ℕ) → List Input → Sources → Sources → Result Found Stop → Option (List ℕ) → Option (List ℕ) → Option (List ℕ) → Option (List ℕ) → Type 0
-SearchesAll o patterns inputs s left (Ok found) out_old out_new err_old err_new =
-    (left ≡ after_all (asks inputs) s) × AreSearched o (answer_to o patterns inputs) found out_old out_new err_old err_new
-SearchesAll o patterns inputs s left (Err stop) out_old out_new err_old err_new =
-    AsksFront (asks inputs) s left × IsStopped (answer_to o patterns inputs) out_old out_new err_old err_new
+abbrev pub SearchesAll : GrepOptions → (List ℕ → Bool) → List Input → Sources → Sources → Result Found Stop → Option (List ℕ) → Option (List ℕ) → Option (List ℕ) → Option (List ℕ) → Type 0
+SearchesAll o test inputs s left (Ok found) out_old out_new err_old err_new =
+    (left ≡ after_all (asks inputs) s) × AreSearched o (answer_to o test inputs) found out_old out_new err_old err_new
+SearchesAll o test inputs s left (Err stop) out_old out_new err_old err_new =
+    AsksFront (asks inputs) s left × IsStopped (answer_to o test inputs) out_old out_new err_old err_new
