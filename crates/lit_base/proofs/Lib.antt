@@ -1,11 +1,14 @@
 pub mod Assigned
 pub mod Buckets
+pub mod ChainLemmas
 pub mod Cuts
 pub mod DeviceLemmas
+pub mod EndedLemmas
 pub mod InsertLemmas
 pub mod Least
 pub mod LengthLemmas
 pub mod LineLemmas
+pub mod MarkLemmas
 pub mod MatchLemmas
 pub mod Members
 pub mod NormalForms
@@ -15,5 +18,6 @@ pub mod RefusalLemmas
 pub mod Runs
 pub mod SearchLemmas
 pub mod SortedLists
+pub mod SuffixLemmas
 pub mod TransferLemmas
 pub mod Weights

@@ -77,7 +77,7 @@ lines-none text rest some e empty =
     lines-whole text (length-positive text some) (no_place text e) ∙ ap (λ ls. text ∷ ls) (sym lines-nil ∙ ap lines (sym empty))
 
 -- a text without a newline has no byte that passes
-none_passes : (piece : List ℕ) → IsOnePiece piece → All (λ b. eqb b 10 ≡ false) piece
+pub none_passes : (piece : List ℕ) → IsOnePiece piece → All (λ b. eqb b 10 ≡ false) piece
 none_passes piece one k d inside = ne_eqb (get_or piece k d) 10 (one k d inside)
 
 -- a newline ends a line

@@ -1,4 +1,5 @@
 pub mod Assignments
+pub mod Chains
 pub mod Costs
 pub mod CutDevices
 pub mod Cuts
@@ -7,10 +8,12 @@ pub mod Faults
 pub mod Folding
 pub mod Lines
 pub mod Literals
+pub mod Marks
 pub mod NormalForm
 pub mod Occurrences
 pub mod Patterns
 pub mod Potentials
 pub mod RawLists
 pub mod Selected
+pub mod Suffixes
 pub mod Transfers

@@ -18,6 +18,30 @@ without_empty_last (p ∷ q ∷ more) = p ∷ without_empty_last (q ∷ more)
 unfoldable pub lines : List ℕ → List (List ℕ)
 lines text = without_empty_last (pieces text)
 
+-- pieces without the last one
+abbrev pub without_last : List (List ℕ) → List (List ℕ)
+without_last [] = []
+without_last (p ∷ []) = []
+without_last (p ∷ q ∷ more) = p ∷ without_last (q ∷ more)
+
+-- the last piece
+abbrev pub last_piece : List (List ℕ) → List ℕ
+last_piece [] = []
+last_piece (p ∷ []) = p
+last_piece (p ∷ q ∷ more) = last_piece (q ∷ more)
+
+-- the lines that a newline ended
+unfoldable pub ended_lines : List ℕ → List (List ℕ)
+ended_lines text = without_last (pieces text)
+
+-- what stands behind the last newline: the line that no newline has ended yet
+unfoldable pub open_rest : List ℕ → List ℕ
+open_rest text = last_piece (pieces text)
+
+-- an open line at the end of a text: it is a line if it is not empty
+abbrev pub last_line : List ℕ → List (List ℕ)
+last_line rest = without_empty_last (rest ∷ [])
+
 -- a text without a newline
 abbrev pub IsOnePiece : List ℕ → Type 0
 IsOnePiece piece = All (λ b. b ≢ 10) piece
@@ -32,3 +56,18 @@ pub record LinesLaw : Type 0 where
   pub ended : (line rest : List ℕ) → IsOnePiece line → lines (line ++ 10 ∷ rest) ≡ line ∷ lines rest
   pub last : (line : List ℕ) → line ≢ [] → IsOnePiece line → lines line ≡ line ∷ []
   pub none : lines [] ≡ []
+
+-- how the ended lines of a text grow with it
+pub record EndedLaw : Type 0 where
+  -- of a text in two parts: those of the first part, and those of its open rest with the second part
+  pub joined : (text more : List ℕ) → ended_lines (text ++ more) ≡ ended_lines text ++ ended_lines (open_rest text ++ more)
+  pub rest : (text more : List ℕ) → open_rest (text ++ more) ≡ open_rest (open_rest text ++ more)
+  -- a newline ends a line; a text without one is open
+  pub ended : (line rest : List ℕ) → IsOnePiece line → ended_lines (line ++ 10 ∷ rest) ≡ line ∷ ended_lines rest
+  pub behind : (line rest : List ℕ) → IsOnePiece line → open_rest (line ++ 10 ∷ rest) ≡ open_rest rest
+  pub none : (line : List ℕ) → IsOnePiece line → ended_lines line ≡ []
+  pub all_open : (line : List ℕ) → IsOnePiece line → open_rest line ≡ line
+  -- the ended lines and the open rest hold no newline, and are the lines of the text
+  pub apart : (text : List ℕ) → All IsOnePiece (ended_lines text)
+  pub open_apart : (text : List ℕ) → IsOnePiece (open_rest text)
+  pub lines : (text : List ℕ) → lines text ≡ ended_lines text ++ last_line (open_rest text)

@@ -28,9 +28,13 @@ matches_pattern fold false line pattern = occurs_in (folded_text fold pattern) (
 unfoldable pub matches : Fold → Bool → List (List ℕ) → List ℕ → Bool
 matches fold whole patterns line = list_any (matches_pattern fold whole line) patterns
 
+-- whether a line is selected: it matches, or under -v it does not
+abbrev pub is_selected : Fold → Bool → Bool → List (List ℕ) → List ℕ → Bool
+is_selected fold whole invert patterns line = if invert then not (matches fold whole patterns line) else matches fold whole patterns line
+
 -- the lines that match, or under -v the others
 abbrev pub selected : Fold → Bool → Bool → List (List ℕ) → List (List ℕ) → List (List ℕ)
-selected fold whole invert patterns = filter (λ line. if invert then not (matches fold whole patterns line) else matches fold whole patterns line)
+selected fold whole invert patterns = filter (is_selected fold whole invert patterns)
 
 -- a test says whether its fact holds: what the two recursions above mean
 pub record MatchingLaw : Type 0 where

@@ -16,6 +16,10 @@ mod occurrences;
 mod patterns;
 mod raw_list;
 mod std_device;
+mod suffix_chains;
+mod suffix_class;
+mod suffix_filter;
+mod suffix_key;
 mod transfer;
 
 pub use costs::{Ends, assign_cost, cost, cut_cost, is_assignment, is_cut, weight};
@@ -27,7 +31,7 @@ pub use laws::{assignment_law, cut_law, least_law, run_cost_law};
 pub use limits::{
     MAX_LIST_LEN, MAX_LITERAL_LEN, MAX_LITERALS, MAX_PATTERNS, MAX_TEXT_LEN, MAX_TURNS,
 };
-pub use lines::{Lines, lines_law, matching_law};
+pub use lines::{Lines, ended_law, lines_law, matching_law};
 pub use lit_list::{LitList, Normal};
 pub use normal_form::normal_form_law;
 pub use occurrences::hits_law;

@@ -1,7 +1,7 @@
 ghost use Rattle.std.specs.Prelude.{◌≡◌, ◌≢◌, ◌==◌, ◌<◌, [], ◌∷◌, length, IfSome};
 ghost use Rattle.std.specs.List.{position};
 ghost use Rattle.std.specs.Iterator.{YieldsFirstRef, item_count};
-ghost use Rattle.lit_base.specs.Lines.{lines, LinesLaw};
+ghost use Rattle.lit_base.specs.Lines.{lines, EndedLaw, LinesLaw};
 ghost use Rattle.lit_base.specs.Selected.{MatchingLaw};
 
 /// The lines of a text, in order, without their newlines.
@@ -65,4 +65,9 @@ pub fn matching_law()
 /// null one at the end is no line.
 pub fn lines_law()
     ensures { LinesLaw }
+{}
+
+/// How the lines that newlines ended, and the open rest behind the last newline, grow with a text.
+pub fn ended_law()
+    ensures { EndedLaw }
 {}

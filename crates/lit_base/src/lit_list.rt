@@ -1,10 +1,12 @@
-ghost use Rattle.std.specs.Prelude.{◌≡◌, ◌<◌, ◌≤◌, ◌-◌, ◌↔◌, ◌⊎◌, [], All, Contains, IfErr, IfOk, IfSome, IsTrue, MatchOption, length, slice_index_or, slice_index};
+ghost use Rattle.std.specs.Prelude.{◌≡◌, ℕ, ◌+◌, max, ◌<◌, ◌≤◌, ◌-◌, ◌↔◌, ◌⊎◌, [], All, Contains, IfErr, IfOk, IfSome, IsTrue, MatchOption, length, slice_index_or, slice_index};
 ghost use Rattle.std.specs.List.{AllZip};
 ghost use Rattle.std.specs.List.Sorted.{IsNonDecreasing};
+ghost use Rattle.lit_base.specs.Chains.{IsClassOf};
 ghost use Rattle.lit_base.specs.Folding.{folded_text};
-ghost use Rattle.lit_base.specs.Literals.{lengths};
+ghost use Rattle.lit_base.specs.Literals.{lengths, IsNormal};
 ghost use Rattle.lit_base.specs.Occurrences.{IsFirstEnding, NoneEnds, Occurs};
 ghost use Rattle.lit_base.specs.NormalForm.{IsNormalForm, IsPlaceOf, normal_form};
+ghost use Rattle.lit_base.specs.Suffixes.{suffix_key};
 ghost use Rattle.lit_base.specs.declared.fault.Fault.TheVariants.{OutOfMemory, TooManyLiterals};
 ghost use Rattle.lit_base.specs.declared.limits.TheConstants.{MAX_LITERALS};
 
@@ -13,6 +15,10 @@ use crate::fold::{Fold, fold_byte};
 use crate::literal::Literal;
 use crate::normal_form::{distinct, has_null, in_order, places};
 use crate::raw_list::RawList;
+use crate::suffix_chains::SuffixChains;
+use crate::suffix_class::SuffixClass;
+use crate::suffix_filter::SuffixFilter;
+use crate::suffix_key::suffix_key;
 use std::alloc::Global;
 use std::marker::Model;
 
@@ -21,16 +27,22 @@ use std::marker::Model;
 pub struct LitList {
     folding: Fold,
     literals: Vec<Literal>,
+    chains: SuffixChains,
+    filter: SuffixFilter,
 }
 
 impl Model for LitList {
+    ghost use Rattle.lit_base.specs.Chains.{AreChainsOf};
     ghost use Rattle.lit_base.specs.Literals.{Literals, IsNormal};
+    ghost use Rattle.lit_base.specs.Marks.{IsFilterOf};
 
     ghost Value = { Literals };
 
     ghost view = { λ l. record { folding = l.folding; texts = l.literals.items } };
 
-    ghost invariant = { λ l. IsNormal (record { folding = l.folding; texts = l.literals.items }) };
+    ghost invariant = { λ l. IsNormal (record { folding = l.folding; texts = l.literals.items })
+        × AreChainsOf (record { folding = l.folding; texts = l.literals.items }) l.chains
+        × IsFilterOf (record { folding = l.folding; texts = l.literals.items }) l.filter };
 }
 
 impl LitList {
@@ -49,9 +61,13 @@ impl LitList {
     {
         let literals = in_order(alloc, distinct(alloc, raw, fold)?)?;
         let place_of = places(alloc, raw, fold, literals.as_slice())?;
+        let chains = SuffixChains::new(alloc, fold, literals.as_slice())?;
+        let filter = SuffixFilter::new(alloc, fold, literals.as_slice())?;
         let list = LitList {
             folding: fold,
             literals,
+            chains,
+            filter,
         };
         let has_empty = has_null(raw);
         Ok((
@@ -104,7 +120,15 @@ impl LitList {
         self.literals[self.literals.len() - 1].as_slice().len()
     }
 
+    /// The law that the literals are in normal form.
+    pub fn normal_law(&self)
+        ensures { IsNormal self.now }
+    {
+        let _literals = &self.literals;
+    }
+
     /// The first of the literals from place `from` on that ends at `end` in the text, if there is one.
+    #[inline]
     pub fn next_ending(&self, text: &[u8], end: usize, from: usize) -> Option<usize>
         requires { end ≤ length text.now }
         ensures first { MatchOption result
@@ -112,12 +136,78 @@ impl LitList {
             (λ place. IsFirstEnding self.now text.now from end place) }
         ensures within { IfSome result (λ place. place < length self.now.texts) }
     {
-        for place in from..self.len() {
-            if self.ends_at(place, text, end) {
-                return Some(place);
+        if from == 0 && self.filter.rules_out(self.folding, text, end) {
+            return None;
+        }
+        self.next_in_chains(text, end, from)
+    }
+
+    #[inline(never)]
+    fn next_in_chains(&self, text: &[u8], end: usize, from: usize) -> Option<usize>
+        requires { end ≤ length text.now }
+        ensures { MatchOption result
+            (NoneEnds self.now text.now from end)
+            (λ place. IsFirstEnding self.now text.now from end place) }
+    {
+        let one = self.next_in(&self.chains.ones, text, end, from);
+        if one.is_some() {
+            return one;
+        }
+        let two = self.next_in(&self.chains.twos, text, end, from);
+        if two.is_some() {
+            return two;
+        }
+        let four = self.next_in(&self.chains.fours, text, end, from);
+        if four.is_some() {
+            return four;
+        }
+        self.next_in(&self.chains.eights, text, end, from)
+    }
+
+    /// The first literal of the class from place `from` on that ends at `end`, if there is one.
+    fn next_in(&self, class: &SuffixClass, text: &[u8], end: usize, from: usize) -> Option<usize>
+        requires class { IsClassOf self.now class.now.start (class.now.start + length class.now.keys.items) class.now }
+        requires whole { class.now.start + length class.now.keys.items ≤ length self.now.texts }
+        requires inside { end ≤ length text.now }
+        ensures first { MatchOption result
+            ((place : ℕ) → max from class.now.start ≤ place → place < class.now.start + length class.now.keys.items → ¬ Occurs self.now text.now place end)
+            (λ place. IsFirstEnding self.now text.now (max from class.now.start) end place) }
+        ensures within { IfSome result (λ place. place < class.now.start + length class.now.keys.items) }
+    {
+        let count = class.keys.len();
+        let least = from.saturating_sub(class.start);
+        if end < class.width || count <= least {
+            return None;
+        }
+        let key = suffix_key(self.folding, text, end, class.width);
+        let mut next = class.first_with(key, least);
+        while next < count {
+            if least <= next && self.ends_with_key(class, text, end, key, next) {
+                return Some(class.start + next);
             }
+            next = class.links[next] as usize;
         }
         None
+    }
+
+    /// Whether a literal of the class ends at `end`, before which the text has the key.
+    fn ends_with_key(
+        &self,
+        class: &SuffixClass,
+        text: &[u8],
+        end: usize,
+        key: u64,
+        next: usize,
+    ) -> bool
+        requires class { IsClassOf self.now class.now.start (class.now.start + length class.now.keys.items) class.now }
+        requires whole { class.now.start + length class.now.keys.items ≤ length self.now.texts }
+        requires inside { end ≤ length text.now }
+        requires few { length self.now.texts ≤ MAX_LITERALS }
+        requires key { key ≡ suffix_key self.now.folding text.now end class.now.width }
+        requires within { next < length class.now.keys.items }
+        ensures { IsTrue result ↔ Occurs self.now text.now (class.now.start + next) end }
+    {
+        class.keys[next] == key && self.ends_at(class.start + next, text, end)
     }
 
     /// Whether the literal at a place ends at `end` in the text.
@@ -143,6 +233,16 @@ impl LitList {
 
 /// Whether the text, folded, is the literal.
 fn is_folded(fold: Fold, text: &[u8], literal: &[u8]) -> bool
+    ensures { IsTrue result ↔ (folded_text fold text.now ≡ literal.now) }
+{
+    match fold {
+        Fold::No => text == literal,
+        Fold::Ascii => is_folded_by_bytes(Fold::Ascii, text, literal),
+    }
+}
+
+/// What `is_folded` says, byte by byte.
+fn is_folded_by_bytes(fold: Fold, text: &[u8], literal: &[u8]) -> bool
     ensures { IsTrue result ↔ (folded_text fold text.now ≡ literal.now) }
 {
     text.len() == literal.len()

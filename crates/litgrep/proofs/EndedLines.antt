@@ -3,8 +3,7 @@ use Rattle.std.proofs.Common.{◌≡◌, ℕ, ◌+◌, ◌-◌, ◌<◌, ◌≤�
 use Rattle.std.specs.List.{onto_first}
 use Rattle.std.proofs.lemmas.List.{take_more}
 use Rattle.std.proofs.lemmas.List.Splits.{slice_split-cons_yes, slice_split-cons_no, length-slice_split}
-use Rattle.lit_base.specs.Lines.{lines, pieces, without_empty_last}
-use Rattle.litgrep.specs.Grep.{ended_lines, without_last}
+use Rattle.lit_base.specs.Lines.{ended_lines, lines, pieces, without_empty_last, without_last}
 
 -- there is always a piece
 pieces-some : (text : List ℕ) → 0 < length (pieces text)

@@ -3,7 +3,7 @@ use Rattle.std.specs.Prelude.{◌≡◌, ℕ, Bool, true, false, List, [], ◌�
 use Rattle.lit_base.specs.declared.fold.Fold.TheVariants.{No}
 use Rattle.lit_base.specs.declared.fault.Fault.{Fault}
 use Rattle.lit_base.specs.Faults.{number_of}
-use Rattle.lit_base.specs.Lines.{lines, pieces}
+use Rattle.lit_base.specs.Lines.{ended_lines, lines}
 use Rattle.lit_base.specs.Selected.{selected}
 use Rattle.litgrep.specs.declared.options.GrepOptions.{GrepOptions}
 use Rattle.litgrep.specs.declared.status.Status.{Status}
@@ -37,16 +37,6 @@ out_of_memory = codes "litgrep: out of memory\n"
 -- the name of standard input
 abbrev pub standard_name : List ℕ
 standard_name = codes "(standard input)"
-
--- pieces without the last one
-abbrev pub without_last : List (List ℕ) → List (List ℕ)
-without_last [] = []
-without_last (p ∷ []) = []
-without_last (p ∷ q ∷ more) = p ∷ without_last (q ∷ more)
-
--- the lines that a newline ended
-unfoldable pub ended_lines : List ℕ → List (List ℕ)
-ended_lines text = without_last (pieces text)
 
 -- the lines of a content: before a fault those alone that a newline ended
 abbrev pub lines_of : Content → List (List ℕ)

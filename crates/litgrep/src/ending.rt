@@ -1,7 +1,6 @@
 //! What a read fault leaves of a text.
 ghost use Rattle.std.specs.Prelude.{◌≡◌, ◌≤◌, length, take};
-ghost use Rattle.lit_base.specs.Lines.{lines};
-ghost use Rattle.litgrep.specs.Grep.{ended_lines};
+ghost use Rattle.lit_base.specs.Lines.{ended_lines, lines};
 
 /// Cuts the text behind its last newline, so that its lines are those that a newline ended.
 pub fn cut_to_ended(text: &mut Vec<u8>)

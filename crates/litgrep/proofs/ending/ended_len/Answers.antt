@@ -1,7 +1,7 @@
 -- A byte that is no newline is left out; at a newline, or with no byte left, the lines are the ended ones.
 use Rattle.std.proofs.Common.{◌≡◌, ◌-◌, eqb, false, get_or, take, ap, ◌∙◌, eq-eqb, arith}
 use Rattle.std.proofs.lemmas.Bool.Decides.{nat_tests}
-use Rattle.litgrep.specs.Grep.{ended_lines}
+use Rattle.lit_base.specs.Lines.{ended_lines}
 use Rattle.litgrep.proofs.EndedLines.{front-without, front-ended, nothing-ended}
 use Rattle.litgrep.proofs.ending.ended_len.Goals as goal
 

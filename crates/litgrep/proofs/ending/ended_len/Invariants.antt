@@ -1,5 +1,5 @@
 use Rattle.std.proofs.Common.{◌≡◌, ◌≤◌, length, take}
-use Rattle.litgrep.specs.Grep.{ended_lines}
+use Rattle.lit_base.specs.Lines.{ended_lines}
 use Rattle.litgrep.proofs.ending.ended_len.Given as goal
 
 -- what is left out so far has no newline

@@ -1,0 +1,124 @@
+-- Marked ends: from bits to the places that they stand for, and one end after the other handed out.
+use Rattle.std.proofs.Common.{◌≡◌, ◌↔◌, ℕ, zero, suc, ◌+◌, ◌-◌, ◌<◌, ◌≤◌, ◌∷◌, [], List, length, get_or, refl, sym, ap, subst, ◌∙◌, arith, ⊎_elim}
+use Rattle.std.specs.Int.{bit_at}
+use Rattle.std.proofs.lemmas.Bool.{cases_lt, cases_eq}
+use Rattle.std.proofs.lemmas.Nat.Bits.{bit_at-suc, bit_at-zero}
+use Rattle.nib_mask.specs.declared.masks.Masks.{Masks}
+use Rattle.nib_mask.specs.Tables.{table_value}
+use Rattle.nib_mask.specs.Candidates.{IsCandidate, filter_byte_at}
+use Rattle.lane_filter.specs.Bits.{SplitsLowest}
+use Rattle.lane_filter.specs.Lanes.{Tells}
+use Rattle.lane_filter.specs.Filtered.{IsMarked}
+use Rattle.lane_filter.specs.Ends.{NoneWithin, IsFirstAfter, AreMarked}
+
+module _ (P : ℕ → Type 0) where
+  -- a stretch without places may go before
+  pub marked_after_quiet : (from mid first done mask : ℕ) → from ≤ mid → NoneWithin P from mid → AreMarked P mid first done mask → AreMarked P from first done mask
+  marked_after_quiet from mid first done mask le quiet m =
+      let reached = m.reached in
+      record {
+        reached = omega arith;
+        set = λ k s. let h = m.set k s in (omega (arith, h.0), h.1, h.2);
+        all = λ end low high holds.
+            ⊎_elim (λ after. m.all end after high holds) (λ before. absurd (quiet end low before holds)) (cases_lt mid end);
+      }
+
+  -- a mask without bits marks no place
+  pub quiet_where_unmarked : (from first done mask : ℕ) → mask ≡ 0 → AreMarked P from first done mask → NoneWithin P from done
+  quiet_where_unmarked from first done mask none m end low high holds =
+      let there = (m.all end low high holds).1 in
+      absurd (omega (arith, there, ap (λ x. bit_at x (end - first)) none ∙ bit_at-zero (end - first)))
+
+  pub unmarked : (from first done : ℕ) → from ≤ done → NoneWithin P from done → AreMarked P from first done 0
+  unmarked from first done le quiet = record {
+    reached = le;
+    set = λ k s. absurd (omega (arith, s, bit_at-zero k));
+    all = λ end low high holds. absurd (quiet end low high holds);
+  }
+
+  bits_of_one : (k : ℕ) → bit_at 1 k ≡ 1 → k ≡ 0
+  bits_of_one zero s = refl
+  bits_of_one (suc k) s = absurd (omega (arith, s, bit_at-suc 1 k, bit_at-zero k))
+
+  -- one place alone
+  pub one_marked : (from place : ℕ) → from < place → NoneWithin P from (place - 1) → P place → AreMarked P from place place 1
+  one_marked from place after quiet here = record {
+    reached = omega arith;
+    set = λ k s.
+        let none = bits_of_one k s in
+        let same : place ≡ place + k = omega arith in
+        (omega arith, omega arith, subst P same here);
+    all = λ end low high holds.
+        ⊎_elim (λ same. let start : 0 ≡ end - place = omega arith in (omega arith, ap (bit_at 1) (sym start)))
+        (λ other. absurd (quiet end low (omega arith) holds)) (cases_eq end place);
+  }
+
+  -- the bits from some bit on, of 64 places in a row
+  pub marked_by_bits : (from first done mask : ℕ) → from ≤ done → first + 63 ≡ done → first ≤ from + 1
+      → ((k : ℕ) → (bit_at mask k ≡ 1) ↔ ((from + 1 ≤ first + k) × (k < 64) × P (first + k))) → AreMarked P from first done mask
+  marked_by_bits from first done mask le long start bits = record {
+    reached = le;
+    set = λ k s. let h = (bits k).0 s in (omega (arith, h.0), omega (arith, h.1), h.2);
+    all = λ end low high holds.
+        let same : end ≡ first + (end - first) = omega arith in
+        (omega arith, (bits (end - first)).1 (omega arith, omega arith, subst P same holds));
+  }
+
+  module _ (from first done mask low rest : ℕ) (m : AreMarked P from first done mask) (split : SplitsLowest mask low rest) where
+    -- the lowest bit stands for the first place
+    pub lowest_is_first : IsFirstAfter P from (first + low)
+    lowest_is_first =
+        let h = m.set low split.set in
+        record {
+          after = h.0;
+          holds = h.2;
+          quiet = λ end above below holds.
+              let there = m.all end above (omega (arith, h.1)) holds in
+              absurd (omega (arith, there.1, split.lowest (end - first) (omega (arith, there.0))));
+        }
+
+    -- the other bits stand for the places after it
+    pub others_marked : AreMarked P (first + low) first done rest
+    others_marked =
+        let h = m.set low split.set in
+        record {
+          reached = h.1;
+          set = λ k s.
+              let old = (split.others k).0 s in
+              let there = m.set k old.1 in
+              (omega (arith, old.0), there.1, there.2);
+          all = λ end above high holds.
+              let there = m.all end (omega (arith, h.0)) high holds in
+              (there.0, (split.others (end - first)).1 (omega (arith, there.0), there.1));
+        }
+
+-- the three bytes before an end from the third on stand in the text
+bytes_of_end : (masks : Masks) (text : List ℕ) (place end : ℕ) → end ≡ place + 3
+    → filter_byte_at masks (0 ∷ 0 ∷ []) text end ≡ table_value masks (get_or text place 0) (get_or text (place + 1) 0) (get_or text (place + 2) 0)
+bytes_of_end masks text place end at =
+    let padded : List ℕ = 0 ∷ 0 ∷ text in
+    let third : end - 1 ≡ suc (suc place) = omega arith in
+    let second : end ≡ suc (suc (place + 1)) = omega arith in
+    let last : end + 1 ≡ suc (suc (place + 2)) = omega arith in
+    λ i. table_value masks (get_or padded (third i) 0) (get_or padded (second i) 0) (get_or padded (last i) 0)
+
+-- from the third end on, a candidate is a place whose three bytes have a filter byte that is not zero
+pub candidate_is_marked : (masks : Masks) (text : List ℕ) (place end : ℕ) → end ≡ place + 3 → end ≤ length text → IsMarked masks text place ↔ IsCandidate masks text end
+candidate_is_marked masks text place end at within =
+    let same = bytes_of_end masks text place end at in (
+      λ h. record { some = omega arith; within = within; marked = λ none. h (sym same ∙ none) },
+      λ h none. h.marked (same ∙ none),
+    )
+
+-- the marks of 64 places of a text, from some place after `from` on, are those of the ends three places later
+pub block_marked : (masks : Masks) (text : List ℕ) (from place first done whole mask : ℕ) → first ≡ place + 3 → done ≡ place + 66
+    → from ≤ done → first ≤ from + 1 → done ≤ length text → Tells (IsMarked masks text) place 64 whole
+    → ((k : ℕ) → (bit_at mask k ≡ 1) ↔ ((from + 1 ≤ first + k) × (bit_at whole k ≡ 1))) → AreMarked (IsCandidate masks text) from first done mask
+block_marked masks text from place first done whole mask start long reached low within told bits =
+    marked_by_bits (IsCandidate masks text) from first done mask reached (omega arith) low
+    (λ k.
+    let at : (k < 64) → IsMarked masks text (place + k) ↔ IsCandidate masks text (first + k) =
+    λ l. candidate_is_marked masks text (place + k) (first + k) (omega arith) (omega arith) in (
+      λ s. let h = (bits k).0 s in let t = (told k).0 h.1 in (h.0, t.0, (at t.0).0 t.1),
+      λ h. (bits k).1 (h.0, (told k).1 (h.1, (at h.1).1 h.2)),
+    ))

@@ -1,0 +1,4 @@
+pub mod BitLemmas
+pub mod EndLemmas
+pub mod FilterLemmas
+pub mod LaneLemmas

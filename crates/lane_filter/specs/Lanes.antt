@@ -1,0 +1,16 @@
+-- What vectors of 32 bytes hold, lane by lane, and what a mask of bits says of the places from some place on.
+use Rattle.std.specs.Prelude.{◌≡◌, ◌↔◌, ℕ, ◌+◌, ◌%◌, ◌<◌, List, length, slice_index}
+use Rattle.std.specs.Int.{bit_at}
+
+-- the vector has 32 lanes, and lane k holds f k
+pub record HasLanes (vector : List ℕ) (f : ℕ → ℕ) : Type 0 where
+  pub long : length vector ≡ 32
+  pub each : (k : ℕ) → k < 32 → slice_index vector k ≡ f k
+
+-- the vector holds a table of 16 entries twice
+abbrev pub HoldsTwice : List ℕ → List ℕ → Type 0
+HoldsTwice vector table = HasLanes vector (λ k. slice_index table (k % 16))
+
+-- bit k of the mask is set if and only if P holds at place + k, for k below count, and no other bit is
+abbrev pub Tells : (ℕ → Type 0) → ℕ → ℕ → ℕ → Type 0
+Tells P place count mask = (k : ℕ) → (bit_at mask k ≡ 1) ↔ ((k < count) × P (place + k))

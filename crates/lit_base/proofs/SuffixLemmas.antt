@@ -1,0 +1,193 @@
+-- Keys of last bytes: how they are computed, and that a text has the key of each literal that ends in it.
+use Rattle.std.proofs.Common.{◌≡◌, ℕ, zero, suc, ◌+◌, ◌-◌, ◌*◌, ◌/◌, ◌^◌, ◌<◌, ◌≤◌, Bool, true, false, ◌&&◌, eqb, List, [], ◌∷◌, ◌++◌, length, get_or, map, drop, take, replicate, Some, inl, inr, refl, sym, ap, ◌∙◌, subst, arith}
+use Rattle.std.proofs.Common.{Fits, w8}
+use Rattle.std.proofs.Math.Facts.{Fits-lt-pow}
+use Rattle.std.specs.Int.{w64, from_le_bytes}
+use Rattle.std.specs.Int.RustNames.{bit_or}
+use Rattle.std.specs.List.{slice_get, slice_range, between}
+use Rattle.std.specs.Option.{unwrap_or}
+use Rattle.std.proofs.lemmas.Bool.{cases_lt}
+use Rattle.std.proofs.lemmas.Bool.Decides.{nat_tests, Decides-eqb}
+use Rattle.std.proofs.lemmas.List.{drop-drop, drop-map, drop-replicate, get_or_past, length-append, length-replicate}
+use Rattle.std.proofs.lemmas.List.Edits.{length-between, get_or-between}
+use Rattle.std.proofs.lemmas.Nat.{shr-shr, shr_high, or_block}
+use Rattle.std.proofs.lemmas.Option.{unwrap_or-slice_get}
+use Rattle.std.proofs.lemmas.Slice.{between_is, between_to_end}
+use Rattle.lit_base.specs.declared.fold.Fold.{Fold}
+use Rattle.lit_base.specs.declared.fold.Fold.TheVariants.{No, Ascii}
+use Rattle.lit_base.specs.Chains.{literal_at}
+use Rattle.lit_base.specs.Folding.{folded, folded_text}
+use Rattle.lit_base.specs.Literals.{Literals}
+use Rattle.lit_base.specs.Occurrences.{Occurs}
+use Rattle.lit_base.specs.Suffixes.{spelled, case_bits, suffix_key}
+
+-- the elements are bytes
+pub record AreBytes (bs : List ℕ) : Type 0 where
+  pub small : (i : ℕ) → get_or bs i 0 < 256
+
+-- those that fit a byte are
+pub are_bytes : (bs : List ℕ) → ((i : ℕ) → Fits w8 (get_or bs i 0)) → AreBytes bs
+are_bytes bs h = record { small = λ i. Fits-lt-pow (h i) }
+
+rest_bytes : (b : ℕ) (bs : List ℕ) → AreBytes (b ∷ bs) → AreBytes bs
+rest_bytes b bs h = record { small = λ i. h.small (suc i) }
+
+-- what is spelled behind the first bytes
+pub spelled-drop : (k : ℕ) (bs : List ℕ) → AreBytes bs → spelled bs / 2 ^ (8 * k) ≡ spelled (drop k bs)
+spelled-drop zero bs h = omega arith
+spelled-drop (suc k) [] h = omega arith
+spelled-drop (suc k) (b ∷ bs) h =
+    let first : b < 2 ^ 8 = h.small 0 in
+    let whole : 8 * suc k ≡ 8 + 8 * k = omega arith in
+    ap (λ n. (spelled bs * 256 + b) / 2 ^ n) whole
+    ∙ sym (shr-shr (spelled bs * 256 + b) 8 (8 * k))
+    ∙ ap (λ n. n / 2 ^ (8 * k)) (shr_high (spelled bs) 8 b first)
+    ∙ spelled-drop k bs (rest_bytes b bs h)
+
+-- zeros behind spell nothing
+spelled-zeros : (n : ℕ) → spelled (replicate n 0) ≡ 0
+spelled-zeros zero = refl
+spelled-zeros (suc n) = omega (arith, spelled-zeros n)
+
+spelled-append-zeros : (bs : List ℕ) (n : ℕ) → spelled (bs ++ replicate n 0) ≡ spelled bs
+spelled-append-zeros [] n = spelled-zeros n
+spelled-append-zeros (b ∷ bs) n = omega (arith, spelled-append-zeros bs n)
+
+-- std reads eight bytes as the number that they spell
+read_is_spelled : (bs : List ℕ) → length bs ≡ 8 → from_le_bytes w64 bs ≡ spelled bs
+read_is_spelled (a ∷ b ∷ c ∷ d ∷ e ∷ f ∷ g ∷ h ∷ []) len = omega arith
+read_is_spelled [] len = absurd (omega arith)
+read_is_spelled (a ∷ []) len = absurd (omega arith)
+read_is_spelled (a ∷ b ∷ []) len = absurd (omega arith)
+read_is_spelled (a ∷ b ∷ c ∷ []) len = absurd (omega arith)
+read_is_spelled (a ∷ b ∷ c ∷ d ∷ []) len = absurd (omega arith)
+read_is_spelled (a ∷ b ∷ c ∷ d ∷ e ∷ []) len = absurd (omega arith)
+read_is_spelled (a ∷ b ∷ c ∷ d ∷ e ∷ f ∷ []) len = absurd (omega arith)
+read_is_spelled (a ∷ b ∷ c ∷ d ∷ e ∷ f ∷ g ∷ []) len = absurd (omega arith)
+read_is_spelled (a ∷ b ∷ c ∷ d ∷ e ∷ f ∷ g ∷ h ∷ i ∷ more) len = absurd (omega arith)
+
+-- and so at most eight, with zeros behind them
+pub padded : (xs bytes : List ℕ) → xs ≡ bytes → length bytes ≤ 8 → from_le_bytes w64 (xs ++ drop (length bytes) (replicate 8 0)) ≡ spelled bytes
+padded xs bytes same few =
+    let zeros : drop (length bytes) (replicate 8 0) ≡ replicate (8 - length bytes) 0 = drop-replicate (length bytes) 8 0 in
+    ap (λ s. from_le_bytes w64 (s ++ drop (length bytes) (replicate 8 0))) same
+    ∙ ap (λ z. from_le_bytes w64 (bytes ++ z)) zeros
+    ∙ read_is_spelled (bytes ++ replicate (8 - length bytes) 0) (omega (arith, length-append bytes (replicate (8 - length bytes) 0), length-replicate {A = ℕ} (8 - length bytes) 0))
+    ∙ spelled-append-zeros bytes (8 - length bytes)
+
+-- the bit of a letter's case in one byte, and in each of some bytes
+abbrev case_bit : Fold → ℕ
+case_bit No = 0
+case_bit Ascii = 32
+
+abbrev case_bits_in : Fold → ℕ → ℕ
+case_bits_in fold zero = 0
+case_bits_in fold (suc n) = case_bits_in fold n * 256 + case_bit fold
+
+eight_case_bits : (fold : Fold) → case_bits_in fold 8 ≡ case_bits fold
+eight_case_bits No = refl
+eight_case_bits Ascii = refl
+
+-- a test of all numbers below one
+abbrev all_below : ℕ → (ℕ → Bool) → Bool
+all_below zero test = true
+all_below (suc n) test = test n && all_below n test
+
+both : (a b : Bool) → (a && b) ≡ true → (a ≡ true) × (b ≡ true)
+both true b h = (refl, h)
+both false b h = (cc)
+
+one_below : (n : ℕ) (test : ℕ → Bool) → all_below n test ≡ true → (i : ℕ) → i < n → test i ≡ true
+one_below zero test h i l = absurd (omega arith)
+one_below (suc n) test h i l =
+    let parts = both (test n) (all_below n test) h in
+    elim (cases_lt i n) [
+      | inl below ↦ one_below n test parts.1 i below
+      | inr last ↦ let e : n ≡ i = omega arith in subst (λ k. test k ≡ true) e parts.0
+    ]
+
+-- with the bit of the case set, a byte and its folded byte are the same
+folded_with_case : (fold : Fold) (b : ℕ) → b < 256 → bit_or (folded fold b) (case_bit fold) ≡ bit_or b (case_bit fold)
+folded_with_case No b l = refl
+folded_with_case Ascii b l =
+    (Decides-eqb (bit_or (folded Ascii b) 32) (bit_or b 32)).0 (one_below 256 (λ k. eqb (bit_or (folded Ascii k) 32) (bit_or k 32)) refl b l)
+
+folded_small : (fold : Fold) (b : ℕ) → b < 256 → folded fold b < 256
+folded_small No b l = l
+folded_small Ascii b l = grind (arith, nat_tests)
+
+case_bit_small : (fold : Fold) → case_bit fold < 256
+case_bit_small No = omega arith
+case_bit_small Ascii = omega arith
+
+-- and so are what bytes and the folded bytes spell
+spelled-folded : (fold : Fold) (n : ℕ) (bs : List ℕ) → length bs ≤ n → AreBytes bs → bit_or (spelled (folded_text fold bs)) (case_bits_in fold n) ≡ bit_or (spelled bs) (case_bits_in fold n)
+spelled-folded fold n [] few h = refl
+spelled-folded fold zero (b ∷ bs) few h = absurd (omega arith)
+spelled-folded fold (suc n) (b ∷ bs) few h =
+    let first : b < 256 = h.small 0 in
+    let rest = spelled-folded fold n bs (omega arith) (rest_bytes b bs h) in
+    let here = folded_with_case fold b first in
+    let left = or_block 8 (spelled (folded_text fold bs)) (case_bits_in fold n) (folded fold b) (case_bit fold) (folded_small fold b first) (case_bit_small fold) in
+    let right = or_block 8 (spelled bs) (case_bits_in fold n) b (case_bit fold) first (case_bit_small fold) in
+    left ∙ (λ i. rest i * 256 + here i) ∙ sym right
+
+-- what is left of a slice behind its first bytes
+drop-range : (text : List ℕ) (from to at j : ℕ) → from + at ≡ to → drop at (slice_range text from j) ≡ slice_range text to j
+drop-range text from to at j e =
+    ap (drop at) (between_is text from j)
+    ∙ drop-drop at from (take j text)
+    ∙ ap (λ n. drop n (take j text)) e
+    ∙ sym (between_is text to j)
+
+-- a slice of bytes has bytes
+range_bytes : (text : List ℕ) (from end : ℕ) → end ≤ length text → AreBytes text → AreBytes (slice_range text from end)
+range_bytes text from end inside bytes = record {
+  small = λ i. elim (cases_lt (from + i) end) [
+    | inl within ↦ subst (λ x. x < 256) (sym (get_or-between text from end i 0 within)) (bytes.small (from + i))
+    | inr past ↦
+        let len : length (slice_range text from end) ≡ end - from = length-between text from end inside in
+        subst (λ x. x < 256) (sym (get_or_past (slice_range text from end) i 0 (omega arith))) (omega arith)
+  ];
+}
+
+-- of the number that eight bytes spell, the high bits are what the last of them spell
+pub shifted : (text : List ℕ) (end width : ℕ) → AreBytes text → width ≤ 8 → 8 ≤ end → end ≤ length text
+    → spelled (slice_range text (end - 8) end) / 2 ^ (64 - 8 * width) ≡ spelled (slice_range text (end - width) end)
+shifted text end width bytes narrow room inside =
+    let bits : 64 - 8 * width ≡ 8 * (8 - width) = omega arith in
+    ap (λ n. spelled (slice_range text (end - 8) end) / 2 ^ n) bits
+    ∙ spelled-drop (8 - width) (slice_range text (end - 8) end) (range_bytes text (end - 8) end inside bytes)
+    ∙ ap spelled (drop-range text (end - 8) (end - width) (8 - width) end (omega arith))
+
+-- the last bytes of a literal are the folded ones before its end
+last_bytes : (fold : Fold) (text t : List ℕ) (end width : ℕ) → width ≤ length t → length t ≤ end → end ≤ length text → folded_text fold (slice_range text (end - length t) end) ≡ t
+    → slice_range t (length t - width) (length t) ≡ folded_text fold (slice_range text (end - width) end)
+last_bytes fold text t end width wide room inside is =
+    let at : ℕ = length t - width in
+    let from : ℕ = end - length t in
+    between_to_end t at (length t) (omega arith)
+    ∙ ap (drop at) (sym is)
+    ∙ drop-map (folded fold) at (slice_range text from end)
+    ∙ ap (folded_text fold) (drop-range text from (end - width) at end (omega arith))
+
+-- a text that folds to a literal has its key
+same_key : (fold : Fold) (text t : List ℕ) (end width : ℕ) → AreBytes text → width ≤ 8 → width ≤ length t → length t ≤ end → end ≤ length text → folded_text fold (slice_range text (end - length t) end) ≡ t
+    → suffix_key fold text end width ≡ suffix_key fold t (length t) width
+unfolding suffix_key
+same_key fold text t end width bytes narrow wide room inside is =
+    let part : List ℕ = slice_range text (end - width) end in
+    let len : length part ≡ end - (end - width) = length-between text (end - width) end inside in
+    let small : AreBytes part = range_bytes text (end - width) end inside bytes in
+    let alike = spelled-folded fold 8 part (omega arith) small in
+    let literal = ap (λ s. bit_or (spelled s) (case_bits fold)) (last_bytes fold text t end width wide room inside is) in
+    subst (λ m. bit_or (spelled part) m ≡ bit_or (spelled (folded_text fold part)) m) (eight_case_bits fold) (sym alike) ∙ sym literal
+
+-- where a literal ends, the text has its key
+pub key-occurs : (l : Literals) (text : List ℕ) (place end width : ℕ) → AreBytes text → width ≤ 8 → width ≤ length (literal_at l place) → Occurs l text place end
+    → suffix_key l.folding text end width ≡ suffix_key l.folding (literal_at l place) (length (literal_at l place)) width
+key-occurs l text place end width bytes narrow wide occurs =
+    let t = occurs.literal in
+    let is : t ≡ literal_at l place = sym (ap (λ o. unwrap_or o []) occurs.stands) ∙ unwrap_or-slice_get l.texts place [] in
+    subst (λ u. width ≤ length u → suffix_key l.folding text end width ≡ suffix_key l.folding u (length u) width) is
+    (λ w. same_key l.folding text t end width bytes narrow w occurs.begins occurs.ends occurs.bytes) wide

@@ -1,0 +1,44 @@
+-- Each class goes on where the one before it ends, and the last one ends with the literals.
+use Rattle.std.proofs.Common.{◌≡◌, ℕ, ◌+◌, ◌≤◌, length, max, Option, MatchOption, sym, ◌∙◌, subst, arith}
+use Rattle.lit_base.specs.Chains.{AreChainsOf}
+use Rattle.lit_base.specs.Literals.{Literals}
+use Rattle.lit_base.specs.Occurrences.{IsFirstEnding}
+use Rattle.lit_base.specs.declared.suffix_chains.SuffixChains.{SuffixChains}
+use Rattle.lit_base.proofs.ChainLemmas.{with_class, with_last, at_none, at_some}
+use Rattle.lit_base.proofs.lit_list.LitList.next_in_chains.Goals as goal
+
+pub returns-then-is_some-2 : goal.returns-then-is_some-2
+returns-then-is_some-2 c =
+    let l = c.args.self.now in
+    let text = c.args.text.now in
+    let all : AreChainsOf l c.self.inside.chains = subst (λ v. AreChainsOf v c.self.inside.chains) c.self.view_is c.self.invariant.1 in
+    let starts = all.ones.starts in
+    let stops = all.ones.stops in
+    let one = with_class l text c.args.from c.args.end c.self.inside.chains.ones.start _ c.self.inside.chains.twos.start c.next_in-one.result (omega arith) (λ place low high. absurd (omega arith)) c.next_in-one.ensures.first in
+    let two = with_class l text c.args.from c.args.end c.self.inside.chains.twos.start _ c.self.inside.chains.fours.start c.next_in-two.result all.twos.stops (at_none _ _ _ (c.if-is_some.ensures) one) c.next_in-two.ensures.first in
+    at_some _ _ _ _ (c.if-is_some-2.ensures) two
+
+pub returns-then-is_some-3 : goal.returns-then-is_some-3
+returns-then-is_some-3 c =
+    let l = c.args.self.now in
+    let text = c.args.text.now in
+    let all : AreChainsOf l c.self.inside.chains = subst (λ v. AreChainsOf v c.self.inside.chains) c.self.view_is c.self.invariant.1 in
+    let starts = all.ones.starts in
+    let stops = all.ones.stops in
+    let one = with_class l text c.args.from c.args.end c.self.inside.chains.ones.start _ c.self.inside.chains.twos.start c.next_in-one.result (omega arith) (λ place low high. absurd (omega arith)) c.next_in-one.ensures.first in
+    let two = with_class l text c.args.from c.args.end c.self.inside.chains.twos.start _ c.self.inside.chains.fours.start c.next_in-two.result all.twos.stops (at_none _ _ _ (c.if-is_some.ensures) one) c.next_in-two.ensures.first in
+    let four = with_class l text c.args.from c.args.end c.self.inside.chains.fours.start _ c.self.inside.chains.eights.start c.next_in-four.result all.fours.stops (at_none _ _ _ (c.if-is_some-2.ensures) two) c.next_in-four.ensures.first in
+    at_some _ _ _ _ (c.if-is_some-3.ensures) four
+
+pub returns : goal.returns
+returns c =
+    let l = c.args.self.now in
+    let text = c.args.text.now in
+    let all : AreChainsOf l c.self.inside.chains = subst (λ v. AreChainsOf v c.self.inside.chains) c.self.view_is c.self.invariant.1 in
+    let starts = all.ones.starts in
+    let stops = all.ones.stops in
+    let one = with_class l text c.args.from c.args.end c.self.inside.chains.ones.start _ c.self.inside.chains.twos.start c.next_in-one.result (omega arith) (λ place low high. absurd (omega arith)) c.next_in-one.ensures.first in
+    let two = with_class l text c.args.from c.args.end c.self.inside.chains.twos.start _ c.self.inside.chains.fours.start c.next_in-two.result all.twos.stops (at_none _ _ _ (c.if-is_some.ensures) one) c.next_in-two.ensures.first in
+    let four = with_class l text c.args.from c.args.end c.self.inside.chains.fours.start _ c.self.inside.chains.eights.start c.next_in-four.result all.fours.stops (at_none _ _ _ (c.if-is_some-2.ensures) two) c.next_in-four.ensures.first in
+    let eight = with_class l text c.args.from c.args.end c.self.inside.chains.eights.start _ (length l.texts) c.next_in.result all.eights.stops (at_none _ _ _ (c.if-is_some-3.ensures) four) c.next_in.ensures.first in
+    with_last l text c.args.from c.args.end c.next_in.result eight

@@ -1,0 +1,23 @@
+-- Keys of the last bytes of a text, by which the literals that may end there are found.
+use Rattle.std.specs.Prelude.{ℕ, ◌+◌, ◌-◌, ◌*◌, ◌/◌, ◌%◌, ◌^◌, List, [], ◌∷◌, slice_range}
+use Rattle.std.specs.Int.RustNames.{bit_or}
+use Rattle.lit_base.specs.declared.fold.Fold.{Fold}
+use Rattle.lit_base.specs.declared.fold.Fold.TheVariants.{No, Ascii}
+
+-- the number that bytes spell, the first of them least
+abbrev pub spelled : List ℕ → ℕ
+spelled [] = 0
+spelled (b ∷ bs) = spelled bs * 256 + b
+
+-- in each of eight bytes the bit that a letter's case is told by, unless case counts
+abbrev pub case_bits : Fold → ℕ
+case_bits No = 0
+case_bits Ascii = 2314885530818453536
+
+-- the key of some bytes before a place of a text: what they spell, without the case of letters
+unfoldable pub suffix_key : Fold → List ℕ → ℕ → ℕ → ℕ
+suffix_key fold text end width = bit_or (spelled (slice_range text (end - width) end)) (case_bits fold)
+
+-- the hash of a key, of this many bits
+unfoldable pub hash_of : ℕ → ℕ → ℕ
+hash_of bits key = key * 11400714819323198485 % 18446744073709551616 / 2 ^ (64 - bits)

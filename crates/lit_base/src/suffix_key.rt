@@ -1,0 +1,72 @@
+//! Keys of the last bytes of a text, and their hashes.
+ghost use Rattle.std.specs.Prelude.{◌≡◌, ◌+◌, ◌-◌, ◌^◌, ◌<◌, ◌≤◌, ◌++◌, length, replicate, slice_range};
+ghost use Rattle.lit_base.specs.Suffixes.{case_bits, hash_of, spelled, suffix_key};
+
+use crate::fold::Fold;
+
+/// The key of the `width` bytes before `end`. Texts that fold alike have like keys.
+#[inline]
+pub(crate) fn suffix_key(fold: Fold, text: &[u8], end: usize, width: usize) -> u64
+    requires some { 0 < width }
+    requires narrow { width ≤ 8 }
+    requires room { width ≤ end }
+    requires inside { end ≤ length text.now }
+    ensures { result ≡ suffix_key fold text.now end width }
+{
+    let word = if end < 8 {
+        padded_word(&text[end - width..end])
+    } else {
+        last_word(text, end) >> (64 - 8 * width)
+    };
+    word | case_bits(fold)
+}
+
+/// What the eight bytes before `end` spell.
+#[inline]
+fn last_word(text: &[u8], end: usize) -> u64
+    requires room { 8 ≤ end }
+    requires inside { end ≤ length text.now }
+    ensures { result ≡ spelled (slice_range text.now (end - 8) end) }
+{
+    let at = end - 8;
+    u64::from_le_bytes([
+        text[at],
+        text[at + 1],
+        text[at + 2],
+        text[at + 3],
+        text[at + 4],
+        text[at + 5],
+        text[at + 6],
+        text[at + 7],
+    ])
+}
+
+/// What at most eight bytes spell.
+fn padded_word(bytes: &[u8]) -> u64
+    requires { length bytes.now ≤ 8 }
+    ensures { result ≡ spelled bytes.now }
+{
+    let mut word = [0; 8];
+    word[..bytes.len()].copy_from_slice(bytes);
+    u64::from_le_bytes(word)
+}
+
+#[inline]
+fn case_bits(fold: Fold) -> u64
+    ensures { result ≡ case_bits fold }
+{
+    match fold {
+        Fold::No => 0,
+        Fold::Ascii => 0x2020_2020_2020_2020,
+    }
+}
+
+/// The hash of a key, of this many bits.
+#[inline]
+pub(crate) fn hash_of(bits: usize, key: u64) -> usize
+    requires { (0 < bits) × (bits ≤ 32) }
+    ensures value { result ≡ hash_of bits key }
+    ensures below { result < 2 ^ bits }
+{
+    (key.wrapping_mul(0x9e37_79b9_7f4a_7c15) >> (64 - bits)) as usize
+}

@@ -1,0 +1,5 @@
+pub mod Buckets
+pub mod Fingerprints
+pub mod LawLemmas
+pub mod Ranges
+pub mod TableLemmas

@@ -1,0 +1,4 @@
+pub mod Candidates
+pub mod FilterSet
+pub mod Runs
+pub mod Tables

@@ -1,0 +1,20 @@
+-- What the tables of a `Masks` say of bytes: a number whose bit b stands for bucket b.
+use Rattle.std.specs.Prelude.{ℕ, ◌/◌, ◌%◌, ◌||◌, not, [], Bool, List, bit_and, slice_index, slice_index_or}
+use Rattle.lit_base.specs.declared.fold.Fold.{Fold}
+use Rattle.nib_mask.specs.declared.half.Half.{Half}
+use Rattle.nib_mask.specs.declared.masks.Masks.{Masks}
+use Rattle.nib_mask.specs.FilterSet.{is_used, shares_half}
+
+-- what a byte has at a position: the entry of its low half and that of its high half, as far as they agree
+unfoldable pub value_at : Masks → ℕ → ℕ → ℕ
+value_at masks position byte =
+    bit_and (slice_index (slice_index_or masks.low position []) (byte % 16))
+    (slice_index (slice_index_or masks.high position []) (byte / 16))
+
+-- the filter byte of three bytes: what they have at the positions 0, 1 and 2, as far as all agree
+unfoldable pub table_value : Masks → ℕ → ℕ → ℕ → ℕ
+table_value masks a b c = bit_and (bit_and (value_at masks 0 a) (value_at masks 1 b)) (value_at masks 2 c)
+
+-- a table keeps the run at its entry for this half: the position is not used, or the run shares the half there
+unfoldable pub allows : Fold → ℕ → Half → ℕ → List (List ℕ) → Bool
+allows fold position half value run = not (is_used position run) || shares_half fold position half value run

@@ -1,0 +1,23 @@
+//! The halves of a byte, by which the tables are looked up.
+
+ghost use Rattle.std.specs.Prelude.{◌≡◌};
+ghost use Rattle.nib_mask.specs.FilterSet.{half_of};
+
+/// Which four bits of a byte a table is looked up by.
+#[derive(Clone, Copy, Debug, PartialEq, Eq)]
+pub enum Half {
+    /// The low four.
+    Low,
+    /// The high four.
+    High,
+}
+
+/// These four bits of the byte, as a number below 16.
+pub fn half_of(half: Half, byte: u8) -> u8
+    ensures { result ≡ half_of half byte }
+{
+    match half {
+        Half::Low => byte & 15,
+        Half::High => byte >> 4,
+    }
+}
