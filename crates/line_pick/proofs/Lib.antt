@@ -1,0 +1,4 @@
+pub mod LentLemmas
+pub mod Literals
+pub mod Newlines
+pub mod Patterns

@@ -1,0 +1,7 @@
+pub mod Cutting
+pub mod Faults
+pub mod Feeding
+pub mod Lending
+pub mod Matching
+pub mod Picking
+pub mod Progresses
