@@ -1,10 +1,13 @@
 //! Literals with a certified plan.
-ghost use Rattle.std.specs.Prelude.{◌≡◌, ◌↔◌, IfErr, IfOk, IsOk, OnOk, length};
+ghost use Rattle.std.specs.Prelude.{◌≡◌, ◌<◌, ◌↔◌, IfErr, IfOk, IsOk, OnOk, length};
 ghost use Rattle.lit_base.specs.Literals.{lengths};
 ghost use Rattle.lit_base.specs.Assignments.{NoAssignmentBelow, assign_price, assignment_of};
 ghost use Rattle.lit_cert.specs.Certified.{IsCertified};
+ghost use Rattle.lit_base.specs.declared.limits.TheConstants.{MAX_LITERAL_LEN};
 ghost use Rattle.flow_scan.specs.Plans.{IsRefusalOf, Plan};
+ghost use Rattle.flow_scan.specs.Tails.{HasBounds, carry_of};
 
+use crate::carry::carry;
 use crate::fault::Fault;
 use lit_base::LitList;
 use lit_cert::{Certificate, certified_law, check};
@@ -57,6 +60,15 @@ impl Compiled {
         ensures certified { IsCertified 8 self.now.literals self.now.certificate }
     {
         &self.certificate
+    }
+
+    /// How many bytes a literal may have before a piece in which it ends.
+    pub(crate) fn carry(&self) -> usize
+        ensures value { result ≡ carry_of self.now.literals }
+        ensures small { result < MAX_LITERAL_LEN }
+        ensures bounds { HasBounds self.now.literals }
+    {
+        carry(&self.list)
     }
 }
 
