@@ -6,7 +6,7 @@ use Rattle.std.specs.Ordering.{ordering_then}
 use Rattle.std.specs.List.Sorted.{IsStrictlySortedBy}
 use Rattle.std.proofs.lemmas.Bool.Decides.{Decides-ltb}
 use Rattle.std.proofs.lemmas.Bool.{cases_lt}
-use Rattle.std.proofs.lemmas.List.{append-nil, length-take, take-append-drop, take-take}
+use Rattle.std.proofs.lemmas.List.{append-nil, append_assoc, length-take, take-append-drop, take-take}
 use Rattle.std.proofs.lemmas.List.Elements.{All-from_recursion, recursion_from_All, All-append, Contains-get_or, Contains-append_left, Contains-append_right, Contains-append_cases, Contains-push, Contains-push_cases}
 use Rattle.lit_base.specs.Literals.{Literals}
 use Rattle.lit_base.specs.Occurrences.{IsFirstEnding, NoneEnds, Occurs, hit_cmp}
@@ -181,3 +181,11 @@ hits_at_ended l text end at limit found early none = record {
     ],
   );
 }
+
+-- a list that gained some hits and then others gained both
+pub gained_both : (old middle new found more : List (ℕ × ℕ)) → middle ≡ old ++ found → new ≡ middle ++ more → new ≡ old ++ (found ++ more)
+gained_both old middle new found more first second = second ∙ ap (λ hs. hs ++ more) first ∙ append_assoc old found more
+
+-- one that gained a hit told in another way gained the hit
+pub gained_one : (old new : List (ℕ × ℕ)) (told hit : ℕ × ℕ) → new ≡ old ++ told ∷ [] → told ≡ hit → new ≡ old ++ hit ∷ []
+gained_one old new told hit gained same = subst (λ h. new ≡ old ++ h ∷ []) same gained

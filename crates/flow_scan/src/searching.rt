@@ -5,8 +5,9 @@ ghost use Rattle.flow_scan.specs.Ends.{AreHitsAt, Extends, GainsHitsAt, IsNextEn
 ghost use Rattle.flow_scan.specs.Tails.{GainsHitsBehind};
 
 use crate::compiled::Compiled;
-use crate::endings::Endings;
+use crate::endings::next_ending;
 use crate::hit::Hit;
+use lane_filter::Candidates;
 use lit_base::LitList;
 use std::alloc::AllocError;
 
@@ -20,7 +21,8 @@ pub fn next_end(compiled: &Compiled, text: &[u8], from: usize) -> Option<usize>
     if from >= text.len() {
         return None;
     }
-    match Endings::new(compiled.list(), text, from).next_ending() {
+    let mut candidates = Candidates::new(compiled.masks(), text, from);
+    match next_ending(compiled.list(), text, &mut candidates) {
         Some((end, _)) => Some(end),
         None => None,
     }
@@ -42,8 +44,8 @@ pub(crate) fn add_hits(
     ensures quiet { NoEndAfter compiled.now.literals text.now from → IsOk result }
 {
     let list = compiled.list();
-    let mut endings = Endings::new(list, text, from);
-    while let Some((end, first)) = endings.next_ending() {
+    let mut candidates = Candidates::new(compiled.masks(), text, from);
+    while let Some((end, first)) = next_ending(list, text, &mut candidates) {
         add_hits_at(list, text, end, first, at + (end - from) as u64, out)?;
     }
     Ok(())

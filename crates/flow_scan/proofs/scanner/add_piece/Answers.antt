@@ -1,8 +1,8 @@
 -- The hits at the seam, and behind them those of the piece in place.
-use Rattle.std.proofs.Common.{ℕ, ◌+◌, List, ◌++◌, length, take, ap, ◌∙◌, arith}
+use Rattle.std.proofs.Common.{◌+◌, ◌++◌, length, take, arith}
 use Rattle.std.proofs.lemmas.Bool.{false≢true}
-use Rattle.std.proofs.lemmas.List.{append_assoc}
 use Rattle.flow_scan.specs.Tails.{GainsHitsBehind, carry_of}
+use Rattle.flow_scan.proofs.HitLists.{gained_both}
 use Rattle.flow_scan.proofs.TailSteps.{added_in_place, quiet_front, quiet_rest}
 use Rattle.flow_scan.proofs.scanner.add_piece.Goals as goal
 
@@ -16,7 +16,7 @@ pub returns-in_err-add_hits-2-clause-kept : goal.returns-in_err-add_hits-2-claus
 returns-in_err-add_hits-2-clause-kept c =
     let first = c.in_ok-add_hits.ensures.kept in
     let second = c.in_err-add_hits-2.ensures.kept in
-    (first.0 ++ second.0, second.1 ∙ ap (λ (hs : List (ℕ × ℕ)). hs ++ second.0) first.1 ∙ append_assoc c.args.out.now.items first.0 second.0)
+    (first.0 ++ second.0, gained_both c.args.out.now.items c.add_hits.new.out.items c.add_hits-2.new.out.items first.0 second.0 first.1 second.1)
 
 pub returns-in_err-add_hits-2-clause-quiet : goal.returns-in_err-add_hits-2-clause-quiet
 returns-in_err-add_hits-2-clause-quiet c = λ none.
@@ -36,6 +36,6 @@ returns-clause-ok c =
     rw carry at c.in_ok-add_hits-2.ensures.ok in
     record {
       found = first.found ++ second.found;
-      grown = second.grown ∙ ap (λ (hs : List (ℕ × ℕ)). hs ++ second.found) first.grown ∙ append_assoc c.args.out.now.items first.found second.found;
+      grown = gained_both c.args.out.now.items c.add_hits.new.out.items c.add_hits-2.new.out.items first.found second.found first.grown second.grown;
       added = added_in_place l tail piece at first.found second.found c.carry-carry.ensures.bounds (omega (arith, carry, c.if-piece-carry.false)) first.added second.added;
     }

@@ -1,8 +1,7 @@
 -- One literal after the other is added, until no other ends there.
-use Rattle.std.proofs.Common.{ℕ, List, [], ◌∷◌, ◌++◌, ap, ◌∙◌, arith}
-use Rattle.std.proofs.lemmas.List.{append_assoc}
+use Rattle.std.proofs.Common.{ℕ, List, [], ◌∷◌, ◌++◌, arith}
 use Rattle.std.proofs.lemmas.Option.{slice_get_within}
-use Rattle.flow_scan.proofs.HitLists.{hits_at_ended, hits_at_more, hits_at_none}
+use Rattle.flow_scan.proofs.HitLists.{gained_both, gained_one, hits_at_ended, hits_at_more, hits_at_none}
 use Rattle.flow_scan.proofs.searching.add_hits_at.Goals as goal
 
 pub loop-place-init : goal.loop-place-init
@@ -11,7 +10,7 @@ loop-place-init c =
     let one : List (ℕ × ℕ) = (c.args.first, c.args.at) ∷ [] in
     record {
       found = one;
-      grown = c.in_ok-push.ensures.items ∙ ap (λ (h : ℕ × ℕ). c.args.out.now.items ++ h ∷ []) c.hit_of.ensures;
+      grown = gained_one c.args.out.now.items c.push.new.self.items c.hit_of.result (c.args.first, c.args.at) c.in_ok-push.ensures.items c.hit_of.ensures;
       added = hits_at_more c.args.list.now c.args.text.now c.args.end c.args.at 0 c.args.first []
           (hits_at_none c.args.list.now c.args.text.now c.args.end c.args.at) first;
       counted = omega (arith, slice_get_within c.args.list.now.texts c.args.first first.occurs.literal first.occurs.stands);
@@ -23,8 +22,8 @@ loop-place-preserved c =
     let hit : ℕ × ℕ = (c.in-Some.place, c.args.at) in
     record {
       found = before.found ++ hit ∷ [];
-      grown = c.in_ok-push-2.ensures.items ∙ ap (λ (h : ℕ × ℕ). c.loop-place.out.items ++ h ∷ []) c.hit_of-in-Some.ensures
-          ∙ ap (λ (hs : List (ℕ × ℕ)). hs ++ hit ∷ []) before.grown ∙ append_assoc c.args.out.now.items before.found (hit ∷ []);
+      grown = gained_both c.args.out.now.items c.loop-place.out.items c.push-in-Some.new.self.items before.found (hit ∷ []) before.grown
+          (gained_one c.loop-place.out.items c.push-in-Some.new.self.items c.hit_of-in-Some.result hit c.in_ok-push-2.ensures.items c.hit_of-in-Some.ensures);
       added = hits_at_more c.args.list.now c.args.text.now c.args.end c.args.at c.loop-place.from c.in-Some.place before.found before.added c.in-Some.ensures.first;
       counted = omega (arith, c.in-Some.ensures.within);
     }

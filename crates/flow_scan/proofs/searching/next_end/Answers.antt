@@ -1,5 +1,8 @@
+-- The walk is one over this text, behind this place.
 use Rattle.flow_scan.proofs.searching.next_end.Goals as goal
 
--- the walk is one over this text, behind this place
+pub next_ending-requires-clause-covers : goal.next_ending-requires-clause-covers
+next_ending-requires-clause-covers c = rw (c.list.ensures, c.new-candidates.ensures.masks) c.masks.ensures
+
 pub returns-in-None : goal.returns-in-None
-returns-in-None c = rw (c.new.ensures.list, c.list.ensures, c.new.ensures.text, c.new.ensures.at) at c.in-None.ensures.next
+returns-in-None c = rw (c.list.ensures, c.new-candidates.ensures.from) at c.in-None.ensures.next
