@@ -4,14 +4,16 @@ use Rattle.std.proofs.lemmas.List.{length-map}
 use Rattle.std.proofs.lemmas.Bool.Decides.{nat_tests}
 use Rattle.lit_base.specs.Devices.{Told}
 use Rattle.grep_run.specs.declared.options.GrepOptions.{GrepOptions}
-use Rattle.grep_run.specs.declared.searching.Found.{Found}
+use Rattle.grep_run.specs.declared.scanning.Found.{Found}
 use Rattle.grep_run.specs.declared.status.Stop.{Stop}
-use Rattle.grep_run.specs.Grep.{searched}
+use Rattle.grep_run.specs.Grep.{answer_to, asks, searched}
 use Rattle.grep_run.specs.Options.{ask_of, asks_or_standard}
 use Rattle.grep_run.specs.Searching.{IsCut, IsSearched, Searches, SearchesAll}
 use Rattle.grep_run.specs.Sources.{AreShort, Ask, Sources, after, found, name_of, taken_by}
 use Rattle.grep_run.proofs.SearchLemmas.{InputsSoFar, InputsSoFar-all, InputsSoFar-cut, InputsSoFar-last, InputsSoFar-more, InputsSoFar-none}
-use Rattle.grep_run.proofs.ToldLemmas.{Told-weaker}
+use Rattle.grep_run.proofs.ToldLemmas.{Told-none, Told-weaker}
+use Rattle.grep_run.specs.Running.{AsksFront, IsStopped}
+use Rattle.grep_run.proofs.FrontLemmas.{AppendsFront-none}
 
 -- one input alone
 one-alone : (o : GrepOptions) (test : List ℕ → Bool) (ask : Ask) (s left : Sources) (r : Result Found Stop) (out_old out_new err_old err_new : Option (List ℕ)) → AreShort s → left ≡ after ask s
@@ -50,3 +52,11 @@ map-none f (x ∷ xs) e = absurd (omega (arith, is-zero (length (x ∷ xs)) e))
 
 pub map-some : {X : Type 0} (f : X → List ℕ) (xs : List X) → false ≡ eqb (length xs) 0 → 0 < length (map f xs)
 map-some f xs e = omega (arith, is-positive (length xs) e, length-map xs f)
+
+-- where there is no memory to begin, nothing is asked for and nothing written
+pub search-none : (o : GrepOptions) (test : List ℕ → Bool) (all : List Ask) (known : Option Sources) (out err : Option (List ℕ))
+    → Told known known (λ s l. AreShort s → AsksFront (asks (searched o test (found all s))) s l × IsStopped (answer_to o test (searched o test (found all s))) out out err err)
+search-none o test all known out err =
+    Told-none known (λ s l. AreShort s → AsksFront (asks (searched o test (found all s))) s l × IsStopped (answer_to o test (searched o test (found all s))) out out err err) (λ s short.
+        (record { made = []; rest = asks (searched o test (found all s)); parts = refl; after = refl },
+        record { output = AppendsFront-none out (answer_to o test (searched o test (found all s))).output; messages = AppendsFront-none err (answer_to o test (searched o test (found all s))).messages }))

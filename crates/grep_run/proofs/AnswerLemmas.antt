@@ -5,10 +5,12 @@ use Rattle.std.proofs.KnownBytes.{Appends-nil, Appends-trans}
 use Rattle.lit_base.specs.Devices.{Told}
 use Rattle.lit_base.specs.declared.fault.Fault.{Fault}
 use Rattle.lit_base.specs.declared.fault.Fault.TheVariants.{OutOfMemory, TooManyPatterns, LiteralTooLong, TooManyLiterals, ListTooLarge}
+use Rattle.line_pick.proofs.Standing.{standing}
+use Rattle.grep_run.specs.declared.needles.Needles.{Needles}
 use Rattle.grep_run.specs.declared.options.GrepOptions.{GrepOptions}
 use Rattle.grep_run.specs.declared.patterns.NoPatterns.{NoPatterns}
 use Rattle.grep_run.specs.declared.patterns.NoPatterns.TheVariants.{Unreadable, Refused}
-use Rattle.grep_run.specs.declared.searching.Found.{Found}
+use Rattle.grep_run.specs.declared.scanning.Found.{Found}
 use Rattle.grep_run.specs.declared.status.Status.{Status}
 use Rattle.grep_run.specs.declared.status.Status.TheVariants.{Trouble}
 use Rattle.grep_run.specs.declared.status.Stop.{Stop}
@@ -20,20 +22,30 @@ use Rattle.grep_run.specs.Options.{searched_of}
 use Rattle.grep_run.specs.Patterns.{files_asked, patterns_message, patterns_of}
 use Rattle.grep_run.specs.Running.{Answers, AsksFront, Ends, IsStarved, IsStopped, Starved}
 use Rattle.grep_run.specs.Messages.{out_of_memory}
+use Rattle.grep_run.specs.Blocks.{selects}
+use Rattle.grep_run.specs.Scanning.{test_of}
 use Rattle.grep_run.specs.Searching.{AreSearched, SearchesAll}
 use Rattle.grep_run.specs.Sources.{AreShort, Ask, Input, Sources, after_all, found}
 use Rattle.grep_run.proofs.FrontLemmas.{AppendsFront-none}
 use Rattle.grep_run.proofs.ToldLemmas.{Told-then, Told-weaker, after_all-append, short-after_all}
 
-module _ (o : GrepOptions) (s mid left : Sources) (patterns : List (List ℕ)) (had : HasPatterns o s mid patterns) where
+-- tests that agree on each line are one
+same-function : (f h : List ℕ → Bool) → ((line : List ℕ) → f line ≡ h line) → f ≡ h
+same-function f h agree = λ i line. agree line i
+
+module _ (o : GrepOptions) (s mid left : Sources) (needles : Needles) (had : HasPatterns o s mid needles) where
+  -- what stands for the patterns selects the lines that they select
+  same-test : test_of o needles ≡ selects o (patterns_of o s)
+  same-test = same-function _ _ (λ line. standing.selected o.fold (patterns_of o s) needles.plan needles.has_empty (record { invert = o.invert; whole = o.whole }) line had.stands)
+
   -- the inputs that were found are those of the run
-  same-inputs : searched o patterns (found (searched_of o) mid) ≡ inputs_of o s
-  same-inputs = ap (λ ps. searched o ps (found (searched_of o) mid)) had.value ∙ ap (λ m. searched o (patterns_of o s) (found (searched_of o) m)) had.after
+  same-inputs : searched o (test_of o needles) (found (searched_of o) mid) ≡ inputs_of o s
+  same-inputs = ap (λ test. searched o test (found (searched_of o) mid)) same-test ∙ ap (λ m. searched o (selects o (patterns_of o s)) (found (searched_of o) m)) had.after
 
-  same-answer : answer_to o patterns (searched o patterns (found (searched_of o) mid)) ≡ grep o s
-  same-answer = ap (λ ps. answer_to o ps (searched o patterns (found (searched_of o) mid))) had.value ∙ ap (answer_to o (patterns_of o s)) same-inputs ∙ ap (λ m. answer_where m o s) (sym had.message)
+  same-answer : answer_to o (test_of o needles) (searched o (test_of o needles) (found (searched_of o) mid)) ≡ grep o s
+  same-answer = ap (λ test. answer_to o test (searched o (test_of o needles) (found (searched_of o) mid))) same-test ∙ ap (answer_to o (selects o (patterns_of o s))) same-inputs ∙ ap (λ m. answer_where m o s) (sym had.message)
 
-  same-asks : asks (files_asked o s) ++ asks (searched o patterns (found (searched_of o) mid)) ≡ asks_of o s
+  same-asks : asks (files_asked o s) ++ asks (searched o (test_of o needles) (found (searched_of o) mid)) ≡ asks_of o s
   same-asks = ap (λ is. asks (files_asked o s) ++ asks is) same-inputs ∙ ap (λ m. asks_where m o s) (sym had.message)
 
   -- asks behind those for the pattern files
@@ -41,7 +53,7 @@ module _ (o : GrepOptions) (s mid left : Sources) (patterns : List (List ℕ)) (
   behind made e = e ∙ ap (after_all made) had.after ∙ sym (after_all-append (asks (files_asked o s)) made s)
 
   searched-whole : (what : Found) (status : Status) {out_old out_new err_old err_new : Option (List ℕ)} → status ≡ status_where o.quiet what.is_selected what.is_error
-      → SearchesAll o patterns (searched o patterns (found (searched_of o) mid)) mid left (Ok what) out_old out_new err_old err_new → Answers o s left (Ok status) out_old out_new err_old err_new
+      → SearchesAll o (test_of o needles) (searched o (test_of o needles) (found (searched_of o) mid)) mid left (Ok what) out_old out_new err_old err_new → Answers o s left (Ok status) out_old out_new err_old err_new
   searched-whole what status {out_old} {out_new} {err_old} {err_new} e p =
       (behind _ p.0 ∙ ap (λ made. after_all made s) same-asks, record {
         output = subst (λ a. Appends out_old out_new a.output) same-answer p.1.output;
@@ -50,7 +62,7 @@ module _ (o : GrepOptions) (s mid left : Sources) (patterns : List (List ℕ)) (
       })
 
   searched-cut : (stop stop' : Stop) {out_old out_new err_old err_new : Option (List ℕ)}
-      → SearchesAll o patterns (searched o patterns (found (searched_of o) mid)) mid left (Err stop) out_old out_new err_old err_new → Answers o s left (Err stop') out_old out_new err_old err_new
+      → SearchesAll o (test_of o needles) (searched o (test_of o needles) (found (searched_of o) mid)) mid left (Err stop) out_old out_new err_old err_new → Answers o s left (Err stop') out_old out_new err_old err_new
   searched-cut stop stop' {out_old} {out_new} {err_old} {err_new} p =
       (record {
         made = asks (files_asked o s) ++ p.0.made;
@@ -60,23 +72,23 @@ module _ (o : GrepOptions) (s mid left : Sources) (patterns : List (List ℕ)) (
       }, subst (λ a. IsStopped a out_old out_new err_old err_new) same-answer p.1)
 
 -- the run where its inputs were searched
-pub answers-searched : (o : GrepOptions) (known mid left : Option Sources) (patterns : List (List ℕ)) (what : Found) (status : Status) (out_old out_new err_old err_new : Option (List ℕ))
-    → status ≡ status_where o.quiet what.is_selected what.is_error → Told known mid (λ s m. AreShort s → HasPatterns o s m patterns)
-    → Told mid left (λ m l. AreShort m → SearchesAll o patterns (searched o patterns (found (searched_of o) m)) m l (Ok what) out_old out_new err_old err_new)
+pub answers-searched : (o : GrepOptions) (known mid left : Option Sources) (needles : Needles) (what : Found) (status : Status) (out_old out_new err_old err_new : Option (List ℕ))
+    → status ≡ status_where o.quiet what.is_selected what.is_error → Told known mid (λ s m. AreShort s → HasPatterns o s m needles)
+    → Told mid left (λ m l. AreShort m → SearchesAll o (test_of o needles) (searched o (test_of o needles) (found (searched_of o) m)) m l (Ok what) out_old out_new err_old err_new)
     → Told known left (λ s l. AreShort s → Answers o s l (Ok status) out_old out_new err_old err_new)
-answers-searched o known mid left patterns what status out_old out_new err_old err_new e p q =
+answers-searched o known mid left needles what status out_old out_new err_old err_new e p q =
     Told-then known mid left _ _ (λ s l. AreShort s → Answers o s l (Ok status) out_old out_new err_old err_new) p q (λ s m l had all short.
         let h = had short in
-        searched-whole o s m l patterns h what status e (all (subst AreShort (sym h.after) (short-after_all (asks (files_asked o s)) s short))))
+        searched-whole o s m l needles h what status e (all (subst AreShort (sym h.after) (short-after_all (asks (files_asked o s)) s short))))
 
-pub answers-cut : (o : GrepOptions) (known mid left : Option Sources) (patterns : List (List ℕ)) (stop stop' : Stop) (out_old out_new err_old err_new : Option (List ℕ))
-    → Told known mid (λ s m. AreShort s → HasPatterns o s m patterns)
-    → Told mid left (λ m l. AreShort m → SearchesAll o patterns (searched o patterns (found (searched_of o) m)) m l (Err stop) out_old out_new err_old err_new)
+pub answers-cut : (o : GrepOptions) (known mid left : Option Sources) (needles : Needles) (stop stop' : Stop) (out_old out_new err_old err_new : Option (List ℕ))
+    → Told known mid (λ s m. AreShort s → HasPatterns o s m needles)
+    → Told mid left (λ m l. AreShort m → SearchesAll o (test_of o needles) (searched o (test_of o needles) (found (searched_of o) m)) m l (Err stop) out_old out_new err_old err_new)
     → Told known left (λ s l. AreShort s → Answers o s l (Err stop') out_old out_new err_old err_new)
-answers-cut o known mid left patterns stop stop' out_old out_new err_old err_new p q =
+answers-cut o known mid left needles stop stop' out_old out_new err_old err_new p q =
     Told-then known mid left _ _ (λ s l. AreShort s → Answers o s l (Err stop') out_old out_new err_old err_new) p q (λ s m l had all short.
         let h = had short in
-        searched-cut o s m l patterns h stop stop' (all (subst AreShort (sym h.after) (short-after_all (asks (files_asked o s)) s short))))
+        searched-cut o s m l needles h stop stop' (all (subst AreShort (sym h.after) (short-after_all (asks (files_asked o s)) s short))))
 
 -- a message that the patterns have is on why they are refused
 message-of : (why : NoPatterns) (message : Option (List ℕ)) → why ≢ Refused OutOfMemory → Explains why message → message ≡ Some (text_of why)

@@ -1,66 +1,14 @@
 -- A block as its lines come.
-use Rattle.std.proofs.Common.{◌≡◌, ℕ, ◌+◌, ◌-◌, ◌^◌, ◌≤◌, ◌<◌, Bool, true, false, ◌||◌, cond, List, [], ◌∷◌, ◌++◌, filter, flat_map, length, min, refl, sym, ap, ◌∙◌, subst, append_assoc, append-nil, length-append, arith, codes}
+use Rattle.std.proofs.Common.{◌≡◌, ℕ, ◌+◌, ◌-◌, ◌^◌, ◌≤◌, ◌<◌, Bool, true, false, ◌||◌, cond, List, [], ◌∷◌, ◌++◌, flat_map, length, min, Ok, refl, sym, ap, ◌∙◌, subst, append_assoc, append-nil, length-append, arith, codes}
 use Rattle.std.proofs.lemmas.Bool.{lt-ltb}
 use Rattle.std.specs.Prelude.{decimal, nat_lt}
-use Rattle.std.specs.List.{enumerate_from}
+use Rattle.line_pick.specs.Lending.{Lent, NoneLeft, OneMore, LastOne}
+use Rattle.line_pick.specs.declared.sink.Next.{Next}
+use Rattle.line_pick.specs.declared.sink.Next.TheVariants.{More, Stop}
+use Rattle.grep_run.specs.declared.block.Block.{Block}
 use Rattle.grep_run.specs.declared.options.GrepOptions.{GrepOptions}
-use Rattle.grep_run.specs.declared.block.Next.{Next}
-use Rattle.grep_run.specs.declared.block.Next.TheVariants.{More, Stop}
-use Rattle.grep_run.specs.Blocks.{block_of, has_any, prefix_of, selected_of, selects, written_line}
-use Rattle.grep_run.specs.Growing.{IsFilling, added_line, ending_of, next_of}
-
--- the selected ones of lines from a number on
-abbrev pub selected_from : GrepOptions → (List ℕ → Bool) → ℕ → List (List ℕ) → List (ℕ × List ℕ)
-selected_from o test number texts = filter (λ numbered. selects o test numbered.1) (enumerate_from number texts)
-
--- the lines before those that are left are dealt with: the selected ones came, and these are they
-pub record LentSoFar (o : GrepOptions) (test : List ℕ → Bool) (name : List ℕ) (all rest : List (List ℕ)) (number total : ℕ) (held : List ℕ) : Type 0 where
-  pub lent : List (ℕ × List ℕ)
-  pub parts : selected_of test all ≡ lent ++ selected_from o test (number + 1) rest
-  pub text : held ≡ flat_map (added_line o name) lent
-  pub count : total ≡ length lent
-  pub few : length lent ≤ number
-
--- at first none is
-pub LentSoFar-none : (o : GrepOptions) (test : List ℕ → Bool) (name : List ℕ) (all : List (List ℕ)) → LentSoFar o test name all all 0 0 []
-LentSoFar-none o test name all = record { lent = []; parts = refl; text = refl; count = refl; few = omega arith }
-
--- what one line more adds
-flat_map-more : {X : Type 0} (f : X → List ℕ) (xs : List X) (x : X) → flat_map f (xs ++ x ∷ []) ≡ flat_map f xs ++ f x
-flat_map-more f [] x = append-nil (f x)
-flat_map-more f (y ∷ xs) x = ap (λ t. f y ++ t) (flat_map-more f xs x) ∙ sym (append_assoc (f y) (flat_map f xs) (f x))
-
-module _ (o : GrepOptions) (test : List ℕ → Bool) (name : List ℕ) {all rest : List (List ℕ)} {number count : ℕ} {text : List ℕ} (line : List ℕ) (behind : List (List ℕ)) where
-  -- a line that is not selected is passed over
-  pub LentSoFar-passed : LentSoFar o test name all rest number count text → rest ≡ line ∷ behind → selects o test line ≡ false → LentSoFar o test name all behind (number + 1) count text
-  LentSoFar-passed p e missed = record {
-    lent = p.lent;
-    parts = p.parts ∙ ap (λ ls. p.lent ++ selected_from o test (number + 1) ls) e
-        ∙ ap (λ b. p.lent ++ cond b ((number + 1, line) ∷ selected_from o test (number + 1 + 1) behind) (selected_from o test (number + 1 + 1) behind)) missed;
-    text = p.text;
-    count = p.count;
-    few = omega (arith, p.few);
-  }
-
-  -- the parts, with a selected line taken off
-  parts-taken : (p : LentSoFar o test name all rest number count text) → rest ≡ line ∷ behind → selects o test line ≡ true
-      → selected_of test all ≡ (p.lent ++ (number + 1, line) ∷ []) ++ selected_from o test (number + 1 + 1) behind
-  parts-taken p e taken =
-      p.parts ∙ ap (λ ls. p.lent ++ selected_from o test (number + 1) ls) e
-      ∙ ap (λ b. p.lent ++ cond b ((number + 1, line) ∷ selected_from o test (number + 1 + 1) behind) (selected_from o test (number + 1 + 1) behind)) taken
-      ∙ sym (append_assoc p.lent ((number + 1, line) ∷ []) (selected_from o test (number + 1 + 1) behind))
-
-  -- one that is selected comes
-  pub LentSoFar-taken : (new_count : ℕ) (new_text : List ℕ) → LentSoFar o test name all rest number count text → rest ≡ line ∷ behind → selects o test line ≡ true
-      → number + 1 < 2 ^ 64 → new_count ≡ min (count + 1) (2 ^ 64 - 1) → new_text ≡ text ++ added_line o name (number + 1, line)
-      → LentSoFar o test name all behind (number + 1) new_count new_text
-  LentSoFar-taken new_count new_text p e taken small counted grown = record {
-    lent = p.lent ++ (number + 1, line) ∷ [];
-    parts = parts-taken p e taken;
-    text = grown ∙ ap (λ t. t ++ added_line o name (number + 1, line)) p.text ∙ sym (flat_map-more (added_line o name) p.lent (number + 1, line));
-    count = omega (arith, counted, p.count, p.few, length-append p.lent ((number + 1, line) ∷ []));
-    few = omega (arith, p.few, length-append p.lent ((number + 1, line) ∷ []));
-  }
+use Rattle.grep_run.specs.Blocks.{block_of, has_any, prefix_of, written_line}
+use Rattle.grep_run.specs.Growing.{AddsLine, TakesLine, added_line, ending_of, next_of}
 
 -- no byte
 abbrev nothing : List ℕ
@@ -72,7 +20,7 @@ flat_map-none [] = refl
 flat_map-none (x ∷ xs) = flat_map-none xs
 
 -- what all selected lines add, and the end, are the block
-block-parts : (o : GrepOptions) (name : List ℕ) (lent : List (ℕ × List ℕ)) → flat_map (added_line o name) lent ++ ending_of o name (length lent) ≡ block_of o name lent
+pub block-parts : (o : GrepOptions) (name : List ℕ) (lent : List (ℕ × List ℕ)) → flat_map (added_line o name) lent ++ ending_of o name (length lent) ≡ block_of o name lent
 block-parts o name lent =
     elim o.quiet as (λ q. flat_map (λ n. cond (q || (o.list || o.count)) [] (written_line o name n)) lent ++ (cond q [] (cond o.list (cond (nat_lt 0 (length lent)) (name ++ codes "\n") []) (cond o.count (prefix_of o name ++ (decimal (length lent) ++ codes "\n")) [])))
         ≡ cond q [] (cond o.list (cond (has_any lent) (name ++ codes "\n") []) (cond o.count (prefix_of o name ++ (decimal (length lent) ++ codes "\n")) (flat_map (written_line o name) lent)))) [
@@ -88,16 +36,6 @@ block-parts o name lent =
         ]
     ]
 
--- where no line is left, the block has all
-pub LentSoFar-filling : {o : GrepOptions} {test : List ℕ → Bool} {name : List ℕ} {all rest : List (List ℕ)} {number count : ℕ} {text : List ℕ} → LentSoFar o test name all rest number count text → rest ≡ []
-    → IsFilling o test name all count text
-LentSoFar-filling {o} {test} {name} {all} {rest} {number} {count} {text} p e =
-    let parts : selected_of test all ≡ p.lent = p.parts ∙ ap (λ ls. p.lent ++ selected_from o test (number + 1) ls) e ∙ append-nil p.lent in
-    record {
-      whole = ap (λ t. t ++ ending_of o name count) p.text ∙ ap (λ n. flat_map (added_line o name) p.lent ++ ending_of o name n) p.count ∙ block-parts o name p.lent ∙ ap (block_of o name) (sym parts);
-      any = ap (nat_lt 0) p.count ∙ ap has_any (sym parts);
-    }
-
 -- where no line is wanted behind the first, nothing is written of lines
 none-wanted : (quiet list count : Bool) (text : List ℕ) → (quiet || list) ≡ true → cond (quiet || (list || count)) [] text ≡ []
 none-wanted true list count text e = refl
@@ -105,7 +43,7 @@ none-wanted false true count text e = refl
 none-wanted false false count text e = (cc)
 
 -- and the end says only that there is one
-ending-any : (o : GrepOptions) (name : List ℕ) (count : ℕ) (lent : List (ℕ × List ℕ)) → (o.quiet || o.list) ≡ true → nat_lt 0 count ≡ has_any lent → ending_of o name count ≡ block_of o name lent
+pub ending-any : (o : GrepOptions) (name : List ℕ) (count : ℕ) (lent : List (ℕ × List ℕ)) → (o.quiet || o.list) ≡ true → nat_lt 0 count ≡ has_any lent → ending_of o name count ≡ block_of o name lent
 ending-any o name count lent e any =
     elim o.quiet as (λ q. (q || o.list) ≡ true → cond q [] (cond o.list (cond (nat_lt 0 count) (name ++ codes "\n") []) (cond o.count (prefix_of o name ++ (decimal count ++ codes "\n")) []))
         ≡ cond q [] (cond o.list (cond (has_any lent) (name ++ codes "\n") []) (cond o.count (prefix_of o name ++ (decimal (length lent) ++ codes "\n")) (flat_map (written_line o name) lent)))) [
@@ -118,43 +56,84 @@ ending-any o name count lent e any =
     ] e
 
 -- lines that add nothing each add nothing together
-adds-none : (o : GrepOptions) (name : List ℕ) (lent : List (ℕ × List ℕ)) → (o.quiet || o.list) ≡ true → flat_map (added_line o name) lent ≡ []
+pub adds-none : (o : GrepOptions) (name : List ℕ) (lent : List (ℕ × List ℕ)) → (o.quiet || o.list) ≡ true → flat_map (added_line o name) lent ≡ []
 adds-none o name [] e = refl
 adds-none o name (x ∷ lent) e = ap (λ t. t ++ flat_map (added_line o name) lent) (none-wanted o.quiet o.list o.count (written_line o name x) e) ∙ adds-none o name lent e
 
 -- one of those before is one of all
-any-behind : (lent more : List (ℕ × List ℕ)) → 0 < length lent → has_any (lent ++ more) ≡ true
+pub any-behind : (lent more : List (ℕ × List ℕ)) → 0 < length lent → has_any (lent ++ more) ≡ true
 any-behind lent more some = lt-ltb 0 (length (lent ++ more)) (omega (arith, length-append lent more))
 
--- where no line is wanted behind one that came, the others change nothing
-pub LentSoFar-stopped : {o : GrepOptions} {test : List ℕ → Bool} {name : List ℕ} {all rest : List (List ℕ)} {number count : ℕ} {text : List ℕ} → LentSoFar o test name all rest number count text
-    → 0 < count → (o.quiet || o.list) ≡ true → IsFilling o test name all count text
-LentSoFar-stopped {o} {test} {name} {all} {rest} {number} {count} {text} p some e =
-    let any : nat_lt 0 count ≡ has_any (selected_of test all) = lt-ltb 0 count some ∙ sym (ap has_any p.parts ∙ any-behind p.lent _ (omega (arith, p.count))) in
-    record {
-      whole = ap (λ t. t ++ ending_of o name count) (p.text ∙ adds-none o name p.lent e) ∙ ending-any o name count (selected_of test all) e any;
-      any = any;
-    }
-
 -- a block that wants no line more is one of -q or -l
-wants-none : (quiet list : Bool) → cond (quiet || list) Stop More ≡ Stop → (quiet || list) ≡ true
+pub wants-none : (quiet list : Bool) → cond (quiet || list) Stop More ≡ Stop → (quiet || list) ≡ true
 wants-none true list e = refl
 wants-none false true e = refl
 wants-none false false e = (cc)
 
-module _ (o : GrepOptions) (test : List ℕ → Bool) (name : List ℕ) {all rest : List (List ℕ)} {number count : ℕ} {text : List ℕ} (line : List ℕ) (behind : List (List ℕ)) (next : ℕ) where
-  -- the line with the next number is passed over
-  pub passed-next : LentSoFar o test name all rest number count text → rest ≡ line ∷ behind → next ≡ number + 1 → selects o test line ≡ false → LentSoFar o test name all behind next count text
-  passed-next p e number_is missed = subst (λ n. LentSoFar o test name all behind n count text) (sym number_is) (LentSoFar-passed o test name line behind p e missed)
 
-  -- it comes
-  pub taken-next : (new_count : ℕ) (new_text : List ℕ) → LentSoFar o test name all rest number count text → rest ≡ line ∷ behind → next ≡ number + 1 → selects o test line ≡ true
-      → next < 2 ^ 64 → new_count ≡ min (count + 1) (2 ^ 64 - 1) → new_text ≡ text ++ added_line o name (next, line) → LentSoFar o test name all behind next new_count new_text
-  taken-next new_count new_text p e number_is taken small counted grown =
-      subst (λ n. LentSoFar o test name all behind n new_count new_text) (sym number_is)
-          (LentSoFar-taken o test name line behind new_count new_text p e taken (subst (λ n. n < 2 ^ 64) number_is small) counted (grown ∙ ap (λ n. text ++ added_line o name (n, line)) number_is))
+-- a block that has taken lines and wants more
+pub record HasMore (o : GrepOptions) (name : List ℕ) (lines : List (ℕ × List ℕ)) (old new : Block) : Type 0 where
+  pub options : new.options.now ≡ o
+  pub called : new.name.now ≡ name
+  pub text : new.text.items ≡ old.text.items ++ flat_map (added_line o name) lines
+  pub count : (n : ℕ) → old.count ≡ min n (2 ^ 64 - 1) → new.count ≡ min (n + length lines) (2 ^ 64 - 1)
+  pub unwanted : next_of o ≡ Stop → lines ≡ []
 
--- a block that wants none behind a line
-pub stopped-at : {o : GrepOptions} {test : List ℕ → Bool} {name : List ℕ} {all rest : List (List ℕ)} {number count : ℕ} {text : List ℕ} → LentSoFar o test name all rest number count text
-    → 0 < count → next_of o ≡ Stop → IsFilling o test name all count text
-stopped-at {o} p some e = LentSoFar-stopped p some (wants-none o.quiet o.list e)
+-- one more, where numbers stop at their greatest
+one-more : (n : ℕ) → min (min n (2 ^ 64 - 1) + 1) (2 ^ 64 - 1) ≡ min (n + 1) (2 ^ 64 - 1)
+one-more n = omega arith
+
+-- what one line adds, by the options and the name of all
+adds-same : (o : GrepOptions) (name : List ℕ) {old new : Block} (number : ℕ) (line : List ℕ) (answer : Next) → AddsLine old number line answer new → old.options.now ≡ o → old.name.now ≡ name
+    → new.text.items ≡ old.text.items ++ added_line o name (number, line)
+adds-same o name {old} {new} number line answer h same named =
+    h.text ∙ ap (λ p. old.text.items ++ added_line p old.name.now (number, line)) same ∙ ap (λ n. old.text.items ++ added_line o n (number, line)) named
+
+pub lent-more : (o : GrepOptions) (name : List ℕ) {old new : Block} {lines : List (ℕ × List ℕ)} → Lent TakesLine old lines (Ok More) new → old.options.now ≡ o → old.name.now ≡ name → HasMore o name lines old new
+lent-more o name {old} NoneLeft same named = record {
+  options = same;
+  called = named;
+  text = sym (append-nil old.text.items);
+  count = λ n is. is ∙ ap (λ k. min k (2 ^ 64 - 1)) (omega arith);
+  unwanted = λ stop. refl;
+}
+lent-more o name {old} {new} (OneMore {t = mid} {number = number} {line = line} {rest = rest} first others) same named =
+    let then = lent-more o name others (first.options ∙ same) (first.name ∙ named) in
+    record {
+      options = then.options;
+      called = then.called;
+      text = then.text ∙ ap (λ t. t ++ flat_map (added_line o name) rest) (adds-same o name number line More first same named) ∙ append_assoc old.text.items (added_line o name (number, line)) (flat_map (added_line o name) rest);
+      count = λ n is. then.count (n + 1) (first.count ∙ ap (λ k. min (k + 1) (2 ^ 64 - 1)) is ∙ one-more n) ∙ ap (λ k. min k (2 ^ 64 - 1)) (omega arith);
+      unwanted = λ stop. let wrong : More ≡ Stop = first.next ∙ ap next_of same ∙ stop in (cc);
+    }
+lent-more o name (LastOne last other) same named = absurd (other refl)
+
+-- a block that wants no line any more has taken one
+pub record HasStopped (o : GrepOptions) (name : List ℕ) (lines : List (ℕ × List ℕ)) (new : Block) : Type 0 where
+  pub options : new.options.now ≡ o
+  pub called : new.name.now ≡ name
+  pub stop : next_of o ≡ Stop
+  pub some : 0 < length lines
+  pub count : 0 < new.count
+
+pub lent-stop : (o : GrepOptions) (name : List ℕ) {old new : Block} {lines : List (ℕ × List ℕ)} → Lent TakesLine old lines (Ok Stop) new → old.options.now ≡ o → old.name.now ≡ name → HasStopped o name lines new
+lent-stop o name (OneMore first others) same named =
+    let then = lent-stop o name others (first.options ∙ same) (first.name ∙ named) in
+    let wrong : More ≡ Stop = first.next ∙ ap next_of same ∙ then.stop in (cc)
+lent-stop o name (LastOne last other) same named = record {
+  options = last.options ∙ same;
+  called = last.name ∙ named;
+  stop = sym (last.next ∙ ap next_of same);
+  some = omega arith;
+  count = omega (arith, last.count);
+}
+
+-- and it holds what it held
+pub lent-stop-text : (o : GrepOptions) (name : List ℕ) {old new : Block} {lines : List (ℕ × List ℕ)} → Lent TakesLine old lines (Ok Stop) new → old.options.now ≡ o → old.name.now ≡ name → old.text.items ≡ [] → new.text.items ≡ []
+lent-stop-text o name (OneMore first others) same named none =
+    let then = lent-stop o name others (first.options ∙ same) (first.name ∙ named) in
+    let wrong : More ≡ Stop = first.next ∙ ap next_of same ∙ then.stop in (cc)
+lent-stop-text o name {old} (LastOne {number = number} {line = line} last other) same named none =
+    adds-same o name number line Stop last same named
+    ∙ ap (λ t. old.text.items ++ t) (none-wanted o.quiet o.list o.count (written_line o name (number, line)) (wants-none o.quiet o.list (sym (last.next ∙ ap next_of same))))
+    ∙ append-nil old.text.items ∙ none

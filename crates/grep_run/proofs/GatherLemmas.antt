@@ -6,6 +6,8 @@ use Rattle.lit_base.specs.Devices.{Told}
 use Rattle.lit_base.specs.declared.fault.Fault.{Fault}
 use Rattle.lit_base.specs.declared.fault.Fault.TheVariants.{OutOfMemory, TooManyPatterns, LiteralTooLong, TooManyLiterals, ListTooLarge}
 use Rattle.lit_base.specs.declared.fold.Fold.{Fold}
+use Rattle.line_pick.specs.Matching.{StandsFor}
+use Rattle.grep_run.specs.declared.needles.Needles.{Needles}
 use Rattle.grep_run.specs.declared.options.GrepOptions.{GrepOptions}
 use Rattle.grep_run.specs.declared.patterns.NoPatterns.{NoPatterns}
 use Rattle.grep_run.specs.declared.patterns.NoPatterns.TheVariants.{Unreadable, Refused}
@@ -16,7 +18,7 @@ use Rattle.grep_run.specs.Options.{asks_for, files_of, lists_of}
 use Rattle.grep_run.specs.Patterns.{content_message, file_message, files_asked, files_message, files_read, first_of, lists_refusal, literals_refusal, pattern_files, patterns_from, patterns_in, patterns_message, patterns_of}
 use Rattle.grep_run.specs.Running.{AsksFront}
 use Rattle.grep_run.specs.Sources.{AreShort, Ask, Content, Input, Named, Sources, after, after_all, after_named, found, source_of, taken_by}
-use Rattle.grep_run.proofs.ToldLemmas.{Told-then, after_all-one, short-after}
+use Rattle.grep_run.proofs.ToldLemmas.{Told-then, Told-weaker, after_all-one, short-after}
 
 -- the patterns of files
 abbrev pub all_from : List Input → List (List ℕ)
@@ -162,15 +164,16 @@ literals-refused o s left patterns fault none p known =
       after = λ other. after;
     }
 
-pub patterns-had : (o : GrepOptions) (s left : Sources) (patterns : List (List ℕ)) → lists_refusal [] (lists_of o) ≡ None
-    → TakesAllFiles (patterns_in (lists_of o)) patterns s left (pattern_files o s) → literals_refusal o.fold patterns ≡ None → HasPatterns o s left patterns
-patterns-had o s left patterns none p few = record {
+pub patterns-had : (o : GrepOptions) (s left : Sources) (patterns : List (List ℕ)) (needles : Needles) → lists_refusal [] (lists_of o) ≡ None
+    → TakesAllFiles (patterns_in (lists_of o)) patterns s left (pattern_files o s) → literals_refusal o.fold patterns ≡ None → StandsFor o.fold patterns needles.plan needles.has_empty
+    → HasPatterns o s left needles
+patterns-had o s left patterns needles none p few stands = record {
   message =
       none-refused (lists_refusal [] (lists_of o)) _ none
       ∙ behind-none _ _ p.message
       ∙ ap (λ ps. option_map patterns_refused (literals_refusal o.fold ps)) (sym p.patterns)
       ∙ ap (option_map patterns_refused) few;
-  value = p.patterns;
+  stands = subst (λ ps. StandsFor o.fold ps needles.plan needles.has_empty) p.patterns stands;
   after = p.after ∙ ap (λ fs. after_all (asks fs) s) (sym (files-asked o s none));
 }
 
@@ -202,3 +205,11 @@ files-stop known mid left old now name all {here} {rest} why e before step =
         let so_far : FilesSoFar old now all (Named name ∷ rest) s m = subst (λ asks. FilesSoFar old now all asks s m) e (p short) in
         let taken = q so_far.short in
         FilesSoFar-stop name rest l why so_far taken.0 taken.1)
+
+-- all patterns are had
+pub had-all : (o : GrepOptions) (known left : Option Sources) (start patterns : List (List ℕ)) (needles : Needles) → lists_refusal [] (lists_of o) ≡ None → start ≡ patterns_in (lists_of o)
+    → Told known left (λ s l. AreShort s → TakesAllFiles start patterns s l (pattern_files o s)) → literals_refusal o.fold patterns ≡ None → StandsFor o.fold patterns needles.plan needles.has_empty
+    → Told known left (λ s l. AreShort s → HasPatterns o s l needles)
+had-all o known left start patterns needles none e taken few stands =
+    Told-weaker known left _ (λ s l. AreShort s → HasPatterns o s l needles) taken (λ s l t short.
+        patterns-had o s l patterns needles none (subst (λ ps. TakesAllFiles ps patterns s l (pattern_files o s)) e (t short)) few stands)

@@ -1,43 +1,465 @@
--- One input: its block and its message.
-use Rattle.std.proofs.Common.{◌≡◌, ℕ, Bool, true, false, ◌||◌, ◌&&◌, not, cond, List, [], Option, None, Some, Result, Ok, Err, OnOk, OnErr, refl, sym, ap, ◌∙◌, subst}
+-- One input, piece by piece: where picker and block stand, and what they come to.
+use Rattle.std.proofs.Common.{◌≡◌, ◌≢◌, ℕ, zero, ◌+◌, ◌-◌, ◌^◌, ◌≤◌, ◌<◌, Bool, true, false, ◌||◌, ◌&&◌, not, cond, List, [], ◌∷◌, ◌++◌, eqb, flat_map, length, min, Option, None, Some, Result, Ok, Err, refl, sym, ap, ◌∙◌, subst, append_assoc, append-nil, length-append, length-take-le, take, arith}
+use Rattle.std.proofs.lemmas.Bool.{lt-ltb}
+use Rattle.std.proofs.lemmas.List.Concat.{flat_map-append}
+use Rattle.std.proofs.lemmas.List.FromFn.{length-enumerate_from}
+use Rattle.std.proofs.lemmas.List.Sums.{count_by-le-length, length-filter}
+use Rattle.std.specs.List.{enumerate_from}
+use Rattle.std.specs.Prelude.{nat_lt}
 use Rattle.std.specs.Io.KnownBytes.{Appends}
-use Rattle.std.proofs.KnownBytes.{Appends-nil}
-use Rattle.lit_base.specs.Lines.{lines}
+use Rattle.std.proofs.KnownBytes.{Appends-nil, Appends-trans}
+use Rattle.lit_base.specs.Devices.{Coming, EndsHere, Ending, Faulty, MayFail, ReadGives, Told}
+use Rattle.lit_base.specs.Devices as Devices
+use Rattle.lit_base.specs.declared.device.Failed.{Failed}
+use Rattle.lit_base.specs.Lines.{ended_lines, last_line, lines, open_rest}
+use Rattle.lit_base.proofs.EndedLemmas.{ended_lines-append, ended_lines-none, lines-ended_open, open_rest-append}
+use Rattle.line_pick.proofs.Crossing.{length-ended_lines}
+use Rattle.line_pick.proofs.Newlines.{open_rest-nil}
+use Rattle.std.proofs.lemmas.List.Elements.{All-nil}
+use Rattle.line_pick.specs.declared.state.State.TheVariants.{Running}
+use Rattle.line_pick.proofs.LentLemmas.{Lent-from_Lends, numbered-append}
+use Rattle.line_pick.specs.Feeding.{Feeds, Finishes, fed, picked}
+use Rattle.line_pick.specs.Lending.{Lends, Lent, Whole, numbered}
+use Rattle.line_pick.specs.Picking.{Picking}
+use Rattle.line_pick.specs.declared.fault.Fault.TheVariants.{StreamTooLong}
+use Rattle.line_pick.specs.declared.sink.Next.{Next}
+use Rattle.line_pick.specs.declared.sink.Next.TheVariants.{More, Stop}
+use Rattle.grep_run.specs.declared.block.Block.{Block}
 use Rattle.grep_run.specs.declared.options.GrepOptions.{GrepOptions}
-use Rattle.grep_run.specs.declared.reading.ReadText.{ReadText}
-use Rattle.grep_run.specs.declared.searching.Found.{Found}
-use Rattle.grep_run.specs.declared.status.Stop.{Stop}
-use Rattle.grep_run.specs.Blocks.{block_in, block_of, has_any, is_trouble, message_in, selected_in, selected_of}
-use Rattle.grep_run.specs.Fronts.{AppendsFront}
+use Rattle.grep_run.specs.declared.scanning.End.TheVariants.{Clean, Fault}
+use Rattle.grep_run.specs.Blocks.{block_in, block_of, has_any, is_trouble, lines_of, message_in}
+use Rattle.grep_run.specs.declared.scanning.Found.{Found}
 use Rattle.grep_run.specs.Messages.{unreadable}
-use Rattle.grep_run.specs.Reading.{IsReadOf}
-use Rattle.grep_run.specs.Searching.{IsCut, IsScanned, IsSearched, Searches}
-use Rattle.grep_run.specs.Sources.{Content}
-use Rattle.grep_run.proofs.FrontLemmas.{AppendsFront-all, AppendsFront-none}
+use Rattle.grep_run.specs.Fronts.{AppendsFront, Leaves}
+use Rattle.grep_run.specs.Growing.{IsSameBlock, TakesLine, added_line, ending_of, next_of}
+use Rattle.grep_run.specs.Scanning.{FeedsPiece, tested_by, HasFed, HasRead, HasTaken, IsHalted, StandsBehind, ended_in, is_fault}
+use Rattle.grep_run.specs.declared.scanning.End.{End}
+use Rattle.grep_run.specs.Searching.{IsCut, IsScanned}
+use Rattle.grep_run.specs.Sources.{Content, IsShort, coming_of}
+use Rattle.grep_run.proofs.BlockLemmas.{HasMore, adds-none, any-behind, block-parts, ending-any, lent-more, lent-stop, lent-stop-text, wants-none}
+use Rattle.grep_run.proofs.FrontLemmas.{AppendsFront-all, AppendsFront-behind, AppendsFront-none}
 
--- the lines of the text that was read are those of the content
-same-lines : {c : Content} {read : ReadText} (o : GrepOptions) (test : List ℕ → Bool) (text : List ℕ) → text ≡ read.bytes.items → IsReadOf c read
-    → selected_of test (lines text) ≡ selected_in test (Some c)
-same-lines o test text e r = ap (λ t. selected_of test (lines t)) e ∙ ap (selected_of test) r.text
+-- the selected lines of a text and of what follows it
+module _ (test : List ℕ → Bool) (text more : List ℕ) (p : Picking) (f : HasFed test text p) where
+  same-picked : (lines : List (List ℕ)) → numbered test (length (ended_lines text)) lines ≡ picked p lines
+  same-picked lines = ap (λ n. numbered test n lines) (sym f.lines) ∙ ap (λ t. numbered t p.lines lines) (sym f.tests)
 
--- a front of the block was written
-pub scan-cut : {c : Content} {read : ReadText} (o : GrepOptions) (test : List ℕ → Bool) (name text : List ℕ) {out_old out_new : Option (List ℕ)} → text ≡ read.bytes.items → IsReadOf c read
-    → AppendsFront out_old out_new (block_of o name (selected_of test (lines text))) → AppendsFront out_old out_new (block_in o test name (Some c))
-scan-cut o test name text {out_old} {out_new} e r p = subst (λ selected. AppendsFront out_old out_new (block_of o name selected)) (same-lines o test text e r) p
+  pub ended-more : ended_in test (text ++ more) ≡ ended_in test text ++ picked p (ended_lines (p.held ++ more))
+  ended-more =
+      ap (numbered test 0) (ended_lines-append text more) ∙ numbered-append test 0 (ended_lines text) (ended_lines (open_rest text ++ more))
+      ∙ ap (λ n. ended_in test text ++ numbered test n (ended_lines (open_rest text ++ more))) (omega arith)
+      ∙ ap (λ ls. ended_in test text ++ ls) (same-picked (ended_lines (open_rest text ++ more)))
+      ∙ ap (λ held. ended_in test text ++ picked p (ended_lines (held ++ more))) (sym f.held)
 
--- the block was written, and this was found
-pub scan-done : {c : Content} {read : ReadText} (o : GrepOptions) (test : List ℕ → Bool) (name text : List ℕ) {out_old out_new : Option (List ℕ)} (is_selected is_error : Bool) → text ≡ read.bytes.items → IsReadOf c read
-    → Appends out_old out_new (block_of o name (selected_of test (lines text))) → is_selected ≡ has_any (selected_of test (lines text))
-    → is_error ≡ (read.is_faulty && not ((o.quiet || o.list) && is_selected))
-    → IsScanned o test name c (record { is_selected = is_selected; is_error = is_error }) out_old out_new
-scan-done {c} o test name text {out_old} {out_new} is_selected is_error e r p any error =
-    let same = same-lines o test text e r in
-    let selected : is_selected ≡ has_any (selected_in test (Some c)) = any ∙ ap has_any same in
+  pub all-lines : numbered test 0 (lines text) ≡ ended_in test text ++ picked p (last_line p.held)
+  all-lines =
+      ap (numbered test 0) (lines-ended_open text) ∙ numbered-append test 0 (ended_lines text) (last_line (open_rest text))
+      ∙ ap (λ n. ended_in test text ++ numbered test n (last_line (open_rest text))) (omega arith)
+      ∙ ap (λ ls. ended_in test text ++ ls) (same-picked (last_line (open_rest text)))
+      ∙ ap (λ held. ended_in test text ++ picked p (last_line held)) (sym f.held)
+
+-- the picker behind one more piece
+fed-more : (test : List ℕ → Bool) (text piece : List ℕ) (p new : Picking) → HasFed test text p → new ≡ fed p piece → HasFed test (text ++ piece) new
+fed-more test text piece p new f e = subst (HasFed test (text ++ piece)) (sym e) (record {
+  tests = f.tests;
+  held = ap (λ h. open_rest (h ++ piece)) f.held ∙ sym (open_rest-append text piece);
+  lines = ap (λ n. n + length (ended_lines (p.held ++ piece))) f.lines ∙ ap (λ h. length (ended_lines text) + length (ended_lines (h ++ piece))) f.held
+      ∙ sym (length-append (ended_lines text) (ended_lines (open_rest text ++ piece))) ∙ ap length (sym (ended_lines-append text piece));
+  bytes = ap (λ n. n + length piece) f.bytes ∙ sym (length-append text piece);
+  state = f.state;
+})
+
+-- more lines were taken, which are written
+taken-more : (o : GrepOptions) (name : List ℕ) (before_lines more all : List (ℕ × List ℕ)) (old mid new : Block) (before now after : Option (List ℕ)) → HasTaken o name before_lines old before now
+    → HasMore o name more old mid → all ≡ before_lines ++ more → Appends now after mid.text.items → new.text.items ≡ [] → IsSameBlock mid new → HasTaken o name all new before after
+taken-more o name before_lines more all old mid new before now after t m e written empty same =
+    let held : mid.text.items ≡ flat_map (added_line o name) more = m.text ∙ ap (λ x. x ++ flat_map (added_line o name) more) t.text in
     record {
-      output = subst (λ lines. Appends out_old out_new (block_of o name lines)) same p;
-      selected = selected;
-      error = error ∙ ap (λ f. f && not ((o.quiet || o.list) && is_selected)) r.faulty ∙ ap (λ b. c.is_faulty && not ((o.quiet || o.list) && b)) selected;
+      options = same.options ∙ m.options;
+      called = same.name ∙ m.called;
+      count = same.count ∙ m.count (length before_lines) t.count ∙ ap (λ n. min n (2 ^ 64 - 1)) (sym (length-append before_lines more)) ∙ ap (λ ls. min (length ls) (2 ^ 64 - 1)) (sym e);
+      text = empty;
+      written = subst (Appends before after) (sym (flat_map-append (added_line o name) before_lines more) ∙ ap (flat_map (added_line o name)) (sym e))
+          (Appends-trans before now after (flat_map (added_line o name) before_lines) (flat_map (added_line o name) more) t.written (subst (Appends now after) held written));
+      unwanted = λ stop. e ∙ ap (λ ls. ls ++ more) (t.unwanted stop) ∙ m.unwanted stop;
     }
+
+-- a lending that stopped lent its lines
+lent-stopped : {s t : Block} {lines : List (ℕ × List ℕ)} → Lends TakesLine s lines (Ok Stop) t → Lent TakesLine s lines (Ok Stop) t
+lent-stopped (Whole h) = h
+
+-- nothing is both
+never : (b : Bool) → (b && false) ≡ false
+never true = refl
+never false = refl
+
+module _ {o : GrepOptions} {test : List ℕ → Bool} {name text : List ℕ} (piece : List ℕ) {p : Picking} (new_p : Picking) {b : Block} (mid : Block) {before : Option (List ℕ)} (now : Option (List ℕ))
+    (s : StandsBehind o test name text p b before now) where
+  -- a piece whose lines are all taken and written
+  pub fed-on : (new : Block) (after : Option (List ℕ)) → Feeds TakesLine p piece b (Ok More) new_p mid → Appends now after mid.text.items → new.text.items ≡ [] → IsSameBlock mid new
+      → StandsBehind o test name (text ++ piece) new_p new before after
+  fed-on new after f written empty same = record {
+    fed = fed-more test text piece p new_p s.fed (f.more refl);
+    taken = taken-more o name (ended_in test text) (picked p (ended_lines (p.held ++ piece))) (ended_in test (text ++ piece)) b mid new before now after s.taken
+        (lent-more o name (Lent-from_Lends f.lent) s.taken.options s.taken.called) (ended-more test text piece p s.fed) written empty same;
+  }
+
+  -- all that lines of both add
+  all-added : flat_map (added_line o name) (ended_in test (text ++ piece)) ≡ flat_map (added_line o name) (ended_in test text) ++ flat_map (added_line o name) (picked p (ended_lines (p.held ++ piece)))
+  all-added = ap (flat_map (added_line o name)) (ended-more test text piece p s.fed) ∙ flat_map-append (added_line o name) (ended_in test text) (picked p (ended_lines (p.held ++ piece)))
+
+  -- where their writing is cut, a front of all is written
+  pub fed-cut : (after : Option (List ℕ)) → Feeds TakesLine p piece b (Ok More) new_p mid → AppendsFront now after mid.text.items
+      → AppendsFront before after (flat_map (added_line o name) (ended_in test (text ++ piece)))
+  fed-cut after f cut =
+      let m = lent-more o name (Lent-from_Lends f.lent) s.taken.options s.taken.called in
+      let more = flat_map (added_line o name) (picked p (ended_lines (p.held ++ piece))) in
+      let held : mid.text.items ≡ more = m.text ∙ ap (λ x. x ++ more) s.taken.text in
+      subst (AppendsFront before after) (ap (λ x. flat_map (added_line o name) (ended_in test text) ++ x) (append-nil mid.text.items ∙ held) ∙ sym all-added)
+          (AppendsFront-behind now after (flat_map (added_line o name) (ended_in test text)) [] s.taken.written cut)
+
+  -- where memory runs out, what was written is a front of all
+  pub fed-starved : AppendsFront before now (flat_map (added_line o name) (ended_in test (text ++ piece)))
+  fed-starved = record {
+    rest = flat_map (added_line o name) (picked p (ended_lines (p.held ++ piece)));
+    leaves = record { front = flat_map (added_line o name) (ended_in test text); parts = all-added; grown = s.taken.written };
+  }
+
+  -- where no line is wanted any more, one was taken
+  stopped-lines : Feeds TakesLine p piece b (Ok Stop) new_p mid → Lent TakesLine b (picked p (ended_lines (p.held ++ piece))) (Ok Stop) mid
+  stopped-lines f = lent-stopped f.lent
+
+  pub fed-halted : Feeds TakesLine p piece b (Ok Stop) new_p mid → IsHalted o name (ended_in test (text ++ piece)) mid before now
+  fed-halted f =
+      let h = lent-stop o name (stopped-lines f) s.taken.options s.taken.called in
+      let none : ended_in test text ≡ [] = s.taken.unwanted h.stop in
+      record {
+        options = h.options;
+        called = h.called;
+        stop = h.stop;
+        some = subst (λ ls. 0 < length ls) (sym (ended-more test text piece p s.fed)) (omega (arith, h.some, length-append (ended_in test text) (picked p (ended_lines (p.held ++ piece)))));
+        count = h.count;
+        text = lent-stop-text o name (stopped-lines f) s.taken.options s.taken.called s.taken.text;
+        written = subst (Appends before now) (ap (flat_map (added_line o name)) none) s.taken.written;
+      }
+
+  -- too many bytes
+  pub fed-long : Feeds TakesLine p piece b (Err StreamTooLong) new_p mid → 2 ^ 64 ≤ length text + length piece
+  fed-long f = subst (λ n. 2 ^ 64 ≤ n + length piece) s.fed.bytes (f.too_long.0 refl)
+
+-- no more lines of a text are selected than it has bytes
+few-numbered : (test : List ℕ → Bool) (ls : List (List ℕ)) → length (numbered test 0 ls) ≤ length ls
+few-numbered test ls = omega (arith, length-filter (λ l. test l.1) (enumerate_from 1 ls), count_by-le-length (λ l. test l.1) (enumerate_from 1 ls), length-enumerate_from 1 ls)
+
+few-ended : (text : List ℕ) → length (ended_lines text) ≤ length text
+few-ended text = omega (arith, length-ended_lines text, count_by-le-length (λ b. eqb b 10) text)
+
+few-last : (rest : List ℕ) → length (last_line rest) ≤ 1
+few-last [] = omega arith
+few-last (b ∷ bs) = omega arith
+
+few-lines : (text : List ℕ) → length (lines text) ≤ length text + 1
+few-lines text = omega (arith, ap length (lines-ended_open text), length-append (ended_lines text) (last_line (open_rest text)), few-ended text, few-last (open_rest text))
+
+-- the block of a content, where all its lines have come and are written or held
+pub read-whole : (o : GrepOptions) (test : List ℕ → Bool) (name : List ℕ) (c : Content) (b : Block) (before out : Option (List ℕ)) (texts : List (List ℕ)) → lines_of c ≡ texts → length texts < 2 ^ 64 - 1
+    → b.options.now ≡ o → b.name.now ≡ name → b.count ≡ min (length (numbered test 0 texts)) (2 ^ 64 - 1) → Leaves before out (flat_map (added_line o name) (numbered test 0 texts)) b.text.items
+    → (end : End) → is_fault end ≡ is_trouble o test (Some c) → HasRead o test name c end b before out
+read-whole o test name c b before out texts e few options named count leaves end error =
+    let exact : b.count ≡ length (numbered test 0 texts) = omega (arith, count, few-numbered test texts) in
+    record {
+      options = options;
+      called = named;
+      lines = flat_map (added_line o name) (numbered test 0 texts);
+      whole = ap (λ n. flat_map (added_line o name) (numbered test 0 texts) ++ ending_of o name n) exact ∙ block-parts o name (numbered test 0 texts) ∙ ap (λ ls. block_of o name (numbered test 0 ls)) (sym e);
+      leaves = leaves;
+      any = ap (nat_lt 0) exact ∙ ap (λ ls. has_any (numbered test 0 ls)) (sym e);
+      error = error;
+    }
+
+-- the block of a content, where no line is wanted behind those that came
+pub read-halted : (o : GrepOptions) (test : List ℕ → Bool) (name : List ℕ) (c : Content) (b : Block) (before out : Option (List ℕ)) (came more : List (ℕ × List ℕ)) → numbered test 0 (lines_of c) ≡ came ++ more
+    → IsHalted o name came b before out → HasRead o test name c Clean b before out
+read-halted o test name c b before out came more e h =
+    let wanted : (o.quiet || o.list) ≡ true = wants-none o.quiet o.list h.stop in
+    let any : has_any (numbered test 0 (lines_of c)) ≡ true = ap has_any e ∙ any-behind came more h.some in
+    let both : nat_lt 0 b.count ≡ has_any (numbered test 0 (lines_of c)) = lt-ltb 0 b.count h.count ∙ sym any in
+    record {
+      options = h.options;
+      called = h.called;
+      lines = [];
+      whole = ending-any o name b.count (numbered test 0 (lines_of c)) wanted both;
+      leaves = record { front = []; parts = sym h.text; grown = h.written };
+      any = both;
+      error = sym (ap (λ w. c.is_faulty && not (w && has_any (numbered test 0 (lines_of c)))) wanted ∙ ap (λ a. c.is_faulty && not a) any ∙ never c.is_faulty);
+    }
+
+-- what was written is a front of the block
+pub read-front : (o : GrepOptions) (test : List ℕ → Bool) (name : List ℕ) (c : Content) (before out : Option (List ℕ)) (came more : List (ℕ × List ℕ)) → numbered test 0 (lines_of c) ≡ came ++ more
+    → AppendsFront before out (flat_map (added_line o name) came) → AppendsFront before out (block_in o test name (Some c))
+read-front o test name c before out came more e p =
+    let all = numbered test 0 (lines_of c) in
+    let tail = flat_map (added_line o name) more ++ ending_of o name (length all) in
+    let parts : block_of o name all ≡ flat_map (added_line o name) came ++ tail =
+        sym (block-parts o name all) ∙ ap (λ ls. flat_map (added_line o name) ls ++ ending_of o name (length all)) e ∙ ap (λ t. t ++ ending_of o name (length all)) (flat_map-append (added_line o name) came more)
+        ∙ append_assoc (flat_map (added_line o name) came) (flat_map (added_line o name) more) (ending_of o name (length all)) in
+    record {
+      rest = p.rest ++ tail;
+      leaves = record {
+        front = p.leaves.front;
+        parts = parts ∙ ap (λ t. t ++ tail) p.leaves.parts ∙ append_assoc p.leaves.front p.rest tail;
+        grown = p.leaves.grown;
+      };
+    }
+
+-- what is answered is known
+pub feeds-as : {p new_p : Picking} {b new_b : Block} {piece : List ℕ} {answer known : Next} → answer ≡ known → Feeds TakesLine p piece b (Ok answer) new_p new_b → Feeds TakesLine p piece b (Ok known) new_p new_b
+feeds-as {p} {new_p} {b} {new_b} {piece} e f = subst (λ n. Feeds TakesLine p piece b (Ok n) new_p new_b) e f
+
+-- the last line of a content was taken, or none stands there
+module _ {o : GrepOptions} {test : List ℕ → Bool} {name : List ℕ} (c : Content) {p : Picking} (new_p : Picking) {b : Block} (new : Block) {before now : Option (List ℕ)}
+    (clean : c.is_faulty ≡ false) (short : IsShort c) (s : StandsBehind o test name c.text p b before now) where
+  -- its lines
+  clean-lines : lines_of c ≡ lines c.text
+  clean-lines = ap (λ f. cond f (ended_lines c.text) (lines c.text)) clean
+
+  clean-numbered : numbered test 0 (lines_of c) ≡ ended_in test c.text ++ picked p (last_line p.held)
+  clean-numbered = ap (numbered test 0) clean-lines ∙ all-lines test c.text [] p s.fed
+
+  -- it is no error
+  clean-error : false ≡ is_trouble o test (Some c)
+  clean-error = sym (ap (λ f. f && not ((o.quiet || o.list) && has_any (numbered test 0 (lines_of c)))) clean)
+
+  pub ended-whole : Finishes TakesLine p b (Ok More) new_p new → HasRead o test name c Clean new before now
+  ended-whole f =
+      let m = lent-more o name f.lent s.taken.options s.taken.called in
+      let all : numbered test 0 (lines c.text) ≡ ended_in test c.text ++ picked p (last_line p.held) = all-lines test c.text [] p s.fed in
+      read-whole o test name c new before now (lines c.text) clean-lines (omega (arith, few-lines c.text)) m.options m.called
+          (m.count (length (ended_in test c.text)) s.taken.count ∙ ap (λ n. min n (2 ^ 64 - 1)) (sym (length-append (ended_in test c.text) (picked p (last_line p.held)))) ∙ ap (λ ls. min (length ls) (2 ^ 64 - 1)) (sym all))
+          (record {
+            front = flat_map (added_line o name) (ended_in test c.text);
+            parts = ap (flat_map (added_line o name)) all ∙ flat_map-append (added_line o name) (ended_in test c.text) (picked p (last_line p.held))
+                ∙ ap (λ t. flat_map (added_line o name) (ended_in test c.text) ++ t) (sym (m.text ∙ ap (λ t. t ++ flat_map (added_line o name) (picked p (last_line p.held))) s.taken.text));
+            grown = s.taken.written;
+          }) Clean clean-error
+
+  pub ended-halted : Finishes TakesLine p b (Ok Stop) new_p new → HasRead o test name c Clean new before now
+  ended-halted f =
+      let h = lent-stop o name f.lent s.taken.options s.taken.called in
+      let none : ended_in test c.text ≡ [] = s.taken.unwanted h.stop in
+      read-halted o test name c new before now (ended_in test c.text ++ picked p (last_line p.held)) [] (clean-numbered ∙ sym (append-nil (ended_in test c.text ++ picked p (last_line p.held)))) (record {
+        options = h.options;
+        called = h.called;
+        stop = h.stop;
+        some = omega (arith, h.some, length-append (ended_in test c.text) (picked p (last_line p.held)));
+        count = h.count;
+        text = lent-stop-text o name f.lent s.taken.options s.taken.called s.taken.text;
+        written = subst (Appends before now) (ap (flat_map (added_line o name)) none) s.taken.written;
+      })
+
+  pub ended-starved : AppendsFront before now (block_in o test name (Some c))
+  ended-starved = read-front o test name c before now (ended_in test c.text) (picked p (last_line p.held)) clean-numbered
+      (record { rest = []; leaves = record { front = flat_map (added_line o name) (ended_in test c.text); parts = sym (append-nil (flat_map (added_line o name) (ended_in test c.text))); grown = s.taken.written } })
+
+pub finishes-as : {p new_p : Picking} {b new_b : Block} {answer known : Next} → answer ≡ known → Finishes TakesLine p b (Ok answer) new_p new_b → Finishes TakesLine p b (Ok known) new_p new_b
+finishes-as {p} {new_p} {b} {new_b} e f = subst (λ n. Finishes TakesLine p b (Ok n) new_p new_b) e f
+
+-- whether lines come to an end at the last one
+pub ended-any : {o : GrepOptions} {test : List ℕ → Bool} {name : List ℕ} (c : Content) {p : Picking} (new_p : Picking) {b : Block} (new : Block) {before now : Option (List ℕ)} (answer : Next)
+    → c.is_faulty ≡ false → IsShort c → StandsBehind o test name c.text p b before now → Finishes TakesLine p b (Ok answer) new_p new → HasRead o test name c Clean new before now
+ended-any c new_p new More clean short s f = ended-whole c new_p new clean short s f
+ended-any c new_p new Stop clean short s f = ended-halted c new_p new clean short s f
+
+-- where no line is wanted behind the first, none came
+not-ended : (quiet list : Bool) (came : List (ℕ × List ℕ)) → (cond (quiet || list) Stop More ≡ Stop → came ≡ []) → not ((quiet || list) && has_any came) ≡ true
+not-ended true list came none = ap (λ ls. not (has_any ls)) (none refl)
+not-ended false true came none = ap (λ ls. not (has_any ls)) (none refl)
+not-ended false false came none = refl
+
+-- a content whose reading ended in a fault behind all its bytes
+pub read-fault : {o : GrepOptions} {test : List ℕ → Bool} {name : List ℕ} (c : Content) {p : Picking} {b : Block} {before now : Option (List ℕ)} → c.is_faulty ≡ true → IsShort c
+    → StandsBehind o test name c.text p b before now → HasRead o test name c Fault b before now
+read-fault {o} {test} {name} c {p} {b} {before} {now} faulty short s =
+    let lines-are : lines_of c ≡ ended_lines c.text = ap (λ f. cond f (ended_lines c.text) (lines c.text)) faulty in
+    read-whole o test name c b before now (ended_lines c.text) lines-are (omega (arith, few-ended c.text)) s.taken.options s.taken.called s.taken.count
+        (record { front = flat_map (added_line o name) (ended_in test c.text); parts = sym (ap (λ t. flat_map (added_line o name) (ended_in test c.text) ++ t) s.taken.text ∙ append-nil (flat_map (added_line o name) (ended_in test c.text))); grown = s.taken.written })
+        Fault (sym (ap (λ f. f && not ((o.quiet || o.list) && has_any (numbered test 0 (lines_of c)))) faulty ∙ ap (λ ls. not ((o.quiet || o.list) && has_any (numbered test 0 ls))) lines-are
+            ∙ not-ended o.quiet o.list (ended_in test c.text) s.taken.unwanted))
+
+known-step : {T : Type 0} (b : Option T) (P : T → T → Type 0) (x : T) → Told (Some x) b P → (y : T) × ((b ≡ Some y) × P x y)
+known-step None P x t = absurd t
+known-step (Some y) P x t = (y, (refl, t))
+
+-- what is told at a step, where it is known what was told before
+told-at : {T : Type 0} (a b : Option T) (P : T → T → Type 0) (x : T) → Told a b P → a ≡ Some x → (y : T) × ((b ≡ Some y) × P x y)
+told-at a b P x t e = known-step b P x (subst (λ k. Told k b P) e t)
+
+-- the bytes so far of a content are dealt with, and these are left
+pub record ReadSoFar (o : GrepOptions) (test : List ℕ → Bool) (name : List ℕ) (c : Content) (coming : Option Coming) (p : Picking) (b : Block) (turn : ℕ) (before now : Option (List ℕ)) : Type 0 where
+  pub done : List ℕ
+  pub rest : List ℕ
+  pub parts : c.text ≡ done ++ rest
+  pub left : coming ≡ Some (coming_of (record { text = rest; is_faulty = c.is_faulty }))
+  pub stands : StandsBehind o test name done p b before now
+  pub turns : turn ≤ length done
+
+-- what is left comes as it came
+same-coming : (y : Coming) (is_faulty : Bool) → y.ending ≡ cond is_faulty Faulty (Devices.Clean) → y ≡ coming_of (record { text = y.text; is_faulty = is_faulty })
+same-coming y is_faulty e = ap (λ (ending : Ending). let same : Coming = record { text = y.text; ending = ending } in same) e
+
+-- those of the lines of a content that a front of its text ends come first
+lines-front : (test : List ℕ → Bool) (c : Content) (front rest : List ℕ) → c.text ≡ front ++ rest → (more : List (ℕ × List ℕ)) × (numbered test 0 (lines_of c) ≡ ended_in test front ++ more)
+lines-front test c front rest e =
+    let behind : List (List ℕ) = ended_lines (open_rest front ++ rest) in
+    let ended : ended_lines c.text ≡ ended_lines front ++ behind = ap ended_lines e ∙ ended_lines-append front rest in
+    elim c.is_faulty as (λ f. (more : List (ℕ × List ℕ)) × (numbered test 0 (cond f (ended_lines c.text) (lines c.text)) ≡ ended_in test front ++ more)) [
+      | true ↦ (numbered test (0 + length (ended_lines front)) behind, ap (numbered test 0) ended ∙ numbered-append test 0 (ended_lines front) behind)
+      | false ↦ (numbered test (0 + length (ended_lines front)) (behind ++ last_line (open_rest c.text)),
+          ap (numbered test 0) (lines-ended_open c.text ∙ ap (λ ls. ls ++ last_line (open_rest c.text)) ended ∙ append_assoc (ended_lines front) behind (last_line (open_rest c.text)))
+          ∙ numbered-append test 0 (ended_lines front) (behind ++ last_line (open_rest c.text)))
+    ]
+
+-- at first all are
+pub ReadSoFar-none : {o : GrepOptions} {test : List ℕ → Bool} {name : List ℕ} {c : Content} {coming : Option Coming} {p : Picking} {b : Block} {before : Option (List ℕ)} → StandsBehind o test name [] p b before before
+    → coming ≡ Some (coming_of c) → ReadSoFar o test name c coming p b 0 before before
+ReadSoFar-none {c = c} s e = record { done = []; rest = c.text; parts = refl; left = e; stands = s; turns = omega arith }
+
+-- what follows a fault and a clean end
+faulty-ending : (is_faulty : Bool) (text : List ℕ) → MayFail (coming_of (record { text = text; is_faulty = is_faulty })) → (is_faulty ≡ true) × (text ≡ [])
+faulty-ending true text m = (refl, m.1 refl)
+faulty-ending false text m = absurd (m.0 refl)
+
+clean-ending : (is_faulty : Bool) (text : List ℕ) → EndsHere (coming_of (record { text = text; is_faulty = is_faulty })) → (is_faulty ≡ false) × (text ≡ [])
+clean-ending true text h = absurd (h.ending refl)
+clean-ending false text h = (refl, h.text)
+
+module _ {o : GrepOptions} {test : List ℕ → Bool} {name : List ℕ} {c : Content} {coming : Option Coming} {p : Picking} {b : Block} {turn : ℕ} {before now : Option (List ℕ)}
+    (later : Option Coming) (buf : List ℕ) (r : ReadSoFar o test name c coming p b turn before now) where
+  -- where nothing is left, all bytes are behind
+  all-done : r.rest ≡ [] → StandsBehind o test name c.text p b before now
+  all-done none = subst (λ t. StandsBehind o test name t p b before now) (sym (r.parts ∙ ap (λ t. r.done ++ t) none ∙ append-nil r.done)) r.stands
+
+  -- a read that fails
+  pub so_far-fault : (error : Failed) → Told coming later (λ x y. ReadGives x y (Err error) buf) → IsShort c → HasRead o test name c Fault b before now
+  so_far-fault error t short =
+      let step = told-at coming later _ _ t r.left in
+      let ends = faulty-ending c.is_faulty r.rest step.1.1.0 in
+      read-fault c ends.0 short (all-done ends.1)
+
+  -- a read that finds the end
+  pub so_far-end : (count : ℕ) → count ≡ 0 → 0 < length buf → Told coming later (λ x y. ReadGives x y (Ok count) buf) → (c.is_faulty ≡ false) × StandsBehind o test name c.text p b before now
+  so_far-end count none room t =
+      let step = told-at coming later _ _ t r.left in
+      let ends = clean-ending c.is_faulty r.rest (step.1.1.1 none room) in
+      (ends.0, all-done ends.1)
+
+  -- the bytes behind a read, and what is left of them
+  pub so_far-rest : (count : ℕ) → Told coming later (λ x y. ReadGives x y (Ok count) buf) → (rest : List ℕ) × ((r.rest ≡ take count buf ++ rest) × (later ≡ Some (coming_of (record { text = rest; is_faulty = c.is_faulty }))))
+  so_far-rest count t =
+      let step = told-at coming later _ _ t r.left in
+      (step.0.text, (step.1.1.0.text, step.1.0 ∙ ap Some (same-coming step.0 c.is_faulty step.1.1.0.ending)))
+
+  -- one piece more
+  pub so_far-more : (count : ℕ) (new_p : Picking) (new : Block) (after : Option (List ℕ)) → Told coming later (λ x y. ReadGives x y (Ok count) buf) → 0 < count → count ≤ length buf
+      → StandsBehind o test name (r.done ++ take count buf) new_p new before after → ReadSoFar o test name c later new_p new (turn + 1) before after
+  so_far-more count new_p new after t some within s =
+      let found = so_far-rest count t in
+      record {
+        done = r.done ++ take count buf;
+        rest = found.0;
+        parts = r.parts ∙ ap (λ x. r.done ++ x) found.1.0 ∙ sym (append_assoc r.done (take count buf) found.0);
+        left = found.1.1;
+        stands = s;
+        turns = omega (arith, r.turns, length-append r.done (take count buf), length-take-le count buf within);
+      }
+
+  -- all selected lines, behind those of the bytes up to one piece more
+  front-of-all : (piece rest : List ℕ) → r.rest ≡ piece ++ rest → (more : List (ℕ × List ℕ)) × (numbered test 0 (lines_of c) ≡ ended_in test (r.done ++ piece) ++ more)
+  front-of-all piece rest e = lines-front test c (r.done ++ piece) rest (r.parts ∙ ap (λ x. r.done ++ x) e ∙ sym (append_assoc r.done piece rest))
+
+  -- a piece behind which no line is wanted
+  pub so_far-halted : (count : ℕ) (new : Block) (after : Option (List ℕ)) → Told coming later (λ x y. ReadGives x y (Ok count) buf)
+      → IsHalted o name (ended_in test (r.done ++ take count buf)) new before after → HasRead o test name c Clean new before after
+  so_far-halted count new after t h =
+      let found = so_far-rest count t in
+      let front = front-of-all (take count buf) found.0 found.1.0 in
+      read-halted o test name c new before after (ended_in test (r.done ++ take count buf)) front.0 front.1 h
+
+  -- a piece that was cut
+  pub so_far-cut : (count : ℕ) (after : Option (List ℕ)) → Told coming later (λ x y. ReadGives x y (Ok count) buf)
+      → AppendsFront before after (flat_map (added_line o name) (ended_in test (r.done ++ take count buf))) → AppendsFront before after (block_in o test name (Some c))
+  so_far-cut count after t cut =
+      let found = so_far-rest count t in
+      let front = front-of-all (take count buf) found.0 found.1.0 in
+      read-front o test name c before after (ended_in test (r.done ++ take count buf)) front.0 front.1 cut
+
+  -- there are never too many bytes
+  pub so_far-long : {A : Type 0} (count : ℕ) → Told coming later (λ x y. ReadGives x y (Ok count) buf) → IsShort c → 2 ^ 64 ≤ length r.done + length (take count buf) → A
+  so_far-long count t short long =
+      let found = so_far-rest count t in
+      absurd (omega (arith, ap length r.parts, length-append r.done r.rest, ap length found.1.0, length-append (take count buf) found.0))
+
+  -- a piece that is the last one
+  pub so_far-ended : (count : ℕ) (end : End) (piece : List ℕ) (new_p : Picking) (new : Block) (after : Option (List ℕ)) → Told coming later (λ x y. ReadGives x y (Ok count) buf) → IsShort c → piece ≡ take count buf
+      → FeedsPiece o test name r.done piece (Ok (Some end)) new_p new before after → HasRead o test name c end new before after
+  so_far-ended count Clean piece new_p new after t short e f = so_far-halted count new after t (subst (λ x. IsHalted o name (ended_in test (r.done ++ x)) new before after) e f)
+  so_far-ended count Fault piece new_p new after t short e f = so_far-long count t short (subst (λ x. 2 ^ 64 ≤ length r.done + length x) e f)
+
+  -- nor too many turns
+  pub so_far-turns : {A : Type 0} → IsShort c → 2 ^ 40 ≤ turn → A
+  so_far-turns short many = absurd (omega (arith, r.turns, ap length r.parts, length-append r.done r.rest))
+
+-- a picker before any text
+pub fed-none : (test : List ℕ → Bool) (p : Picking) → tested_by p ≡ test → p.held ≡ [] → p.lines ≡ 0 → p.bytes ≡ 0 → p.state ≡ Running → HasFed test [] p
+fed-none test p tests held none_lines none_bytes state = record {
+  tests = tests;
+  held = held ∙ sym open_rest-nil;
+  lines = none_lines ∙ sym (ap length (ended_lines-none [] (All-nil (λ b. b ≢ 10))));
+  bytes = none_bytes;
+  state = state;
+}
+
+-- at first picker and block stand before the content
+pub begin-stands : {o : GrepOptions} {test : List ℕ → Bool} {name : List ℕ} {p : Picking} {b : Block} (out : Option (List ℕ)) → HasFed test [] p → b.options.now ≡ o → b.name.now ≡ name → b.count ≡ 0 → b.text.items ≡ []
+    → StandsBehind o test name [] p b out out
+begin-stands {o} {test} {name} {p} {b} out f options called count text =
+    let none : ended_in test [] ≡ [] = ap (numbered test 0) (ended_lines-none [] (All-nil (λ b. b ≢ 10))) in
+    record {
+      fed = f;
+      taken = record {
+        options = options;
+        called = called;
+        count = count ∙ ap (λ ls. min (length ls) (2 ^ 64 - 1)) (sym none);
+        text = text;
+        written = subst (Appends out out) (sym (ap (flat_map (added_line o name)) none)) (Appends-nil out);
+        unwanted = λ stop. none;
+      };
+    }
+
+module _ {o : GrepOptions} {test : List ℕ → Bool} {name : List ℕ} {c : Content} {end : End} {b : Block} {before now : Option (List ℕ)} (after : Option (List ℕ)) (h : HasRead o test name c end b before now) where
+  -- what the end of the block adds, by the options and the name of all
+  end-same : b.text.items ++ ending_of b.options.now b.name.now b.count ≡ b.text.items ++ ending_of o name b.count
+  end-same = ap (λ p. b.text.items ++ ending_of p b.name.now b.count) h.options ∙ ap (λ n. b.text.items ++ ending_of o n b.count) h.called
+
+  -- the block that was read, with its end
+  pub finished-cut : AppendsFront now after (b.text.items ++ ending_of b.options.now b.name.now b.count) → AppendsFront before after (block_in o test name (Some c))
+  finished-cut cut =
+      let front = h.leaves.front in
+      let parts : front ++ (b.text.items ++ ending_of o name b.count) ≡ block_of o name (numbered test 0 (lines_of c)) =
+          sym (append_assoc front b.text.items (ending_of o name b.count)) ∙ ap (λ t. t ++ ending_of o name b.count) (sym h.leaves.parts) ∙ h.whole in
+      subst (AppendsFront before after) (ap (λ t. front ++ t) (append-nil (b.text.items ++ ending_of b.options.now b.name.now b.count) ∙ end-same) ∙ parts) (AppendsFront-behind now after front [] h.leaves.grown cut)
+
+  pub finished : (is_selected is_error : Bool) (count : ℕ) → Appends now after (b.text.items ++ ending_of b.options.now b.name.now b.count) → count ≡ b.count → is_selected ≡ nat_lt 0 count → is_error ≡ is_fault end
+      → IsScanned o test name c (record { is_selected = is_selected; is_error = is_error }) before after
+  finished is_selected is_error count written same selected error =
+      let front = h.leaves.front in
+      let parts : front ++ (b.text.items ++ ending_of o name b.count) ≡ block_of o name (numbered test 0 (lines_of c)) =
+          sym (append_assoc front b.text.items (ending_of o name b.count)) ∙ ap (λ t. t ++ ending_of o name b.count) (sym h.leaves.parts) ∙ h.whole in
+      record {
+        output = subst (Appends before after) (ap (λ t. front ++ t) end-same ∙ parts) (Appends-trans before now after front (b.text.items ++ ending_of b.options.now b.name.now b.count) h.leaves.grown written);
+        selected = selected ∙ ap (nat_lt 0) same ∙ h.any;
+        error = error ∙ h.error;
+      }
 
 -- where the block was cut there is no message
 pub search-cut : (o : GrepOptions) (test : List ℕ → Bool) (name : List ℕ) (source : Option Content) (out_old out_new err : Option (List ℕ))
@@ -55,14 +477,4 @@ pub search-message-cut : (o : GrepOptions) (test : List ℕ → Bool) (name : Li
 search-message-cut o test name c found out_old out_new err_old err_new p q = record {
   output = AppendsFront-all out_old out_new _ p.output;
   messages = subst (AppendsFront err_old err_new) (same-message o test name c found p) q;
-}
-
--- all was
-pub search-done : (o : GrepOptions) (test : List ℕ → Bool) (name : List ℕ) (c : Content) (found : Found) (out_old out_new err_old err_new : Option (List ℕ)) → IsScanned o test name c found out_old out_new
-    → Appends err_old err_new (cond (found.is_error && not o.silent) (unreadable name) []) → IsSearched o test name (Some c) found out_old out_new err_old err_new
-search-done o test name c found out_old out_new err_old err_new p q = record {
-  output = p.output;
-  messages = subst (Appends err_old err_new) (same-message o test name c found p) q;
-  selected = p.selected;
-  error = p.error;
 }

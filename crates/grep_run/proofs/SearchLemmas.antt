@@ -6,7 +6,7 @@ use Rattle.lit_base.specs.Devices.{Told}
 use Rattle.std.specs.Io.KnownBytes.{Appends}
 use Rattle.std.proofs.KnownBytes.{Appends-nil, Appends-trans}
 use Rattle.grep_run.specs.declared.options.GrepOptions.{GrepOptions}
-use Rattle.grep_run.specs.declared.searching.Found.{Found}
+use Rattle.grep_run.specs.declared.scanning.Found.{Found}
 use Rattle.grep_run.specs.Blocks.{block, block_in, has_any, has_selected, is_error, is_trouble, message, message_in, selected_in}
 use Rattle.grep_run.specs.Fronts.{AppendsFront}
 use Rattle.grep_run.specs.Grep.{answer_to, asks, searched}

@@ -2,6 +2,8 @@
 use Rattle.std.specs.Prelude.{◌≡◌, ◌≢◌, ℕ, List, [], ◌++◌, flat_map, Option, Some, None, Result, Ok, Err}
 use Rattle.std.specs.Io.KnownBytes.{Appends}
 use Rattle.lit_base.specs.declared.fault.Fault.TheVariants.{OutOfMemory}
+use Rattle.line_pick.specs.Matching.{StandsFor}
+use Rattle.grep_run.specs.declared.needles.Needles.{Needles}
 use Rattle.grep_run.specs.declared.options.GrepOptions.{GrepOptions}
 use Rattle.grep_run.specs.declared.patterns.NoPatterns.{NoPatterns}
 use Rattle.grep_run.specs.declared.patterns.NoPatterns.TheVariants.{Unreadable, Refused}
@@ -38,10 +40,10 @@ abbrev pub TakesFiles : {T : Type 0} → List (List ℕ) → List (List ℕ) →
 TakesFiles old new s left files (Ok _) = TakesAllFiles old new s left files
 TakesFiles old new s left files (Err why) = StopsAtFile old s left files why
 
--- all patterns of the options: they are had, or a message says why not
-pub record HasPatterns (o : GrepOptions) (s left : Sources) (patterns : List (List ℕ)) : Type 0 where
+-- all patterns of the options: what stands for them is had, or a message says why not
+pub record HasPatterns (o : GrepOptions) (s left : Sources) (needles : Needles) : Type 0 where
   pub message : patterns_message o s ≡ None
-  pub value : patterns ≡ patterns_of o s
+  pub stands : StandsFor o.fold (patterns_of o s) needles.plan needles.has_empty
   pub after : left ≡ behind_files o s
 
 pub record LacksPatterns (o : GrepOptions) (s left : Sources) (why : NoPatterns) : Type 0 where
@@ -49,8 +51,8 @@ pub record LacksPatterns (o : GrepOptions) (s left : Sources) (why : NoPatterns)
   pub front : AsksFront (asks (files_asked o s)) s left
   pub after : why ≢ Refused OutOfMemory → left ≡ behind_files o s
 
-abbrev pub TakesPatterns : GrepOptions → Sources → Sources → Result (List (List ℕ)) NoPatterns → Type 0
-TakesPatterns o s left (Ok patterns) = HasPatterns o s left patterns
+abbrev pub TakesPatterns : GrepOptions → Sources → Sources → Result Needles NoPatterns → Type 0
+TakesPatterns o s left (Ok needles) = HasPatterns o s left needles
 TakesPatterns o s left (Err why) = LacksPatterns o s left why
 
 -- what is written where there are no patterns: the message, or a front of it where that is stopped; nothing for want of memory

@@ -1,9 +1,12 @@
 -- A block as its lines come: what a line adds, and what ends the block.
-use Rattle.std.specs.Prelude.{◌≡◌, ℕ, ◌||◌, List, [], ◌++◌, if◌then◌else◌, nat_lt, codes, decimal}
-use Rattle.grep_run.specs.declared.block.Next.{Next}
-use Rattle.grep_run.specs.declared.block.Next.TheVariants.{More, Stop}
+use Rattle.std.specs.Prelude.{◌≡◌, ℕ, ◌+◌, ◌-◌, ◌^◌, ◌||◌, List, [], ◌++◌, if◌then◌else◌, min, nat_lt, Result, Ok, Err, codes, decimal}
+use Rattle.line_pick.specs.declared.fault.Fault.{Fault}
+use Rattle.line_pick.specs.declared.fault.Fault.TheVariants.{OutOfMemory}
+use Rattle.line_pick.specs.declared.sink.Next.{Next}
+use Rattle.line_pick.specs.declared.sink.Next.TheVariants.{More, Stop}
+use Rattle.grep_run.specs.declared.block.Block.{Block}
 use Rattle.grep_run.specs.declared.options.GrepOptions.{GrepOptions}
-use Rattle.grep_run.specs.Blocks.{block_of, has_any, prefix_of, selected_of, written_line}
+use Rattle.grep_run.specs.Blocks.{prefix_of, written_line}
 
 -- a selected line adds itself, unless names, counts or nothing are written
 abbrev pub added_line : GrepOptions → List ℕ → ℕ × List ℕ → List ℕ
@@ -21,12 +24,22 @@ ending_of o name count =
 abbrev pub next_of : GrepOptions → Next
 next_of o = if o.quiet || o.list then Stop else More
 
--- the lines came, as far as they were wanted, and the end is still to come
-pub record IsFilling (o : GrepOptions) (test : List ℕ → Bool) (name : List ℕ) (lines : List (List ℕ)) (count : ℕ) (text : List ℕ) : Type 0 where
-  pub whole : text ++ ending_of o name count ≡ block_of o name (selected_of test lines)
-  pub any : nat_lt 0 count ≡ has_any (selected_of test lines)
+-- the same block, whatever it holds
+pub record IsSameBlock (old new : Block) : Type 0 where
+  pub options : new.options.now ≡ old.options.now
+  pub name : new.name.now ≡ old.name.now
+  pub count : new.count ≡ old.count
 
--- it is the block
-pub record IsFilled (o : GrepOptions) (test : List ℕ → Bool) (name : List ℕ) (lines : List (List ℕ)) (count : ℕ) (text : List ℕ) : Type 0 where
-  pub whole : text ≡ block_of o name (selected_of test lines)
-  pub any : nat_lt 0 count ≡ has_any (selected_of test lines)
+-- a line comes to a block: it is counted and added
+pub record AddsLine (old : Block) (number : ℕ) (line : List ℕ) (answer : Next) (new : Block) : Type 0 where
+  pub text : new.text.items ≡ old.text.items ++ added_line old.options.now old.name.now (number, line)
+  pub count : new.count ≡ min (old.count + 1) (2 ^ 64 - 1)
+  pub next : answer ≡ next_of old.options.now
+  pub options : new.options.now ≡ old.options.now
+  pub name : new.name.now ≡ old.name.now
+
+-- and only memory may fail
+abbrev pub TakesLine : Block → ℕ → List ℕ → Result Next Fault → Block → Type 0
+TakesLine old number line (Ok next) new = AddsLine old number line next new
+TakesLine old number line (Err fault) new =
+    (fault ≡ OutOfMemory) × ((new.options.now ≡ old.options.now) × (new.name.now ≡ old.name.now))

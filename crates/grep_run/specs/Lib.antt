@@ -6,8 +6,8 @@ pub mod Growing
 pub mod Messages
 pub mod Options
 pub mod Patterns
-pub mod Reading
 pub mod Running
+pub mod Scanning
 pub mod Searching
 pub mod Sources
 pub mod Statuses

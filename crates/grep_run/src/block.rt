@@ -1,84 +1,58 @@
 //! The block of one input: what is written of its selected lines.
-ghost use Rattle.std.specs.Prelude.{◌≡◌, ◌+◌, ◌++◌, ◌∷◌, [], OnOk, codes, decimal, min, nat_lt};
-ghost use Rattle.grep_run.specs.Growing.{added_line, ending_of, next_of};
+ghost use Rattle.std.specs.Prelude.{◌≡◌, ◌++◌, ◌∷◌, ◌||◌, [], OnErr, OnOk, codes, decimal};
+ghost use Rattle.std.specs.Io.KnownBytes.{Appends};
 ghost use Rattle.grep_run.specs.Blocks.{prefix_of, written_line};
+ghost use Rattle.grep_run.specs.Fronts.{AppendsFront, is_write_fault};
 
+use crate::message::write_whole;
 use crate::options::GrepOptions;
+use crate::status::Stop;
 use itoa::Buffer;
+use line_pick::{Fault, Next, Sink};
+use lit_base::ByteOut;
 use std::alloc::{AllocError, Global};
 
-/// What a block wants behind a line.
-#[derive(Clone, Copy, Debug, PartialEq, Eq)]
-pub enum Next {
-    /// The next selected line.
-    More,
-    /// None: what is still to come changes nothing.
-    Stop,
-}
-
-/// The block of one input, as its selected lines come.
+/// The block of one input after another, as its selected lines come. Of what it holds some may be
+/// written already.
 #[derive(Drop)]
 pub struct Block<'a> {
-    options: &'a GrepOptions,
-    name: &'a str,
-    count: u64,
-    text: Vec<u8>,
+    pub options: &'a GrepOptions,
+    pub name: &'a str,
+    pub count: u64,
+    pub text: Vec<u8>,
 }
 
 impl<'a> Block<'a> {
-    /// The block of an input of this name, without a line. It takes no memory.
-    pub fn new(alloc: Global, options: &'a GrepOptions, name: &'a str) -> Block<'a>
-        ensures options { result.options.now ≡ options.now }
-        ensures name { result.name.now ≡ name.now }
-        ensures count { result.count ≡ 0 }
-        ensures text { result.text.items ≡ [] }
-    {
+    ghost use Rattle.grep_run.specs.Growing.{IsSameBlock, ending_of};
+
+    /// A block before any input. It takes no memory.
+    pub fn new(alloc: Global, options: &'a GrepOptions) -> Block<'a> {
         Block {
             options,
-            name,
+            name: "",
             count: 0,
             text: Vec::new(alloc),
         }
     }
 
-    /// Whether a line has come.
-    pub fn has_lines(&self) -> bool
-        ensures { result ≡ nat_lt 0 self.now.count }
+    /// Begins the block of the next input, which has this name.
+    pub fn begin(&mut self, options: &'a GrepOptions, name: &'a str)
+        ensures options { self.new.options.now ≡ options.now }
+        ensures name { self.new.name.now ≡ name.now }
+        ensures count { self.new.count ≡ 0 }
+        ensures text { self.new.text.items ≡ [] }
     {
-        self.count > 0
-    }
-
-    /// What it holds so far.
-    pub fn text(&self) -> &[u8]
-        ensures { result.now ≡ self.now.text.items }
-    {
-        self.text.as_slice()
-    }
-
-    /// Takes the next selected line, which has this number.
-    pub fn line(&mut self, number: u64, line: &[u8]) -> Result<Next, AllocError>
-        ensures text { OnOk result (self.new.text.items
-            ≡ self.old.text.items ++ added_line self.old.options.now self.old.name.now (number, line.now)) }
-        ensures count { OnOk result (self.new.count ≡ min (self.old.count + 1) u64.MAX) }
-        ensures next { OnOk result (result ≡ Ok (next_of self.old.options.now)) }
-        ensures options { self.new.options ≡ self.old.options }
-        ensures name { self.new.name ≡ self.old.name }
-    {
-        self.count = self.count.saturating_add(1);
-        if self.options.quiet || self.options.list {
-            return Ok(Next::Stop);
-        }
-        if !self.options.count {
-            push_line(self.options, self.name, number, line, &mut self.text)?;
-        }
-        Ok(Next::More)
+        self.options = options;
+        self.name = name;
+        self.count = 0;
+        self.text.clear();
     }
 
     /// Takes what stands behind the last line.
     pub fn finish(&mut self) -> Result<(), AllocError>
         ensures text { OnOk result (self.new.text.items
             ≡ self.old.text.items ++ ending_of self.old.options.now self.old.name.now self.old.count) }
-        ensures count { self.new.count ≡ self.old.count }
+        ensures same { IsSameBlock self.old self.new }
     {
         if self.options.quiet {
             return Ok(());
@@ -93,6 +67,37 @@ impl<'a> Block<'a> {
             push_count(self.options, self.name, self.count, &mut self.text)?;
         }
         Ok(())
+    }
+
+    /// Writes what it holds. After an error some of it may be written, from its front.
+    pub fn write<W: ByteOut>(&mut self, out: &mut W) -> Result<(), Stop>
+        ensures ok { OnOk result (Appends (W.written out.old) (W.written out.new) self.old.text.items) }
+        ensures empty { OnOk result (self.new.text.items ≡ []) }
+        ensures stopped { OnErr result (AppendsFront (W.written out.old) (W.written out.new) self.old.text.items) }
+        ensures same { IsSameBlock self.old self.new }
+        ensures flag { W.has_failed out.new ≡ (W.has_failed out.old || is_write_fault result) }
+    {
+        write_whole(self.text.as_slice(), out)?;
+        self.text.clear();
+        Ok(())
+    }
+}
+
+impl<'a> Sink for Block<'a> {
+    ghost use Rattle.grep_run.specs.Growing.{TakesLine};
+
+    ghost takes = { TakesLine };
+
+    fn line(&mut self, number: u64, bytes: &[u8]) -> Result<Next, Fault> {
+        self.count = self.count.saturating_add(1);
+        if self.options.quiet || self.options.list {
+            return Ok(Next::Stop);
+        }
+        if !self.options.count {
+            push_line(self.options, self.name, number, bytes, &mut self.text)
+                .map_err(|_| Fault::OutOfMemory)?;
+        }
+        Ok(Next::More)
     }
 }
 

@@ -3,14 +3,13 @@
 #![tactic(auto)]
 
 mod block;
-mod ending;
-mod matching;
 mod message;
+mod needles;
 mod opener;
 mod options;
 mod patterns;
-mod reading;
 mod running;
+mod scanning;
 mod searching;
 mod status;
 
@@ -19,4 +18,3 @@ pub use opener::{Missing, Opener};
 pub use options::GrepOptions;
 pub use running::{answer, run};
 pub use status::{Status, Stop};
-

@@ -1,14 +1,16 @@
 //! The patterns of a run.
-ghost use Rattle.std.specs.Prelude.{◌≡◌, ◌≢◌, [], IfErr, IfOk, OnOk, Some, map, string_bytes};
+ghost use Rattle.std.specs.Prelude.{◌≡◌, [], All, IfOk, OnOk, Some, map, string_bytes};
 ghost use Rattle.lit_base.specs.Devices.{Told};
-ghost use Rattle.grep_run.specs.Gathering.{Explains, TakesFile, TakesFiles, TakesPatterns};
+ghost use Rattle.lit_base.specs.Lines.{IsOnePiece};
+ghost use Rattle.grep_run.specs.Gathering.{TakesFile, TakesFiles, TakesPatterns};
 ghost use Rattle.grep_run.specs.Options.{asks_for};
-ghost use Rattle.grep_run.specs.Patterns.{RefusesAs, lists_refusal, literals_refusal, patterns_in};
+ghost use Rattle.grep_run.specs.Patterns.{RefusesAs, lists_refusal, patterns_in};
 ghost use Rattle.grep_run.specs.Sources.{AreShort, Content, IsShort, after_named, coming_of, found, source_of};
 
+use crate::needles::Needles;
 use crate::opener::Opener;
 use crate::options::GrepOptions;
-use lit_base::{ByteIn, Fault, Fold, LitList, MAX_TEXT_LEN, RawList, ReadError, read_to_end};
+use lit_base::{ByteIn, Fault, MAX_TEXT_LEN, RawList, ReadError, lines_law, read_to_end};
 use std::alloc::Global;
 
 /// Why a run has no patterns.
@@ -30,19 +32,19 @@ impl From<Fault> for NoPatterns<'_> {
     }
 }
 
-/// The patterns of a run: of all pattern lists in order, and then of all pattern files in order, each
-/// opened and read before the next. The first list or file that gives none ends it.
+/// What stands for the patterns of a run: those of all pattern lists in order, and then of all pattern
+/// files in order, each opened and read before the next. The first list or file that gives none ends it.
 pub fn gathered<'a, O: Opener>(
     alloc: Global,
     options: &'a GrepOptions,
     opener: &mut O,
-) -> Result<RawList, NoPatterns<'a>>
-    ensures { Told (O.sources opener.old) (O.sources opener.new) (λ s left. AreShort s → TakesPatterns options.now s left result) }
+) -> Result<Needles, NoPatterns<'a>>
+    ensures { Told (O.sources opener.old) (O.sources opener.new) (λ s left. AreShort s
+        → TakesPatterns options.now s left result) }
 {
     let mut patterns = listed(alloc, options.lists.as_slice())?;
     add_files(alloc, options.files.as_slice(), opener, &mut patterns)?;
-    check_literals(alloc, &patterns, options.fold)?;
-    Ok(patterns)
+    Ok(Needles::new(alloc, &patterns, options.fold)?)
 }
 
 // The patterns of all pattern lists, in order. A list that `RawList::add_text_list` refuses is refused
@@ -50,6 +52,7 @@ pub fn gathered<'a, O: Opener>(
 fn listed(alloc: Global, lists: &[String]) -> Result<RawList, Fault>
     ensures ok { IfOk result (λ patterns. patterns ≡ patterns_in (map string_bytes lists.now)) }
     ensures refusal { RefusesAs (lists_refusal [] (map string_bytes lists.now)) result }
+    ensures apart { IfOk result (All IsOnePiece) }
 {
     let mut patterns = RawList::new(alloc);
     for list in lists {
@@ -65,7 +68,8 @@ fn add_files<'a, O: Opener>(
     opener: &mut O,
     patterns: &mut RawList,
 ) -> Result<(), NoPatterns<'a>>
-    ensures { Told (O.sources opener.old) (O.sources opener.new) (λ s left. AreShort s
+    ensures apart { All IsOnePiece patterns.old → OnOk result (All IsOnePiece patterns.new) }
+    ensures answer { Told (O.sources opener.old) (O.sources opener.new) (λ s left. AreShort s
         → TakesFiles patterns.old patterns.new s left (found (asks_for (map string_bytes files.now)) s) result) }
 {
     for file in files {
@@ -81,7 +85,8 @@ fn add_file<'a, O: Opener>(
     opener: &mut O,
     patterns: &mut RawList,
 ) -> Result<(), NoPatterns<'a>>
-    ensures { Told (O.sources opener.old) (O.sources opener.new) (λ s left. AreShort s
+    ensures apart { All IsOnePiece patterns.old → OnOk result (All IsOnePiece patterns.new) }
+    ensures answer { Told (O.sources opener.old) (O.sources opener.new) (λ s left. AreShort s
         → (left ≡ after_named name.now s) × TakesFile name.now patterns.old patterns.new (source_of name.now s.named) result) }
 {
     match opener.open_named(name) {
@@ -98,7 +103,9 @@ fn add_content<'a, I: ByteIn>(
     input: &mut I,
     patterns: &mut RawList,
 ) -> Result<(), NoPatterns<'a>>
-    ensures { (c : Content) → I.coming input.old ≡ Some (coming_of c) → IsShort c → TakesFile name.now patterns.old patterns.new (Some c) result }
+    ensures apart { All IsOnePiece patterns.old → OnOk result (All IsOnePiece patterns.new) }
+    ensures answer { (c : Content) → I.coming input.old ≡ Some (coming_of c) → IsShort c
+        → TakesFile name.now patterns.old patterns.new (Some c) result }
 {
     let mut text = Vec::new(alloc);
     match read_to_end(input, MAX_TEXT_LEN, &mut text) {
@@ -107,12 +114,4 @@ fn add_content<'a, I: ByteIn>(
         Err(ReadError::TooLong) => Err(NoPatterns::Refused(Fault::ListTooLarge)),
         Err(ReadError::OutOfMemory) => Err(NoPatterns::Refused(Fault::OutOfMemory)),
     }
-}
-
-// Refuses patterns with too many literals.
-fn check_literals(alloc: Global, patterns: &RawList, fold: Fold) -> Result<(), Fault>
-    ensures { RefusesAs (literals_refusal fold patterns.now) result }
-{
-    LitList::normal(alloc, patterns, fold)?;
-    Ok(())
 }

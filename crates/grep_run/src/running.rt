@@ -13,7 +13,8 @@ use crate::message::{say_out_of_memory, say_refused, say_unreadable};
 use crate::opener::Opener;
 use crate::options::GrepOptions;
 use crate::patterns::{NoPatterns, gathered};
-use crate::searching::{Found, search_all};
+use crate::scanning::{Found, Request};
+use crate::searching::search_all;
 use crate::status::{Status, Stop};
 use lit_base::{ByteOut, Fault};
 use std::alloc::Global;
@@ -64,8 +65,13 @@ pub fn answer<O: Opener, W: ByteOut, E: ByteOut>(
         ≡ (W.has_failed out.old || E.has_failed err.old || is_write_fault result) }
 {
     match gathered(alloc, options, opener) {
-        Ok(patterns) => {
-            let found = search_all(alloc, options, &patterns, opener, out, err)?;
+        Ok(needles) => {
+            let request = Request {
+                alloc,
+                options,
+                needles: &needles,
+            };
+            let found = search_all(&request, opener, out, err)?;
             Ok(status_of(options.quiet, found))
         }
         Err(why) => refuse(alloc, why, err),

@@ -1,0 +1,9 @@
+-- What stands for patterns without newlines holds none.
+use Rattle.std.proofs.Common.{rules}
+use Rattle.line_pick.specs.Matching.{StandsFor}
+use Rattle.grep_run.proofs.needles.Needles.new.Goals as goal
+
+pub invariant_of-result : goal.invariant_of-result
+invariant_of-result c =
+    let stands : StandsFor c.args.fold c.args.patterns.now c.in_ok-plan.plan c.in_ok-list.normal.has_empty = search rules in
+    record { apart = c.standing_law.ensures.apart c.args.fold c.args.patterns.now c.in_ok-plan.plan c.in_ok-list.normal.has_empty stands c.requires }

@@ -1,0 +1,56 @@
+//! What lines are compared with.
+ghost use Rattle.std.specs.Prelude.{◌≡◌, ◌≢◌, All, IfErr, IfOk, IfSome};
+ghost use Rattle.lit_base.specs.Lines.{IsOnePiece};
+ghost use Rattle.line_pick.specs.Matching.{AreInLines, StandsFor, literals_of};
+ghost use Rattle.grep_run.specs.Patterns.{RefusesAs, literals_refusal};
+
+use flow_scan::Compiled;
+use line_pick::standing_law;
+use lit_base::{Fault, Fold, LitList, RawList};
+use run_planner::plan;
+use std::alloc::Global;
+
+/// What stands for patterns: the plan of their literals, where there are some, and whether one of them
+/// is null.
+#[derive(Debug, Drop)]
+pub struct Needles {
+    pub plan: Option<Compiled>,
+    pub has_empty: bool,
+    ghost apart: { AreInLines plan },
+}
+
+impl Needles {
+    /// What stands for these patterns, none of which holds a newline. Refusals: `TooManyLiterals`,
+    /// and `OutOfMemory`, which may come before.
+    pub fn new(alloc: Global, patterns: &RawList, fold: Fold) -> Result<Needles, Fault>
+        requires { All IsOnePiece patterns.now }
+        ensures ok { IfOk result (λ needles. StandsFor fold patterns.now needles.plan needles.has_empty) }
+        ensures refusal { RefusesAs (literals_refusal fold patterns.now) result }
+    {
+        let (list, normal) = LitList::normal(alloc, patterns, fold)?;
+        let plan = planned(alloc, list)?;
+        standing_law();
+        Ok(Needles {
+            plan,
+            has_empty: normal.has_empty,
+        })
+    }
+}
+
+// The plan of the literals, if there are some.
+fn planned(alloc: Global, list: LitList) -> Result<Option<Compiled>, Fault>
+    ensures literals { IfOk result (λ plan. literals_of plan ≡ list.texts) }
+    ensures fold { IfOk result (λ plan. IfSome plan (λ p. p.literals.folding ≡ list.folding)) }
+    ensures err { IfErr result (λ fault. fault ≡ Fault.OutOfMemory) }
+{
+    if list.is_empty() {
+        return Ok(None);
+    }
+    match plan(alloc, &list) {
+        Ok(certificate) => match Compiled::new(list, certificate) {
+            Ok(compiled) => Ok(Some(compiled)),
+            Err(_) => unreachable!(),
+        },
+        Err(_) => Err(Fault::OutOfMemory),
+    }
+}
