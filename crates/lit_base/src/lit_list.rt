@@ -136,7 +136,7 @@ impl LitList {
             (λ place. IsFirstEnding self.now text.now from end place) }
         ensures within { IfSome result (λ place. place < length self.now.texts) }
     {
-        if from == 0 && self.filter.rules_out(self.folding, text, end) {
+        if from == 0 && self.filter.rules_out(text, end) {
             return None;
         }
         self.next_in_chains(text, end, from)
