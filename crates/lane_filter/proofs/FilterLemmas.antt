@@ -5,10 +5,9 @@ use Rattle.std.proofs.lemmas.Bool.{cases_lt}
 use Rattle.std.proofs.lemmas.List.{get_or_past, get_or_append_left, get_or-append_right}
 use Rattle.nib_mask.specs.declared.masks.Masks.{Masks}
 use Rattle.nib_mask.specs.Tables.{value_at, table_value}
-use Rattle.lane_filter.specs.Lanes.{HasLanes}
+use Rattle.lane_filter.specs.Lanes.{HasLanes, HoldsBelow}
 use Rattle.std.specs.Simd.Lanes.{put_chunk}
 use Rattle.std.proofs.lemmas.Simd.{get_or-put_chunk_below, get_or-put_chunk_at}
-use Rattle.lane_filter.specs.Filtered.{IsFilteredBelow}
 use Rattle.lane_filter.proofs.LaneLemmas.{lanes_named}
 
 -- two vectors, one after the other, hold 64 numbers
@@ -66,15 +65,14 @@ pub lanes_of_slices : (masks : Masks) (x0 x1 x2 : List ℕ) (at : ℕ) {a b c v 
 lanes_of_slices masks x0 x1 x2 at p q r h =
     lanes_named _ h (λ k l i. table_value masks (p.each k l i) (q.each k l i) (r.each k l i))
 
--- a step of a loop that writes 32 filter bytes
-pub filtered_after_store : (masks : Masks) (x0 x1 x2 out v : List ℕ) (at : ℕ) → at + 32 ≤ length out
-    → HasLanes v (λ k. table_value masks (get_or x0 (at + k) 0) (get_or x1 (at + k) 0) (get_or x2 (at + k) 0))
-    → IsFilteredBelow masks x0 x1 x2 at out → IsFilteredBelow masks x0 x1 x2 (at + 32) (put_chunk at out v)
-filtered_after_store masks x0 x1 x2 out v at room h old k l =
+-- a step of a loop that writes 32 lanes
+pub holds_after_store : (f : ℕ → ℕ) (out v : List ℕ) (at : ℕ) → at + 32 ≤ length out → HasLanes v (λ k. f (at + k)) → HoldsBelow f at out
+    → HoldsBelow f (at + 32) (put_chunk at out v)
+holds_after_store f out v at room h old k l =
     let long = h.long in
     ⊎_elim (λ below. get_or-put_chunk_below at out v k 0 below ∙ old k below)
     (λ from.
     let place : at + (k - at) ≡ k = omega arith in
     ap (λ j. get_or (put_chunk at out v) j 0) (sym place) ∙ get_or-put_chunk_at at out v (k - at) 0 (omega arith) (omega arith)
-    ∙ h.each (k - at) (omega arith) ∙ ap (λ j. table_value masks (get_or x0 j 0) (get_or x1 j 0) (get_or x2 j 0)) place)
+    ∙ h.each (k - at) (omega arith) ∙ ap f place)
     (cases_lt k at)

@@ -7,6 +7,10 @@ pub record HasLanes (vector : List ℕ) (f : ℕ → ℕ) : Type 0 where
   pub long : length vector ≡ 32
   pub each : (k : ℕ) → k < 32 → slice_index vector k ≡ f k
 
+-- below n, the list holds f k at place k
+abbrev pub HoldsBelow : (ℕ → ℕ) → ℕ → List ℕ → Type 0
+HoldsBelow f n list = (k : ℕ) → k < n → slice_index list k ≡ f k
+
 -- the vector holds a table of 16 entries twice
 abbrev pub HoldsTwice : List ℕ → List ℕ → Type 0
 HoldsTwice vector table = HasLanes vector (λ k. slice_index table (k % 16))

@@ -1,8 +1,9 @@
 pub mod Bits
+pub mod CursorViews
 pub mod Cursors
 pub mod Ends
 pub mod Entries
 pub mod Filtered
+pub mod Fours
 pub mod Lanes
 pub mod WideTables
-pub mod CursorViews

@@ -6,7 +6,8 @@ ghost use Rattle.lane_filter.specs.Ends.{NoneWithin, IsFirstAfter, AreMarked};
 
 use crate::bits::{from_bit, split_lowest};
 use crate::plain::is_candidate;
-use crate::wide_masks::WideMasks;
+use crate::tables::Tables;
+use nib_mask::Masks;
 use std::marker::Model;
 
 /// Ends in a row, up to `done`: bit k of `mask` is set where `first + k` is a candidate.
@@ -18,7 +19,7 @@ struct Block {
 }
 
 /// The candidates after a place, by look at one place after the other up to another.
-fn plain_block(masks: &WideMasks, text: &[u8], from: usize, to: usize) -> Block
+fn plain_block(masks: &Masks, text: &[u8], from: usize, to: usize) -> Block
     requires ordered { from ≤ to }
     requires within { to ≤ length text.now }
     ensures marked { AreMarked (IsCandidate masks.now text.now) from result.first result.done result.mask }
@@ -26,7 +27,7 @@ fn plain_block(masks: &WideMasks, text: &[u8], from: usize, to: usize) -> Block
     ensures ended { result.mask ≡ 0 → result.done ≡ to }
 {
     for end in from + 1..to + 1 {
-        if is_candidate(&masks.masks, text, end) {
+        if is_candidate(masks, text, end) {
             return Block {
                 first: end,
                 mask: 1,
@@ -43,7 +44,7 @@ fn plain_block(masks: &WideMasks, text: &[u8], from: usize, to: usize) -> Block
 
 /// The first block after a place with a candidate, or the end of the text. Each block of 64 is read
 /// by three loads shifted by a byte.
-fn wide_block(masks: &WideMasks, text: &[u8], from: usize) -> Block
+fn wide_block(masks: &Masks, text: &[u8], from: usize) -> Block
     requires long { 66 ≤ length text.now }
     requires some { 2 ≤ from }
     requires within { from ≤ length text.now }
@@ -51,7 +52,7 @@ fn wide_block(masks: &WideMasks, text: &[u8], from: usize) -> Block
     ensures within { result.done ≤ length text.now }
     ensures ended { result.mask ≡ 0 → result.done ≡ length text.now }
 {
-    let tables = masks.tables;
+    let tables = Tables::of(masks);
     let mut seen = from;
     while text.len() - seen >= 64 {
         let mask = tables.marks(text, seen - 2);
@@ -68,7 +69,7 @@ fn wide_block(masks: &WideMasks, text: &[u8], from: usize) -> Block
 }
 
 /// The ends after a place, fewer than 64, as part of the last 64 ends.
-fn last_block(masks: &WideMasks, text: &[u8], seen: usize) -> Block
+fn last_block(masks: &Masks, text: &[u8], seen: usize) -> Block
     requires long { 66 ≤ length text.now }
     requires within { seen ≤ length text.now }
     requires short { length text.now < seen + 64 }
@@ -84,7 +85,7 @@ fn last_block(masks: &WideMasks, text: &[u8], seen: usize) -> Block
             done,
         };
     }
-    let whole = masks.tables.marks(text, done - 66);
+    let whole = Tables::of(masks).marks(text, done - 66);
     Block {
         first,
         mask: from_bit(whole, seen + 1 - first),
@@ -93,7 +94,7 @@ fn last_block(masks: &WideMasks, text: &[u8], seen: usize) -> Block
 }
 
 /// The first block after a place with a candidate, or the end of the text.
-fn next_block(masks: &WideMasks, text: &[u8], from: usize) -> Block
+fn next_block(masks: &Masks, text: &[u8], from: usize) -> Block
     requires { from ≤ length text.now }
     ensures marked { AreMarked (IsCandidate masks.now text.now) from result.first result.done result.mask }
     ensures within { result.done ≤ length text.now }
@@ -116,7 +117,7 @@ fn next_block(masks: &WideMasks, text: &[u8], from: usize) -> Block
 /// text, and the last end handed out.
 #[derive(Drop)]
 pub struct Candidates<'a> {
-    masks: &'a WideMasks,
+    masks: &'a Masks,
     text: &'a [u8],
     from: usize,
     first: usize,
@@ -139,7 +140,7 @@ impl<'a> Model for Candidates<'a> {
 impl<'a> Candidates<'a> {
     /// The candidates of the text after a place. It looks at nothing yet.
     #[inline]
-    pub fn new(masks: &'a WideMasks, text: &'a [u8], from: usize) -> Candidates<'a>
+    pub fn new(masks: &'a Masks, text: &'a [u8], from: usize) -> Candidates<'a>
         requires { from ≤ length text.now }
         ensures masks { result.masks ≡ masks.now }
         ensures text { result.text ≡ text.now }
@@ -156,7 +157,7 @@ impl<'a> Candidates<'a> {
     }
 
     /// The first candidate after the last one handed out.
-    #[inline]
+    #[inline(always)]
     pub fn next_end(&mut self) -> Option<usize>
         ensures masks { self.new.masks ≡ self.old.masks }
         ensures text { self.new.text ≡ self.old.text }

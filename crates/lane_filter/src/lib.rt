@@ -3,12 +3,12 @@
 
 mod bits;
 mod candidates;
+mod entries;
+mod four;
 mod kernels;
 mod lanes;
 mod plain;
 mod tables;
-mod wide_masks;
 
 pub use candidates::Candidates;
-pub use kernels::filter_wide;
-pub use wide_masks::WideMasks;
+pub use kernels::{any_set, filter, filter_wide};

@@ -24,6 +24,7 @@ impl Tables {
     ghost use Rattle.lane_filter.specs.WideTables.{AreTablesOf};
     ghost use Rattle.lane_filter.specs.Filtered.{IsMarked};
 
+    #[inline(always)]
     pub(crate) fn of(masks: &Masks) -> Tables
         ensures { AreTablesOf masks.now result }
     {

@@ -1,5 +1,4 @@
-use Rattle.std.proofs.Common.{◌-◌, length, subst, arith}
-use Rattle.lane_filter.specs.WideTables.{AreTablesOf}
+use Rattle.std.proofs.Common.{◌-◌, length, arith}
 use Rattle.lane_filter.proofs.EndLemmas.{block_marked}
 use Rattle.lane_filter.proofs.candidates.last_block.Goals as goal
 
@@ -9,7 +8,6 @@ returns-clause-marked c =
     let text = c.args.text.now in
     let seen = c.args.seen in
     let end = length text in
-    let tables = subst (λ m. AreTablesOf m c.masks.inside.tables) c.masks.view_is c.masks.invariant in
     block_marked masks text seen (end - 66) (end - 63) end c.marks-whole.result _ (omega arith) (omega arith) (omega arith) (omega arith) (omega arith)
-    (c.marks-whole.ensures masks tables)
+    (c.marks-whole.ensures masks c.of.ensures)
     (λ k. (λ s. let h = (c.from_bit.ensures k).0 s in (omega (arith, h.0), h.1), λ h. (c.from_bit.ensures k).1 (omega (arith, h.0), h.1)))

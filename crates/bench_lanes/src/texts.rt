@@ -1,0 +1,72 @@
+//! Literals and texts, the same in each run.
+use anyhow::Result;
+use lit_base::{Fold, LitList, RawList};
+use std::alloc::{AllocError, Global};
+
+/// How many bytes apart the literals stand in a text that has some.
+const DISTANCE: usize = 4096;
+
+/// Numbers that look random.
+#[derive(Drop)]
+struct Numbers {
+    state: u64,
+}
+
+impl Numbers {
+    fn next(&mut self) -> u64 {
+        self.state = self
+            .state
+            .wrapping_mul(6_364_136_223_846_793_005)
+            .wrapping_add(1_442_695_040_888_963_407);
+        self.state >> 33
+    }
+
+    /// One of the bytes.
+    fn pick(&mut self, bytes: &[u8]) -> u8 {
+        let place = self.next() % (bytes.len() as u64).max(1);
+        bytes.get(place as usize).copied().unwrap_or(0)
+    }
+}
+
+/// So many words of six to nine small letters.
+pub fn literals(alloc: Global, count: u16) -> Result<LitList> {
+    let mut numbers = Numbers { state: 1 };
+    let mut raw = RawList::new(alloc);
+    for _ in 0..count {
+        let mut word = [0; 9];
+        for byte in word.iter_mut() {
+            *byte = numbers.pick(b"abcdefghijklmnopqrstuvwxyz");
+        }
+        let len = 6 + (numbers.next() % 4) as usize;
+        raw.push(&word[..len])?;
+    }
+    let (list, _) = LitList::normal(alloc, &raw, Fold::No)?;
+    Ok(list)
+}
+
+/// A text of capitals, digits and spaces, in which no literal occurs and no filter finds one.
+pub fn quiet_text(alloc: Global, len: usize) -> Result<Vec<u8>, AllocError> {
+    let mut numbers = Numbers { state: 2 };
+    let mut text = Vec::new(alloc);
+    text.reserve(len)?;
+    for _ in 0..len {
+        text.push(numbers.pick(b"ABCDEFGHIJKLMNO0123456789  "))?;
+    }
+    Ok(text)
+}
+
+/// The same with a literal now and then.
+pub fn rare_text(alloc: Global, len: usize, list: &LitList) -> Result<Vec<u8>, AllocError> {
+    let mut text = quiet_text(alloc, len)?;
+    if list.len() == 0 {
+        return Ok(text);
+    }
+    let mut place = DISTANCE / 2;
+    for turn in 0..len / DISTANCE {
+        for (byte, letter) in text.iter_mut().skip(place).zip(list.get(turn % list.len())) {
+            *byte = *letter;
+        }
+        place = place.saturating_add(DISTANCE);
+    }
+    Ok(text)
+}

@@ -1,0 +1,100 @@
+-- Where newlines stand: a text is cut at its first newline, and behind its last one.
+use Rattle.std.proofs.Common.{◌≡◌, ◌≢◌, ℕ, ◌+◌, ◌<◌, true, eqb, List, [], ◌∷◌, ◌++◌, length, take, drop, get_or, None, Some, sym, ap, ◌∙◌, subst, arith, take-append-drop, append-nil, append_assoc, eq-eqb}
+use Rattle.std.proofs.lemmas.Bool.{eqb-true}
+use Rattle.std.proofs.lemmas.List.{get_or-take, get_or-drop, drop_more, take_more, get_or_default, length-append, length-take, length-drop}
+use Rattle.std.proofs.lemmas.List.Elements.{All-append}
+use Rattle.memchr.specs.Find.{IsFirstByte, IsLastByte, is_byte}
+use Rattle.lit_base.specs.Lines.{IsOnePiece, ended_lines, open_rest}
+use Rattle.line_pick.specs.Cutting.{IsFirstLine, IsLastCut}
+use Rattle.lit_base.proofs.EndedLemmas.{ended_lines-append, open_rest-append, open_rest-newline, ended_lines-none, open_rest-none, open_rest-apart}
+
+-- a byte of a text is a newline by the search's test
+is_newline : (text : List ℕ) (k d : ℕ) → k < length text → get_or text k d ≡ 10 → eqb (get_or text k 0) 10 ≡ true
+is_newline text k d inside e = eq-eqb (get_or text k 0) 10 (get_or_default text k 0 d inside ∙ e)
+
+-- a text where no newline is found
+pub none_found : (text : List ℕ) → IsFirstByte (is_byte 10) text None → IsOnePiece text
+none_found text h k d inside e = h k (omega arith) inside (is_newline text k d inside e)
+
+-- up to the first newline there is none
+pub front-one : (text : List ℕ) (at : ℕ) → IsFirstByte (is_byte 10) text (Some at) → IsOnePiece (take at text)
+front-one text at h k d inside e =
+    let below : k < at = omega (arith, length-take at text) in
+    h.0.before k (omega arith) below (is_newline text k d (omega (arith, h.0.high)) (sym (get_or-take at text k d below) ∙ e))
+
+-- and the text is cut there
+pub first-cut : (text : List ℕ) (at : ℕ) → IsFirstByte (is_byte 10) text (Some at) → text ≡ take at text ++ 10 ∷ drop (at + 1) text
+first-cut text at h =
+    let here : get_or text at 0 ≡ 10 = eqb-true _ _ h.1 in
+    sym (take-append-drop at text) ∙ ap (λ t. take at text ++ t) (drop_more text at 0 h.0.high ∙ ap (λ b. b ∷ drop (at + 1) text) here)
+
+-- behind a newline nothing is open
+pub open_rest-closed : (text : List ℕ) → open_rest (text ++ 10 ∷ []) ≡ []
+open_rest-closed text = open_rest-append text (10 ∷ []) ∙ open_rest-newline (open_rest text) [] (open_rest-apart text) ∙ open_rest-none [] (λ k d inside. absurd (omega arith))
+
+-- up to the last newline, with it, nothing is open
+pub last-closed : (text : List ℕ) (at : ℕ) → IsLastByte (is_byte 10) text (Some at) → open_rest (take (at + 1) text) ≡ []
+last-closed text at h =
+    let here : get_or text at 0 ≡ 10 = eqb-true _ _ h.1 in
+    ap open_rest (take_more text at 0 h.0.high ∙ ap (λ b. take at text ++ b ∷ []) here) ∙ open_rest-closed (take at text)
+
+-- behind the last newline there is none
+pub behind-one : (text : List ℕ) (at : ℕ) → IsLastByte (is_byte 10) text (Some at) → IsOnePiece (drop (at + 1) text)
+behind-one text at h k d inside e =
+    let room : (at + 1) + k < length text = omega (arith, length-drop (at + 1) text) in
+    h.0.after ((at + 1) + k) (omega arith) room (is_newline text ((at + 1) + k) d room (sym (get_or-drop (at + 1) text k d) ∙ e))
+
+pub none_last : (text : List ℕ) → IsLastByte (is_byte 10) text None → IsOnePiece text
+none_last text h k d inside e = h k (omega arith) inside (is_newline text k d inside e)
+
+-- an empty text is no line and nothing open
+pub open_rest-nil : open_rest [] ≡ []
+open_rest-nil = open_rest-none [] (λ k d inside. absurd (omega arith))
+
+-- lines before an open rest: it adds none, and is the open rest of both
+pub ended_lines-block : (block rest : List ℕ) → open_rest block ≡ [] → IsOnePiece rest → ended_lines (block ++ rest) ≡ ended_lines block
+ended_lines-block block rest closed one =
+    ended_lines-append block rest ∙ ap (λ r. ended_lines block ++ ended_lines (r ++ rest)) closed ∙ ap (λ ls. ended_lines block ++ ls) (ended_lines-none rest one) ∙ append-nil (ended_lines block)
+
+pub open_rest-block : (block rest : List ℕ) → open_rest block ≡ [] → IsOnePiece rest → open_rest (block ++ rest) ≡ rest
+open_rest-block block rest closed one = open_rest-append block rest ∙ ap (λ r. open_rest (r ++ rest)) closed ∙ open_rest-none rest one
+
+-- two parts of a line are one
+pub one-append : (front back : List ℕ) → IsOnePiece front → IsOnePiece back → IsOnePiece (front ++ back)
+one-append front back h k = All-append (λ b. b ≢ 10) front back h k
+
+-- a text cut behind its last newline
+pub last-cut : (text block rest : List ℕ) (at : ℕ) → IsLastByte (is_byte 10) text (Some at) → block ≡ take (at + 1) text → rest ≡ drop (at + 1) text → IsLastCut text block rest
+last-cut text block rest at h front back = record {
+  whole = sym (take-append-drop (at + 1) text) ∙ ap (λ b. b ++ drop (at + 1) text) (sym front) ∙ ap (λ r. block ++ r) (sym back);
+  closed = ap open_rest front ∙ last-closed text at h;
+  one = subst IsOnePiece (sym back) (behind-one text at h);
+}
+
+-- and one without a newline
+pub last-cut-none : (text block rest : List ℕ) → IsLastByte (is_byte 10) text None → block ≡ [] → rest ≡ text → IsLastCut text block rest
+last-cut-none text block rest h front back = record {
+  whole = ap (λ b. b ++ text) (sym front) ∙ ap (λ r. block ++ r) (sym back);
+  closed = ap open_rest front ∙ open_rest-nil;
+  one = subst IsOnePiece (sym back) (none_last text h);
+}
+
+-- its lines and its open rest
+pub ended_lines-cut : {text block rest : List ℕ} → IsLastCut text block rest → ended_lines text ≡ ended_lines block
+ended_lines-cut {text} {block} {rest} cut = ap ended_lines cut.whole ∙ ended_lines-block block rest cut.closed cut.one
+
+pub open_rest-cut : {text block rest : List ℕ} → IsLastCut text block rest → open_rest text ≡ rest
+open_rest-cut {text} {block} {rest} cut = ap open_rest cut.whole ∙ open_rest-block block rest cut.closed cut.one
+
+pub length-cut : {text block rest : List ℕ} → IsLastCut text block rest → length text ≡ length block + length rest
+length-cut {text} {block} {rest} cut = ap length cut.whole ∙ length-append block rest
+
+-- bytes before the first line belong to it
+pub first-held : (held : List ℕ) {text line rest : List ℕ} → IsOnePiece held → IsFirstLine text line rest → IsFirstLine (held ++ text) (held ++ line) rest
+first-held held {text} {line} {rest} one cut = record {
+  one = one-append held line one cut.one;
+  whole = ap (λ t. held ++ t) cut.whole ∙ sym (append_assoc held line (10 ∷ rest));
+}
+
+pub open_rest-first : {text line rest : List ℕ} → IsFirstLine text line rest → open_rest text ≡ open_rest rest
+open_rest-first {text} {line} {rest} cut = ap open_rest cut.whole ∙ open_rest-newline line rest cut.one

@@ -1,0 +1,73 @@
+-- The first line of what is held and the piece, and those behind it.
+use Rattle.std.proofs.Common.{◌≡◌, ◌+◌, ◌++◌, Result, Err, arith, sym, ap, ◌∙◌}
+use Rattle.std.proofs.lemmas.Result.{err_from_is_err_and, on_ok_weaker}
+use Rattle.lit_base.specs.Lines.{ended_lines}
+use Rattle.lit_base.proofs.EndedLemmas.{ended_lines-none, open_rest-none}
+use Rattle.line_pick.specs.declared.halt.Halt.{Halt}
+use Rattle.line_pick.specs.Lending.{NoneLeft, numbered}
+use Rattle.line_pick.specs.Matching.{picks}
+use Rattle.line_pick.proofs.LentLemmas.{Lends-halted, Lends-held, Lends-join, Lends-lines, Lends-refused, Lent-from_Lends, Lent-lines, OnOk-any, answer_of-StreamTooLong, answer_to-More, count-first, count-none, numbered-first}
+use Rattle.line_pick.proofs.Newlines.{first-held, one-append, open_rest-first}
+use Rattle.line_pick.proofs.progress.Progress.take.Goals as goal
+
+-- the fault of one answer is that of another
+same_fault : {T : Type 0} {h k : Halt} → ◌≡◌ {A = Result T Halt} (Err h) (Err k) → h ≡ k
+same_fault e = (cc)
+
+pub returns-in_err-self-clause-lent : goal.returns-in_err-self-clause-lent
+returns-in_err-self-clause-lent g c =
+    let p = err_from_is_err_and c.from_residual.result c.from_residual.ensures.1 in
+    Lends-refused (numbered (picks c.args.matcher) c.args.self.now.lines (ended_lines (c.args.self.now.held.items ++ c.args.piece.now))) c.from_residual.result
+    (p.1 ∙ ap (λ h. Err h) (p.2 ∙ same_fault c.in_err-self.ensures.err))
+
+pub returns-in_err-end_line-in-Some-clause-lent : goal.returns-in_err-end_line-in-Some-clause-lent
+returns-in_err-end_line-in-Some-clause-lent g c =
+    let p = err_from_is_err_and c.from_residual-in_err-end_line-in-Some.result c.from_residual-in_err-end_line-in-Some.ensures.1 in
+    let test = picks c.args.matcher in
+    let lines = c.args.self.now.lines in
+    let held = c.args.self.now.held.items in
+    let cut = first-held held c.requires.sound.one c.in-Some.ensures in
+    rw (p.1, p.2) (Lends-lines (sym (numbered-first test lines (held ++ c.args.piece.now) (held ++ c.in-Some.front.now) c.in-Some.behind.now cut))
+    (Lends-halted (numbered test (lines + 1) (ended_lines c.in-Some.behind.now)) c.in_err-end_line-in-Some.ensures.lent (answer_to-More c.in_err-end_line-in-Some.field-0.0)))
+
+pub returns-in-None-clause-lent : goal.returns-in-None-clause-lent
+returns-in-None-clause-lent g c =
+    let held = c.args.self.now.held.items in
+    let none = ended_lines-none (held ++ c.args.piece.now) (one-append held c.args.piece.now c.requires.sound.one c.in-None.ensures) in
+    Lends-held c.hold.result (Lent-lines (ap (numbered (picks c.args.matcher) c.args.self.now.lines) (sym none)) NoneLeft) c.hold.ensures.starved
+
+pub returns-in-None-clause-held : goal.returns-in-None-clause-held
+returns-in-None-clause-held g c =
+    let held = c.args.self.now.held.items in
+    let all = open_rest-none (held ++ c.args.piece.now) (one-append held c.args.piece.now c.requires.sound.one c.in-None.ensures) in
+    on_ok_weaker c.hold.result (λ e. e ∙ sym all) c.hold.ensures.ok
+
+pub returns-in-None-clause-lines : goal.returns-in-None-clause-lines
+returns-in-None-clause-lines g c =
+    let held = c.args.self.now.held.items in
+    let none = count-none (held ++ c.args.piece.now) (one-append held c.args.piece.now c.requires.sound.one c.in-None.ensures) in
+    OnOk-any c.hold.result (omega (arith, none, c.hold.ensures.lines))
+
+pub returns-in_ok-end_line-in-Some-clause-lent : goal.returns-in_ok-end_line-in-Some-clause-lent
+returns-in_ok-end_line-in-Some-clause-lent g c =
+    let test = picks c.args.matcher in
+    let lines = c.args.self.now.lines in
+    let held = c.args.self.now.held.items in
+    let cut = first-held held c.requires.sound.one c.in-Some.ensures in
+    Lends-lines (sym (numbered-first test lines (held ++ c.args.piece.now) (held ++ c.in-Some.front.now) c.in-Some.behind.now cut))
+    (Lends-join (Lent-from_Lends c.in_ok-end_line-in-Some.ensures.lent)
+    (Lends-lines (ap (λ n. numbered test n (ended_lines c.in-Some.behind.now)) c.in_ok-end_line-in-Some.ensures.lines) c.take_lines.ensures.lent)
+    (answer_of-StreamTooLong c.take_lines.result c.take_lines.ensures.faults))
+
+pub returns-in_ok-end_line-in-Some-clause-held : goal.returns-in_ok-end_line-in-Some-clause-held
+returns-in_ok-end_line-in-Some-clause-held g c =
+    let held = c.args.self.now.held.items in
+    on_ok_weaker c.take_lines.result (λ e. e ∙ sym (open_rest-first (first-held held c.requires.sound.one c.in-Some.ensures))) c.take_lines.ensures.held
+
+pub returns-in_ok-end_line-in-Some-clause-lines : goal.returns-in_ok-end_line-in-Some-clause-lines
+returns-in_ok-end_line-in-Some-clause-lines g c =
+    let test = picks c.args.matcher in
+    let held = c.args.self.now.held.items in
+    let cut = first-held held c.requires.sound.one c.in-Some.ensures in
+    let count = count-first test 0 (held ++ c.args.piece.now) (held ++ c.in-Some.front.now) c.in-Some.behind.now cut in
+    on_ok_weaker c.take_lines.result (λ e. omega (arith, e, count, c.in_ok-end_line-in-Some.ensures.lines)) c.take_lines.ensures.lines

@@ -1,0 +1,8 @@
+pub mod Cutting
+pub mod Faults
+pub mod Feeding
+pub mod Hits
+pub mod Lending
+pub mod Matching
+pub mod Picking
+pub mod Progresses

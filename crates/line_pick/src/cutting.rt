@@ -1,0 +1,25 @@
+//! Where a text is cut into lines.
+ghost use Rattle.std.specs.Prelude.{MatchOption};
+ghost use Rattle.lit_base.specs.Lines.{IsOnePiece};
+ghost use Rattle.line_pick.specs.Cutting.{IsFirstLine, IsLastCut};
+
+use memchr::{memchr, memrchr};
+
+/// The text before the first newline, and the text behind it, if there is a newline.
+pub(crate) fn split_line(text: &[u8]) -> Option<(&[u8], &[u8])>
+    ensures { MatchOption result (IsOnePiece text.now) (λ parts. IsFirstLine text.now parts.0.now parts.1.now) }
+{
+    let end = memchr(b'\n', text)?;
+    let (line, behind) = text.split_at(end);
+    Some((line, &behind[1..]))
+}
+
+/// The text up to its last newline, with it, and the text behind it.
+pub(crate) fn split_ended(text: &[u8]) -> (&[u8], &[u8])
+    ensures { IsLastCut text.now result.0.now result.1.now }
+{
+    match memrchr(b'\n', text) {
+        Some(at) => text.split_at(at + 1),
+        None => text.split_at(0),
+    }
+}

@@ -1,0 +1,23 @@
+//! The selected lines of a text that comes in pieces, lent one by one with their numbers.
+#![tactic(auto)]
+
+mod block;
+mod counting;
+mod cutting;
+mod fault;
+mod halt;
+mod hit;
+mod lending;
+mod line_rule;
+mod matcher;
+mod picker;
+mod progress;
+mod sink;
+mod state;
+
+pub use fault::Fault;
+pub use line_rule::LineRule;
+pub use matcher::standing_law;
+pub use picker::Picker;
+pub use sink::{Next, Sink};
+pub use state::State;

@@ -1,0 +1,126 @@
+//! Which lines are selected.
+ghost use Rattle.std.specs.Prelude.{◌≡◌, ◌==◌, ◌&&◌, ◌<◌, ◌≤◌, ℕ, List, false, length, slice_index, true};
+ghost use Rattle.std.specs.Option.{option_copied};
+ghost use Rattle.lit_base.specs.Literals.{lengths};
+ghost use Rattle.lit_base.specs.Selected.{matches};
+ghost use Rattle.line_pick.specs.Matching.{StandingLaw, fold_of, patterns_of, picks};
+
+use crate::line_rule::LineRule;
+use flow_scan::{Compiled, next_end};
+use lit_base::LitList;
+
+/// What lines are compared with: the literals of a plan, the null pattern, and the rule.
+#[derive(Clone, Copy, Debug)]
+pub(crate) struct Matcher<'p> {
+    pub plan: Option<&'p Compiled>,
+    pub has_empty: bool,
+    pub rule: LineRule,
+}
+
+impl Matcher<'_> {
+    /// It selects each line: none matches, and those that do not are selected.
+    pub fn each_line() -> Matcher<'static>
+        ensures { (line : List ℕ) → picks result line ≡ true }
+    {
+        Matcher {
+            plan: None,
+            has_empty: false,
+            rule: LineRule {
+                invert: true,
+                whole: false,
+            },
+        }
+    }
+
+    /// Whether the line is selected.
+    pub fn selects(self, line: &[u8]) -> bool
+        ensures { result ≡ picks self.entry line.now }
+    {
+        self.matches(line) != self.rule.invert
+    }
+
+    /// Whether the line matches one of the patterns.
+    fn matches(self, line: &[u8]) -> bool
+        ensures { result ≡ matches (fold_of (option_copied self.entry.plan)) self.entry.rule.whole (patterns_of (option_copied self.entry.plan) self.entry.has_empty) line.now }
+    {
+        if self.rule.whole {
+            self.is_pattern(line)
+        } else {
+            self.has_pattern(line)
+        }
+    }
+
+    /// Whether the line as a whole is one of the patterns.
+    fn is_pattern(self, line: &[u8]) -> bool
+        ensures { result ≡ matches (fold_of (option_copied self.entry.plan)) true (patterns_of (option_copied self.entry.plan) self.entry.has_empty) line.now }
+    {
+        if self.is_null(line) {
+            return true;
+        }
+        match self.plan {
+            Some(compiled) => is_literal(compiled.list(), line),
+            None => false,
+        }
+    }
+
+    /// Whether the line is empty, and the null pattern is one of the patterns.
+    fn is_null(self, line: &[u8]) -> bool
+        ensures { result ≡ (self.entry.has_empty && (length line.now == 0)) }
+    {
+        self.has_empty && line.is_empty()
+    }
+
+    /// Whether one of the patterns is a slice of the line.
+    fn has_pattern(self, line: &[u8]) -> bool
+        ensures { result ≡ matches (fold_of (option_copied self.entry.plan)) false (patterns_of (option_copied self.entry.plan) self.entry.has_empty) line.now }
+    {
+        if self.has_empty {
+            return true;
+        }
+        match self.plan {
+            Some(compiled) => has_literal(compiled, line),
+            None => false,
+        }
+    }
+}
+
+/// Whether some literal is a slice of the line.
+fn has_literal(compiled: &Compiled, line: &[u8]) -> bool
+    ensures { result ≡ matches compiled.now.literals.folding false compiled.now.literals.texts line.now }
+{
+    compiled.list().normal_law();
+    next_end(compiled, line, 0).is_some()
+}
+
+/// Whether the line as a whole is one of the literals.
+fn is_literal(list: &LitList, line: &[u8]) -> bool
+    ensures { result ≡ matches list.now.folding true list.now.texts line.now }
+{
+    list.normal_law();
+    let first = first_as_long(list, line.len());
+    list.next_ending(line, line.len(), first).is_some()
+}
+
+/// The place of the first literal that is not shorter than `len`, or how many literals there are.
+fn first_as_long(list: &LitList, len: usize) -> usize
+    ensures shorter { (place : ℕ) → place < result → slice_index (lengths list.now) place < len }
+    ensures as_long { (place : ℕ) → result ≤ place → place < length list.now.texts → len ≤ slice_index (lengths list.now) place }
+{
+    let mut low = 0;
+    let mut high = list.len();
+    while low < high {
+        let middle = low + (high - low) / 2;
+        if list.get(middle).len() < len {
+            low = middle + 1;
+        } else {
+            high = middle;
+        }
+    }
+    low
+}
+
+/// The law of what stands for raw patterns: a plan whose literals are their normal form, and the null
+/// pattern if one of them is null, select the lines that the raw patterns select.
+pub fn standing_law()
+    ensures { StandingLaw }
+{}

@@ -1,0 +1,126 @@
+//! The selected lines of a text that comes in pieces.
+ghost use Rattle.std.specs.Prelude.{◌≡◌, ◌≢◌, [], Ok, Err};
+ghost use Rattle.std.specs.Option.{option_copied};
+ghost use Rattle.line_pick.specs.Feeding.{Feeds, Finishes, Stays};
+ghost use Rattle.line_pick.specs.Lending.{answer_of};
+ghost use Rattle.line_pick.specs.Matching.{AreInLines};
+ghost use Rattle.line_pick.specs.declared.state.State.TheVariants.{Running};
+
+use crate::fault::Fault;
+use crate::halt::Halt;
+use crate::line_rule::LineRule;
+use crate::matcher::Matcher;
+use crate::progress::Progress;
+use crate::sink::{Next, Sink};
+use crate::state::State;
+use flow_scan::Compiled;
+use std::alloc::Global;
+use std::marker::Model;
+
+/// Lends the selected lines of a text that comes in pieces. It keeps the current line alone.
+#[derive(Debug, Drop)]
+pub struct Picker<'p> {
+    matcher: Matcher<'p>,
+    progress: Progress,
+    state: State,
+}
+
+impl<'p> Model for Picker<'p> {
+    ghost use Rattle.std.specs.Option.{option_copied};
+    ghost use Rattle.line_pick.specs.Picking.{Picking};
+
+    ghost Value = { Picking };
+
+    ghost use Rattle.line_pick.specs.Matching.{AreInLines};
+    ghost use Rattle.line_pick.specs.Progresses.{IsSound};
+
+    ghost view = { λ p. record {
+      plan = option_copied p.matcher.plan;
+      has_empty = p.matcher.has_empty;
+      rule = p.matcher.rule;
+      held = p.progress.held.items;
+      lines = p.progress.lines;
+      bytes = p.progress.bytes;
+      state = p.state;
+    } };
+
+    ghost invariant = { λ p. IsSound p.progress × AreInLines (option_copied p.matcher.plan) };
+}
+
+impl<'p> Picker<'p> {
+    /// A picker before any text. Its patterns are the plan's literals, and the null pattern if there
+    /// is one. It takes no memory.
+    pub fn new(
+        alloc: Global,
+        plan: Option<&'p Compiled>,
+        has_empty: bool,
+        rule: LineRule,
+    ) -> Picker<'p>
+        requires { AreInLines (option_copied plan) }
+        ensures { result ≡ record {
+          plan = option_copied plan.entry;
+          has_empty = has_empty;
+          rule = rule;
+          held = [];
+          lines = 0;
+          bytes = 0;
+          state = Running;
+        } }
+    {
+        Picker {
+            matcher: Matcher {
+                plan,
+                has_empty,
+                rule,
+            },
+            progress: Progress::new(alloc),
+            state: State::Running,
+        }
+    }
+
+    /// Takes the next piece of the text, and lends to the sink each selected line that a newline ends
+    /// in it, in order, with its number and without its newline.
+    ///
+    /// The line to which the sink answers `Stop` or a fault is the last one lent, and the answer is
+    /// the same. `StreamTooLong` comes where the bytes fed would pass 2^64 - 1, before any line is
+    /// lent; `OutOfMemory` also where the open line cannot be kept, behind the lines lent so far.
+    /// A picker that stopped, failed or finished lends nothing: it answers `Stop`, or its fault again.
+    pub fn feed<S: Sink>(&mut self, piece: &[u8], sink: &mut S) -> Result<Next, Fault>
+        ensures running { self.old.state ≡ Running → Feeds S.takes self.old piece.now sink.old result self.new sink.new }
+        ensures over { self.old.state ≢ Running → Stays self.old sink.old result self.new sink.new }
+    {
+        if let Some(answer) = self.state.answer() {
+            return answer;
+        }
+        let answer = answered(self.progress.take(self.matcher, piece, sink));
+        self.state = State::after_feed(answer);
+        answer
+    }
+
+    /// Ends the text: a last line without newline is lent, if it is not empty and selected.
+    ///
+    /// It answers what the sink answers to that line, and else `More`. A picker that stopped, failed
+    /// or finished lends nothing: it answers `Stop`, or its fault again.
+    pub fn finish<S: Sink>(&mut self, sink: &mut S) -> Result<Next, Fault>
+        ensures running { self.old.state ≡ Running → Finishes S.takes self.old sink.old result self.new sink.new }
+        ensures over { self.old.state ≢ Running → Stays self.old sink.old result self.new sink.new }
+    {
+        if let Some(answer) = self.state.answer() {
+            return answer;
+        }
+        let answer = answered(self.progress.lend_open(self.matcher, sink));
+        self.state = State::after_finish(answer);
+        answer
+    }
+}
+
+/// What a call answers where lending ended so.
+fn answered(lent: Result<(), Halt>) -> Result<Next, Fault>
+    ensures { result ≡ answer_of lent }
+{
+    match lent {
+        Ok(()) => Ok(Next::More),
+        Err(Halt::Stopped) => Ok(Next::Stop),
+        Err(Halt::Failed(fault)) => Err(fault),
+    }
+}

@@ -1,0 +1,153 @@
+//! The line that no newline has ended yet, and how far a text has come.
+ghost use Rattle.std.specs.Prelude.{◌≡◌, ◌≢◌, ◌↔◌, ◌≤◌, ◌+◌, ◌^◌, ◌++◌, ◌∷◌, [], Err, IfOk, OnOk, OnErr, length, vec_len};
+ghost use Rattle.std.specs.Option.{option_copied};
+ghost use Rattle.lit_base.specs.Lines.{IsOnePiece, ended_lines, last_line, open_rest};
+ghost use Rattle.line_pick.specs.Lending.{Lends, Lent, answer_of, numbered};
+ghost use Rattle.line_pick.specs.Matching.{AreInLines, picks};
+ghost use Rattle.line_pick.specs.Progresses.{IsSound};
+
+use crate::block::lend_block;
+use crate::cutting::{split_ended, split_line};
+use crate::fault::Fault;
+use crate::halt::Halt;
+use crate::lending::lend_selected;
+use crate::matcher::Matcher;
+use crate::sink::Sink;
+use std::alloc::Global;
+
+/// The line that no newline has ended yet, and how far a text has come.
+#[derive(Debug, Drop)]
+pub(crate) struct Progress {
+    /// The bytes since the last newline.
+    pub held: Vec<u8>,
+    /// How many lines were ended.
+    pub lines: u64,
+    /// How many bytes there were.
+    pub bytes: u64,
+}
+
+impl Progress {
+    /// That before any text. It takes no memory.
+    pub fn new(alloc: Global) -> Progress
+        ensures held { result.held.items ≡ [] }
+        ensures lines { result.lines ≡ 0 }
+        ensures bytes { result.bytes ≡ 0 }
+    {
+        Progress {
+            held: Vec::new(alloc),
+            lines: 0,
+            bytes: 0,
+        }
+    }
+
+    /// Takes the next piece of the text, and lends the selected ones of the lines that it ends.
+    pub fn take<S: Sink>(
+        &mut self,
+        matcher: Matcher<'_>,
+        piece: &[u8],
+        sink: &mut S,
+    ) -> Result<(), Halt>
+        requires sound { IsSound self.old }
+        requires apart { AreInLines (option_copied matcher.plan) }
+        ensures sound { IsSound self.new }
+        ensures lent { Lends S.takes sink.old (numbered (picks matcher.entry) self.old.lines (ended_lines (self.old.held.items ++ piece.now))) (answer_of result) sink.new }
+        ensures held { OnOk result (self.new.held.items ≡ open_rest (self.old.held.items ++ piece.now)) }
+        ensures lines { OnOk result (self.new.lines ≡ self.old.lines + length (ended_lines (self.old.held.items ++ piece.now))) }
+        ensures bytes { OnOk result (self.new.bytes ≡ self.old.bytes + length piece.now) }
+        ensures too_long { (result ≡ Err (Halt.Failed Fault.StreamTooLong)) ↔ (2 ^ 64 ≤ self.old.bytes + length piece.now) }
+    {
+        self.bytes = longer(self.bytes, piece)?;
+        match split_line(piece) {
+            None => self.hold(piece),
+            Some((front, behind)) => {
+                self.end_line(matcher, front, sink)?;
+                self.take_lines(matcher, behind, sink)
+            }
+        }
+    }
+
+    /// Holds the bytes behind those that it holds.
+    fn hold(&mut self, bytes: &[u8]) -> Result<(), Halt>
+        ensures ok { OnOk result (self.new.held.items ≡ self.old.held.items ++ bytes.now) }
+        ensures err { OnErr result (self.new.held.items ≡ self.old.held.items) }
+        ensures starved { OnErr result (result ≡ Err (Halt.Failed Fault.OutOfMemory)) }
+        ensures lines { self.new.lines ≡ self.old.lines }
+        ensures bytes { self.new.bytes ≡ self.old.bytes }
+    {
+        self.held.extend_from_slice(bytes)?;
+        Ok(())
+    }
+
+    /// Ends the line that it holds: these bytes are its last ones.
+    fn end_line<S: Sink>(
+        &mut self,
+        matcher: Matcher<'_>,
+        front: &[u8],
+        sink: &mut S,
+    ) -> Result<(), Halt>
+        requires sound { IsSound self.old }
+        requires one { IsOnePiece front.now }
+        requires counted { self.old.lines + vec_len self.old.held + length front.now + 1 ≤ self.old.bytes }
+        ensures sound { IsSound self.new }
+        ensures lent { Lends S.takes sink.old (numbered (picks matcher.entry) self.old.lines ((self.old.held.items ++ front.now) ∷ [])) (answer_of result) sink.new }
+        ensures held { OnOk result (self.new.held.items ≡ []) }
+        ensures lines { OnOk result (self.new.lines ≡ self.old.lines + 1) }
+        ensures bytes { self.new.bytes ≡ self.old.bytes }
+        ensures faults { result ≢ Err (Halt.Failed Fault.StreamTooLong) }
+    {
+        self.hold(front)?;
+        lend_selected(matcher, self.held.as_slice(), self.lines, sink)?;
+        self.held.clear();
+        self.lines += 1;
+        Ok(())
+    }
+
+    /// Takes text behind a newline: lends the lines that newlines end in it, and holds the rest.
+    fn take_lines<S: Sink>(
+        &mut self,
+        matcher: Matcher<'_>,
+        text: &[u8],
+        sink: &mut S,
+    ) -> Result<(), Halt>
+        requires apart { AreInLines (option_copied matcher.plan) }
+        requires fresh { self.old.held.items ≡ [] }
+        requires counted { self.old.lines + length text.now ≤ self.old.bytes }
+        ensures sound { IsSound self.new }
+        ensures lent { Lends S.takes sink.old (numbered (picks matcher.entry) self.old.lines (ended_lines text.now)) (answer_of result) sink.new }
+        ensures held { OnOk result (self.new.held.items ≡ open_rest text.now) }
+        ensures lines { OnOk result (self.new.lines ≡ self.old.lines + length (ended_lines text.now)) }
+        ensures bytes { self.new.bytes ≡ self.old.bytes }
+        ensures faults { result ≢ Err (Halt.Failed Fault.StreamTooLong) }
+    {
+        // Read here, it is known to fit, and so is the number of lines.
+        let _bytes = self.bytes;
+        let (block, open) = split_ended(text);
+        self.lines = lend_block(matcher, block, self.lines, sink)?;
+        self.hold(open)
+    }
+
+    /// Lends the open line, if it is a line and selected.
+    pub fn lend_open<S: Sink>(&self, matcher: Matcher<'_>, sink: &mut S) -> Result<(), Halt>
+        requires { IsSound self.now }
+        ensures lent { Lent S.takes sink.old (numbered (picks matcher.entry) self.now.lines (last_line self.now.held.items)) (answer_of result) sink.new }
+        ensures faults { result ≢ Err (Halt.Failed Fault.StreamTooLong) }
+    {
+        if self.held.is_empty() {
+            return Ok(());
+        }
+        let _bytes = self.bytes;
+        lend_selected(matcher, self.held.as_slice(), self.lines, sink)
+    }
+}
+
+/// The number of bytes with those of one more piece. It fails with `StreamTooLong` alone.
+fn longer(bytes: u64, piece: &[u8]) -> Result<u64, Halt>
+    ensures ok { IfOk result (λ sum. sum ≡ bytes + length piece.now) }
+    ensures err { OnErr result (result ≡ Err (Halt.Failed Fault.StreamTooLong)) }
+    ensures too_long { OnErr result (2 ^ 64 ≤ bytes + length piece.now) }
+{
+    match bytes.checked_add(piece.len() as u64) {
+        Some(sum) => Ok(sum),
+        None => Err(Halt::Failed(Fault::StreamTooLong)),
+    }
+}

@@ -1,0 +1,52 @@
+//! Whether a picker still lends lines.
+ghost use Rattle.std.specs.Prelude.{◌≡◌};
+ghost use Rattle.line_pick.specs.Picking.{answer_in, fed_state, finished_state};
+
+use crate::fault::Fault;
+use crate::sink::Next;
+
+/// Whether a picker still lends lines.
+#[derive(Clone, Copy, Debug, PartialEq, Eq)]
+pub enum State {
+    Running,
+    /// The sink wanted no more lines.
+    Stopped,
+    /// The last line was lent.
+    Finished,
+    Failed(Fault),
+}
+
+impl State {
+    /// What each call answers, unless lines are still lent.
+    pub(crate) fn answer(self) -> Option<Result<Next, Fault>>
+        ensures { result ≡ answer_in self }
+    {
+        match self {
+            State::Running => None,
+            State::Stopped | State::Finished => Some(Ok(Next::Stop)),
+            State::Failed(fault) => Some(Err(fault)),
+        }
+    }
+
+    /// The state after a feed with this answer.
+    pub(crate) fn after_feed(answer: Result<Next, Fault>) -> State
+        ensures { result ≡ fed_state answer }
+    {
+        match answer {
+            Ok(Next::More) => State::Running,
+            Ok(Next::Stop) => State::Stopped,
+            Err(fault) => State::Failed(fault),
+        }
+    }
+
+    /// The state after the last line, with this answer.
+    pub(crate) fn after_finish(answer: Result<Next, Fault>) -> State
+        ensures { result ≡ finished_state answer }
+    {
+        match answer {
+            Ok(Next::More) => State::Finished,
+            Ok(Next::Stop) => State::Stopped,
+            Err(fault) => State::Failed(fault),
+        }
+    }
+}
