@@ -291,4 +291,6 @@ pub struct Normal {
 }
 
 #[cfg(test)]
+mod ending_tests;
+#[cfg(test)]
 mod tests;
