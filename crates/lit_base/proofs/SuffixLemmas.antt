@@ -69,6 +69,9 @@ read_is_spelled (a ∷ b ∷ c ∷ d ∷ e ∷ f ∷ []) len = absurd (omega ari
 read_is_spelled (a ∷ b ∷ c ∷ d ∷ e ∷ f ∷ g ∷ []) len = absurd (omega arith)
 read_is_spelled (a ∷ b ∷ c ∷ d ∷ e ∷ f ∷ g ∷ h ∷ i ∷ more) len = absurd (omega arith)
 
+padded_len : (bytes : List ℕ) → length bytes ≤ 8 → length (replicate (8 - length bytes) 0 ++ bytes) ≡ 8
+padded_len bytes few = omega (arith, length-append (replicate (8 - length bytes) 0) bytes, length-replicate {A = ℕ} (8 - length bytes) 0)
+
 -- and so at most eight, with zeros in front of them
 pub padded : (xs bytes : List ℕ) → xs ≡ bytes → length bytes ≤ 8
     → from_le_bytes w64 (put_mid (8 - length bytes) (8 - (8 - length bytes)) (replicate 8 0) xs) ≡ spelled (replicate (8 - length bytes) 0 ++ bytes)
@@ -81,8 +84,7 @@ padded xs bytes same few =
     ap (λ z. z ++ (xs ++ drop (8 - room) (drop room (replicate 8 0)))) front
     ∙ ap (λ z. replicate room 0 ++ (xs ++ z)) behind
     ∙ ap (λ z. replicate room 0 ++ z) (append-nil xs ∙ same) in
-    ap (from_le_bytes w64) list
-    ∙ read_is_spelled (replicate room 0 ++ bytes) (omega (arith, length-append (replicate room 0) bytes, length-replicate {A = ℕ} room 0))
+    ap (from_le_bytes w64) list ∙ read_is_spelled (replicate room 0 ++ bytes) (padded_len bytes few)
 
 -- the bit of a letter's case in one byte, and in each of some bytes
 abbrev case_bit : Fold → ℕ
