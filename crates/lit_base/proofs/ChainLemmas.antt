@@ -1,9 +1,9 @@
 -- The walk along a chain, and what the classes answer one after another.
-use Rattle.std.proofs.Common.{◌≡◌, ◌≢◌, ℕ, ◌+◌, ◌-◌, ◌<◌, true, false, ◌≤◌, List, length, get_or, set, max, IfSome, MatchOption, Option, Some, None, inl, inr, refl, sym, ap, ◌∙◌, subst, arith}
+use Rattle.std.proofs.Common.{◌≡◌, ℕ, ◌+◌, ◌-◌, ◌<◌, true, false, ◌≤◌, List, length, get_or, max, IfSome, MatchOption, Option, Some, None, inl, inr, sym, ap, ◌∙◌, subst, arith}
 use Rattle.std.specs.Option.{is_some}
 use Rattle.std.proofs.lemmas.Bool.{cases_eq, cases_lt}
 use Rattle.std.proofs.lemmas.Option.{slice_get_within}
-use Rattle.lit_base.specs.Chains.{IsNextWith, IsChained, IsClassOf, Reaches, literal_at, hash_at}
+use Rattle.lit_base.specs.Chains.{IsNextWith, IsClassOf, Reaches, hash_at}
 use Rattle.lit_base.specs.Literals.{Literals}
 use Rattle.lit_base.specs.Occurrences.{Occurs, NoneEnds, IsFirstEnding}
 use Rattle.lit_base.specs.Suffixes.{suffix_key, hash_of}

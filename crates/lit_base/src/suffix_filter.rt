@@ -1,7 +1,7 @@
 //! A mark for the hash of each literal's last bytes.
-ghost use Rattle.std.specs.Prelude.{◌≡◌, ℕ, ◌+◌, ◌*◌, ◌/◌, ◌^◌, ◌<◌, ◌≤◌, ◌↔◌, All, length, vec_len, slice_index_or, slice_range, ◌-◌, IfOk, IsTrue, []};
+ghost use Rattle.std.specs.Prelude.{◌≡◌, ℕ, ◌*◌, ◌/◌, ◌^◌, ◌<◌, ◌≤◌, ◌↔◌, All, length, vec_len, slice_index_or, slice_range, ◌-◌, IfOk, IsTrue, []};
 ghost use Rattle.lit_base.specs.Marks.{IsFilterOf, IsMarked};
-ghost use Rattle.lit_base.specs.Suffixes.{hash_of, spelled, suffix_key};
+ghost use Rattle.lit_base.specs.Suffixes.{hash_of, spelled};
 ghost use Rattle.std.specs.Int.RustNames.{bit_and, bit_or};
 ghost use Rattle.lit_base.specs.declared.suffix_filter.TheConstants.{FILTER_BITS};
 

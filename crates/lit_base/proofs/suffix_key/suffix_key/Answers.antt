@@ -1,10 +1,10 @@
 -- Either way the word is what the bytes spell behind zeros.
-use Rattle.std.proofs.Common.{◌≡◌, ◌+◌, ◌-◌, ◌*◌, ◌≤◌, ◌++◌, ℕ, length, replicate, sym, ap, ◌∙◌, subst, arith}
+use Rattle.std.proofs.Common.{◌≡◌, ◌-◌, ◌++◌, length, replicate, ap, ◌∙◌, arith}
 use Rattle.std.specs.Int.RustNames.{bit_and, bit_or}
 use Rattle.std.specs.List.{slice_range}
 use Rattle.std.proofs.lemmas.List.Edits.{length-between}
-use Rattle.lit_base.specs.Suffixes.{suffix_key, spelled, case_bits, last_bits}
-use Rattle.lit_base.proofs.SuffixLemmas.{AreBytes, are_bytes, masked}
+use Rattle.lit_base.specs.Suffixes.{suffix_key, spelled}
+use Rattle.lit_base.proofs.SuffixLemmas.{are_bytes, masked}
 use Rattle.lit_base.proofs.suffix_key.suffix_key.Goals as goal
 use Rattle.lit_base.proofs.suffix_key.suffix_key.Goals.{then-end-lt8, else-end-lt8}
 

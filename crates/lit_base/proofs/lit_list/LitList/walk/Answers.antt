@@ -1,5 +1,5 @@
 -- The walk stays on the chain of the text's key, and passes no literal that ends there.
-use Rattle.std.proofs.Common.{◌≡◌, ℕ, ◌+◌, ◌-◌, ◌<◌, ◌≤◌, length, get_or, sym, subst, arith}
+use Rattle.std.proofs.Common.{◌+◌, ◌-◌, ◌<◌, ◌≤◌, length, sym, subst, arith}
 use Rattle.std.proofs.lemmas.List.{get_or_read}
 use Rattle.lit_base.specs.Chains.{Reaches}
 use Rattle.lit_base.specs.Occurrences.{Occurs}

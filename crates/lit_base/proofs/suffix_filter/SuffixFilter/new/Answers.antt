@@ -1,5 +1,5 @@
 -- There is a word for each hash, and in the end every literal's hash is marked.
-use Rattle.std.proofs.Common.{◌≡◌, ◌+◌, ◌<◌, List, [], length, get_or, ap, ◌∙◌, subst, arith, below_more}
+use Rattle.std.proofs.Common.{◌≡◌, ◌<◌, [], length, get_or, ap, ◌∙◌, subst, arith, below_more}
 use Rattle.std.proofs.lemmas.List.{get_or_read}
 use Rattle.lit_base.specs.Marks.{IsMarked}
 use Rattle.lit_base.specs.Suffixes.{hash_of, suffix_key}

@@ -1,4 +1,4 @@
-use Rattle.std.proofs.Common.{◌≡◌, ℕ, ◌<◌, ◌≤◌, ◌^◌, [], length, vec_len, slice_index_or}
+use Rattle.std.proofs.Common.{◌≡◌, ℕ, ◌<◌, [], length, vec_len, slice_index_or}
 use Rattle.lit_base.specs.Marks.{IsMarked}
 use Rattle.lit_base.specs.declared.suffix_filter.TheConstants.{FILTER_BITS}
 use Rattle.lit_base.specs.Suffixes.{hash_of, suffix_key}
