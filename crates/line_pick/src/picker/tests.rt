@@ -297,40 +297,83 @@ fn text_of(alloc: Global, number: u64, len: usize) -> Result<Vec<u8>, Fail> {
     Ok(text)
 }
 
-#[test]
-fn lends_what_plain_matching_selects(rt: HostRuntime) -> Result<(), Fail> {
-    let lists: [&[&[u8]]; 8] = [
-        &[],
-        &[b""],
-        &[b"a"],
-        &[b"ab", b"Ba"],
-        &[b"b", b"", b"abc"],
-        &[b"a", b"aa", b"aab", b"c"],
-        &[b"aba", b"ab", b"bab", b"bb"],
-        &[b"aabbc"],
-    ];
-    for patterns in lists {
-        for fold in [Fold::No, Fold::Ascii] {
-            let (plan, has_empty) = planned(rt.alloc(), patterns, fold)?;
-            for invert in [false, true] {
-                for whole in [false, true] {
-                    let rule = LineRule { invert, whole };
-                    for number in 0..12 {
-                        let text = text_of(rt.alloc(), number, 23)?;
-                        let want = selected(rt.alloc(), patterns, fold, rule, text.as_slice())?;
-                        for size in [1, 2, 3, 5, 23] {
-                            let mut picker = picker_of(&rt, rt.alloc(), &plan, has_empty, rule);
-                            let mut sink = Kept::new(rt.alloc(), Mood::Takes);
-                            for piece in text.as_slice().chunks(size) {
-                                assert_eq!(rt; picker.feed(piece, &mut sink)?, Next::More);
-                            }
-                            assert_eq!(rt; picker.finish(&mut sink)?, Next::More);
-                            assert_eq!(rt; sink.text.as_slice(), want.as_slice(), "{rule:?}");
-                        }
-                    }
-                }
-            }
+/// What is lent of a text that comes in pieces of this size.
+fn picked(
+    mut picker: Picker<'_>,
+    alloc: Global,
+    text: &[u8],
+    size: usize,
+) -> Result<Vec<u8>, Fail> {
+    let mut sink = Kept::new(alloc, Mood::Takes);
+    if size > 0 {
+        for piece in text.chunks(size) {
+            picker.feed(piece, &mut sink)?;
         }
     }
+    picker.finish(&mut sink)?;
+    Ok(sink.text)
+}
+
+/// Compares what is lent of some texts with what plain matching selects.
+fn compare(
+    rt: &impl Abort,
+    alloc: Global,
+    patterns: &[&[u8]],
+    fold: Fold,
+    rule: LineRule,
+) -> Result<(), Fail> {
+    let (plan, has_empty) = planned(alloc, patterns, fold)?;
+    for number in 0..12 {
+        let text = text_of(alloc, number, 23)?;
+        let want = selected(alloc, patterns, fold, rule, text.as_slice())?;
+        for size in [1, 2, 3, 5, 23] {
+            let picker = picker_of(rt, alloc, &plan, has_empty, rule);
+            let got = picked(picker, alloc, text.as_slice(), size)?;
+            assert_eq!(rt; got.as_slice(), want.as_slice(), "{rule:?}");
+        }
+    }
+    Ok(())
+}
+
+/// The same under both folds and each rule.
+fn compare_all(rt: &impl Abort, alloc: Global, patterns: &[&[u8]]) -> Result<(), Fail> {
+    for fold in [Fold::No, Fold::Ascii] {
+        for invert in [false, true] {
+            compare(
+                rt,
+                alloc,
+                patterns,
+                fold,
+                LineRule {
+                    invert,
+                    whole: false,
+                },
+            )?;
+            compare(
+                rt,
+                alloc,
+                patterns,
+                fold,
+                LineRule {
+                    invert,
+                    whole: true,
+                },
+            )?;
+        }
+    }
+    Ok(())
+}
+
+#[test]
+fn lends_what_plain_matching_selects(rt: HostRuntime) -> Result<(), Fail> {
+    let alloc = rt.alloc();
+    compare_all(&rt, alloc, &[])?;
+    compare_all(&rt, alloc, &[b""])?;
+    compare_all(&rt, alloc, &[b"a"])?;
+    compare_all(&rt, alloc, &[b"ab", b"Ba"])?;
+    compare_all(&rt, alloc, &[b"b", b"", b"abc"])?;
+    compare_all(&rt, alloc, &[b"a", b"aa", b"aab", b"c"])?;
+    compare_all(&rt, alloc, &[b"aba", b"ab", b"bab", b"bb"])?;
+    compare_all(&rt, alloc, &[b"aabbc"])?;
     Ok(())
 }
