@@ -12,3 +12,6 @@ mod tables;
 
 pub use candidates::Candidates;
 pub use kernels::{any_set, filter, filter_wide};
+
+#[cfg(test)]
+mod tests;
