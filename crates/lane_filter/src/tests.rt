@@ -1,4 +1,4 @@
-ghost use Rattle.std.specs.Prelude.{◌≡◌, ◌+◌, ◌*◌, ◌<◌, ◌≤◌, length};
+ghost use Rattle.std.specs.Prelude.{◌<◌, ◌≤◌, length};
 
 use crate::{Candidates, any_set, filter, filter_wide};
 use lit_base::{Ends, Fault, Fold, LitList, RawList, is_cut};
@@ -96,6 +96,47 @@ fn plain_next(masks: &Masks, text: &[u8], from: usize) -> Option<usize> {
     })
 }
 
+/// Whether both kernels give the plain filter bytes at so many places from an offset on.
+fn kernels_agree(masks: &Masks, bytes: &[u8], offset: usize, len: usize) -> bool
+    requires offset { offset < 1000 }
+    requires len { len ≤ 200 }
+{
+    let (Some(x0), Some(x1), Some(x2)) = (
+        bytes.get(offset..offset + len),
+        bytes.get(offset + 1..offset + 1 + len),
+        bytes.get(offset + 2..offset + 2 + len),
+    ) else {
+        return false;
+    };
+    let (mut by_comparisons, mut by_swizzles) = ([7; 200], [7; 200]);
+    filter(masks, x0, x1, x2, &mut by_comparisons[..len]);
+    filter_wide(masks, x0, x1, x2, &mut by_swizzles[..len]);
+    let found = by_comparisons.iter().zip(by_swizzles.iter());
+    x0.iter().zip(x1).zip(x2).zip(found).all(|(((a, b), c), (one, other))| {
+        let wanted = plain_byte(masks, *a, *b, *c);
+        *one == wanted && *other == wanted
+    })
+}
+
+/// Whether a cursor gives the candidates after a place, in order, and then none.
+fn cursor_agrees(masks: &Masks, text: &[u8], from: usize) -> bool
+    requires { from ≤ length text.now }
+{
+    let mut cursor = Candidates::new(masks, text, from);
+    let mut last = from;
+    for _ in 0..=text.len() {
+        let wanted = plain_next(masks, text, last);
+        if cursor.next_end() != wanted {
+            return false;
+        }
+        let Some(end) = wanted else {
+            return cursor.next_end().is_none();
+        };
+        last = end;
+    }
+    false
+}
+
 #[test]
 fn finds_one_literal_past_the_last_full_vector(rt: HostRuntime) -> Result<(), Fail> {
     let mut raw = RawList::new(rt.alloc());
@@ -138,22 +179,9 @@ fn kernels_give_the_plain_filter_byte(rt: HostRuntime) -> Result<(), Fail> {
     let bytes = bytes(rt.alloc(), 270)?;
     for masks in &all_masks(rt.alloc())? {
         for offset in 0..65 {
-            for len in 0..201 {
-                let (x0, x1, x2) = (
-                    &bytes[offset..offset + len],
-                    &bytes[offset + 1..offset + 1 + len],
-                    &bytes[offset + 2..offset + 2 + len],
-                );
-                let (mut by_comparisons, mut by_swizzles) = ([0; 201], [0; 201]);
-                filter(masks, x0, x1, x2, &mut by_comparisons[..len]);
-                filter_wide(masks, x0, x1, x2, &mut by_swizzles[..len]);
-                for place in 0..len {
-                    let wanted = plain_byte(masks, x0[place], x1[place], x2[place]);
-                    assert!(rt;
-                        by_comparisons[place] == wanted && by_swizzles[place] == wanted,
-                        "{len} bytes from {offset}, at {place}"
-                    );
-                }
+            for len in 0..=200 {
+                let agree = kernels_agree(masks, &bytes, offset, len);
+                assert!(rt; agree, "{len} bytes from {offset}");
             }
         }
     }
@@ -164,26 +192,12 @@ fn kernels_give_the_plain_filter_byte(rt: HostRuntime) -> Result<(), Fail> {
 fn cursor_gives_each_candidate_once(rt: HostRuntime) -> Result<(), Fail> {
     let bytes = bytes(rt.alloc(), 270)?;
     for masks in &all_masks(rt.alloc())? {
-        for len in 0..201 {
-            let text = &bytes[len % 65..len % 65 + len];
+        for len in 0..=200usize {
+            let offset = len % 65;
+            let text = bytes.get(offset..offset + len).unwrap_or_default();
             for from in [0, 1, 2, 3, 63, 64, 65, 66, 67, 130, len] {
-                if from <= len {
-                    let mut cursor = Candidates::new(masks, text, from);
-                    let mut last = from;
-                    for _ in 0..=len {
-                        let wanted = plain_next(masks, text, last);
-                        assert_eq!(rt;
-                            cursor.next_end(),
-                            wanted,
-                            "{len} bytes from {from} after {last}"
-                        );
-                        let Some(end) = wanted else {
-                            break;
-                        };
-                        last = end;
-                    }
-                    assert_eq!(rt; cursor.next_end(), plain_next(masks, text, last));
-                }
+                let agree = from > text.len() || cursor_agrees(masks, text, from);
+                assert!(rt; agree, "{len} bytes from {from}");
             }
         }
     }
