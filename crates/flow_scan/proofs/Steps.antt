@@ -1,9 +1,18 @@
--- What a loop has seen, one step further.
-use Rattle.std.proofs.Common.{ℕ, ◌+◌, ◌<◌, ◌≤◌, inl, inr, subst, arith}
-use Rattle.std.proofs.Math.Nat.{eq-or-lt_of_le}
+-- What a walk over candidates has seen, one step further.
+use Rattle.std.proofs.Common.{ℕ, ◌<◌, ◌≤◌, List, All, Fits, w8, get_or, inl, inr}
+use Rattle.std.proofs.Math.Facts.{Fits-lt-pow}
+use Rattle.std.proofs.lemmas.Bool.{cases_lt}
+use Rattle.std.proofs.lemmas.List.Elements.{All-from_get_or}
+use Rattle.lit_base.specs.Literals.{Literals}
+use Rattle.nib_mask.specs.declared.masks.Masks.{Masks}
+use Rattle.nib_mask.specs.Candidates.{Covers, IsCandidate}
+use Rattle.flow_scan.specs.Ends.{HasEnd}
 
--- what holds nowhere between two numbers, nor at the second, holds nowhere up to the next
-pub none_up_to : (P : ℕ → Type 0) (from n : ℕ) → ((k : ℕ) → from < k → k < n → ¬ P k) → ¬ P n → (k : ℕ) → from < k → k < n + 1 → ¬ P k
-none_up_to P from n earlier here k after before p =
-    let most : k ≤ n = omega (arith, before) in
-    elim (eq-or-lt_of_le most) [ inl e ↦ here (subst P e p) | inr below ↦ earlier k after below p ]
+-- the bytes of a slice are bytes
+pub all_bytes : (text : List ℕ) → ((i : ℕ) → Fits w8 (get_or text i 0)) → All (λ b. b < 256) text
+all_bytes text fits = All-from_get_or (λ b. b < 256) text 0 (λ i _. Fits-lt-pow (fits i))
+
+-- what ends nowhere up to a place, and has no candidate from there to another, ends nowhere before the other
+pub none_before : (l : Literals) (masks : Masks) (text : List ℕ) (old from to : ℕ) → Covers l masks → All (λ b. b < 256) text → ((other : ℕ) → old < other → other ≤ from → ¬ HasEnd l text other) → ((other : ℕ) → from < other → other < to → ¬ IsCandidate masks text other) → (other : ℕ) → old < other → other < to → ¬ HasEnd l text other
+none_before l masks text old from to covers bytes passed quiet other after before here =
+    elim (cases_lt from other) [ inl later ↦ quiet other later before (covers text here.0 other bytes here.1) | inr within ↦ passed other after within here ]

@@ -1,2 +1,5 @@
 pub mod Ends
 pub mod Plans
+pub mod Scanners
+pub mod Seams
+pub mod Tails

@@ -2,8 +2,10 @@
 use Rattle.std.specs.Prelude.{◌≡◌}
 use Rattle.lit_base.specs.Literals.{Literals}
 use Rattle.lit_cert.specs.Certificates.{CertificateParts}
-use Rattle.lit_cert.specs.Certified.{IsFirstFailure}
+use Rattle.lit_cert.specs.Certified.{IsCertified, IsFirstFailure}
 use Rattle.lit_cert.specs.declared.reason.Reason.{Reason}
+use Rattle.nib_mask.specs.declared.masks.Masks.{Masks}
+use Rattle.nib_mask.specs.Candidates.{Covers}
 use Rattle.flow_scan.specs.declared.fault.Fault.{Fault}
 use Rattle.flow_scan.specs.declared.fault.Fault.TheVariants.{NotCertified}
 
@@ -11,6 +13,11 @@ use Rattle.flow_scan.specs.declared.fault.Fault.TheVariants.{NotCertified}
 pub record Plan : Type 0 where
   pub literals : Literals
   pub certificate : CertificateParts
+
+-- what its fields keep: the certificate holds, and no occurrence goes past the filter
+pub record IsCompiled (list : Literals) (certificate : CertificateParts) (masks : Masks) : Type 0 where
+  pub certified : IsCertified 8 list certificate
+  pub covers : Covers list masks
 
 -- the answer where a list and a certificate are no plan: the first condition that fails, and both as they were
 pub record IsRefusalOf (list : Literals) (certificate : CertificateParts) (fault : Fault) (old_list : Literals) (old_certificate : CertificateParts) : Type 0 where

@@ -1,13 +1,18 @@
 //! Literals with a certified plan.
-ghost use Rattle.std.specs.Prelude.{◌≡◌, ◌↔◌, IfErr, IfOk, IsOk, OnOk, length};
+ghost use Rattle.std.specs.Prelude.{◌≡◌, ◌<◌, ◌↔◌, IfErr, IfOk, IsOk, OnOk, length};
 ghost use Rattle.lit_base.specs.Literals.{lengths};
 ghost use Rattle.lit_base.specs.Assignments.{NoAssignmentBelow, assign_price, assignment_of};
 ghost use Rattle.lit_cert.specs.Certified.{IsCertified};
+ghost use Rattle.lit_base.specs.declared.limits.TheConstants.{MAX_LITERAL_LEN};
+ghost use Rattle.nib_mask.specs.Candidates.{Covers};
 ghost use Rattle.flow_scan.specs.Plans.{IsRefusalOf, Plan};
+ghost use Rattle.flow_scan.specs.Tails.{HasBounds, carry_of};
 
+use crate::carry::carry;
 use crate::fault::Fault;
 use lit_base::LitList;
 use lit_cert::{Certificate, certified_law, check};
+use nib_mask::Masks;
 use std::marker::Model;
 
 /// Literals with a plan that was checked: who holds one needs no other check.
@@ -15,14 +20,17 @@ use std::marker::Model;
 pub struct Compiled {
     list: LitList,
     certificate: Certificate,
+    masks: Masks,
 }
 
 impl Model for Compiled {
+    ghost use Rattle.flow_scan.specs.Plans.{IsCompiled, Plan};
+
     ghost Value = { Plan };
 
     ghost view = { λ p. record { literals = p.list; certificate = p.certificate } };
 
-    ghost invariant = { λ p. IsCertified 8 p.list p.certificate };
+    ghost invariant = { λ p. IsCompiled p.list p.certificate p.masks };
 }
 
 impl Compiled {
@@ -39,7 +47,7 @@ impl Compiled {
         ensures least { OnOk result (NoAssignmentBelow 8 list certificate.cost) }
     {
         match check(&list, &certificate) {
-            Ok(()) => Ok(Compiled { list, certificate }),
+            Ok(()) => Ok(with_masks(list, certificate)),
             Err(reason) => Err((Fault::NotCertified { reason }, list, certificate)),
         }
     }
@@ -57,6 +65,35 @@ impl Compiled {
         ensures certified { IsCertified 8 self.now.literals self.now.certificate }
     {
         &self.certificate
+    }
+
+    /// The filter's tables, which let each occurrence through.
+    pub(crate) fn masks(&self) -> &Masks
+        ensures { Covers self.now.literals result.now }
+    {
+        &self.masks
+    }
+
+    /// How many bytes a literal may have before a piece in which it ends.
+    pub(crate) fn carry(&self) -> usize
+        ensures value { result ≡ carry_of self.now.literals }
+        ensures small { result < MAX_LITERAL_LEN }
+        ensures bounds { HasBounds self.now.literals }
+    {
+        carry(&self.list)
+    }
+}
+
+/// The plan of a certificate that holds.
+fn with_masks(list: LitList, certificate: Certificate) -> Compiled
+    requires { IsCertified 8 list certificate }
+    ensures { result ≡ record { literals = list; certificate = certificate } }
+{
+    let masks = Masks::of(&list, &certificate.ends);
+    Compiled {
+        list,
+        certificate,
+        masks,
     }
 }
 

@@ -1,5 +1,9 @@
 //! Why a plan is refused, or a scan stops.
+ghost use Rattle.std.specs.Prelude.{◌≡◌};
+ghost use Rattle.flow_scan.specs.declared.fault.Fault.TheVariants.{OutOfMemory};
+
 use lit_cert::Reason;
+use std::alloc::AllocError;
 use thiserror::Error;
 
 /// Why a plan is refused, or a scan stops.
@@ -13,4 +17,12 @@ pub enum Fault {
     /// The place in the stream would pass 2^64 - 1.
     #[error("the stream is too long")]
     StreamTooLong,
+}
+
+impl From<AllocError> for Fault {
+    ghost from_gives = { λ _ e. e ≡ OutOfMemory };
+
+    fn from(_e: AllocError) -> Fault {
+        Fault::OutOfMemory
+    }
 }

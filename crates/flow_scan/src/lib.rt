@@ -2,10 +2,19 @@
 //! whatever pieces the stream comes.
 #![tactic(auto)]
 
+mod carry;
 mod compiled;
+mod endings;
 mod fault;
+mod hit;
+mod scanner;
+mod scanning;
+mod seam;
 mod searching;
 
 pub use compiled::Compiled;
 pub use fault::Fault;
+pub use hit::Hit;
+pub use scanner::Scanner;
+pub use scanning::{pieces_law, scan_all, scan_pieces};
 pub use searching::next_end;

@@ -1,8 +1,15 @@
-//! Where literals end in a text.
-ghost use Rattle.std.specs.Prelude.{◌≤◌, ◌↔◌, IsTrue, MatchOption, length};
-ghost use Rattle.flow_scan.specs.Ends.{HasEnd, IsNextEnd, NoEndAfter};
+//! Where literals end in a text, and the hits there.
+ghost use Rattle.std.specs.Prelude.{◌≡◌, ◌+◌, ◌-◌, ◌^◌, ◌<◌, ◌≤◌, ◌++◌, List, ℕ, IsOk, MatchOption, OnOk, length};
+ghost use Rattle.lit_base.specs.Occurrences.{IsFirstEnding};
+ghost use Rattle.flow_scan.specs.Ends.{AreHitsAt, Extends, GainsHitsAt, IsNextEnd, NoEndAfter};
+ghost use Rattle.flow_scan.specs.Tails.{GainsHitsBehind};
 
 use crate::compiled::Compiled;
+use crate::endings::next_ending;
+use crate::hit::Hit;
+use lane_filter::Candidates;
+use lit_base::LitList;
+use std::alloc::AllocError;
 
 /// The first place of the text behind `from` at which some literal ends, wherever it begins, if
 /// there is one. It takes no memory.
@@ -14,21 +21,68 @@ pub fn next_end(compiled: &Compiled, text: &[u8], from: usize) -> Option<usize>
     if from >= text.len() {
         return None;
     }
-    for end in from + 1..text.len() + 1 {
-        if has_end(compiled, text, end) {
-            return Some(end);
-        }
+    let mut candidates = Candidates::new(compiled.masks(), text, from);
+    match next_ending(compiled.list(), text, &mut candidates) {
+        Some((end, _)) => Some(end),
+        None => None,
     }
-    None
 }
 
-/// Whether some literal ends at this place of the text.
-fn has_end(compiled: &Compiled, text: &[u8], end: usize) -> bool
-    requires { end ≤ length text.now }
-    ensures { IsTrue result ↔ HasEnd compiled.now.literals text.now end }
+/// Adds the hits that end in the text behind `from`, where this place counts as `at`. Memory is
+/// refused only after a hit was found, and then the hits before it were added.
+pub(crate) fn add_hits(
+    compiled: &Compiled,
+    text: &[u8],
+    from: usize,
+    at: u64,
+    out: &mut Vec<Hit>,
+) -> Result<(), AllocError>
+    requires inside { from ≤ length text.now }
+    requires room { at + (length text.now - from) < 2 ^ 64 }
+    ensures ok { OnOk result (GainsHitsBehind compiled.now.literals text.now from at out.old.items out.new.items) }
+    ensures kept { Extends out.old.items out.new.items }
+    ensures quiet { NoEndAfter compiled.now.literals text.now from → IsOk result }
 {
-    match compiled.list().next_ending(text, end, 0) {
-        Some(_) => true,
-        None => false,
+    let list = compiled.list();
+    let mut candidates = Candidates::new(compiled.masks(), text, from);
+    while let Some((end, first)) = next_ending(list, text, &mut candidates) {
+        add_hits_at(list, text, end, first, at + (end - from) as u64, out)?;
+    }
+    Ok(())
+}
+
+/// Adds the hits at one place of the text, which counts as `at`, `first` being the first literal
+/// that ends there. Where memory is refused the hits before were added.
+fn add_hits_at(
+    list: &LitList,
+    text: &[u8],
+    end: usize,
+    first: usize,
+    at: u64,
+    out: &mut Vec<Hit>,
+) -> Result<(), AllocError>
+    requires inside { end ≤ length text.now }
+    requires first { IsFirstEnding list.now text.now 0 end first }
+    ensures ok { OnOk result (GainsHitsAt list.now text.now end at out.old.items out.new.items) }
+    ensures kept { Extends out.old.items out.new.items }
+{
+    out.push(hit_of(list, first, at))?;
+    let mut from = first + 1;
+    while let Some(place) = list.next_ending(text, end, from) {
+        out.push(hit_of(list, place, at))?;
+        from = place + 1;
+    }
+    Ok(())
+}
+
+/// The hit of the literal at a place of the list.
+fn hit_of(list: &LitList, place: usize, at: u64) -> Hit
+    requires { place < length list.now.texts }
+    ensures { result ≡ (place, at) }
+{
+    let _count = list.len();
+    Hit {
+        lit: place as u16,
+        end_at: at,
     }
 }

@@ -1,6 +1,7 @@
 -- Lines that are lent one after another.
-use Rattle.std.proofs.Common.{◌≡◌, ◌≢◌, ℕ, suc, ◌+◌, Bool, true, false, cond, List, [], ◌∷◌, ◌++◌, length, Result, Ok, Err, OnOk, OnErr, ◌⊎◌, inl, inr, refl, sym, ap, ◌∙◌, subst, append_assoc, append-nil}
+use Rattle.std.proofs.Common.{◌≡◌, ◌≢◌, ℕ, suc, ◌+◌, Bool, true, false, cond, List, [], ◌∷◌, ◌++◌, length, Result, Ok, Err, OnOk, OnErr, ◌⊎◌, inl, inr, refl, sym, ap, ◌∙◌, subst, append_assoc, append-nil, arith, All}
 use Rattle.std.proofs.lemmas.List.{length-append}
+use Rattle.std.proofs.lemmas.List.Elements.{All-head, All-tail}
 use Rattle.lit_base.specs.Lines.{IsOnePiece, ended_lines}
 use Rattle.lit_base.proofs.EndedLemmas.{ended_lines-newline, ended_lines-none}
 use Rattle.line_pick.specs.Cutting.{IsFirstLine}
@@ -24,6 +25,29 @@ numbered-yes test before line passes = ap (λ b. cond b ((before + 1, line) ∷ 
 
 pub numbered-no : (test : List ℕ → Bool) (before : ℕ) (line : List ℕ) → test line ≡ false → numbered test before (line ∷ []) ≡ []
 numbered-no test before line fails = ap (λ b. cond b ((before + 1, line) ∷ []) []) fails
+
+-- tests that agree on the lines number the same ones
+pub numbered-same : (test other : List ℕ → Bool) (before : ℕ) (lines : List (List ℕ)) → All (λ line. test line ≡ other line) lines → numbered test before lines ≡ numbered other before lines
+numbered-same test other before [] agree = refl
+numbered-same test other before (line ∷ lines) agree =
+    let rest = numbered-same test other (before + 1) lines (All-tail (λ l. test l ≡ other l) line lines agree) in
+    ap (λ b. cond b ((before + 1, line) ∷ numbered test (before + 1) lines) (numbered test (before + 1) lines)) (All-head (λ l. test l ≡ other l) line lines agree)
+    ∙ ap (λ ls. cond (other line) ((before + 1, line) ∷ ls) ls) rest
+
+-- where none passes, none is numbered
+pub numbered-none : (before : ℕ) (lines : List (List ℕ)) → numbered (λ _. false) before lines ≡ []
+numbered-none before [] = refl
+numbered-none before (line ∷ lines) = numbered-none (before + 1) lines
+
+-- the numbers go on behind lines
+pub numbered-append : (test : List ℕ → Bool) (before : ℕ) (lines more : List (List ℕ)) → numbered test before (lines ++ more) ≡ numbered test before lines ++ numbered test (before + length lines) more
+numbered-append test before [] more = ap (λ n. numbered test n more) (omega arith)
+numbered-append test before (line ∷ lines) more =
+    let on : (before + 1) + length lines ≡ before + length (line ∷ lines) = omega arith in
+    numbered-cons test before line (lines ++ more)
+    ∙ ap (λ ls. numbered test before (line ∷ []) ++ ls) (numbered-append test (before + 1) lines more ∙ ap (λ n. numbered test (before + 1) lines ++ numbered test n more) on)
+    ∙ sym (append_assoc (numbered test before (line ∷ [])) (numbered test (before + 1) lines) (numbered test (before + length (line ∷ lines)) more))
+    ∙ ap (λ ls. ls ++ numbered test (before + length (line ∷ lines)) more) (sym (numbered-cons test before line lines))
 
 module _ {S : Type 0} {takes : S → ℕ → List ℕ → Result Next Fault → S → Type 0} where
   -- one line is lent
@@ -131,6 +155,14 @@ module _ {S : Type 0} {takes : S → ℕ → List ℕ → Result Next Fault → 
   -- at one that was the last
   pub LentOn-halted : {s t u : S} {whole : List (ℕ × List ℕ)} {answer : Result Next Fault} → LentOn takes s whole t (numbered test before (ended_lines text)) → Lent takes t (numbered test before (line ∷ [])) answer u → answer ≢ Ok More → Lent takes s whole answer u
   LentOn-halted {t = t} {u = u} {answer = answer} p h halted = p.go answer u (subst (λ ls. Lent takes t ls answer u) (sym (numbered-first test before text line rest cut)) (Lent-halted (numbered test (before + 1) (ended_lines rest)) h halted))
+
+-- a front of what is left was taken
+pub LentOn-front : {S : Type 0} {takes : S → ℕ → List ℕ → Result Next Fault → S → Type 0} {s t u : S} {whole all front rest : List (ℕ × List ℕ)} → LentOn takes s whole t all → all ≡ front ++ rest → Lent takes t front (Ok More) u → LentOn takes s whole u rest
+LentOn-front {takes = takes} {t = t} p parts h = record { go = λ answer v later. p.go answer v (subst (λ ls. Lent takes t ls answer v) (sym parts) (Lent-join h later)) }
+
+-- one of its lines was the last
+pub LentOn-last : {S : Type 0} {takes : S → ℕ → List ℕ → Result Next Fault → S → Type 0} {s t u : S} {whole all front : List (ℕ × List ℕ)} {answer : Result Next Fault} (rest : List (ℕ × List ℕ)) → LentOn takes s whole t all → all ≡ front ++ rest → Lent takes t front answer u → answer ≢ Ok More → Lent takes s whole answer u
+LentOn-last {takes = takes} {t = t} {u = u} {answer = answer} rest p parts h halted = p.go answer u (subst (λ ls. Lent takes t ls answer u) (sym parts) (Lent-halted rest h halted))
 
 -- with no newline left, all lines were taken
 pub LentOn-end : {S : Type 0} {takes : S → ℕ → List ℕ → Result Next Fault → S → Type 0} {s t : S} {whole : List (ℕ × List ℕ)} (test : List ℕ → Bool) (before : ℕ) (text : List ℕ) → IsOnePiece text

@@ -5,8 +5,9 @@ use Rattle.std.specs.List.{slice_get}
 use Rattle.std.specs.Str.Iter.{HasSubslice}
 use Rattle.std.proofs.Math.Seq.{drop-append_seam}
 use Rattle.std.proofs.lemmas.Bool.{cases_lt}
-use Rattle.std.proofs.lemmas.List.{map-append, take-map, drop-map, length-map, length-append, take-append-le, take_all, get_or_default, get_or-map}
+use Rattle.std.proofs.lemmas.List.{map-append, take-map, drop-map, length-map, length-append, take-append-le, take_all, get_or_default, get_or-map, length-take}
 use Rattle.std.proofs.lemmas.Option.{get_or_from_slice_get, slice_get-get_or, slice_get_within}
+use Rattle.lit_base.specs.declared.fold.Fold.{Fold}
 use Rattle.lit_base.specs.Folding.{folded, folded_text}
 use Rattle.lit_base.specs.Literals.{Literals, IsNormal, lengths}
 use Rattle.lit_base.specs.Occurrences.{IsFirstEnding, NoneEnds, Occurs}
@@ -14,20 +15,32 @@ use Rattle.lit_base.specs.Selected.{Matches, matches}
 use Rattle.lit_base.proofs.MatchLemmas.{matching}
 use Rattle.flow_scan.specs.Ends.{HasEnd, IsNextEnd, NoEndAfter}
 
--- a literal that ends in a text is a slice of it, folded
-pub occurs-slice : (l : Literals) (text : List ℕ) (place end : ℕ) (o : Occurs l text place end) → HasSubslice (folded_text l.folding text) o.literal
-occurs-slice l text place end o =
+-- a text, folded, round a literal that ends in it
+pub record Parts (folding : Fold) (text t : List ℕ) (end : ℕ) : Type 0 where
+  pub before : List ℕ
+  pub behind : List ℕ
+  pub at : length before + length t ≡ end
+  pub whole : folded_text folding text ≡ before ++ (t ++ behind)
+
+pub occurs-parts : (l : Literals) (text : List ℕ) (place end : ℕ) (o : Occurs l text place end) → Parts l.folding text o.literal end
+occurs-parts l text place end o =
     let f = folded l.folding in
     let start = end - length o.literal in
     let rest = drop start text in
     let size = end - start in
     let parts : text ≡ take start text ++ (take size rest ++ drop size rest) =
-    sym (take-append-drop start text) ∙ ap (λ t. take start text ++ t) (sym (take-append-drop size rest)) in (
-      map f (take start text),
-      map f (drop size rest),
-      ap (map f) parts ∙ map-append f (take start text) (take size rest ++ drop size rest)
-          ∙ ap (λ t. map f (take start text) ++ t) (map-append f (take size rest) (drop size rest) ∙ ap (λ t. t ++ map f (drop size rest)) o.bytes),
-    )
+    sym (take-append-drop start text) ∙ ap (λ t. take start text ++ t) (sym (take-append-drop size rest)) in
+    record {
+      before = map f (take start text);
+      behind = map f (drop size rest);
+      at = omega (arith, length-map (take start text) f, length-take start text, o.begins, o.ends);
+      whole = ap (map f) parts ∙ map-append f (take start text) (take size rest ++ drop size rest)
+          ∙ ap (λ t. map f (take start text) ++ t) (map-append f (take size rest) (drop size rest) ∙ ap (λ t. t ++ map f (drop size rest)) o.bytes);
+    }
+
+-- so the literal is a slice of it
+occurs-slice : (l : Literals) (text : List ℕ) (place end : ℕ) (o : Occurs l text place end) → HasSubslice (folded_text l.folding text) o.literal
+occurs-slice l text place end o = let p = occurs-parts l text place end o in (p.before, p.behind, p.whole)
 
 -- the middle of three parts
 middle : (a t b : List ℕ) → take (length t) (drop (length a) (a ++ (t ++ b))) ≡ t
@@ -53,20 +66,20 @@ slice-occurs l text place literal a b stands parts =
           ∙ ap (λ t. take (length literal) (drop (length a) t)) parts ∙ middle a literal b;
     }
 
--- two tests that pass together are one
-not_passed : (b : Bool) → (b ≡ true → ⊥) → false ≡ b
+-- a test that cannot pass
+pub not_passed : (b : Bool) → (b ≡ true → ⊥) → false ≡ b
 not_passed true h = absurd (h refl)
 not_passed false h = refl
 
 module _ (l : Literals) (normal : IsNormal l) (line : List ℕ) where
   -- a literal of the list, by its place
-  own : (place : ℕ) (t : List ℕ) → place < length l.texts → get_or l.texts place t ≡ t → slice_get l.texts place ≡ Some t
+  pub own : (place : ℕ) (t : List ℕ) → place < length l.texts → get_or l.texts place t ≡ t → slice_get l.texts place ≡ Some t
   own place t inside here = slice_get-get_or l.texts place t inside ∙ ap (λ u. Some u) here
 
-  own_folded : (place : ℕ) (t : List ℕ) → place < length l.texts → get_or l.texts place t ≡ t → folded_text l.folding t ≡ t
+  pub own_folded : (place : ℕ) (t : List ℕ) → place < length l.texts → get_or l.texts place t ≡ t → folded_text l.folding t ≡ t
   own_folded place t inside here = subst (λ u. folded_text l.folding u ≡ u) here (normal.folded place t inside)
 
-  own_some : (place : ℕ) (t : List ℕ) → place < length l.texts → get_or l.texts place t ≡ t → 0 < length t
+  pub own_some : (place : ℕ) (t : List ℕ) → place < length l.texts → get_or l.texts place t ≡ t → 0 < length t
   own_some place t inside here = subst (λ u. 0 < length u) here (normal.nonempty place t inside)
 
   -- a line that matches a literal has an end of one

@@ -1,6 +1,7 @@
 pub mod Cutting
 pub mod Faults
 pub mod Feeding
+pub mod Hits
 pub mod Lending
 pub mod Matching
 pub mod Picking

@@ -45,7 +45,21 @@ pub(crate) fn lend_selected<S: Sink>(
     ensures lent { Lent S.takes sink.old (numbered (picks matcher.entry) before (line.now ∷ [])) (answer_of result) sink.new }
     ensures faults { result ≢ Err (Halt.Failed Fault.StreamTooLong) }
 {
-    if matcher.selects(line) {
+    lend_if(matcher.selects(line), line, before, sink)
+}
+
+/// Lends the line if it is selected, under the number that follows.
+pub(crate) fn lend_if<S: Sink>(
+    selected: bool,
+    line: &[u8],
+    before: u64,
+    sink: &mut S,
+) -> Result<(), Halt>
+    requires { before + 1 < 2 ^ 64 }
+    ensures lent { Lent S.takes sink.old (numbered (λ _. selected) before (line.now ∷ [])) (answer_of result) sink.new }
+    ensures faults { result ≢ Err (Halt.Failed Fault.StreamTooLong) }
+{
+    if selected {
         lend(line, before + 1, sink)
     } else {
         Ok(())

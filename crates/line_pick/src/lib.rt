@@ -1,9 +1,12 @@
 //! The selected lines of a text that comes in pieces, lent one by one with their numbers.
 #![tactic(auto)]
 
+mod block;
+mod counting;
 mod cutting;
 mod fault;
 mod halt;
+mod hit;
 mod lending;
 mod line_rule;
 mod matcher;
@@ -14,6 +17,7 @@ mod state;
 
 pub use fault::Fault;
 pub use line_rule::LineRule;
+pub use matcher::standing_law;
 pub use picker::Picker;
 pub use sink::{Next, Sink};
 pub use state::State;

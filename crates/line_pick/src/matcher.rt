@@ -1,9 +1,9 @@
 //! Which lines are selected.
-ghost use Rattle.std.specs.Prelude.{◌≡◌, ◌==◌, ◌&&◌, ◌<◌, ◌≤◌, ℕ, false, length, slice_index, true};
+ghost use Rattle.std.specs.Prelude.{◌≡◌, ◌==◌, ◌&&◌, ◌<◌, ◌≤◌, ℕ, List, false, length, slice_index, true};
 ghost use Rattle.std.specs.Option.{option_copied};
 ghost use Rattle.lit_base.specs.Literals.{lengths};
 ghost use Rattle.lit_base.specs.Selected.{matches};
-ghost use Rattle.line_pick.specs.Matching.{fold_of, patterns_of, picks};
+ghost use Rattle.line_pick.specs.Matching.{StandingLaw, fold_of, patterns_of, picks};
 
 use crate::line_rule::LineRule;
 use flow_scan::{Compiled, next_end};
@@ -18,6 +18,20 @@ pub(crate) struct Matcher<'p> {
 }
 
 impl Matcher<'_> {
+    /// It selects each line: none matches, and those that do not are selected.
+    pub fn each_line() -> Matcher<'static>
+        ensures { (line : List ℕ) → picks result line ≡ true }
+    {
+        Matcher {
+            plan: None,
+            has_empty: false,
+            rule: LineRule {
+                invert: true,
+                whole: false,
+            },
+        }
+    }
+
     /// Whether the line is selected.
     pub fn selects(self, line: &[u8]) -> bool
         ensures { result ≡ picks self.entry line.now }
@@ -104,3 +118,9 @@ fn first_as_long(list: &LitList, len: usize) -> usize
     }
     low
 }
+
+/// The law of what stands for raw patterns: a plan whose literals are their normal form, and the null
+/// pattern if one of them is null, select the lines that the raw patterns select.
+pub fn standing_law()
+    ensures { StandingLaw }
+{}

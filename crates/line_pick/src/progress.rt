@@ -1,14 +1,16 @@
 //! The line that no newline has ended yet, and how far a text has come.
 ghost use Rattle.std.specs.Prelude.{◌≡◌, ◌≢◌, ◌↔◌, ◌≤◌, ◌+◌, ◌^◌, ◌++◌, ◌∷◌, [], Err, IfOk, OnOk, OnErr, length, vec_len};
+ghost use Rattle.std.specs.Option.{option_copied};
 ghost use Rattle.lit_base.specs.Lines.{IsOnePiece, ended_lines, last_line, open_rest};
 ghost use Rattle.line_pick.specs.Lending.{Lends, Lent, answer_of, numbered};
-ghost use Rattle.line_pick.specs.Matching.{picks};
+ghost use Rattle.line_pick.specs.Matching.{AreInLines, picks};
 ghost use Rattle.line_pick.specs.Progresses.{IsSound};
 
+use crate::block::lend_block;
 use crate::cutting::{split_ended, split_line};
 use crate::fault::Fault;
 use crate::halt::Halt;
-use crate::lending::{lend_lines, lend_selected};
+use crate::lending::lend_selected;
 use crate::matcher::Matcher;
 use crate::sink::Sink;
 use std::alloc::Global;
@@ -45,7 +47,8 @@ impl Progress {
         piece: &[u8],
         sink: &mut S,
     ) -> Result<(), Halt>
-        requires { IsSound self.old }
+        requires sound { IsSound self.old }
+        requires apart { AreInLines (option_copied matcher.plan) }
         ensures sound { IsSound self.new }
         ensures lent { Lends S.takes sink.old (numbered (picks matcher.entry) self.old.lines (ended_lines (self.old.held.items ++ piece.now))) (answer_of result) sink.new }
         ensures held { OnOk result (self.new.held.items ≡ open_rest (self.old.held.items ++ piece.now)) }
@@ -106,6 +109,7 @@ impl Progress {
         text: &[u8],
         sink: &mut S,
     ) -> Result<(), Halt>
+        requires apart { AreInLines (option_copied matcher.plan) }
         requires fresh { self.old.held.items ≡ [] }
         requires counted { self.old.lines + length text.now ≤ self.old.bytes }
         ensures sound { IsSound self.new }
@@ -118,7 +122,7 @@ impl Progress {
         // Read here, it is known to fit, and so is the number of lines.
         let _bytes = self.bytes;
         let (block, open) = split_ended(text);
-        self.lines = lend_lines(matcher, block, self.lines, sink)?;
+        self.lines = lend_block(matcher, block, self.lines, sink)?;
         self.hold(open)
     }
 

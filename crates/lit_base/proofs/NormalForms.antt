@@ -100,7 +100,7 @@ folded-folded : (folding : Fold) (b : ℕ) → folded folding (folded folding b)
 folded-folded No b = refl
 folded-folded Ascii b = grind (arith, nat_tests)
 
-folded_text-folded_text : (folding : Fold) (text : List ℕ) → folded_text folding (folded_text folding text) ≡ folded_text folding text
+pub folded_text-folded_text : (folding : Fold) (text : List ℕ) → folded_text folding (folded_text folding text) ≡ folded_text folding text
 folded_text-folded_text folding [] = refl
 folded_text-folded_text folding (b ∷ bs) = cons_same (folded-folded folding b) (folded_text-folded_text folding bs)
   where

@@ -1,15 +1,8 @@
-use Rattle.std.proofs.Common.{arith, rules}
-use Rattle.flow_scan.specs.Ends.{HasEnd}
-use Rattle.flow_scan.proofs.Steps.{none_up_to}
+-- The walk is one over this text, behind this place.
 use Rattle.flow_scan.proofs.searching.next_end.Goals as goal
 
--- nothing ends at the place just tested
-pub loop-end-preserved : goal.loop-end-preserved
-loop-end-preserved c =
-    let here : ¬ HasEnd c.args.compiled.now.literals c.args.text.now c.loop-end.end = search rules in
-    none_up_to (HasEnd c.args.compiled.now.literals c.args.text.now) c.args.from c.loop-end.end c.loop-end.invariant here
+pub next_ending-requires-clause-covers : goal.next_ending-requires-clause-covers
+next_ending-requires-clause-covers c = rw (c.list.ensures, c.new-candidates.ensures.masks) c.masks.ensures
 
--- nothing ends past the text
-pub returns : goal.returns
-returns c = λ end after here.
-    c.loop-end.invariant end after (omega (arith, here.1.ends, c.loop-end-test.false)) here
+pub returns-in-None : goal.returns-in-None
+returns-in-None c = rw (c.list.ensures, c.new-candidates.ensures.from) at c.in-None.ensures.next

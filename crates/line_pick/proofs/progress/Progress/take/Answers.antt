@@ -26,26 +26,26 @@ returns-in_err-end_line-in-Some-clause-lent g c =
     let test = picks c.args.matcher in
     let lines = c.args.self.now.lines in
     let held = c.args.self.now.held.items in
-    let cut = first-held held c.requires.one c.in-Some.ensures in
+    let cut = first-held held c.requires.sound.one c.in-Some.ensures in
     rw (p.1, p.2) (Lends-lines (sym (numbered-first test lines (held ++ c.args.piece.now) (held ++ c.in-Some.front.now) c.in-Some.behind.now cut))
     (Lends-halted (numbered test (lines + 1) (ended_lines c.in-Some.behind.now)) c.in_err-end_line-in-Some.ensures.lent (answer_to-More c.in_err-end_line-in-Some.field-0.0)))
 
 pub returns-in-None-clause-lent : goal.returns-in-None-clause-lent
 returns-in-None-clause-lent g c =
     let held = c.args.self.now.held.items in
-    let none = ended_lines-none (held ++ c.args.piece.now) (one-append held c.args.piece.now c.requires.one c.in-None.ensures) in
+    let none = ended_lines-none (held ++ c.args.piece.now) (one-append held c.args.piece.now c.requires.sound.one c.in-None.ensures) in
     Lends-held c.hold.result (Lent-lines (ap (numbered (picks c.args.matcher) c.args.self.now.lines) (sym none)) NoneLeft) c.hold.ensures.starved
 
 pub returns-in-None-clause-held : goal.returns-in-None-clause-held
 returns-in-None-clause-held g c =
     let held = c.args.self.now.held.items in
-    let all = open_rest-none (held ++ c.args.piece.now) (one-append held c.args.piece.now c.requires.one c.in-None.ensures) in
+    let all = open_rest-none (held ++ c.args.piece.now) (one-append held c.args.piece.now c.requires.sound.one c.in-None.ensures) in
     on_ok_weaker c.hold.result (λ e. e ∙ sym all) c.hold.ensures.ok
 
 pub returns-in-None-clause-lines : goal.returns-in-None-clause-lines
 returns-in-None-clause-lines g c =
     let held = c.args.self.now.held.items in
-    let none = count-none (held ++ c.args.piece.now) (one-append held c.args.piece.now c.requires.one c.in-None.ensures) in
+    let none = count-none (held ++ c.args.piece.now) (one-append held c.args.piece.now c.requires.sound.one c.in-None.ensures) in
     OnOk-any c.hold.result (omega (arith, none, c.hold.ensures.lines))
 
 pub returns-in_ok-end_line-in-Some-clause-lent : goal.returns-in_ok-end_line-in-Some-clause-lent
@@ -53,7 +53,7 @@ returns-in_ok-end_line-in-Some-clause-lent g c =
     let test = picks c.args.matcher in
     let lines = c.args.self.now.lines in
     let held = c.args.self.now.held.items in
-    let cut = first-held held c.requires.one c.in-Some.ensures in
+    let cut = first-held held c.requires.sound.one c.in-Some.ensures in
     Lends-lines (sym (numbered-first test lines (held ++ c.args.piece.now) (held ++ c.in-Some.front.now) c.in-Some.behind.now cut))
     (Lends-join (Lent-from_Lends c.in_ok-end_line-in-Some.ensures.lent)
     (Lends-lines (ap (λ n. numbered test n (ended_lines c.in-Some.behind.now)) c.in_ok-end_line-in-Some.ensures.lines) c.take_lines.ensures.lent)
@@ -62,12 +62,12 @@ returns-in_ok-end_line-in-Some-clause-lent g c =
 pub returns-in_ok-end_line-in-Some-clause-held : goal.returns-in_ok-end_line-in-Some-clause-held
 returns-in_ok-end_line-in-Some-clause-held g c =
     let held = c.args.self.now.held.items in
-    on_ok_weaker c.take_lines.result (λ e. e ∙ sym (open_rest-first (first-held held c.requires.one c.in-Some.ensures))) c.take_lines.ensures.held
+    on_ok_weaker c.take_lines.result (λ e. e ∙ sym (open_rest-first (first-held held c.requires.sound.one c.in-Some.ensures))) c.take_lines.ensures.held
 
 pub returns-in_ok-end_line-in-Some-clause-lines : goal.returns-in_ok-end_line-in-Some-clause-lines
 returns-in_ok-end_line-in-Some-clause-lines g c =
     let test = picks c.args.matcher in
     let held = c.args.self.now.held.items in
-    let cut = first-held held c.requires.one c.in-Some.ensures in
+    let cut = first-held held c.requires.sound.one c.in-Some.ensures in
     let count = count-first test 0 (held ++ c.args.piece.now) (held ++ c.in-Some.front.now) c.in-Some.behind.now cut in
     on_ok_weaker c.take_lines.result (λ e. omega (arith, e, count, c.in_ok-end_line-in-Some.ensures.lines)) c.take_lines.ensures.lines

@@ -1,0 +1,66 @@
+-- Parts of the room of a seam, before and after a write.
+use Rattle.std.proofs.Common.{◌≡◌, ℕ, ◌+◌, ◌-◌, ◌≤◌, List, ◌++◌, length, take, drop, sym, ap, ◌∙◌, subst, arith}
+use Rattle.std.specs.List.{copy_within}
+use Rattle.std.proofs.Math.Seq.{take-add}
+use Rattle.std.proofs.lemmas.List.{length-append, length-drop, length-take, take_at, drop-drop, drop-take, take_all}
+use Rattle.flow_scan.specs.Seams.{Seaming}
+use Rattle.flow_scan.specs.Tails.{last_bytes}
+use Rattle.flow_scan.proofs.Occurring.{drop-behind, last_len}
+use Rattle.flow_scan.proofs.TailSteps.{last_of_short}
+
+-- two seams with the same parts are one
+pub same_seaming : (s t : Seaming) → s.carry ≡ t.carry → s.tail ≡ t.tail → s.front ≡ t.front → s ≡ t
+same_seaming s t p q r = λ i. record { carry = p i; tail = q i; front = r i }
+
+-- a slice from before a place to behind it
+part_two : (start held ahead : ℕ) (xs : List ℕ) → start ≤ held → take (held + ahead - start) (drop start xs) ≡ drop start (take held xs) ++ take ahead (drop held xs)
+part_two start held ahead xs before =
+    let m = held - start in
+    let count : held + ahead - start ≡ m + ahead = omega arith in
+    let all : start + m ≡ held = omega arith in
+    let front : take m (drop start xs) ≡ drop start (take held xs) = sym (drop-take start m xs) ∙ ap (λ n. drop start (take n xs)) all in
+    let rest : drop m (drop start xs) ≡ drop held xs = drop-drop m start xs ∙ ap (λ n. drop n xs) all in
+    ap (λ n. take n (drop start xs)) count ∙ take-add m ahead (drop start xs)
+    ∙ ap (λ ys. ys ++ take ahead (drop m (drop start xs))) front ∙ ap (λ ys. drop start (take held xs) ++ take ahead ys) rest
+
+-- how long a front is that fits
+front_len : (n : ℕ) (xs : List ℕ) → n ≤ length xs → length (take n xs) ≡ n
+front_len n xs fits = omega (arith, length-take n xs)
+
+-- the slice from the tail on is the tail and what is offered
+pub text_of : (carry held ahead len : ℕ) (xs : List ℕ) → held ≤ length xs → len ≡ length (last_bytes carry (take held xs)) → take (held + ahead - (held - len)) (drop (held - len) xs) ≡ last_bytes carry (take held xs) ++ take ahead (drop held xs)
+text_of carry held ahead len xs fits is_len =
+    let front = front_len held xs fits in
+    let start : held - len ≡ length (take held xs) - carry = omega (arith, is_len, front, last_len carry (take held xs)) in
+    ap (λ n. take (held + ahead - n) (drop n xs)) start
+    ∙ part_two (length (take held xs) - carry) held ahead xs (omega (arith, front))
+
+-- the tail, moved to the front
+pub tail_moved : (carry held : ℕ) (xs : List ℕ) → carry ≤ held → held ≤ length xs → last_bytes carry (take carry (copy_within xs (held - carry) held 0)) ≡ last_bytes carry (take held xs)
+tail_moved carry held xs more fits =
+    let start = held - carry in
+    let all : start + carry ≡ held = omega arith in
+    let count : held - start ≡ carry = omega arith in
+    let rest = drop (0 + (held - start)) xs in
+    let moved : List ℕ = take carry (drop start xs) in
+    let len : length moved ≡ carry = omega (arith, length-take carry (drop start xs), length-drop start xs) in
+    let here : take carry (copy_within xs start held 0) ≡ moved =
+    ap (λ n. take carry (take n (drop start xs) ++ rest)) count ∙ take_at moved rest carry len in
+    let there : last_bytes carry (take held xs) ≡ moved =
+    ap (λ n. drop (n - carry) (take held xs)) (front_len held xs fits) ∙ ap (λ n. drop start (take n xs)) (sym all) ∙ drop-take start carry xs in
+    ap (last_bytes carry) here ∙ last_of_short carry moved (omega (arith, len)) ∙ sym there
+
+-- a piece that fits the carry stands whole behind what is held
+pub kept_short : (carry held : ℕ) (xs piece : List ℕ) → length piece ≤ carry → take (length (take carry piece)) (drop held xs) ≡ take carry piece → take (held + length piece) xs ≡ take held xs ++ piece
+kept_short carry held xs piece short front =
+    let whole : take carry piece ≡ piece = take_all carry piece short in
+    take-add held (length piece) xs ∙ ap (λ ys. take held xs ++ ys) (subst (λ p. take (length p) (drop held xs) ≡ p) whole front)
+
+-- of one that is longer, the last bytes alone count
+pub kept_long : (carry : ℕ) (xs rest piece : List ℕ) → carry ≤ length piece → last_bytes carry (take carry (last_bytes carry piece ++ rest)) ≡ last_bytes carry (xs ++ piece)
+kept_long carry xs rest piece long =
+    let last = last_bytes carry piece in
+    let len : length last ≡ carry = omega (arith, last_len carry piece) in
+    let skip : length (xs ++ piece) - carry ≡ length xs + (length piece - carry) = omega (arith, length-append xs piece) in
+    ap (last_bytes carry) (take_at last rest carry len) ∙ last_of_short carry last (omega (arith, len))
+    ∙ sym (ap (λ n. drop n (xs ++ piece)) skip ∙ drop-behind xs piece (length piece - carry))

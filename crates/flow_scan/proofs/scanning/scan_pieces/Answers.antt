@@ -1,0 +1,96 @@
+-- Piece by piece the hits are those of the pieces joined.
+use Rattle.std.proofs.Common.{◌≡◌, ℕ, ◌+◌, ◌<◌, ◌≤◌, Err, inl, inr, List, [], ◌∷◌, ◌++◌, length, get_or, take, drop, sym, ap, ◌∙◌, subst, arith}
+use Rattle.std.specs.Global.{Vec}
+use Rattle.std.specs.List.{concat}
+use Rattle.std.proofs.lemmas.List.{length-append, map_more, take-append-drop, map-append, take_all}
+use Rattle.std.proofs.lemmas.Result.{err_from_is_err_and}
+use Rattle.flow_scan.specs.Plans.{Plan}
+use Rattle.flow_scan.specs.Scanners.{Scanning, fed}
+use Rattle.flow_scan.specs.Tails.{AreHitsBehind, GainsHits, HasBounds, bytes_of, carry_of, last_bytes}
+use Rattle.flow_scan.proofs.HitLists.{hits_none, none_past}
+use Rattle.flow_scan.proofs.TailSteps.{concat_append, concat_push, hits_fed, hits_from_start, last_of_last, last_of_short}
+use Rattle.flow_scan.proofs.scanning.scan_pieces.Goals as goal
+
+-- the pieces so far and one more, joined
+joined_more : (pieces : List (Vec ℕ)) (i : ℕ) (x : Vec ℕ) → i < length pieces → x ≡ get_or pieces i x → concat (bytes_of (take (i + 1) pieces)) ≡ concat (bytes_of (take i pieces)) ++ x.items
+joined_more pieces i x within is =
+    ap concat (map_more (λ (v : Vec ℕ). v.items) pieces i x within)
+    ∙ ap (λ (v : Vec ℕ). concat (bytes_of (take i pieces) ++ v.items ∷ [])) (sym is) ∙ concat_push (bytes_of (take i pieces)) x.items
+
+-- the first pieces, joined, are no longer than all
+joined_front : (pieces : List (Vec ℕ)) (n : ℕ) → length (concat (bytes_of (take n pieces))) ≤ length (concat (bytes_of pieces))
+joined_front pieces n =
+    let whole : bytes_of (take n pieces) ++ bytes_of (drop n pieces) ≡ bytes_of pieces =
+    sym (map-append (λ (v : Vec ℕ). v.items) (take n pieces) (drop n pieces)) ∙ ap bytes_of (take-append-drop n pieces) in
+    omega (
+      arith,
+      ap (λ ps. length (concat ps)) whole,
+      ap length (concat_append (bytes_of (take n pieces)) (bytes_of (drop n pieces))),
+      length-append (concat (bytes_of (take n pieces))) (concat (bytes_of (drop n pieces))),
+    )
+
+-- the tail after one more piece
+tail_more : (s : Scanning) (plan : Plan) (text piece : List ℕ) → s.plan ≡ plan → s.tail ≡ last_bytes (carry_of plan.literals) text → (fed s piece).tail ≡ last_bytes (carry_of plan.literals) (text ++ piece)
+tail_more s plan text piece p t =
+    ap (λ (q : Plan). last_bytes (carry_of q.literals) (s.tail ++ piece)) p ∙ ap (λ ts. last_bytes (carry_of plan.literals) (ts ++ piece)) t
+    ∙ last_of_last (carry_of plan.literals) text piece
+
+-- the hits after one more piece
+hits_more : (s : Scanning) (plan : Plan) (text piece : List ℕ) (old new : List (ℕ × ℕ)) → HasBounds plan.literals → s.plan ≡ plan → s.place ≡ length text → s.tail ≡ last_bytes (carry_of plan.literals) text → AreHitsBehind plan.literals text 0 0 old → GainsHits s.plan.literals s.tail piece s.place old new → AreHitsBehind plan.literals (text ++ piece) 0 0 new
+hits_more s plan text piece old new b p at t before gains =
+    hits_fed plan.literals text piece s.place old new b at before
+    (subst (λ ts. GainsHits plan.literals ts piece s.place old new) t (subst (λ (q : Plan). GainsHits q.literals s.tail piece s.place old new) p gains))
+
+pub loop-piece-init : goal.loop-piece-init
+loop-piece-init c =
+    let l = c.args.compiled.now.literals in
+    let start = c.in_ok-scanner.ensures.ok in
+    record {
+      plan = ap (λ (s : Scanning). s.plan) start;
+      place = ap (λ (s : Scanning). s.place) start;
+      tail = ap (λ (s : Scanning). s.tail) start ∙ sym (last_of_short (carry_of l) [] (omega arith));
+      found = subst (AreHitsBehind l [] 0 0) (sym c.new-hits.ensures.items) (hits_none l [] 0 0 (none_past l [] 0 (omega arith)));
+    }
+
+pub loop-piece-preserved : goal.loop-piece-preserved
+loop-piece-preserved c =
+    let plan = c.args.compiled.now in
+    let pieces = c.args.pieces.now in
+    let i = c.loop-piece.piece-index in
+    let x = c.piece-item.result in
+    let text = concat (bytes_of (take i pieces)) in
+    let before = c.loop-piece.invariant in
+    let s = c.loop-piece.scanner in
+    let piece = c.deref.result.now in
+    let ok : c.feed.new.self ≡ fed s piece = c.in_ok-feed.ensures.ok in
+    let joined : text ++ piece ≡ concat (bytes_of (take (i + 1) pieces)) =
+    ap (λ ts. text ++ ts) c.deref.ensures.value ∙ sym (joined_more pieces i x c.loop-piece-test.true c.piece-item.is) in
+    record {
+      plan = ap (λ (t : Scanning). t.plan) ok ∙ before.plan;
+      place = omega (arith, ap (λ (t : Scanning). t.place) ok, before.place, ap length joined, length-append text piece);
+      tail = ap (λ (t : Scanning). t.tail) ok ∙ tail_more s plan text piece before.plan before.tail ∙ ap (last_bytes (carry_of plan.literals)) joined;
+      found = subst (λ ts. AreHitsBehind plan.literals ts 0 0 c.feed.new.out.items) joined
+          (hits_more s plan text piece c.loop-piece.hits.items c.feed.new.out.items c.carry-carry.ensures.bounds before.plan before.place before.tail before.found c.in_ok-feed.ensures.hits);
+    }
+
+pub returns-in_err-feed-clause-refused : goal.returns-in_err-feed-clause-refused
+returns-in_err-feed-clause-refused c =
+    let pieces = c.args.pieces.now in
+    let i = c.loop-piece.piece-index in
+    let text = concat (bytes_of (take i pieces)) in
+    let piece = c.deref.result.now in
+    let joined : text ++ piece ≡ concat (bytes_of (take (i + 1) pieces)) =
+    ap (λ ts. text ++ ts) c.deref.ensures.value ∙ sym (joined_more pieces i c.piece-item.result c.loop-piece-test.true c.piece-item.is) in
+    let p = err_from_is_err_and c.from_residual-in_err-feed.result c.from_residual-in_err-feed.ensures.1 in
+    rw (p.1, p.2) (elim c.in_err-feed.ensures.faults [
+      | inl long ↦ inr (long, omega (arith, c.in_err-feed.ensures.too_long.0 (ap Err long), c.loop-piece.invariant.place, ap length joined, length-append text piece, joined_front pieces (i + 1)))
+      | inr memory ↦ inl memory
+    ])
+
+pub returns-clause-hits : goal.returns-clause-hits
+returns-clause-hits c =
+    let l = c.args.compiled.now.literals in
+    let pieces = c.args.pieces.now in
+    let all : take c.loop-piece.piece-index pieces ≡ pieces = take_all c.loop-piece.piece-index pieces (omega (arith, c.loop-piece-test.false)) in
+    hits_from_start l (concat (bytes_of pieces)) c.loop-piece.hits.items c.carry-carry.ensures.bounds
+    (subst (λ (ps : List (Vec ℕ)). AreHitsBehind l (concat (bytes_of ps)) 0 0 c.loop-piece.hits.items) all c.loop-piece.invariant.found)

@@ -1,0 +1,19 @@
+use Rattle.std.proofs.Common.{◌≡◌, ℕ, ◌-◌, ◌≤◌, ◌++◌, List, length, take}
+use Rattle.nib_mask.specs.Candidates.{Covers}
+use Rattle.flow_scan.specs.Tails.{AreHitsBehind}
+use Rattle.flow_scan.proofs.searching.add_hits.Given as goal
+
+-- the hits added are those up to the place reached
+abbrev pub invariant-loop-end : goal.invariant-loop-end
+invariant-loop-end l = record {
+  covers : Covers l.compiled.literals l.candidates.masks;
+  text : l.candidates.text ≡ l.text;
+  ahead : l.from ≤ l.candidates.from;
+  within : l.candidates.from ≤ length l.text;
+  found : List (ℕ × ℕ);
+  grown : l.out.items ≡ l.fn.out.items ++ found;
+  added : AreHitsBehind l.compiled.literals (take l.candidates.from l.text) l.from l.at found;
+}
+
+abbrev pub decreases-loop-end : goal.decreases-loop-end
+decreases-loop-end l = length l.text - l.candidates.from

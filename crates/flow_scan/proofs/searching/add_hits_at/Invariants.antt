@@ -1,0 +1,15 @@
+use Rattle.std.proofs.Common.{◌≡◌, ℕ, ◌-◌, ◌≤◌, ◌++◌, List, length}
+use Rattle.flow_scan.proofs.HitLists.{AreHitsAtBefore}
+use Rattle.flow_scan.proofs.searching.add_hits_at.Given as goal
+
+-- the hits added are those of the literals passed
+abbrev pub invariant-loop-place : goal.invariant-loop-place
+invariant-loop-place l = record {
+  found : List (ℕ × ℕ);
+  grown : l.out.items ≡ l.fn.out.items ++ found;
+  added : AreHitsAtBefore l.list l.text l.end l.at l.from found;
+  counted : l.from ≤ length l.list.texts;
+}
+
+abbrev pub decreases-loop-place : goal.decreases-loop-place
+decreases-loop-place l = length l.list.texts - l.from

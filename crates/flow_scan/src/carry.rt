@@ -1,0 +1,18 @@
+//! How much of a stream a hit in the next piece may need.
+ghost use Rattle.std.specs.Prelude.{◌≡◌, ◌<◌, length};
+ghost use Rattle.lit_base.specs.declared.limits.TheConstants.{MAX_LITERAL_LEN};
+ghost use Rattle.flow_scan.specs.Tails.{HasBounds, carry_of};
+
+use lit_base::LitList;
+
+/// How many bytes a literal may have before a piece in which it ends: one fewer than the longest
+/// literal has.
+pub(crate) fn carry(list: &LitList) -> usize
+    requires { 0 < length list.now.texts }
+    ensures value { result ≡ carry_of list.now }
+    ensures small { result < MAX_LITERAL_LEN }
+    ensures bounds { HasBounds list.now }
+{
+    list.normal_law();
+    list.longest() - 1
+}

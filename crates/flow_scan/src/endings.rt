@@ -1,0 +1,34 @@
+//! The places of a text at which literals end, one after the other.
+ghost use Rattle.std.specs.Prelude.{◌≡◌, IfSome, MatchOption};
+ghost use Rattle.lit_base.specs.Occurrences.{IsFirstEnding};
+ghost use Rattle.nib_mask.specs.Candidates.{Covers};
+ghost use Rattle.flow_scan.specs.Ends.{IsNextEnd, NoEndAfter};
+
+use lane_filter::Candidates;
+use lit_base::LitList;
+
+/// The first place behind the last candidate handed out at which some literal ends, with the first
+/// of these literals. The candidates are those of the text, by a filter for the literals. It takes
+/// no memory.
+pub(crate) fn next_ending(
+    list: &LitList,
+    text: &[u8],
+    candidates: &mut Candidates,
+) -> Option<(usize, usize)>
+    requires covers { Covers list.now candidates.old.masks }
+    requires text { candidates.old.text ≡ text.now }
+    ensures masks { candidates.new.masks ≡ candidates.old.masks }
+    ensures text { candidates.new.text ≡ candidates.old.text }
+    ensures next { MatchOption result
+        (NoEndAfter list.now text.now candidates.old.from)
+        (λ found. IsNextEnd list.now text.now candidates.old.from found.0) }
+    ensures first { IfSome result (λ found. IsFirstEnding list.now text.now 0 found.0 found.1) }
+    ensures reached { IfSome result (λ found. candidates.new.from ≡ found.0) }
+{
+    while let Some(end) = candidates.next_end() {
+        if let Some(first) = list.next_ending(text, end, 0) {
+            return Some((end, first));
+        }
+    }
+    None
+}

@@ -1,0 +1,146 @@
+//! Scanning a stream that comes in pieces.
+ghost use Rattle.std.specs.Prelude.{◌≡◌, ◌↔◌, ◌+◌, ◌-◌, ◌^◌, ◌<◌, ◌≤◌, ◌⊎◌, ◌++◌, IfErr, IfOk, IsErrOf, IsOk, IsOkUnless, OnErr, OnOk, length, min, take};
+ghost use Rattle.flow_scan.specs.declared.fault.Fault.TheVariants.{OutOfMemory, StreamTooLong};
+ghost use Rattle.flow_scan.specs.Ends.{Extends, NoEndAfter};
+ghost use Rattle.flow_scan.specs.Scanners.{Scanning, fed, started};
+ghost use Rattle.flow_scan.specs.Tails.{GainsHits, carry_of};
+
+use crate::compiled::Compiled;
+use crate::fault::Fault;
+use crate::hit::Hit;
+use crate::seam::Seam;
+use crate::searching::add_hits;
+use std::alloc::{AllocError, Global};
+use std::marker::Model;
+
+/// A scan of one stream by a plan. It is fed the stream in pieces, cut anywhere, and gives every hit
+/// once and in order. Between pieces it keeps the last bytes alone, fewer than the longest literal
+/// has, in memory that it takes when it is made.
+#[derive(Drop)]
+pub struct Scanner<'p> {
+    compiled: &'p Compiled,
+    base: u64,
+    /// How many bytes were fed.
+    count: u64,
+    seam: Seam,
+}
+
+impl<'p> Model for Scanner<'p> {
+    ghost use Rattle.std.specs.Prelude.{◌+◌};
+    ghost use Rattle.flow_scan.specs.Scanners.{IsScanner, Scanning};
+
+    ghost Value = { Scanning };
+
+    ghost view = { λ s. record {
+      plan = s.compiled.now;
+      base = s.base;
+      place = s.base + s.count;
+      tail = s.seam.tail;
+    } };
+
+    ghost invariant = { λ s. IsScanner s.compiled.now s.base s.count s.seam };
+}
+
+impl<'p> Scanner<'p> {
+    /// A scan that counts its places from 0. The only refusal is `OutOfMemory`.
+    pub fn new(alloc: Global, compiled: &'p Compiled) -> Result<Scanner<'p>, Fault>
+        ensures ok { IfOk result (λ s. s ≡ started compiled.now 0) }
+        ensures refused { IsOkUnless result OutOfMemory }
+    {
+        Scanner::new_at(alloc, compiled, 0)
+    }
+
+    /// A scan that counts its places from `base`. The only refusal is `OutOfMemory`.
+    pub fn new_at(alloc: Global, compiled: &'p Compiled, base: u64) -> Result<Scanner<'p>, Fault>
+        ensures ok { IfOk result (λ s. s ≡ started compiled.now base) }
+        ensures refused { IsOkUnless result OutOfMemory }
+    {
+        let seam = Seam::new(alloc, compiled.carry())?;
+        Ok(Scanner {
+            compiled,
+            base,
+            count: 0,
+            seam,
+        })
+    }
+
+    /// Feeds the next piece, and adds the hits that end in it to `out`: in order, each once, their
+    /// ends counted from the scan's base.
+    ///
+    /// Refusals: `StreamTooLong` where the place would pass 2^64 - 1, and `OutOfMemory`, which comes
+    /// only where a literal ends in the piece. Scan and `out` are then as they were.
+    pub fn feed(&mut self, piece: &[u8], out: &mut Vec<Hit>) -> Result<(), Fault>
+        ensures ok { OnOk result (self.new ≡ fed self.old piece.now) }
+        ensures hits { OnOk result (GainsHits self.old.plan.literals self.old.tail piece.now self.old.place out.old.items out.new.items) }
+
+        ensures too_long { IsErrOf result StreamTooLong ↔ (2 ^ 64 ≤ self.old.place + length piece.now) }
+        ensures faults { IfErr result (λ fault. (fault ≡ StreamTooLong) ⊎ (fault ≡ OutOfMemory)) }
+        ensures same { OnErr result (self.new ≡ self.old) }
+        ensures same_hits { OnErr result (out.new.items ≡ out.old.items) }
+
+        // Where nothing ends in the piece, it takes no memory.
+        ensures quiet { NoEndAfter self.old.plan.literals (self.old.tail ++ piece.now) (length self.old.tail)
+            → IsOkUnless result StreamTooLong }
+    {
+        if piece.len() as u64 > u64::MAX - self.place() {
+            return Err(Fault::StreamTooLong);
+        }
+        self.seam.offer(piece);
+        let before = out.len();
+        if add_piece(self.compiled, &self.seam, piece, self.place(), out).is_err() {
+            out.truncate(before);
+            return Err(Fault::OutOfMemory);
+        }
+        self.seam.commit(piece);
+        self.count += piece.len() as u64;
+        Ok(())
+    }
+
+    /// The place reached: the base and how many bytes were fed.
+    pub fn place(&self) -> u64
+        ensures place { result ≡ self.now.place }
+        ensures tail { length self.now.tail ≡ min (result - self.now.base) (carry_of self.now.plan.literals) }
+    {
+        self.base + self.count
+    }
+
+    /// An equal scan: from here on both give the same hits. The only refusal is `OutOfMemory`.
+    pub fn copy(&self) -> Result<Scanner<'p>, Fault>
+        ensures ok { IfOk result (λ s. s ≡ self.now) }
+        ensures refused { IsOkUnless result OutOfMemory }
+    {
+        let seam = self.seam.copy()?;
+        Ok(Scanner {
+            compiled: self.compiled,
+            base: self.base,
+            count: self.count,
+            seam,
+        })
+    }
+}
+
+/// Adds the hits that end in a piece, whose first bytes stand at the seam: those in its first bytes
+/// from there, and the others from the piece in place. Where memory is refused, hits before were
+/// added.
+fn add_piece(
+    compiled: &Compiled,
+    seam: &Seam,
+    piece: &[u8],
+    at: u64,
+    out: &mut Vec<Hit>,
+) -> Result<(), AllocError>
+    requires carry { seam.now.carry ≡ carry_of compiled.now.literals }
+    requires front { seam.now.front ≡ take seam.now.carry piece.now }
+    requires room { at + length piece.now < 2 ^ 64 }
+    ensures ok { OnOk result (GainsHits compiled.now.literals seam.now.tail piece.now at out.old.items out.new.items) }
+    ensures kept { Extends out.old.items out.new.items }
+    ensures quiet { NoEndAfter compiled.now.literals (seam.now.tail ++ piece.now) (length seam.now.tail) → IsOk result }
+{
+    add_hits(compiled, seam.text(), seam.tail_len(), at, out)?;
+    let carry = compiled.carry();
+    if piece.len() <= carry {
+        return Ok(());
+    }
+    add_hits(compiled, piece, carry, at + carry as u64, out)?;
+    Ok(())
+}

@@ -1,0 +1,62 @@
+//! Scans of whole texts, and the law on which scans in pieces stand.
+ghost use Rattle.std.specs.Prelude.{◌≡◌, ◌^◌, ◌<◌, ◌≤◌, ◌⊎◌, IfErr, IfOk, IsOkUnless, length};
+ghost use Rattle.std.specs.List.{concat};
+ghost use Rattle.lit_base.specs.Assignments.{NoAssignmentBelow};
+ghost use Rattle.lit_base.specs.Occurrences.{IsHits};
+ghost use Rattle.flow_scan.specs.declared.fault.Fault.TheVariants.{OutOfMemory, StreamTooLong};
+ghost use Rattle.flow_scan.specs.Tails.{PiecesLaw, bytes_of};
+
+use crate::carry::carry;
+use crate::compiled::{Compiled, least_law};
+use crate::fault::Fault;
+use crate::hit::Hit;
+use crate::scanner::Scanner;
+use crate::searching::add_hits;
+use lit_base::LitList;
+use std::alloc::Global;
+
+/// All hits in a text, in order. The only refusal is `OutOfMemory`.
+pub fn scan_all(alloc: Global, compiled: &Compiled, text: &[u8]) -> Result<Vec<Hit>, Fault>
+    ensures ok { IfOk result (λ hits. IsHits compiled.now.literals text.now hits.items) }
+    ensures refused { IsOkUnless result OutOfMemory }
+{
+    let _carry = compiled.carry();
+    let mut hits = Vec::new(alloc);
+    add_hits(compiled, text, 0, 0, &mut hits)?;
+    Ok(hits)
+}
+
+/// What the plan and a scan by it promise, on one call that feeds a scanner any pieces. No
+/// assignment of the literals to at most eight buckets costs less than the plan's certificate says.
+/// The hits handed out are exactly the literals and ends that occur in the pieces joined, each once
+/// and in order.
+///
+/// Refusals: `StreamTooLong` where the pieces together have 2^64 bytes or more, and `OutOfMemory`.
+pub fn scan_pieces(
+    alloc: Global,
+    compiled: &Compiled,
+    pieces: &[Vec<u8>],
+) -> Result<Vec<Hit>, Fault>
+    ensures least { NoAssignmentBelow 8 compiled.now.literals compiled.now.certificate.cost }
+    ensures hits { IfOk result (λ hits. IsHits compiled.now.literals (concat (bytes_of pieces.now)) hits.items) }
+    ensures refused { IfErr result (λ fault. (fault ≡ OutOfMemory)
+        ⊎ ((fault ≡ StreamTooLong) × (2 ^ 64 ≤ length (concat (bytes_of pieces.now))))) }
+{
+    least_law(compiled);
+    let _carry = compiled.carry();
+    let mut scanner = Scanner::new(alloc, compiled)?;
+    let mut hits = Vec::new(alloc);
+    for piece in pieces {
+        scanner.feed(piece, &mut hits)?;
+    }
+    Ok(hits)
+}
+
+/// The law that a stream may come in any pieces: from no bytes on, the steps of `feed` over the
+/// pieces give exactly the hits of the pieces joined, counted from wherever the scan begins.
+pub fn pieces_law(list: &LitList, pieces: &[Vec<u8>])
+    requires { 0 < length list.now.texts }
+    ensures { PiecesLaw list.now (bytes_of pieces.now) }
+{
+    let _carry = carry(list);
+}

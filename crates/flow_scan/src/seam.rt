@@ -1,0 +1,141 @@
+//! The bytes at the seam of two pieces of a stream.
+ghost use Rattle.std.specs.Prelude.{◌≡◌, ◌+◌, ◌*◌, ◌^◌, ◌<◌, ◌≤◌, ◌++◌, [], IfOk, drop, length, take, vec_len};
+ghost use Rattle.flow_scan.specs.Seams.{Seaming};
+ghost use Rattle.flow_scan.specs.Tails.{last_bytes};
+
+use std::alloc::{AllocError, Global};
+use std::marker::Model;
+
+/// The last bytes of a stream, at most `carry` of them, and behind them the first bytes of the
+/// piece that comes next. All memory that it needs is taken when it is made.
+#[derive(Drop)]
+pub(crate) struct Seam {
+    /// Room for twice the carry, so that bytes are rarely moved to its front.
+    room: Vec<u8>,
+    carry: usize,
+    /// How many bytes of the stream it holds, the last of them at the end.
+    held: usize,
+    /// How many bytes of the next piece stand behind these.
+    ahead: usize,
+}
+
+impl Model for Seam {
+    ghost use Rattle.std.specs.Prelude.{◌≡◌, ◌+◌, ◌*◌, ◌<◌, ◌≤◌, ◌^◌, drop, take, vec_len};
+    ghost use Rattle.flow_scan.specs.Seams.{IsSeam, Seaming};
+    ghost use Rattle.flow_scan.specs.Tails.{last_bytes};
+
+    ghost Value = { Seaming };
+
+    ghost view = { λ s. record {
+      carry = s.carry;
+      tail = last_bytes s.carry (take s.held s.room.items);
+      front = take s.ahead (drop s.held s.room.items);
+    } };
+
+    ghost invariant = { λ s. IsSeam (vec_len s.room) s.carry s.held s.ahead };
+}
+
+impl Seam {
+    /// A seam of no bytes.
+    pub(crate) fn new(alloc: Global, carry: usize) -> Result<Seam, AllocError>
+        requires { carry < 2 ^ 32 }
+        ensures { IfOk result (λ s. s ≡ record { carry = carry; tail = []; front = [] }) }
+    {
+        Ok(Seam {
+            room: vec![in alloc; 0; 2 * carry]?,
+            carry,
+            held: 0,
+            ahead: 0,
+        })
+    }
+
+    /// How many bytes the tail has.
+    pub(crate) fn tail_len(&self) -> usize
+        ensures { result ≡ length self.now.tail }
+    {
+        self.held.min(self.carry)
+    }
+
+    /// The tail, and the bytes of the next piece behind it.
+    pub(crate) fn text(&self) -> &[u8]
+        ensures { result.now ≡ self.now.tail ++ self.now.front }
+    {
+        &self.room[self.held - self.tail_len()..self.held + self.ahead]
+    }
+
+    /// Writes the first bytes of the next piece behind the tail, as many as the carry.
+    pub(crate) fn offer(&mut self, piece: &[u8])
+        ensures { self.new ≡ record self.old { front = take self.old.carry piece.now } }
+    {
+        let front = piece.len().min(self.carry);
+        self.held = make_room(&mut self.room, self.carry, self.held, front);
+        write(&mut self.room, self.held, &piece[..front]);
+        self.ahead = front;
+    }
+
+    /// Takes the piece that was offered as a part of the stream.
+    pub(crate) fn commit(&mut self, piece: &[u8])
+        requires { self.old.front ≡ take self.old.carry piece.now }
+        ensures { self.new ≡ record self.old { tail = last_bytes self.old.carry (self.old.tail ++ piece.now); front = [] } }
+    {
+        self.held = keep_last(&mut self.room, self.carry, self.held, piece);
+        self.ahead = 0;
+    }
+
+    /// An equal seam.
+    pub(crate) fn copy(&self) -> Result<Seam, AllocError>
+        ensures { IfOk result (λ s. s ≡ self.now) }
+    {
+        Ok(Seam {
+            room: self.room.clone()?,
+            carry: self.carry,
+            held: self.held,
+            ahead: self.ahead,
+        })
+    }
+}
+
+/// Makes room for some more bytes behind those held: where they would not fit, only the tail is
+/// kept, at the front. The answer is how many bytes are held then.
+fn make_room(room: &mut Vec<u8>, carry: usize, held: usize, more: usize) -> usize
+    requires small { carry < 2 ^ 32 }
+    requires room { vec_len room.old ≡ 2 * carry }
+    requires held { held ≤ vec_len room.old }
+    requires more { more ≤ carry }
+    ensures tail { last_bytes carry (take result room.new.items) ≡ last_bytes carry (take held room.old.items) }
+    ensures fits { result + more ≤ vec_len room.new }
+    ensures len { vec_len room.new ≡ vec_len room.old }
+{
+    if held + more <= room.len() {
+        return held;
+    }
+    room.copy_within(held - carry..held, 0);
+    carry
+}
+
+/// Keeps the last bytes of those held and a piece, whose first bytes stand behind those held
+/// already. The answer is how many bytes are held then.
+fn keep_last(room: &mut Vec<u8>, carry: usize, held: usize, piece: &[u8]) -> usize
+    requires small { carry < 2 ^ 32 }
+    requires room { vec_len room.old ≡ 2 * carry }
+    requires held { held + length (take carry piece.now) ≤ vec_len room.old }
+    requires front { take (length (take carry piece.now)) (drop held room.old.items) ≡ take carry piece.now }
+    ensures tail { last_bytes carry (take result room.new.items) ≡ last_bytes carry (take held room.old.items ++ piece.now) }
+    ensures fits { result ≤ vec_len room.new }
+    ensures len { vec_len room.new ≡ vec_len room.old }
+{
+    if piece.len() <= carry {
+        return held + piece.len();
+    }
+    write(room, 0, &piece[piece.len() - carry..]);
+    carry
+}
+
+/// Writes the bytes into the room at a place.
+fn write(room: &mut Vec<u8>, at: usize, bytes: &[u8])
+    requires { at + length bytes.now ≤ vec_len room.old }
+    ensures items { room.new.items ≡ take at room.old.items ++ bytes.now ++ drop (at + length bytes.now) room.old.items }
+    ensures len { vec_len room.new ≡ vec_len room.old }
+{
+    room[at..at + bytes.len()].copy_from_slice(bytes);
+}
