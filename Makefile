@@ -5,11 +5,11 @@
 #   make check              proves and tests everything from nothing, then runs the programs' tests
 #   make test               the programs' tests alone
 #   make bench              the programs that measure, in bin/
-#   make install PREFIX=..  copies the programs into PREFIX/bin
+#   make install PREFIX=..  copies the programs into PREFIX/bin, their manual into PREFIX/share/man
 #   CPU=x86-64-v3           builds for newer processors
 
 PROGRAMS = litgrep litplan
-MEASURES = bench_check
+MEASURES = bench_check bench_lanes
 PREFIX = /usr/local
 CPU =
 
@@ -44,6 +44,8 @@ bench: $(MEASURES:%=bin/%)
 install: all
 	install -d '$(DESTDIR)$(PREFIX)/bin'
 	install -m 755 $(PROGRAMS:%=bin/%) '$(DESTDIR)$(PREFIX)/bin'
+	install -d '$(DESTDIR)$(PREFIX)/share/man/man1'
+	install -m 644 man/litgrep.1 '$(DESTDIR)$(PREFIX)/share/man/man1'
 
 clean:
 	rm -rf bin crates/*/out

@@ -2,6 +2,7 @@
 """Tests of the programs in bin/, run as a user runs them. Prints 'N passed, M failed'."""
 
 import os
+import re
 import subprocess
 import sys
 import tempfile
@@ -13,27 +14,82 @@ LITPLAN = os.path.join(TOP, "bin", "litplan")
 OUT_OF_MEMORY = b"litgrep: out of memory\n"
 UNREADABLE = b"litgrep: (standard input): cannot be read\n"
 NO_PATTERN = b"litgrep: no pattern given\n"
+MISSING = b"litgrep: missing: cannot be read\n"
 
-# Words, standard input, and what must come: standard output, standard error, status. A text of
-# standard error that ends in an ellipsis is only its start.
-ROWS = [
-    (["-F", "cat"], b"cat\ndog\nconcat", b"cat\nconcat\n", b"", 0),
-    (["a\nb"], b"xa\nc\nb", b"xa\nb\n", b"", 0),
-    ([""], b"x\n", b"x\n", b"", 0),
-    (["a\n"], b"b\n\nc", b"b\n\nc\n", b"", 0),
-    (["z"], b"", b"", b"", 1),
-    (["z"], b"x\n", b"", b"", 1),
-    (["\xff"], b"\xc3\xbf\n\xff\n", b"\xc3\xbf\n", b"", 0),
-    (["--", "-F"], b"a-F\n", b"a-F\n", b"", 0),
-    (["\n" * 4096], b"x\n", b"", b"litgrep: patterns refused (2)\n", 2),
-    (["a" * 4096], b"x\n", b"", b"litgrep: patterns refused (3)\n", 2),
-    (["cat"], b"\0cat\r\n\r\n", b"\0cat\r\n", b"", 0),
-    ([], b"", b"", NO_PATTERN, 2),
-    (["-F"], b"", b"", NO_PATTERN, 2),
-    (["a", "b"], b"a\n", b"", b"error: unexpected argument 'b' found...", 2),
-    (["-x", "a"], b"a\n", b"", b"error: unexpected argument '-x' found...", 2),
-    (["--help"], b"", b"", b"Writes the lines...", 2),
-    ([b"\xff"], b"", b"", b"litgrep: a word is not UTF-8\n", 2),
+# Files by name, the words of litgrep, standard input, and what must come: standard output, standard error,
+# status. Words name files of the folder; a file that is None is a folder. A text of standard error that ends
+# in an ellipsis is only its start.
+GREPS = [
+    ({}, ["-F", "cat"], b"cat\ndog\nconcat", b"cat\nconcat\n", b"", 0),
+    ({}, ["a\nb"], b"xa\nc\nb", b"xa\nb\n", b"", 0),
+    ({}, [""], b"x\n", b"x\n", b"", 0),
+    ({}, ["a\n"], b"b\n\nc", b"b\n\nc\n", b"", 0),
+    ({}, ["z"], b"", b"", b"", 1),
+    ({}, ["z"], b"x\n", b"", b"", 1),
+    ({}, ["\xff"], b"\xc3\xbf\n\xff\n", b"\xc3\xbf\n", b"", 0),
+    ({}, ["--", "-F"], b"a-F\n", b"a-F\n", b"", 0),
+    ({}, ["\n" * 4096], b"x\n", b"", b"litgrep: patterns refused (2)\n", 2),
+    ({}, ["a" * 4096], b"x\n", b"", b"litgrep: patterns refused (3)\n", 2),
+    ({}, ["\n".join(map(str, range(1025)))], b"x\n", b"", b"litgrep: patterns refused (6)\n", 2),
+    ({}, ["-i", "\n".join(map(str, range(1024))) + "\n7\n9"], b"12\n", b"12\n", b"", 0),
+    ({}, ["cat"], b"\0cat\r\n\r\n", b"\0cat\r\n", b"", 0),
+    ({}, [], b"", b"", NO_PATTERN, 2),
+    ({}, ["-F"], b"", b"", NO_PATTERN, 2),
+    ({}, ["-z", "a"], b"a\n", b"", b"error: unexpected argument '-z' found...", 2),
+    ({}, ["--help"], b"", b"", b"litgrep writes the lines...", 2),
+    ({}, [b"\xff"], b"", b"", b"litgrep: a word is not UTF-8\n", 2),
+    # the flags
+    ({}, ["-F", "-n", "cat"], b"cat\ndog\nconcat", b"1:cat\n3:concat\n", b"", 0),
+    ({}, ["-x", "-e", "cat"], b"concat\ncat\n", b"cat\n", b"", 0),
+    ({}, ["-x", "-e", ""], b"\na\n", b"\n", b"", 0),
+    ({}, ["-x", "-v", "-e", ""], b"\na\n", b"a\n", b"", 0),
+    ({}, ["-v", "-e", ""], b"\na\n", b"", b"", 1),
+    ({}, ["-x", "-i", "-e", "Cat", "-e", ""], b"CAT\n\ncats\n", b"CAT\n\n", b"", 0),
+    ({"f": b"Cat\nx\n", "g": b""}, ["-c", "-v", "-i", "-e", "CAT", "f", "g"], b"", b"f:1\ng:0\n", b"", 0),
+    ({}, ["-n", "-c", "-e", "a"], b"a\n", b"1\n", b"", 0),
+    ({}, ["-c", "a"], b"b\n", b"0\n", b"", 1),
+    ({"f": b"a\na\n"}, ["-c", "-l", "-e", "a", "f"], b"", b"f\n", b"", 0),
+    ({"f": b"a\n", "g": b"b\n"}, ["-l", "a", "f", "g"], b"", b"f\n", b"", 0),
+    ({"f": b"a\n", "g": b"b\n"}, ["-lv", "a", "f", "g"], b"", b"g\n", b"", 0),
+    ({}, ["-q", "-l", "-c", "-n", "a"], b"a\n", b"", b"", 0),
+    ({}, ["-l", "-e", "a", "-"], b"a\n", b"(standard input)\n", b"", 0),
+    ({"f": b"a\nb\n"}, ["-n", "-v", "b", "f", "-"], b"c", b"f:1:a\n(standard input):1:c\n", b"", 0),
+    ({"f": b"b\na\n", "g": b"a"}, ["-nn", "a", "f", "g"], b"", b"f:2:a\ng:1:a\n", b"", 0),
+    ({"f": b"A\xe9\xc9\n"}, ["-i", "a", "f"], b"", b"A\xe9\xc9\n", b"", 0),
+    # words: options behind operands, `--`, `-`, and arguments in the option's own word
+    ({"f": b"cat\n"}, ["cat", "f", "-n"], b"", b"1:cat\n", b"", 0),
+    ({"f": b"-n\n"}, ["--", "-n", "f"], b"", b"-n\n", b"", 0),
+    ({"-n": b"a\n"}, ["a", "--", "-n"], b"", b"a\n", b"", 0),
+    ({"-": b"b\n"}, ["-f", "-", "-e", "-"], b"a-\nb\nc\n", b"a-\nb\n", b"", 0),
+    ({}, ["-e=cat"], b"cat\n=cat\n", b"=cat\n", b"", 0),
+    ({}, ["-ne=cat"], b"cat\n=cat\n", b"2:=cat\n", b"", 0),
+    ({"=p": b"cat"}, ["-f=p", "-ecow"], b"cat\ncow\n", b"cat\ncow\n", b"", 0),
+    ({}, ["-ea=b"], b"a=b\nab\n", b"a=b\n", b"", 0),
+    ({}, ["--", "-e=a"], b"-e=a\n-e==a\n", b"-e=a\n", b"", 0),
+    ({}, ["-e", "a", "-e", "b"], b"a\nb\nc\n", b"a\nb\n", b"", 0),
+    # pattern files
+    ({"empty": b""}, ["-f", "empty"], b"a\n", b"", b"", 1),
+    ({"empty": b""}, ["-v", "-f", "empty"], b"a\n", b"a\n", b"", 0),
+    ({"p": b"cat\n", "q": b"\n"}, ["-x", "-f", "p", "-f", "q"], b"cat\n\nb\n", b"cat\n\n", b"", 0),
+    ({"p": b"\xff\n\0"}, ["-f", "p"], b"a\xff\nb\0\nc\n", b"a\xff\nb\0\n", b"", 0),
+    ({"p": b"a"}, ["-f", "p", "-e", "b", "-"], b"a\nb\nc\n", b"a\nb\n", b"", 0),
+    ({}, ["-s", "-f", "none", "-e", "a"], b"a\n", b"", b"litgrep: none: cannot be read\n", 2),
+    ({"p": None}, ["-f", "p"], b"a\n", b"", b"litgrep: p: cannot be read\n", 2),
+    ({"big": b"\n" * 4097}, ["-f", "big"], b"a\n", b"", b"litgrep: patterns refused (2)\n", 2),
+    ({"big": b"\n" * 1052673}, ["-f", "big"], b"a\n", b"", b"litgrep: patterns refused (7)\n", 2),
+    ({"big": b"a" * 4096}, ["-f", "big", "-f", "none"], b"a\n", b"", b"litgrep: patterns refused (3)\n", 2),
+    ({}, ["-f", "none", "-e", "a" * 4096], b"", b"", b"litgrep: patterns refused (3)\n", 2),
+    # files that are missing, and that are folders
+    ({"good": b"cat\n"}, ["-q", "-e", "cat", "missing", "good"], b"", b"", MISSING, 0),
+    ({"good": b"cat\n"}, ["-e", "cat", "missing", "good"], b"", b"good:cat\n", MISSING, 2),
+    ({"good": b"cat\n"}, ["-s", "-e", "cat", "missing", "good"], b"", b"good:cat\n", b"", 2),
+    ({"good": b"cat\n"}, ["-q", "-e", "cat", "good", "missing"], b"", b"", b"", 0),
+    ({"good": b"cat\n"}, ["-q", "-e", "dog", "good", "missing"], b"", b"", MISSING, 2),
+    ({"d": None, "f": b"a\n"}, ["a", "d", "f"], b"", b"f:a\n", b"litgrep: d: cannot be read\n", 2),
+    ({"d": None}, ["-c", "a", "d"], b"", b"0\n", b"litgrep: d: cannot be read\n", 2),
+    ({"d": None}, ["-s", "a", "d"], b"", b"", b"", 2),
+    ({"f": b""}, ["-c", "a", "f"], b"", b"0\n", b"", 1),
+    ({"f": b"\n"}, ["-n", "", "f"], b"", b"1:\n", b"", 0),
 ]
 
 MANY = b"".join(b"%d cat\n%d dog\n" % (n, n) for n in range(9000))
@@ -103,13 +159,46 @@ def run(words, stdin=b"", **how):
     return done.returncode, done.stdout, done.stderr
 
 
-def rows():
-    """Each row of the table."""
-    for words, stdin, stdout, stderr, status in ROWS:
-        got = run(words, stdin)
-        if stderr.endswith(b"..."):
-            got = got[0], got[1], got[2][: len(stderr) - 3] + b"..."
-        yield f"litgrep {words!r:.40}", got, (status, stdout, stderr)
+def lay_out(folder, files):
+    """Puts the files into the folder."""
+    for name, text in files.items():
+        path = os.path.join(folder, name)
+        if text is None:
+            os.mkdir(path)
+        else:
+            with open(path, "wb") as file:
+                file.write(text)
+
+
+def run_in_folder(files, words, stdin, **how):
+    """Runs a program in a folder with these files."""
+    with tempfile.TemporaryDirectory() as folder:
+        lay_out(folder, files)
+        return run(words, stdin, cwd=folder, **how)
+
+
+def started(got, stderr):
+    """What came, with standard error cut to the start that is wanted of it."""
+    if stderr.endswith(b"..."):
+        return got[0], got[1], got[2][: len(stderr) - 3] + b"..."
+    return got
+
+
+def greps():
+    """Each row of litgrep's table, in a folder with its files."""
+    for files, words, stdin, stdout, stderr, status in GREPS:
+        got = started(run_in_folder(files, words, stdin), stderr)
+        yield f"litgrep {words!r:.60} on {stdin!r:.20}", got, (status, stdout, stderr)
+
+
+def options():
+    """The options of the help text and of the manual are the same, in the same order."""
+    helped = re.findall(r"^  (--?\w+(?: [A-Z]+)?)", run(["--help"])[2].decode(), re.M)
+    with open(os.path.join(TOP, "man", "litgrep.1")) as file:
+        manual = file.read().split(".SH OPTIONS\n")[1].split(".SH ")[0]
+    tagged = [line for tag, line in zip(manual.split("\n"), manual.split("\n")[1:]) if tag == ".TP"]
+    listed = [re.sub(r'^\.BI? |[\\"]', "", line) for line in tagged]
+    yield "options of the help text and of the manual", helped, listed
 
 
 def edges():
@@ -134,13 +223,7 @@ def edges():
 def plans():
     """Each row of litplan's table, in a folder with its files, and a full device."""
     for files, words, stdin, stdout, stderr, status in PLANS:
-        with tempfile.TemporaryDirectory() as folder:
-            for name, text in files.items():
-                with open(os.path.join(folder, name), "wb") as file:
-                    file.write(text)
-            got = run(words, stdin, program=LITPLAN, cwd=folder)
-        if stderr.endswith(b"..."):
-            got = got[0], got[1], got[2][: len(stderr) - 3] + b"..."
+        got = started(run_in_folder(files, words, stdin, program=LITPLAN), stderr)
         yield f"litplan {words!r:.40} on {stdin!r:.20}", got, (status, stdout, stderr)
     with open("/dev/full", "wb") as full:
         got = run(["plan", "-"], b"cat\n", program=LITPLAN, stdout=full)
@@ -166,30 +249,39 @@ def refused_plans(env, mark):
             yield f"litplan {words}, growths to refuse", (number > 5, *got), (True, *whole)
 
 
+def refused_greps(env, mark):
+    """Some runs of litgrep, each with each of its growths refused in turn, until none is."""
+    files = {"p": b"dog\n", "f": b"cat\nDog\n", "g": b"concat\n"}
+    with tempfile.TemporaryDirectory() as folder:
+        lay_out(folder, files)
+        for words in ["-F", "cat"], ["a", "b"], ["\n" * 4096], [], ["-in", "-f", "p", "-e", "cat", "f", "g"], ["-c", "z", "f", "none"]:
+            stdin = b"cat\ndog\nconcat"
+            whole = run(words, stdin, cwd=folder)
+            for number in range(1, 1000):
+                got = run(words, stdin, cwd=folder, env=dict(env, REFUSED=str(number)))
+                if not os.path.exists(mark):
+                    break
+                os.remove(mark)
+                front = got[2].removesuffix(OUT_OF_MEMORY)
+                starved = got[0] == 2 and whole[1].startswith(got[1]) and front != got[2] and whole[2].startswith(front)
+                yield f"{words!r:.20}, growth {number} refused", got, got if starved else whole
+            yield f"{words!r:.20}, growths to refuse", (number > 5, *got), (True, *whole)
+
+
 def refused_growths():
-    """Some runs with each of their growths refused in turn, until none is."""
+    """Runs with each of their growths refused in turn."""
     with tempfile.TemporaryDirectory() as folder:
         shim, mark = os.path.join(folder, "shim.so"), os.path.join(folder, "mark")
         source = os.path.join(TOP, "tests", "refuse_growth.c")
         subprocess.run(["cc", "-shared", "-fPIC", "-O1", "-o", shim, source], check=True)
         env = dict(os.environ, LD_PRELOAD=shim, REFUSED_MARK=mark)
-        for words in ["-F", "cat"], ["a", "b"], ["\n" * 4096], []:
-            stdin = b"cat\ndog\nconcat"
-            whole = run(words, stdin)
-            for number in range(1, 1000):
-                got = run(words, stdin, env=dict(env, REFUSED=str(number)))
-                if not os.path.exists(mark):
-                    break
-                os.remove(mark)
-                starved = got[0] == 2 and whole[1].startswith(got[1]) and got[2] == OUT_OF_MEMORY
-                yield f"{words!r:.20}, growth {number} refused", got, got if starved else whole
-            yield f"{words!r:.20}, growths to refuse", (number > 5, *got), (True, *whole)
+        yield from refused_greps(env, mark)
         yield from refused_plans(env, mark)
 
 
 def main():
     passed = failed = 0
-    for part in (rows, edges, plans, refused_growths):
+    for part in (greps, options, edges, plans, refused_growths):
         for name, got, want in part():
             if got == want:
                 passed += 1

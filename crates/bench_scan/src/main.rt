@@ -8,10 +8,9 @@ use flow_scan::{Compiled, Hit, Scanner, scan_all};
 use lit_base::{Fold, LitList, RawList};
 use run_planner::plan;
 use std::alloc::Global;
-use std::env;
-use std::fs;
-use std::rt::{Clock, Fs};
+use std::rt::{Clock, Files};
 use std::time::Instant;
+use std::{env, fs};
 
 /// Bytes of a piece of a stream.
 const PIECE: usize = 65536;
@@ -37,7 +36,13 @@ fn main(rt: HostRuntime) -> Result<()> {
     };
     let text = fs::read(&rt, text.as_str())?;
     let compiled = compiled_of(rt.alloc(), fs::read(&rt, literals.as_str())?.as_slice())?;
-    measure(&rt, &compiled, text.as_slice(), mode, turns.as_str().parse::<usize>()?)
+    measure(
+        &rt,
+        &compiled,
+        text.as_slice(),
+        mode,
+        turns.as_str().parse::<usize>()?,
+    )
 }
 
 /// The literals of a file with their plan.
@@ -65,10 +70,10 @@ fn measure<R: Clock + Print + AllocGlobal>(
     for _ in 0..turns {
         let start = Instant::now(rt)?;
         hits = scan(rt.alloc(), compiled, text, mode)?;
-        times.push(start.elapsed(rt)?.as_nanos() as u64)?;
+        times.push(start.elapsed(rt)?.as_nanos())?;
     }
     times.sort()?;
-    let nanoseconds = times[turns / 2];
+    let nanoseconds = times.get(turns / 2).copied().unwrap_or(0);
     let (seconds, rest) = (nanoseconds / 1_000_000_000, nanoseconds % 1_000_000_000);
     println!(rt; "{seconds}.{rest:09} {hits}")?;
     Ok(())

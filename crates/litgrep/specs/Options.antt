@@ -5,7 +5,7 @@ use Rattle.std.specs.Borrow.{Bor}
 use Rattle.clap.specs.Words.{count_of, found_of, matched_of, raw_values, rows_of}
 use Rattle.clap.specs.declared.parser.matches.ArgMatches.{ArgMatches}
 use Rattle.lit_base.specs.declared.fold.Fold.TheVariants.{No, Ascii}
-use Rattle.litgrep.specs.declared.options.GrepOptions.{GrepOptions}
+use Rattle.grep_run.specs.declared.options.GrepOptions.{GrepOptions}
 use Rattle.litgrep.specs.declared.fault.Fault.{Fault}
 use Rattle.litgrep.specs.declared.fault.Fault.TheVariants.{Usage, OutOfMemory}
 

@@ -1,5 +1,5 @@
 //! The files and the standard input of the system.
-use crate::opener::{Missing, Opener};
+use grep_run::{Missing, Opener};
 use lit_base::FromRead;
 use std::fs::File;
 use std::io;

@@ -2,19 +2,11 @@
 //! locale.
 #![tactic(auto)]
 
-mod buffer;
-mod ending;
 mod fault;
 mod files;
-mod matching;
-mod message;
-mod opener;
+mod help;
 mod options;
-mod patterns;
 mod program;
-mod reading;
-mod running;
-mod status;
 mod words;
 
 use lit_base::ToWrite;
@@ -26,5 +18,3 @@ fn main(rt: HostRuntime) -> ExitCode {
     ExitCode::from(program::serve(&rt, &mut out, &mut err).code())
 }
 
-#[cfg(test)]
-mod tests;

@@ -1,61 +1,13 @@
-//! What the command line asks for. POSIX.1-2017 `grep`, OPTIONS and OPERANDS.
-ghost use Rattle.std.specs.Prelude.{◌≡◌, ◌↔◌, IsTrue, IfErr, IfOk, OnOk, codes, if◌then◌else◌, map, string_bytes, true};
+//! The options that clap's matches tell. POSIX.1-2017 `grep`, OPTIONS and OPERANDS.
+ghost use Rattle.std.specs.Prelude.{◌≡◌, IfErr, IfOk, OnOk, codes, if◌then◌else◌, map, string_bytes, true};
 ghost use Rattle.lit_base.specs.declared.fold.Fold.TheVariants.{Ascii, No};
 ghost use Rattle.litgrep.specs.Options.{IsNoPattern, IsOptionsOf, IsRefusalOf, Tells, gives_pattern, is_used, texts, texts_of};
 
 use crate::fault::Fault;
 use clap::ArgMatches;
+use grep_run::GrepOptions;
 use lit_base::Fold;
 use std::alloc::{AllocError, Global};
-
-/// What the command line asks for.
-#[derive(Debug, Drop)]
-pub struct GrepOptions {
-    /// -i: which case differences are ignored.
-    pub fold: Fold,
-    /// -v: the lines that match no pattern are selected.
-    pub invert: bool,
-    /// -x: a line matches only as a whole.
-    pub whole: bool,
-    /// -c: only the number of selected lines is written.
-    pub count: bool,
-    /// -l: only the names of files with a selected line are written.
-    pub list: bool,
-    /// -n: each line is written behind its number.
-    pub number: bool,
-    /// -q: nothing is written to standard output.
-    pub quiet: bool,
-    /// -s: no message is written for an input file that cannot be read.
-    pub silent: bool,
-    /// The pattern lists: those of -e, or the first operand where neither -e nor -f is given.
-    pub lists: Vec<String>,
-    /// The pattern files, of -f.
-    pub files: Vec<String>,
-    /// The files to search.
-    pub operands: Vec<String>,
-}
-
-impl GrepOptions {
-    ghost use Rattle.litgrep.specs.Grep.{IsPlain};
-
-    /// Whether the options are of the kind that is served so far: one pattern list, and nothing else.
-    pub fn is_plain(&self) -> bool
-        ensures { IsTrue result ↔ IsPlain self.now }
-    {
-        let has_flag = self.invert
-            || self.whole
-            || self.count
-            || self.list
-            || self.number
-            || self.quiet
-            || self.silent;
-        matches!(self.fold, Fold::No)
-            && !has_flag
-            && self.lists.len() == 1
-            && self.files.is_empty()
-            && self.operands.is_empty()
-    }
-}
 
 /// The options that clap's matches tell, each under the name of its field as id.
 ///

@@ -3,10 +3,8 @@ ghost use Rattle.std.specs.Prelude.{◌≡◌, ◌≢◌, ◌||◌};
 
 use crate::fault::Fault;
 use crate::files::SystemOpener;
-use crate::message::{say_out_of_memory, write_whole};
-use crate::running::run;
-use crate::status::{Status, Stop};
 use crate::words::{options, words};
+use grep_run::{Status, Stop, run, say_out_of_memory, write_whole};
 use lit_base::ByteOut;
 use std::io::Input;
 use std::rt::{Env, Files};

@@ -1,14 +1,26 @@
 //! The words of the command line, read with clap.
-ghost use Rattle.std.specs.Prelude.{◌≡◌, IfOk, IsTrue, ◌↔◌};
-ghost use Rattle.litgrep.specs.Grep.{IsPlain};
-
 use crate::fault::Fault;
-use crate::options::{GrepOptions, options_of};
+use crate::help::HELP;
+use crate::options::options_of;
 use clap::error::ErrorKind;
 use clap::{Arg, ArgAction, Command, Error};
+use grep_run::GrepOptions;
 use std::alloc::{AllocError, Global};
 use std::io;
 use std::rt::Env;
+
+/// The flags, each with the id that `options_of` knows it by.
+static FLAGS: [(&str, char); 9] = [
+    ("fixed", 'F'),
+    ("count", 'c'),
+    ("fold", 'i'),
+    ("list", 'l'),
+    ("number", 'n'),
+    ("quiet", 'q'),
+    ("silent", 's'),
+    ("invert", 'v'),
+    ("whole", 'x'),
+];
 
 /// The words after the program's name.
 ///
@@ -28,34 +40,67 @@ fn unreadable(alloc: Global, error: &io::Error) -> Fault {
     usage(String::from_str(alloc, "litgrep: a word is not UTF-8\n"))
 }
 
-/// The options that the words after the program's name ask for. So far these are -F, which changes
-/// nothing, and the first operand, the pattern list.
+/// The options that the words after the program's name ask for.
 ///
-/// `Usage` where clap gives no matches, help and version included, with clap's text, and where no
-/// pattern is given; `OutOfMemory` where a growth was refused.
-pub fn options(alloc: Global, words: &[String]) -> Result<GrepOptions, Fault>
-    ensures { IfOk result IsPlain }
-{
-    match command(alloc)?.try_get_matches_from(words) {
-        Ok(matches) => plain(alloc, options_of(alloc, &matches)?),
+/// `Usage` where clap gives no matches, help included, with clap's text, and where no pattern is
+/// given; `OutOfMemory` where a growth was refused.
+pub fn options(alloc: Global, words: &[String]) -> Result<GrepOptions, Fault> {
+    let words = kept(alloc, words)?;
+    match command(alloc)?.try_get_matches_from(words.as_slice()) {
+        Ok(matches) => options_of(alloc, &matches),
         Err(error) => Err(refusal(alloc, &error)),
     }
 }
 
 // What litgrep takes.
 fn command<'a>(alloc: Global) -> Result<Command<'a>, AllocError> {
-    let fixed = Arg::new(alloc, "fixed")
-        .short('F')
-        .action(ArgAction::Count)
-        .help("Take patterns as strings of bytes, which they always are");
-    let operands = Arg::new(alloc, "operands")
-        .value_name("LIST")
-        .help("Patterns, separated by newlines");
-    Command::new(alloc, "litgrep")
-        .about("Writes the lines that contain one of the patterns")
+    let mut command = Command::new(alloc, "litgrep")
         .no_binary_name(true)
-        .arg(fixed)?
-        .arg(operands)
+        .override_help(HELP);
+    for (id, short) in FLAGS {
+        command = command.arg(Arg::new(alloc, id).short(short).action(ArgAction::Count))?;
+    }
+    let lists = Arg::new(alloc, "lists")
+        .short('e')
+        .value_name("LIST")
+        .action(ArgAction::Append);
+    let files = Arg::new(alloc, "files")
+        .short('f')
+        .value_name("FILE")
+        .action(ArgAction::Append);
+    let operands = Arg::new(alloc, "operands")
+        .value_name("FILE")
+        .num_args(0..)
+        .action(ArgAction::Append);
+    command.arg(lists)?.arg(files)?.arg(operands)
+}
+
+// Copies of the words. Clap drops `=` where it begins the argument of an option that stands in the
+// same word: there it gets another one, so that the argument is kept as it is.
+fn kept(alloc: Global, words: &[String]) -> Result<Vec<String>, AllocError> {
+    let mut kept = Vec::with_capacity(alloc, words.len())?;
+    let mut are_operands = false;
+    for word in words {
+        are_operands = are_operands || word.as_str() == "--";
+        let copy = match argument_with_equals(word.as_str()) {
+            Some((option, rest)) if !are_operands => format!(in alloc; "{option}=={rest}")?,
+            _ => String::from_str(alloc, word.as_str())?,
+        };
+        kept.push(copy)?;
+    }
+    Ok(kept)
+}
+
+// The parts round the `=` that begins the argument of -e or -f in its word, flags before it included.
+fn argument_with_equals(word: &str) -> Option<(&str, &str)> {
+    let (option, rest) = word.split_once('=')?;
+    let letters = option.strip_prefix('-')?;
+    let flags = letters.strip_suffix('e').or(letters.strip_suffix('f'))?;
+    let is_long = flags.starts_with('-');
+    if is_long || flags.contains('e') || flags.contains('f') {
+        return None;
+    }
+    Some((option, rest))
 }
 
 // The text that clap has for the words, or want of memory.
@@ -64,16 +109,6 @@ fn refusal(alloc: Global, error: &Error) -> Fault {
         return Fault::OutOfMemory;
     }
     usage(error.to_string(alloc))
-}
-
-// The options, which a command that knows no other kind gives as they can be served.
-fn plain(alloc: Global, options: GrepOptions) -> Result<GrepOptions, Fault>
-    ensures { IfOk result IsPlain }
-{
-    if options.is_plain() {
-        return Ok(options);
-    }
-    Err(usage(String::from_str(alloc, "litgrep: an option is not served\n")))
 }
 
 // The fault with this text, if there was memory for it.

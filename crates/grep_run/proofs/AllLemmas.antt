@@ -1,0 +1,52 @@
+-- All inputs of a run: those of its operands, or standard input alone.
+use Rattle.std.proofs.Common.{◌≡◌, ℕ, ◌<◌, Bool, true, false, ◌&&◌, List, [], ◌∷◌, map, length, Option, Result, Ok, Err, eqb, refl, arith}
+use Rattle.std.proofs.lemmas.List.{length-map}
+use Rattle.std.proofs.lemmas.Bool.Decides.{nat_tests}
+use Rattle.lit_base.specs.Devices.{Told}
+use Rattle.grep_run.specs.declared.options.GrepOptions.{GrepOptions}
+use Rattle.grep_run.specs.declared.searching.Found.{Found}
+use Rattle.grep_run.specs.declared.status.Stop.{Stop}
+use Rattle.grep_run.specs.Grep.{searched}
+use Rattle.grep_run.specs.Options.{ask_of, asks_or_standard}
+use Rattle.grep_run.specs.Searching.{IsCut, IsSearched, Searches, SearchesAll}
+use Rattle.grep_run.specs.Sources.{AreShort, Ask, Sources, after, found, name_of, taken_by}
+use Rattle.grep_run.proofs.SearchLemmas.{InputsSoFar, InputsSoFar-all, InputsSoFar-cut, InputsSoFar-last, InputsSoFar-more, InputsSoFar-none}
+use Rattle.grep_run.proofs.ToldLemmas.{Told-weaker}
+
+-- one input alone
+one-alone : (o : GrepOptions) (patterns : List (List ℕ)) (ask : Ask) (s left : Sources) (r : Result Found Stop) (out_old out_new err_old err_new : Option (List ℕ)) → AreShort s → left ≡ after ask s
+    → Searches o patterns (name_of ask) (taken_by ask s) r out_old out_new err_old err_new → SearchesAll o patterns (searched o patterns (found (ask ∷ []) s)) s left r out_old out_new err_old err_new
+one-alone o patterns ask s left (Ok one) out_old out_new err_old err_new short e p =
+    let first = InputsSoFar-none o patterns (ask ∷ []) s out_old err_old short in
+    elim (o.quiet && one.is_selected) as (λ b. (o.quiet && one.is_selected) ≡ b → SearchesAll o patterns (searched o patterns (found (ask ∷ []) s)) s left (Ok one) out_old out_new err_old err_new) [
+      | true ↦ λ ends. InputsSoFar-last ask [] left one one out_new err_new first e p ends refl refl
+      | false ↦ λ goes. InputsSoFar-all one (InputsSoFar-more ask [] left one out_new err_new first e p goes)
+    ] refl
+one-alone o patterns ask s left (Err stop) out_old out_new err_old err_new short e p =
+    InputsSoFar-cut ask [] left out_new err_new (InputsSoFar-none o patterns (ask ∷ []) s out_old err_old short) e p
+
+pub search-alone : (o : GrepOptions) (patterns : List (List ℕ)) (ask : Ask) (known left : Option Sources) (r : Result Found Stop) (out_old out_new err_old err_new : Option (List ℕ))
+    → Told known left (λ s l. AreShort s → (l ≡ after ask s) × Searches o patterns (name_of ask) (taken_by ask s) r out_old out_new err_old err_new)
+    → Told known left (λ s l. AreShort s → SearchesAll o patterns (searched o patterns (found (ask ∷ []) s)) s l r out_old out_new err_old err_new)
+search-alone o patterns ask known left r out_old out_new err_old err_new p =
+    Told-weaker known left _ (λ s l. AreShort s → SearchesAll o patterns (searched o patterns (found (ask ∷ []) s)) s l r out_old out_new err_old err_new) p
+        (λ s l h short. let both = h short in one-alone o patterns ask s l r out_old out_new err_old err_new short both.0 both.1)
+
+-- where there are operands, their inputs are all
+pub asks-some : (operands : List (List ℕ)) → 0 < length operands → asks_or_standard operands ≡ map ask_of operands
+asks-some [] some = absurd (omega arith)
+asks-some (operand ∷ operands) some = refl
+
+-- what a test for no operand says of them
+is-zero : (n : ℕ) → true ≡ eqb n 0 → n ≡ 0
+is-zero n e = grind (arith, nat_tests)
+
+is-positive : (n : ℕ) → false ≡ eqb n 0 → 0 < n
+is-positive n e = grind (arith, nat_tests)
+
+pub map-none : {X : Type 0} (f : X → List ℕ) (xs : List X) → true ≡ eqb (length xs) 0 → map f xs ≡ []
+map-none f [] e = refl
+map-none f (x ∷ xs) e = absurd (omega (arith, is-zero (length (x ∷ xs)) e))
+
+pub map-some : {X : Type 0} (f : X → List ℕ) (xs : List X) → false ≡ eqb (length xs) 0 → 0 < length (map f xs)
+map-some f xs e = omega (arith, is-positive (length xs) e, length-map xs f)

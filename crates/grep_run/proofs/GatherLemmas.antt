@@ -1,0 +1,204 @@
+-- Pattern files one after another: what their patterns, their messages and their asks are.
+use Rattle.std.proofs.Common.{◌≡◌, ◌≢◌, ℕ, ◌+◌, ◌<◌, Bool, true, false, cond, String, string_bytes, length, get_or, drop, List, [], ◌∷◌, ◌++◌, map, flat_map, Option, None, Some, is_some, Result, Ok, Err, refl, sym, ap, ◌∙◌, subst, append_assoc, append-nil}
+use Rattle.std.specs.Option.{option_map}
+use Rattle.std.proofs.lemmas.List.{drop_more}
+use Rattle.lit_base.specs.Devices.{Told}
+use Rattle.lit_base.specs.declared.fault.Fault.{Fault}
+use Rattle.lit_base.specs.declared.fault.Fault.TheVariants.{OutOfMemory, TooManyPatterns, LiteralTooLong, TooManyLiterals, ListTooLarge}
+use Rattle.lit_base.specs.declared.fold.Fold.{Fold}
+use Rattle.grep_run.specs.declared.options.GrepOptions.{GrepOptions}
+use Rattle.grep_run.specs.declared.patterns.NoPatterns.{NoPatterns}
+use Rattle.grep_run.specs.declared.patterns.NoPatterns.TheVariants.{Unreadable, Refused}
+use Rattle.grep_run.specs.Gathering.{Explains, HasPatterns, LacksPatterns, StopsAtFile, TakesAllFiles}
+use Rattle.grep_run.specs.Grep.{asks, behind_files}
+use Rattle.grep_run.specs.Messages.{patterns_refused, unreadable}
+use Rattle.grep_run.specs.Options.{asks_for, files_of, lists_of}
+use Rattle.grep_run.specs.Patterns.{content_message, file_message, files_asked, files_message, files_read, first_of, lists_refusal, literals_refusal, pattern_files, patterns_from, patterns_in, patterns_message, patterns_of}
+use Rattle.grep_run.specs.Running.{AsksFront}
+use Rattle.grep_run.specs.Sources.{AreShort, Ask, Content, Input, Named, Sources, after, after_all, after_named, found, source_of, taken_by}
+use Rattle.grep_run.proofs.ToldLemmas.{Told-then, after_all-one, short-after}
+
+-- the patterns of files
+abbrev pub all_from : List Input → List (List ℕ)
+all_from files = flat_map (λ file. patterns_from file.source) files
+
+-- the files before those that are left are read, and gave these patterns
+pub record FilesSoFar (old now : List (List ℕ)) (all rest : List Ask) (s left : Sources) : Type 0 where
+  pub message : files_message old (found all s) ≡ files_message now (found rest left)
+  pub patterns : old ++ all_from (found all s) ≡ now ++ all_from (found rest left)
+  pub made : List Ask
+  pub front : asks (files_read old (found all s)) ≡ made ++ asks (files_read now (found rest left))
+  pub after : left ≡ after_all made s
+  pub short : AreShort left
+
+-- at first none is
+pub FilesSoFar-none : (old : List (List ℕ)) (all : List Ask) (s : Sources) → AreShort s → FilesSoFar old old all all s s
+FilesSoFar-none old all s short = record { message = refl; patterns = refl; made = []; front = refl; after = refl; short = short }
+
+-- a message that there is not: what stands behind it counts
+behind-none : (message second : Option (List ℕ)) → message ≡ None → first_of message second ≡ second
+behind-none None second e = refl
+behind-none (Some text) second e = (cc)
+
+-- a test that fails: the other files count
+rest-read : (message : Option (List ℕ)) (files : List Input) → message ≡ None → cond (is_some message) [] files ≡ files
+rest-read None files e = refl
+rest-read (Some text) files e = (cc)
+
+-- one ask more, behind those that were made
+made-more : (made : List Ask) (a : Ask) (rest : List Ask) → made ++ (a ∷ rest) ≡ (made ++ a ∷ []) ++ rest
+made-more made a rest = sym (append_assoc made (a ∷ []) rest)
+
+-- and one file more
+pub FilesSoFar-more : {old now : List (List ℕ)} {all : List Ask} {s mid : Sources} (new : List (List ℕ)) (name : List ℕ) (rest : List Ask) (left : Sources)
+    → FilesSoFar old now all (Named name ∷ rest) s mid → left ≡ after_named name mid → content_message now name (source_of name mid.named) ≡ None
+    → new ≡ now ++ patterns_from (source_of name mid.named) → FilesSoFar old new all rest s left
+FilesSoFar-more {old} {now} {all} {s} {mid} new name rest left p e none grown =
+    let file : Input = record { ask = Named name; source = source_of name mid.named } in
+    let behind : List Input = found rest (after_named name mid) in
+    let same : found rest (after_named name mid) ≡ found rest left = ap (found rest) (sym e) in
+    let more : List (List ℕ) = now ++ patterns_from (source_of name mid.named) in
+    record {
+      message = p.message ∙ behind-none _ _ none ∙ ap (λ ps. files_message ps behind) (sym grown) ∙ ap (files_message new) same;
+      patterns = p.patterns ∙ sym (append_assoc now (patterns_from (source_of name mid.named)) (all_from behind)) ∙ ap (λ ps. ps ++ all_from behind) (sym grown) ∙ ap (λ fs. new ++ all_from fs) same;
+      made = p.made ++ Named name ∷ [];
+      front = p.front ∙ ap (λ fs. p.made ++ (Named name ∷ asks fs)) (rest-read _ (files_read more behind) none ∙ ap (λ ps. files_read ps behind) (sym grown) ∙ ap (files_read new) same)
+        ∙ made-more p.made (Named name) (asks (files_read new (found rest left)));
+      after = e ∙ ap (after_named name) p.after ∙ sym (after_all-one p.made (Named name) s);
+      short = subst AreShort (sym e) (short-after (Named name) mid p.short);
+    }
+
+-- where no file is left, all are taken
+pub FilesSoFar-all : {old now : List (List ℕ)} {all : List Ask} {s left : Sources} → FilesSoFar old now all [] s left → TakesAllFiles old now s left (found all s)
+FilesSoFar-all {old} {now} {all} {s} {left} p = record {
+  message = p.message;
+  patterns = sym (p.patterns ∙ append-nil now);
+  after = p.after ∙ ap (λ made. after_all made s) (sym (p.front ∙ append-nil p.made));
+}
+
+-- what is on a message is on the first of it and another
+Explains-first : (why : NoPatterns) (message second : Option (List ℕ)) → Explains why message → Explains why (first_of message second)
+Explains-first (Unreadable name) message second e = ap (λ m. first_of m second) e
+Explains-first (Refused fault) message second e = λ other. ap (λ m. first_of m second) (e other)
+
+-- unless memory ran out, there is a message
+has-message : (why : NoPatterns) (message : Option (List ℕ)) → why ≢ Refused OutOfMemory → Explains why message → is_some message ≡ true
+has-message (Unreadable name) message other e = ap is_some e
+has-message (Refused fault) message other e = ap is_some (e (λ memory. other (ap Refused memory)))
+
+-- where a file gives no patterns, it is the last that is asked for
+pub FilesSoFar-stop : {old now : List (List ℕ)} {all : List Ask} {s mid : Sources} (name : List ℕ) (rest : List Ask) (left : Sources) (why : NoPatterns)
+    → FilesSoFar old now all (Named name ∷ rest) s mid → left ≡ after_named name mid → Explains why (content_message now name (source_of name mid.named))
+    → StopsAtFile old s left (found all s) why
+FilesSoFar-stop {old} {now} {all} {s} {mid} name rest left why p e explains =
+    let message : Option (List ℕ) = content_message now name (source_of name mid.named) in
+    let behind : List Input = files_read (now ++ patterns_from (source_of name mid.named)) (found rest (after_named name mid)) in
+    let here : left ≡ after_all (p.made ++ Named name ∷ []) s = e ∙ ap (after_named name) p.after ∙ sym (after_all-one p.made (Named name) s) in
+    record {
+      message = subst (Explains why) (sym p.message) (Explains-first why message _ explains);
+      front = record {
+        made = p.made ++ Named name ∷ [];
+        rest = asks (cond (is_some message) [] behind);
+        parts = p.front ∙ made-more p.made (Named name) (asks (cond (is_some message) [] behind));
+        after = here;
+      };
+      after = λ other.
+          let last : asks (files_read old (found all s)) ≡ p.made ++ Named name ∷ [] =
+              p.front ∙ ap (λ b. p.made ++ (Named name ∷ asks (cond b [] behind))) (has-message why message other explains) in
+          here ∙ ap (λ made. after_all made s) (sym last);
+    }
+
+-- a refusal of the lists
+some-refused : (refusal : Option Fault) (fault : Fault) (second : Option (List ℕ)) → (fault ≢ OutOfMemory → refusal ≡ Some fault)
+    → fault ≢ OutOfMemory → first_of (option_map patterns_refused refusal) second ≡ Some (patterns_refused fault)
+some-refused refusal fault second known other = ap (λ r. first_of (option_map patterns_refused r) second) (known other)
+
+none-read : (refusal : Option Fault) (fault : Fault) (files : List Input) → refusal ≡ Some fault → cond (is_some refusal) [] files ≡ []
+none-read refusal fault files e = ap (λ r. cond (is_some r) [] files) e
+
+pub lists-refused : (o : GrepOptions) (s : Sources) (fault : Fault) → (fault ≢ OutOfMemory → lists_refusal [] (lists_of o) ≡ Some fault) → LacksPatterns o s s (Refused fault)
+lists-refused o s fault known = record {
+  message = some-refused (lists_refusal [] (lists_of o)) fault _ known;
+  front = record { made = []; rest = asks (files_asked o s); parts = refl; after = refl };
+  after = λ other. sym (ap (λ fs. after_all (asks fs) s) (none-read (lists_refusal [] (lists_of o)) fault _ (known (λ memory. other (ap Refused memory)))));
+}
+
+-- where no list is refused, the files count
+none-refused : (refusal : Option Fault) (second : Option (List ℕ)) → refusal ≡ None → first_of (option_map patterns_refused refusal) second ≡ second
+none-refused None second e = refl
+none-refused (Some fault) second e = (cc)
+
+all-read : (refusal : Option Fault) (files : List Input) → refusal ≡ None → cond (is_some refusal) [] files ≡ files
+all-read None files e = refl
+all-read (Some fault) files e = (cc)
+
+files-asked : (o : GrepOptions) (s : Sources) → lists_refusal [] (lists_of o) ≡ None → files_asked o s ≡ files_read (patterns_in (lists_of o)) (pattern_files o s)
+files-asked o s e = all-read (lists_refusal [] (lists_of o)) _ e
+
+pub files-stopped : (o : GrepOptions) (s left : Sources) (why : NoPatterns) → lists_refusal [] (lists_of o) ≡ None
+    → StopsAtFile (patterns_in (lists_of o)) s left (pattern_files o s) why → LacksPatterns o s left why
+files-stopped o s left why none p =
+    let read = files-asked o s none in
+    record {
+      message = subst (Explains why) (sym (none-refused (lists_refusal [] (lists_of o)) _ none)) (Explains-first why (files_message (patterns_in (lists_of o)) (pattern_files o s)) _ p.message);
+      front = subst (λ fs. AsksFront (asks fs) s left) (sym read) p.front;
+      after = λ other. p.after other ∙ ap (λ fs. after_all (asks fs) s) (sym read);
+    }
+
+-- and behind them the number of literals
+pub literals-refused : (o : GrepOptions) (s left : Sources) (patterns : List (List ℕ)) (fault : Fault) → lists_refusal [] (lists_of o) ≡ None
+    → TakesAllFiles (patterns_in (lists_of o)) patterns s left (pattern_files o s) → (fault ≢ OutOfMemory → literals_refusal o.fold patterns ≡ Some fault)
+    → LacksPatterns o s left (Refused fault)
+literals-refused o s left patterns fault none p known =
+    let read = files-asked o s none in
+    let after : left ≡ behind_files o s = p.after ∙ ap (λ fs. after_all (asks fs) s) (sym read) in
+    record {
+      message = λ other.
+          none-refused (lists_refusal [] (lists_of o)) _ none
+          ∙ behind-none _ _ p.message
+          ∙ ap (λ ps. option_map patterns_refused (literals_refusal o.fold ps)) (sym p.patterns)
+          ∙ ap (option_map patterns_refused) (known other);
+      front = record { made = asks (files_asked o s); rest = []; parts = sym (append-nil (asks (files_asked o s))); after = after };
+      after = λ other. after;
+    }
+
+pub patterns-had : (o : GrepOptions) (s left : Sources) (patterns : List (List ℕ)) → lists_refusal [] (lists_of o) ≡ None
+    → TakesAllFiles (patterns_in (lists_of o)) patterns s left (pattern_files o s) → literals_refusal o.fold patterns ≡ None → HasPatterns o s left patterns
+patterns-had o s left patterns none p few = record {
+  message =
+      none-refused (lists_refusal [] (lists_of o)) _ none
+      ∙ behind-none _ _ p.message
+      ∙ ap (λ ps. option_map patterns_refused (literals_refusal o.fold ps)) (sym p.patterns)
+      ∙ ap (option_map patterns_refused) few;
+  value = p.patterns;
+  after = p.after ∙ ap (λ fs. after_all (asks fs) s) (sym (files-asked o s none));
+}
+
+-- the asks for the files from a place on
+pub asks-at : {Z : Type 0} (files : List (String Z)) (place : ℕ) (file : String Z) (name : List ℕ) → place < length files → file ≡ get_or files place file → name ≡ string_bytes file
+    → asks_for (map string_bytes (drop place files)) ≡ Named name ∷ asks_for (map string_bytes (drop (place + 1) files))
+asks-at files place file name inside at same =
+    ap (λ fs. asks_for (map string_bytes fs)) (drop_more files place file inside)
+    ∙ ap (λ n. Named n ∷ asks_for (map string_bytes (drop (place + 1) files))) (sym (same ∙ ap string_bytes at))
+
+-- the loop goes on
+pub files-more : (known mid left : Option Sources) (old now new : List (List ℕ)) (name : List ℕ) (all : List Ask) {here rest : List Ask} → here ≡ Named name ∷ rest
+    → Told known mid (λ s m. AreShort s → FilesSoFar old now all here s m)
+    → Told mid left (λ m l. AreShort m → (l ≡ after_named name m) × ((content_message now name (source_of name m.named) ≡ None) × (new ≡ now ++ patterns_from (source_of name m.named))))
+    → Told known left (λ s l. AreShort s → FilesSoFar old new all rest s l)
+files-more known mid left old now new name all {here} {rest} e before step =
+    Told-then known mid left _ _ (λ s l. AreShort s → FilesSoFar old new all rest s l) before step (λ s m l p q short.
+        let so_far : FilesSoFar old now all (Named name ∷ rest) s m = subst (λ asks. FilesSoFar old now all asks s m) e (p short) in
+        let taken = q so_far.short in
+        FilesSoFar-more new name rest l so_far taken.0 taken.1.0 taken.1.1)
+
+-- and it stops
+pub files-stop : (known mid left : Option Sources) (old now : List (List ℕ)) (name : List ℕ) (all : List Ask) {here rest : List Ask} (why : NoPatterns) → here ≡ Named name ∷ rest
+    → Told known mid (λ s m. AreShort s → FilesSoFar old now all here s m)
+    → Told mid left (λ m l. AreShort m → (l ≡ after_named name m) × Explains why (content_message now name (source_of name m.named)))
+    → Told known left (λ s l. AreShort s → StopsAtFile old s l (found all s) why)
+files-stop known mid left old now name all {here} {rest} why e before step =
+    Told-then known mid left _ _ (λ s l. AreShort s → StopsAtFile old s l (found all s) why) before step (λ s m l p q short.
+        let so_far : FilesSoFar old now all (Named name ∷ rest) s m = subst (λ asks. FilesSoFar old now all asks s m) e (p short) in
+        let taken = q so_far.short in
+        FilesSoFar-stop name rest l why so_far taken.0 taken.1)

@@ -1,0 +1,10 @@
+pub mod EndedLines
+pub mod FrontLemmas
+pub mod ToldLemmas
+pub mod GatherLemmas
+pub mod RefusalLemmas
+pub mod SearchLemmas
+pub mod BlockLemmas
+pub mod ScanLemmas
+pub mod AllLemmas
+pub mod AnswerLemmas

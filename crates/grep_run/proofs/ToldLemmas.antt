@@ -1,0 +1,113 @@
+-- What an opener tells from one ask to the next.
+use Rattle.std.proofs.Common.{◌≡◌, ℕ, ◌<◌, zero, suc, length, get_or, Bool, true, false, cond, List, [], ◌∷◌, ◌++◌, map, All, Option, None, Some, IfSome, Result, Ok, Err, refl, sym, ap, ◌∙◌, subst, lit<, arith}
+use Rattle.std.specs.Str.{bytes_eq}
+use Rattle.lit_base.specs.Devices.{Coming, Told}
+use Rattle.grep_run.specs.Sources.{AreShort, Ask, Content, IsShort, Named, OpensAs, Sources, Standard, after, after_all, after_first, coming_of, content_of, source_of, taken_by, without_first}
+use Rattle.grep_run.specs.declared.opener.Missing.{Missing}
+
+-- one step after another
+pub Told-then : {T : Type 0} (a b c : Option T) (P Q R : T → T → Type 0) → Told a b P → Told b c Q → ((x y z : T) → P x y → Q y z → R x z) → Told a c R
+Told-then None b c P Q R p q join = tt
+Told-then (Some x) None c P Q R p q join = absurd p
+Told-then (Some x) (Some y) None P Q R p q join = absurd q
+Told-then (Some x) (Some y) (Some z) P Q R p q join = join x y z p q
+
+-- no step
+pub Told-none : {T : Type 0} (a : Option T) (R : T → T → Type 0) → ((x : T) → R x x) → Told a a R
+Told-none None R here = tt
+Told-none (Some x) R here = here x
+
+-- what one relation says, another does
+pub Told-weaker : {T : Type 0} (a b : Option T) (P R : T → T → Type 0) → Told a b P → ((x y : T) → P x y → R x y) → Told a b R
+Told-weaker None b P R p weaker = tt
+Told-weaker (Some x) None P R p weaker = absurd p
+Told-weaker (Some x) (Some y) P R p weaker = weaker x y p
+
+-- the content of an ask is short where all are
+short-first : (contents : List Content) → All IsShort contents → IsShort (content_of contents)
+short-first [] h = lit< tt
+short-first (d ∷ rest) h = h 0 d (omega arith)
+
+-- a fact of all members is one of all behind the first
+All-rest : {X : Type 0} (P : X → Type 0) (x : X) (xs : List X) → All P (x ∷ xs) → All P xs
+All-rest P x xs h = λ k d inside. h (suc k) d (omega arith)
+
+-- what stands under a name is short
+abbrev IsShortEntry : List ℕ × Option Content → Type 0
+IsShortEntry e = IfSome e.1 IsShort
+
+-- the source of an ask for a name is short where all are
+short-named : (name : List ℕ) (named : List (List ℕ × Option Content)) → All IsShortEntry named → IfSome (source_of name named) IsShort
+short-named name [] h = tt
+short-named name (e ∷ rest) h =
+    elim (bytes_eq e.0 name) as (λ b. IfSome (cond b e.1 (source_of name rest)) IsShort) [
+      | true ↦ h 0 e (omega arith)
+      | false ↦ short-named name rest (All-rest IsShortEntry e rest h)
+    ]
+
+-- what any ask takes is short where all are
+pub short-taken : (ask : Ask) (s : Sources) → AreShort s → IfSome (taken_by ask s) IsShort
+short-taken (Named name) s h = short-named name s.named h.named
+short-taken Standard s h = short-first s.standard h.standard
+
+-- a member before others that have the fact
+All-cons : {X : Type 0} (P : X → Type 0) (x : X) (xs : List X) → P x → All P xs → All P (x ∷ xs)
+All-cons P x xs here rest = λ k d inside. elim k as (λ n. n < length (x ∷ xs) → P (get_or (x ∷ xs) n d)) [
+      | zero ↦ λ _. here
+      | suc n ↦ λ more. rest n d (omega arith)
+    ] inside
+
+-- the sources left by an ask are short where all are
+short-rest : (name : List ℕ) (named : List (List ℕ × Option Content)) → All IsShortEntry named → All IsShortEntry (without_first name named)
+short-rest name [] h = h
+short-rest name (e ∷ rest) h =
+    elim (bytes_eq e.0 name) as (λ b. All IsShortEntry (cond b rest (e ∷ without_first name rest))) [
+      | true ↦ All-rest IsShortEntry e rest h
+      | false ↦ All-cons IsShortEntry e (without_first name rest) (h 0 e (omega arith)) (short-rest name rest (All-rest IsShortEntry e rest h))
+    ]
+
+short-after_first : (contents : List Content) → All IsShort contents → All IsShort (after_first contents)
+short-after_first [] h = h
+short-after_first (d ∷ rest) h = All-rest IsShort d rest h
+
+pub short-after : (ask : Ask) (s : Sources) → AreShort s → AreShort (after ask s)
+short-after (Named name) s h = record { named = short-rest name s.named h.named; standard = h.standard }
+short-after Standard s h = record { named = h.named; standard = short-after_first s.standard h.standard }
+
+-- one ask behind others
+pub after_all-append : (asks more : List Ask) (s : Sources) → after_all (asks ++ more) s ≡ after_all more (after_all asks s)
+after_all-append [] more s = refl
+after_all-append (a ∷ asks) more s = after_all-append asks more (after a s)
+
+pub after_all-one : (asks : List Ask) (a : Ask) (s : Sources) → after_all (asks ++ a ∷ []) s ≡ after a (after_all asks s)
+after_all-one asks a s = after_all-append asks (a ∷ []) s
+
+-- what holds of the content of an input that was opened holds of its source
+opened-here : {I : Type 0} (f : I → Option Coming) (input : I) (source : Option Content) (R : Option Content → Type 0)
+    → OpensAs {I = I} f source (Ok input) → IfSome source IsShort → ((c : Content) → f input ≡ Some (coming_of c) → IsShort c → R (Some c)) → R source
+opened-here f input None R opens short h = let bad : false ≡ true = opens in (cc)
+opened-here f input (Some c) R opens short h = h c opens short
+
+pub opened : {I : Type 0} (f : I → Option Coming) (input : I) (known left : Option Sources) (ask : Ask) (R : Option Content → Type 0)
+    → Told known left (λ s l. l ≡ after ask s) → IfSome known (λ s. OpensAs {I = I} f (taken_by ask s) (Ok input))
+    → ((c : Content) → f input ≡ Some (coming_of c) → IsShort c → R (Some c)) → Told known left (λ s l. AreShort s → (l ≡ after ask s) × R (taken_by ask s))
+opened f input None left ask R takes gives h = tt
+opened f input (Some s) None ask R takes gives h = absurd takes
+opened f input (Some s) (Some l) ask R takes gives h = λ short. (takes, opened-here f input (taken_by ask s) R gives (short-taken ask s short) h)
+
+-- where it cannot be opened, what holds of no content holds
+missing-here : {I : Type 0} (f : I → Option Coming) (error : Missing) (source : Option Content) (R : Option Content → Type 0) → OpensAs {I = I} f source (Err error) → R None → R source
+missing-here f error None R opens h = h
+missing-here f error (Some c) R opens h = absurd opens
+
+pub missing : {I : Type 0} (f : I → Option Coming) (error : Missing) (known left : Option Sources) (ask : Ask) (R : Option Content → Type 0)
+    → Told known left (λ s l. l ≡ after ask s) → IfSome known (λ s. OpensAs {I = I} f (taken_by ask s) (Err error)) → R None
+    → Told known left (λ s l. AreShort s → (l ≡ after ask s) × R (taken_by ask s))
+missing f error None left ask R takes gives h = tt
+missing f error (Some s) None ask R takes gives h = absurd takes
+missing f error (Some s) (Some l) ask R takes gives h = λ short. (takes, missing-here f error (taken_by ask s) R gives h)
+
+-- the sources left by several asks are short where all are
+pub short-after_all : (asks : List Ask) (s : Sources) → AreShort s → AreShort (after_all asks s)
+short-after_all [] s h = h
+short-after_all (a ∷ asks) s h = short-after_all asks (after a s) (short-after a s h)

@@ -1,0 +1,11 @@
+-- What holds of the content that was read holds of the source that the opener told.
+use Rattle.lit_base.specs.Devices.{Coming}
+use Rattle.grep_run.specs.Gathering.{TakesFile}
+use Rattle.grep_run.specs.Sources.{Named}
+use Rattle.grep_run.proofs.ToldLemmas.{opened}
+use Rattle.grep_run.proofs.patterns.add_file.Goals as goal
+
+pub returns-in-Ok : goal.returns-in-Ok
+returns-in-Ok g c =
+    opened _ c.in-Ok.input _ _ (Named c.args.name.now) (λ source. TakesFile c.args.name.now c.args.patterns.now c.add_content.new.patterns source c.add_content.result)
+        c.in-Ok.ensures.takes c.in-Ok.ensures.gives c.add_content.ensures

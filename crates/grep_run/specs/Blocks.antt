@@ -1,0 +1,73 @@
+-- What one input gives: its block of output, its message, whether a line is selected, and whether it is an error. POSIX.1-2017 `grep`, OPTIONS, STDOUT, CONSEQUENCES OF ERRORS.
+use Rattle.std.specs.Prelude.{ℕ, ◌&&◌, ◌||◌, not, Bool, true, false, List, [], ◌∷◌, ◌++◌, filter, length, flat_map, nat_lt, if◌then◌else◌, Option, Some, None, codes, decimal}
+use Rattle.std.specs.List.{enumerate_from}
+use Rattle.lit_base.specs.Lines.{ended_lines, lines}
+use Rattle.lit_base.specs.Selected.{is_selected}
+use Rattle.grep_run.specs.declared.options.GrepOptions.{GrepOptions}
+use Rattle.grep_run.specs.Messages.{unreadable}
+use Rattle.grep_run.specs.Sources.{Content, Input, name_of}
+
+-- the lines of a content: before a fault those alone that a newline ended
+abbrev pub lines_of : Content → List (List ℕ)
+lines_of c = if c.is_faulty then ended_lines c.text else lines c.text
+
+-- a line is selected: it matches one of the patterns, or under -v none
+abbrev pub selects : GrepOptions → List (List ℕ) → List ℕ → Bool
+selects o = is_selected o.fold o.whole o.invert
+
+-- the selected lines with their numbers, which start at 1
+abbrev pub selected_of : GrepOptions → List (List ℕ) → List (List ℕ) → List (ℕ × List ℕ)
+selected_of o patterns texts = filter (λ numbered. selects o patterns numbered.1) (enumerate_from 1 texts)
+
+-- those of an input, none where it cannot be opened
+abbrev pub selected_in : GrepOptions → List (List ℕ) → Option Content → List (ℕ × List ℕ)
+selected_in o patterns None = []
+selected_in o patterns (Some c) = selected_of o patterns (lines_of c)
+
+-- there is one
+abbrev pub has_any : List (ℕ × List ℕ) → Bool
+has_any selected = nat_lt 0 (length selected)
+
+-- the prefix: the name where there is more than one operand
+abbrev pub prefix_of : GrepOptions → List ℕ → List ℕ
+prefix_of o name = if nat_lt 1 (length o.operands.items) then name ++ codes ":" else []
+
+-- a line as it is written: the prefix, under -n its number, the line and a newline
+abbrev pub written_line : GrepOptions → List ℕ → ℕ × List ℕ → List ℕ
+written_line o name numbered =
+    prefix_of o name ++ ((if o.number then decimal numbered.0 ++ codes ":" else []) ++ (numbered.1 ++ codes "\n"))
+
+-- the block of selected lines: under -q none, else under -l the name if there is one, else under -c their number, else the lines
+abbrev pub block_of : GrepOptions → List ℕ → List (ℕ × List ℕ) → List ℕ
+block_of o name selected =
+    if o.quiet then []
+    else if o.list then (if has_any selected then name ++ codes "\n" else [])
+    else if o.count then prefix_of o name ++ (decimal (length selected) ++ codes "\n")
+    else flat_map (written_line o name) selected
+
+-- an input that cannot be opened has no block
+abbrev pub block_in : GrepOptions → List (List ℕ) → List ℕ → Option Content → List ℕ
+block_in o patterns name None = []
+block_in o patterns name (Some c) = block_of o name (selected_of o patterns (lines_of c))
+
+abbrev pub block : GrepOptions → List (List ℕ) → Input → List ℕ
+block o patterns input = block_in o patterns (name_of input.ask) input.source
+
+-- a line is selected of the input
+abbrev pub has_selected : GrepOptions → List (List ℕ) → Input → Bool
+has_selected o patterns input = has_any (selected_in o patterns input.source)
+
+-- it is an error: it cannot be opened, or ends in a fault, unless -q or -l ended its reading at a selected line before
+abbrev pub is_trouble : GrepOptions → List (List ℕ) → Option Content → Bool
+is_trouble o patterns None = true
+is_trouble o patterns (Some c) = c.is_faulty && not ((o.quiet || o.list) && has_any (selected_of o patterns (lines_of c)))
+
+abbrev pub is_error : GrepOptions → List (List ℕ) → Input → Bool
+is_error o patterns input = is_trouble o patterns input.source
+
+-- its message, which -s drops
+abbrev pub message_in : GrepOptions → List (List ℕ) → List ℕ → Option Content → List ℕ
+message_in o patterns name source = if is_trouble o patterns source && not o.silent then unreadable name else []
+
+abbrev pub message : GrepOptions → List (List ℕ) → Input → List ℕ
+message o patterns input = message_in o patterns (name_of input.ask) input.source

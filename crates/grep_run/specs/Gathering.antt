@@ -1,0 +1,71 @@
+-- What gathering patterns answers, against the patterns and the messages of pattern files.
+use Rattle.std.specs.Prelude.{◌≡◌, ◌≢◌, ℕ, List, [], ◌++◌, flat_map, Option, Some, None, Result, Ok, Err}
+use Rattle.std.specs.Io.KnownBytes.{Appends}
+use Rattle.lit_base.specs.declared.fault.Fault.TheVariants.{OutOfMemory}
+use Rattle.grep_run.specs.declared.options.GrepOptions.{GrepOptions}
+use Rattle.grep_run.specs.declared.patterns.NoPatterns.{NoPatterns}
+use Rattle.grep_run.specs.declared.patterns.NoPatterns.TheVariants.{Unreadable, Refused}
+use Rattle.grep_run.specs.declared.status.Stop.{Stop}
+use Rattle.grep_run.specs.Fronts.{AppendsFront}
+use Rattle.grep_run.specs.Grep.{asks, behind_files}
+use Rattle.grep_run.specs.Messages.{patterns_refused, unreadable}
+use Rattle.grep_run.specs.Patterns.{content_message, files_asked, files_message, files_read, patterns_from, patterns_message, patterns_of}
+use Rattle.grep_run.specs.Running.{AsksFront}
+use Rattle.grep_run.specs.Sources.{Content, Input, Sources, after_all}
+
+-- the message is on this, or memory ran out before
+abbrev pub Explains : NoPatterns → Option (List ℕ) → Type 0
+Explains (Unreadable name) message = message ≡ Some (unreadable name.now)
+Explains (Refused fault) message = fault ≢ OutOfMemory → message ≡ Some (patterns_refused fault)
+
+-- one pattern file: its patterns are added, or it gives none
+abbrev pub TakesFile : {T : Type 0} → List ℕ → List (List ℕ) → List (List ℕ) → Option Content → Result T NoPatterns → Type 0
+TakesFile name old new source (Ok _) = (content_message old name source ≡ None) × (new ≡ old ++ patterns_from source)
+TakesFile name old new source (Err why) = Explains why (content_message old name source)
+
+-- several files: the patterns of all are added, or the first that gives none ends it
+pub record TakesAllFiles (old new : List (List ℕ)) (s left : Sources) (files : List Input) : Type 0 where
+  pub message : files_message old files ≡ None
+  pub patterns : new ≡ old ++ flat_map (λ file. patterns_from file.source) files
+  pub after : left ≡ after_all (asks (files_read old files)) s
+
+pub record StopsAtFile (old : List (List ℕ)) (s left : Sources) (files : List Input) (why : NoPatterns) : Type 0 where
+  pub message : Explains why (files_message old files)
+  pub front : AsksFront (asks (files_read old files)) s left
+  pub after : why ≢ Refused OutOfMemory → left ≡ after_all (asks (files_read old files)) s
+
+abbrev pub TakesFiles : {T : Type 0} → List (List ℕ) → List (List ℕ) → Sources → Sources → List Input → Result T NoPatterns → Type 0
+TakesFiles old new s left files (Ok _) = TakesAllFiles old new s left files
+TakesFiles old new s left files (Err why) = StopsAtFile old s left files why
+
+-- all patterns of the options: they are had, or a message says why not
+pub record HasPatterns (o : GrepOptions) (s left : Sources) (patterns : List (List ℕ)) : Type 0 where
+  pub message : patterns_message o s ≡ None
+  pub value : patterns ≡ patterns_of o s
+  pub after : left ≡ behind_files o s
+
+pub record LacksPatterns (o : GrepOptions) (s left : Sources) (why : NoPatterns) : Type 0 where
+  pub message : Explains why (patterns_message o s)
+  pub front : AsksFront (asks (files_asked o s)) s left
+  pub after : why ≢ Refused OutOfMemory → left ≡ behind_files o s
+
+abbrev pub TakesPatterns : GrepOptions → Sources → Sources → Result (List (List ℕ)) NoPatterns → Type 0
+TakesPatterns o s left (Ok patterns) = HasPatterns o s left patterns
+TakesPatterns o s left (Err why) = LacksPatterns o s left why
+
+-- what is written where there are no patterns: the message, or a front of it where that is stopped; nothing for want of memory
+abbrev pub text_of : NoPatterns → List ℕ
+text_of (Unreadable name) = unreadable name.now
+text_of (Refused fault) = patterns_refused fault
+
+pub record IsRefusal (why : NoPatterns) (err_old err_new : Option (List ℕ)) : Type 0 where
+  pub memory : why ≢ Refused OutOfMemory
+  pub told : Appends err_old err_new (text_of why)
+
+pub record IsRefusalCut (why : NoPatterns) (err_old err_new : Option (List ℕ)) : Type 0 where
+  pub front : AppendsFront err_old err_new (text_of why)
+  pub untold : why ≡ Refused OutOfMemory → Appends err_old err_new []
+
+abbrev pub Refuses : {T : Type 0} → NoPatterns → Result T Stop → Option (List ℕ) → Option (List ℕ) → Type 0
+Refuses why (Ok _) = IsRefusal why
+Refuses why (Err stop) = IsRefusalCut why

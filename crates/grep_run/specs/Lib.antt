@@ -1,0 +1,13 @@
+pub mod Blocks
+pub mod Fronts
+pub mod Gathering
+pub mod Grep
+pub mod Growing
+pub mod Messages
+pub mod Options
+pub mod Patterns
+pub mod Reading
+pub mod Running
+pub mod Searching
+pub mod Sources
+pub mod Statuses

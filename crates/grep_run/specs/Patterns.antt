@@ -1,0 +1,85 @@
+-- The patterns of pattern lists and pattern files, and why they are refused. POSIX.1-2017 `grep`, OPTIONS, -e and -f, and OPERANDS, pattern_list.
+use Rattle.std.specs.Prelude.{◌≡◌, ◌≢◌, ℕ, List, [], ◌∷◌, ◌++◌, length, flat_map, nat_lt, if◌then◌else◌, is_some, Option, Some, None, Result, MatchResult}
+use Rattle.std.specs.Option.{option_map}
+use Rattle.lit_base.specs.Lines.{lines, pieces}
+use Rattle.lit_base.specs.NormalForm.{normal_form}
+use Rattle.lit_base.specs.RawLists.{earlier, text_refusal}
+use Rattle.lit_base.specs.declared.fault.Fault.{Fault}
+use Rattle.lit_base.specs.declared.fault.Fault.TheVariants.{OutOfMemory, ListTooLarge, TooManyLiterals}
+use Rattle.lit_base.specs.declared.fold.Fold.{Fold}
+use Rattle.lit_base.specs.declared.limits.TheConstants.{MAX_LITERALS, MAX_TEXT_LEN}
+use Rattle.grep_run.specs.declared.options.GrepOptions.{GrepOptions}
+use Rattle.grep_run.specs.Messages.{patterns_refused, unreadable}
+use Rattle.grep_run.specs.Options.{files_of, lists_of}
+use Rattle.grep_run.specs.Sources.{Ask, Content, Input, Sources, found, name_of}
+
+-- the patterns of all lists, in order
+abbrev pub patterns_in : List (List ℕ) → List (List ℕ)
+patterns_in lists = flat_map pieces lists
+
+-- the refusal of the first list that is refused, each taken behind the patterns before it
+abbrev pub lists_refusal : List (List ℕ) → List (List ℕ) → Option Fault
+lists_refusal before [] = None
+lists_refusal before (list ∷ lists) =
+    earlier (text_refusal before list (pieces list)) (lists_refusal (before ++ pieces list) lists)
+
+-- the answer is the refusal, or want of memory before it was met; what is not refused is no fault
+abbrev pub RefusesAs : {T : Type 0} → Option Fault → Result T Fault → Type 0
+RefusesAs refusal result =
+    MatchResult result (λ _. refusal ≡ None) (λ fault. fault ≢ OutOfMemory → refusal ≡ Some fault)
+
+-- the patterns of a pattern file: its lines
+abbrev pub patterns_from : Option Content → List (List ℕ)
+patterns_from None = []
+patterns_from (Some c) = lines c.text
+
+-- why it gives none, behind these patterns: it has more bytes than its limit, it cannot be read, or a pattern is refused
+abbrev pub content_message : List (List ℕ) → List ℕ → Option Content → Option (List ℕ)
+content_message before name None = Some (unreadable name)
+content_message before name (Some c) =
+    if nat_lt MAX_TEXT_LEN (length c.text) then Some (patterns_refused ListTooLarge)
+    else if c.is_faulty then Some (unreadable name)
+    else option_map patterns_refused (text_refusal before c.text (lines c.text))
+
+abbrev pub file_message : List (List ℕ) → Input → Option (List ℕ)
+file_message before file = content_message before (name_of file.ask) file.source
+
+-- the first text, or else the second
+abbrev pub first_of : Option (List ℕ) → Option (List ℕ) → Option (List ℕ)
+first_of None second = second
+first_of (Some text) second = Some text
+
+-- the message on the first file that gives no patterns, each taken behind the patterns before it
+abbrev pub files_message : List (List ℕ) → List Input → Option (List ℕ)
+files_message before [] = None
+files_message before (file ∷ files) =
+    first_of (file_message before file) (files_message (before ++ patterns_from file.source) files)
+
+-- the files up to that one
+abbrev pub files_read : List (List ℕ) → List Input → List Input
+files_read before [] = []
+files_read before (file ∷ files) =
+    file ∷ (if is_some (file_message before file) then [] else files_read (before ++ patterns_from file.source) files)
+
+-- the refusal of a normal form with too many literals
+abbrev pub literals_refusal : Fold → List (List ℕ) → Option Fault
+literals_refusal fold patterns = if nat_lt MAX_LITERALS (length (normal_form fold patterns)) then Some TooManyLiterals else None
+
+-- the pattern files of the options, as asks for them find them
+abbrev pub pattern_files : GrepOptions → Sources → List Input
+pattern_files o s = found (files_of o) s
+
+-- all patterns: those of the lists, and then those of the files
+abbrev pub patterns_of : GrepOptions → Sources → List (List ℕ)
+patterns_of o s = patterns_in (lists_of o) ++ flat_map (λ file. patterns_from file.source) (pattern_files o s)
+
+-- the message on the patterns: on the first list that is refused, else on the first file that gives none, else on too many literals
+abbrev pub patterns_message : GrepOptions → Sources → Option (List ℕ)
+patterns_message o s =
+    first_of (option_map patterns_refused (lists_refusal [] (lists_of o)))
+        (first_of (files_message (patterns_in (lists_of o)) (pattern_files o s))
+            (option_map patterns_refused (literals_refusal o.fold (patterns_of o s))))
+
+-- the pattern files that are asked for: none where a list is refused, else those up to the first that gives no patterns
+abbrev pub files_asked : GrepOptions → Sources → List Input
+files_asked o s = if is_some (lists_refusal [] (lists_of o)) then [] else files_read (patterns_in (lists_of o)) (pattern_files o s)

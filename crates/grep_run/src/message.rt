@@ -1,0 +1,66 @@
+//! Messages on standard error, each a line behind the program's name.
+ghost use Rattle.std.specs.Prelude.{◌≡◌, ◌||◌, IfOk, OnErr, OnOk, string_bytes};
+ghost use Rattle.std.specs.Io.KnownBytes.{Appends};
+ghost use Rattle.grep_run.specs.Fronts.{AppendsFront, is_write_fault};
+ghost use Rattle.grep_run.specs.Messages.{out_of_memory, patterns_refused, unreadable};
+
+use crate::status::Stop;
+use lit_base::{ByteOut, Fault, write_all};
+use std::alloc::{AllocError, Global};
+
+/// Says that a file cannot be opened or read. After an error some of the message may be written,
+/// from its front.
+pub fn say_unreadable<E: ByteOut>(alloc: Global, name: &str, err: &mut E) -> Result<(), Stop>
+    ensures ok { OnOk result (Appends (E.written err.old) (E.written err.new) (unreadable name.now)) }
+    ensures err { OnErr result (AppendsFront (E.written err.old) (E.written err.new) (unreadable name.now)) }
+    ensures flag { E.has_failed err.new ≡ (E.has_failed err.old || is_write_fault result) }
+{
+    let text = unreadable_text(alloc, name)?;
+    write_whole(text.as_bytes(), err)
+}
+
+/// Says that the patterns are refused, and by which refusal. After an error some of the message may
+/// be written, from its front.
+pub fn say_refused<E: ByteOut>(alloc: Global, fault: Fault, err: &mut E) -> Result<(), Stop>
+    ensures ok { OnOk result (Appends (E.written err.old) (E.written err.new) (patterns_refused fault)) }
+    ensures err { OnErr result (AppendsFront (E.written err.old) (E.written err.new) (patterns_refused fault)) }
+    ensures flag { E.has_failed err.new ≡ (E.has_failed err.old || is_write_fault result) }
+{
+    let text = refused_text(alloc, fault)?;
+    write_whole(text.as_bytes(), err)
+}
+
+fn unreadable_text(alloc: Global, name: &str) -> Result<String, AllocError>
+    ensures { IfOk result (λ text. string_bytes text ≡ unreadable name.now) }
+{
+    format!(in alloc; "litgrep: {name}: cannot be read\n")
+}
+
+fn refused_text(alloc: Global, fault: Fault) -> Result<String, AllocError>
+    ensures { IfOk result (λ text. string_bytes text ≡ patterns_refused fault) }
+{
+    let number = fault.number();
+    format!(in alloc; "litgrep: patterns refused ({number})\n")
+}
+
+/// Says that memory ran out. It takes none itself. After an error some of the message may be
+/// written, from its front.
+pub fn say_out_of_memory<E: ByteOut>(err: &mut E) -> Result<(), Stop>
+    ensures ok { OnOk result (Appends (E.written err.old) (E.written err.new) out_of_memory) }
+    ensures err { OnErr result (AppendsFront (E.written err.old) (E.written err.new) out_of_memory) }
+    ensures fault { OnErr result (result ≡ Err Stop.WriteFault) }
+    ensures flag { E.has_failed err.new ≡ (E.has_failed err.old || is_write_fault result) }
+{
+    write_whole(b"litgrep: out of memory\n", err)
+}
+
+/// Writes the whole text. After an error some of it may be written, from its front.
+pub fn write_whole<W: ByteOut>(text: &[u8], out: &mut W) -> Result<(), Stop>
+    ensures ok { OnOk result (Appends (W.written out.old) (W.written out.new) text.now) }
+    ensures err { OnErr result (AppendsFront (W.written out.old) (W.written out.new) text.now) }
+    ensures fault { OnErr result (result ≡ Err Stop.WriteFault) }
+    ensures flag { W.has_failed out.new ≡ (W.has_failed out.old || is_write_fault result) }
+{
+    write_all(out, text)?;
+    Ok(())
+}

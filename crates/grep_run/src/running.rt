@@ -1,0 +1,125 @@
+//! A run of grep.
+ghost use Rattle.std.specs.Prelude.{◌≡◌, ◌≢◌, ◌||◌, ◌&&◌, [], IfOk, OnErr, OnOk, if◌then◌else◌};
+ghost use Rattle.std.specs.Io.KnownBytes.{Appends};
+ghost use Rattle.lit_base.specs.Devices.{Told};
+ghost use Rattle.grep_run.specs.Fronts.{AppendsFront, is_write_fault};
+ghost use Rattle.grep_run.specs.Gathering.{Refuses};
+ghost use Rattle.grep_run.specs.Grep.{status_where};
+ghost use Rattle.grep_run.specs.Messages.{patterns_refused};
+ghost use Rattle.grep_run.specs.Running.{Answers, Ends};
+ghost use Rattle.grep_run.specs.Sources.{AreShort};
+
+use crate::message::{say_out_of_memory, say_refused, say_unreadable};
+use crate::opener::Opener;
+use crate::options::GrepOptions;
+use crate::patterns::{NoPatterns, gathered};
+use crate::searching::{Found, search_all};
+use crate::status::{Status, Stop};
+use lit_base::{ByteOut, Fault};
+use std::alloc::Global;
+
+/// Runs grep: its output goes to `out`, its messages to `err`.
+///
+/// A write that fails ends the run with `Trouble` and no further message. After want of memory a
+/// message says so, and the status is `Trouble`.
+pub fn run<O: Opener, W: ByteOut, E: ByteOut>(
+    alloc: Global,
+    options: &GrepOptions,
+    opener: &mut O,
+    out: &mut W,
+    err: &mut E,
+) -> Status
+    ensures ends { Told (O.sources opener.old) (O.sources opener.new) (λ s left. AreShort s
+        → Ends options.now s left result (W.has_failed out.new || E.has_failed err.new)
+        (W.written out.old) (W.written out.new) (E.written err.old) (E.written err.new)) }
+
+    // Whatever the opener tells, a write that failed is told.
+    ensures fault { result ≢ Status.Trouble
+        → (W.has_failed out.new || E.has_failed err.new) ≡ (W.has_failed out.old || E.has_failed err.old) }
+{
+    match answer(alloc, options, opener, out, err) {
+        Ok(status) => status,
+        Err(Stop::WriteFault) => Status::Trouble,
+        Err(Stop::OutOfMemory) => {
+            let _ = say_out_of_memory(err);
+            Status::Trouble
+        }
+    }
+}
+
+/// Runs grep as far as writes and memory allow.
+pub fn answer<O: Opener, W: ByteOut, E: ByteOut>(
+    alloc: Global,
+    options: &GrepOptions,
+    opener: &mut O,
+    out: &mut W,
+    err: &mut E,
+) -> Result<Status, Stop>
+    ensures answer { Told (O.sources opener.old) (O.sources opener.new) (λ s left. AreShort s
+        → Answers options.now s left result
+        (W.written out.old) (W.written out.new) (E.written err.old) (E.written err.new)) }
+
+    // A write fault is answered only where a write failed, and a write that failed is answered so.
+    ensures flag { (W.has_failed out.new || E.has_failed err.new)
+        ≡ (W.has_failed out.old || E.has_failed err.old || is_write_fault result) }
+{
+    match gathered(alloc, options, opener) {
+        Ok(patterns) => {
+            let found = search_all(alloc, options, &patterns, opener, out, err)?;
+            Ok(status_of(options.quiet, found))
+        }
+        Err(why) => refuse(alloc, why, err),
+    }
+}
+
+// Says why there are no patterns.
+fn refuse<E: ByteOut>(alloc: Global, why: NoPatterns<'_>, err: &mut E) -> Result<Status, Stop>
+    ensures status { IfOk result (λ status. status ≡ Status.Trouble) }
+    ensures told { Refuses why.entry result (E.written err.old) (E.written err.new) }
+    ensures flag { E.has_failed err.new ≡ (E.has_failed err.old || is_write_fault result) }
+{
+    say(alloc, why, err)?;
+    Ok(Status::Trouble)
+}
+
+// The message on that, unless it is want of memory.
+fn say<E: ByteOut>(alloc: Global, why: NoPatterns<'_>, err: &mut E) -> Result<(), Stop>
+    ensures told { Refuses why.entry result (E.written err.old) (E.written err.new) }
+    ensures flag { E.has_failed err.new ≡ (E.has_failed err.old || is_write_fault result) }
+{
+    match why {
+        NoPatterns::Unreadable(name) => say_unreadable(alloc, name, err),
+        NoPatterns::Refused(fault) => say_fault(alloc, fault, err),
+    }
+}
+
+// The message on a refusal of the patterns, unless it is want of memory.
+fn say_fault<E: ByteOut>(alloc: Global, fault: Fault, err: &mut E) -> Result<(), Stop>
+    ensures other { OnOk result (fault ≢ Fault.OutOfMemory) }
+    ensures ok { OnOk result (Appends (E.written err.old) (E.written err.new) (patterns_refused fault)) }
+    ensures stopped { OnErr result (AppendsFront (E.written err.old) (E.written err.new) (patterns_refused fault)) }
+    ensures untold { fault ≡ Fault.OutOfMemory → Appends (E.written err.old) (E.written err.new) [] }
+    ensures flag { E.has_failed err.new ≡ (E.has_failed err.old || is_write_fault result) }
+{
+    match fault {
+        Fault::OutOfMemory => Err(Stop::OutOfMemory),
+        _ => say_refused(alloc, fault, err),
+    }
+}
+
+// The status where all inputs were searched.
+fn status_of(quiet: bool, found: Found) -> Status
+    ensures { result ≡ status_where quiet found.is_selected found.is_error }
+{
+    if quiet && found.is_selected {
+        return Status::Selected;
+    }
+    if found.is_error {
+        return Status::Trouble;
+    }
+    if found.is_selected {
+        Status::Selected
+    } else {
+        Status::NoneSelected
+    }
+}

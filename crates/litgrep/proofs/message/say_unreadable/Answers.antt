@@ -1,7 +1,0 @@
--- Where there is no memory for the text, nothing is written.
-use Rattle.lit_base.proofs.TransferLemmas.{OnErr-any}
-use Rattle.litgrep.proofs.FrontLemmas.{AppendsFront-none}
-use Rattle.litgrep.proofs.message.say_unreadable.Goals as goal
-
-pub returns-in_err-text-clause-err : goal.returns-in_err-text-clause-err
-returns-in_err-text-clause-err g c = OnErr-any c.from_residual.result (AppendsFront-none _ _)

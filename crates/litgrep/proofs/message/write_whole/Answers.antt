@@ -1,7 +1,0 @@
--- A write that fails leaves a front of the text.
-use Rattle.lit_base.proofs.TransferLemmas.{OnErr-any}
-use Rattle.litgrep.proofs.FrontLemmas.{AppendsFront-part}
-use Rattle.litgrep.proofs.message.write_whole.Goals as goal
-
-pub returns-in_err-write_all-clause-err : goal.returns-in_err-write_all-clause-err
-returns-in_err-write_all-clause-err g c = OnErr-any c.from_residual.result (AppendsFront-part c.in_err-write_all.ensures.err)

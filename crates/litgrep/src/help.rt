@@ -1,0 +1,48 @@
+//! The text of `--help`.
+
+/// What `litgrep` does, its options in the order of POSIX, its limits and its statuses.
+pub const HELP: &str = "\
+litgrep writes the lines that contain one of many literals: grep -F of
+POSIX.1-2017, in the POSIX locale.
+
+Usage: litgrep [-F] [-c | -l | -q] [-insvx] LIST [FILE]...
+       litgrep [-F] [-c | -l | -q] [-insvx] (-e LIST | -f FILE)... [FILE]...
+
+Without -e and -f the first operand is the pattern list. Each other operand is
+a file to search; - is standard input, which is searched where there is none.
+Options may follow operands; behind -- all words are operands.
+
+Options:
+  -F       patterns are literals, as they always are here: changes nothing
+  -c       write only the number of selected lines of each file
+  -e LIST  use the patterns of LIST, which are separated by newlines
+  -f FILE  use the lines of FILE as patterns
+  -i       ignore the difference between A to Z and a to z
+  -l       write only the names of the files that have a selected line
+  -n       write before each line its number in its file, from 1 on
+  -q       write nothing, and end at the first selected line
+  -s       write no message on a file to search that cannot be opened or read
+  -v       select the lines that match no pattern
+  -x       let a pattern match whole lines only
+  --help   write this text, to standard error and with status 2
+
+A line matches if it contains a pattern, byte by byte; a null pattern matches
+every line, with -x every empty one. -e and -f may be repeated and mixed, and
+all their patterns count. A pattern that begins with - goes behind -- or into
+a pattern file. Of -c, -l and -q, -q goes before -l, and -l before -c.
+
+Limits: 4096 patterns of at most 4095 bytes each and 1048576 in all; 1024
+different literals; 1052672 bytes in one LIST or pattern file. What is beyond
+is refused with `litgrep: patterns refused (N)`, N being 2 for too many
+patterns, 3 for one that is too long, 6 for too many different literals and 7
+for too many bytes.
+
+Status: 0 if a line is selected, 1 if none is, 2 at an error; with -q 0 if a
+line is selected, whatever the errors.
+
+Examples:
+  litgrep -n -e cat -e dog notes.txt
+      the lines of notes.txt with cat or dog, and their numbers
+  tail -f log | litgrep -i -f words
+      the new lines of log with a word of the file words, as they come
+";
