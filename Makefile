@@ -9,7 +9,7 @@
 #   CPU=x86-64-v3           builds for newer processors
 
 PROGRAMS = litgrep litplan
-MEASURES = bench_check
+MEASURES = bench_check bench_lanes bench_scan
 PREFIX = /usr/local
 CPU =
 

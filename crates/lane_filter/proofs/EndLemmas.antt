@@ -29,13 +29,7 @@ module _ (P : ℕ → Type 0) where
       let there = (m.all end low high holds).1 in
       absurd (omega (arith, there, ap (λ x. bit_at x (end - first)) none ∙ bit_at-zero (end - first)))
 
-  pub unmarked : (from first done : ℕ) → from ≤ done → NoneWithin P from done → AreMarked P from first done 0
-  unmarked from first done le quiet = record {
-    reached = le;
-    set = λ k s. absurd (omega (arith, s, bit_at-zero k));
-    all = λ end low high holds. absurd (quiet end low high holds);
-  }
-
+  -- the mask 1 has its lowest bit alone
   bits_of_one : (k : ℕ) → bit_at 1 k ≡ 1 → k ≡ 0
   bits_of_one zero s = refl
   bits_of_one (suc k) s = absurd (omega (arith, s, bit_at-suc 1 k, bit_at-zero k))

@@ -4,10 +4,12 @@ use Rattle.std.specs.Int.Bits.{or_zero_l, or_zero_r}
 use Rattle.std.proofs.lemmas.Bool.{cases_eq, ne_eqb, eq-eqb}
 use Rattle.lane_filter.specs.Entries.{entries_value}
 
+-- no entries give nothing
 pub entries_value-none : (halves values : List ℕ) (half : ℕ) → entries_value halves values 0 half ≡ 0
 unfolding entries_value
 entries_value-none halves values half = refl
 
+-- the entry behind the first n is joined to what they give
 pub entries_value-more : (halves values : List ℕ) (n half : ℕ)
     → entries_value halves values (n + 1) half ≡ bit_or (entries_value halves values n half) (cond (eqb half (get_or halves n 0)) (get_or values n 0) 0)
 unfolding entries_value

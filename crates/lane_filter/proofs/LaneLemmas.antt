@@ -52,6 +52,7 @@ halves_in_range halves long small =
     SwzOk-from_below w8 16 2 32 0 halves refl (omega arith)
     (Each1-from_get_or (λ j. j < 16) halves 0 (λ k l. small k (omega arith)))
 
+-- in a vector that holds a table twice they find its entries
 pub lanes_looked_up : (wide halves entries : List ℕ) → length halves ≡ 32 → ((k : ℕ) → k < 32 → get_or halves k 0 < 16) → HoldsTwice wide entries
     → HasLanes (swz_l w8 16 wide 0 halves) (λ k. get_or entries (get_or halves k 0) 0)
 lanes_looked_up wide halves entries long small twice = record {
@@ -62,6 +63,7 @@ lanes_looked_up wide halves entries long small twice = record {
       ∙ ap (λ j. get_or wide j 0) (omega arith) ∙ twice.each (16 * (k / 16) + get_or halves k 0) (omega arith) ∙ ap (λ j. get_or entries j 0) (omega arith);
 }
 
+-- the test of a lane, as a bit
 set_if_not_zero : (x : ℕ) (b : Bool) → eqb x 0 ≡ b → (cond {A = ℕ} (not b) 1 0 ≡ 1) ↔ (x ≢ 0)
 set_if_not_zero x true e = (λ h. absurd (omega arith), λ ne. absurd (ne (eqb-true x 0 e)))
 set_if_not_zero x false e = (λ h. eqb-false x 0 e, λ h. refl)

@@ -1,5 +1,5 @@
 //! The places of a text at which an occurrence may end.
-ghost use Rattle.std.specs.Prelude.{◌≡◌, ◌≢◌, ℕ, ◌+◌, ◌<◌, ◌≤◌, List, length, IfSome};
+ghost use Rattle.std.specs.Prelude.{◌≡◌, ◌+◌, ◌<◌, ◌≤◌, length, IfSome};
 ghost use Rattle.std.specs.Option.{IfNone};
 ghost use Rattle.nib_mask.specs.Candidates.{IsCandidate};
 ghost use Rattle.lane_filter.specs.Ends.{NoneWithin, IsFirstAfter, AreMarked};

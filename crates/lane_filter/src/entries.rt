@@ -1,5 +1,5 @@
 //! The tables of a filter as lists of their entries that are not zero, for look-ups by comparisons.
-ghost use Rattle.std.specs.Prelude.{◌≡◌, ℕ, ◌+◌, ◌/◌, ◌%◌, ◌<◌, ◌≤◌, ◌==◌, if◌then◌else◌, List, length, slice_index, bit_and, bit_or};
+ghost use Rattle.std.specs.Prelude.{ℕ, ◌+◌, ◌/◌, ◌%◌, ◌≤◌, List, length, slice_index, bit_and};
 
 use crate::four::Four;
 use nib_mask::Masks;

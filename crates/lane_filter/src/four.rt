@@ -1,5 +1,5 @@
 //! Four vectors in a row, which share what is made ready for each: 128 places.
-ghost use Rattle.std.specs.Prelude.{◌≡◌, ℕ, ◌+◌, ◌/◌, ◌%◌, ◌<◌, ◌≤◌, ◌==◌, if◌then◌else◌, length, slice_index, bit_and, bit_or};
+ghost use Rattle.std.specs.Prelude.{ℕ, ◌+◌, ◌/◌, ◌%◌, ◌≤◌, ◌==◌, if◌then◌else◌, length, slice_index, bit_and, bit_or};
 
 use crate::lanes::{both, either, high_halves, load, low_halves, store, value_where};
 use std::simd::prelude::*;

@@ -1,4 +1,7 @@
 //! The filter of a packed search over many places at once, by vectors of 32 bytes.
+//!
+//! Theorems: `filter` and `filter_wide` write the plain filter byte at each place, for every length;
+//! `Candidates` hands out exactly the candidates of a text, in order and each once.
 #![tactic(auto)]
 
 mod bits;
@@ -12,3 +15,6 @@ mod tables;
 
 pub use candidates::Candidates;
 pub use kernels::{any_set, filter, filter_wide};
+
+#[cfg(test)]
+mod tests;

@@ -1,5 +1,5 @@
 //! The filter place by place.
-ghost use Rattle.std.specs.Prelude.{◌≡◌, ◌≢◌, ◌↔◌, ℕ, ◌+◌, ◌-◌, ◌<◌, ◌≤◌, List, [], ◌∷◌, length, slice_index, IsTrue};
+ghost use Rattle.std.specs.Prelude.{◌≡◌, ◌↔◌, ◌+◌, ◌-◌, ◌≤◌, ◌∷◌, length, slice_index, IsTrue};
 ghost use Rattle.nib_mask.specs.Candidates.{IsCandidate};
 ghost use Rattle.lane_filter.specs.Filtered.{IsFilteredBelow};
 

@@ -1,5 +1,5 @@
 //! The tables of a filter as vectors, and what they give 32 or 64 places.
-ghost use Rattle.std.specs.Prelude.{◌≡◌, ◌≢◌, ◌↔◌, ℕ, ◌+◌, ◌*◌, ◌/◌, ◌%◌, ◌<◌, ◌≤◌, List, length, slice_index, bit_and};
+ghost use Rattle.std.specs.Prelude.{ℕ, ◌+◌, ◌/◌, ◌%◌, ◌≤◌, List, length, slice_index, bit_and};
 ghost use Rattle.lane_filter.specs.Lanes.{HasLanes, HoldsTwice, Tells};
 ghost use Rattle.nib_mask.specs.declared.masks.Masks.{Masks};
 ghost use Rattle.nib_mask.specs.Tables.{table_value};
@@ -12,12 +12,12 @@ use std::simd::prelude::*;
 /// the low half of a byte and by the high one.
 #[derive(Clone, Copy)]
 pub(crate) struct Tables {
-    pub(crate) third_low: u8x32,
-    pub(crate) third_high: u8x32,
-    pub(crate) second_low: u8x32,
-    pub(crate) second_high: u8x32,
-    pub(crate) last_low: u8x32,
-    pub(crate) last_high: u8x32,
+    third_low: u8x32,
+    third_high: u8x32,
+    second_low: u8x32,
+    second_high: u8x32,
+    last_low: u8x32,
+    last_high: u8x32,
 }
 
 impl Tables {

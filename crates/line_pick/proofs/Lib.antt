@@ -1,4 +1,5 @@
 pub mod Blocks
+pub mod Counts
 pub mod Crossing
 pub mod HitLemmas
 pub mod LentLemmas

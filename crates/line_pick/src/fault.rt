@@ -1,7 +1,9 @@
 //! Why lines are not lent.
 ghost use Rattle.std.specs.Prelude.{◌≡◌};
 ghost use Rattle.line_pick.specs.Faults.{number_of};
+ghost use Rattle.line_pick.specs.declared.fault.Fault.TheVariants.{OutOfMemory};
 
+use std::alloc::AllocError;
 use thiserror::Error;
 
 /// Why lines are not lent.
@@ -27,5 +29,13 @@ impl Fault {
             Fault::WriteFault => 18,
             Fault::StreamTooLong => 20,
         }
+    }
+}
+
+impl From<AllocError> for Fault {
+    ghost from_gives = { λ _ e. e ≡ OutOfMemory };
+
+    fn from(_error: AllocError) -> Fault {
+        Fault::OutOfMemory
     }
 }

@@ -17,7 +17,7 @@ mod state;
 
 pub use fault::Fault;
 pub use line_rule::LineRule;
-pub use matcher::standing_law;
+pub use matcher::{is_in_lines, standing_law};
 pub use picker::Picker;
 pub use sink::{Next, Sink};
 pub use state::State;

@@ -1,6 +1,7 @@
 //! Which lines are selected.
-ghost use Rattle.std.specs.Prelude.{◌≡◌, ◌==◌, ◌&&◌, ◌<◌, ◌≤◌, ℕ, List, false, length, slice_index, true};
+ghost use Rattle.std.specs.Prelude.{◌≡◌, ◌==◌, ◌&&◌, ◌↔◌, All, IsTrue, ◌<◌, ◌≤◌, ℕ, List, false, length, slice_index, true};
 ghost use Rattle.std.specs.Option.{option_copied};
+ghost use Rattle.lit_base.specs.Lines.{IsOnePiece};
 ghost use Rattle.lit_base.specs.Literals.{lengths};
 ghost use Rattle.lit_base.specs.Selected.{matches};
 ghost use Rattle.line_pick.specs.Matching.{StandingLaw, fold_of, patterns_of, picks};
@@ -8,6 +9,7 @@ ghost use Rattle.line_pick.specs.Matching.{StandingLaw, fold_of, patterns_of, pi
 use crate::line_rule::LineRule;
 use flow_scan::{Compiled, next_end};
 use lit_base::LitList;
+use memchr::memchr;
 
 /// What lines are compared with: the literals of a plan, the null pattern, and the rule.
 #[derive(Clone, Copy, Debug)]
@@ -117,6 +119,19 @@ fn first_as_long(list: &LitList, len: usize) -> usize
         }
     }
     low
+}
+
+/// Whether no literal of the plan holds a newline, as a picker requires.
+pub fn is_in_lines(plan: &Compiled) -> bool
+    ensures { IsTrue result ↔ All IsOnePiece plan.now.literals.texts }
+{
+    let list = plan.list();
+    for place in 0..list.len() {
+        if memchr(b'\n', list.get(place)).is_some() {
+            return false;
+        }
+    }
+    true
 }
 
 /// The law of what stands for raw patterns: a plan whose literals are their normal form, and the null

@@ -124,3 +124,6 @@ fn answered(lent: Result<(), Halt>) -> Result<Next, Fault>
         Err(Halt::Failed(fault)) => Err(fault),
     }
 }
+
+#[cfg(test)]
+mod tests;

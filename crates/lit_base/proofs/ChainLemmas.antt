@@ -1,20 +1,14 @@
 -- The walk along a chain, and what the classes answer one after another.
-use Rattle.std.proofs.Common.{◌≡◌, ◌≢◌, ℕ, ◌+◌, ◌-◌, ◌<◌, true, false, ◌≤◌, List, length, get_or, set, max, IfSome, MatchOption, Option, Some, None, inl, inr, refl, sym, ap, ◌∙◌, subst, arith}
+use Rattle.std.proofs.Common.{◌≡◌, ℕ, ◌+◌, ◌-◌, ◌<◌, true, false, ◌≤◌, List, length, get_or, max, IfSome, MatchOption, Option, Some, None, inl, inr, sym, ap, ◌∙◌, subst, arith}
 use Rattle.std.specs.Option.{is_some}
 use Rattle.std.proofs.lemmas.Bool.{cases_eq, cases_lt}
 use Rattle.std.proofs.lemmas.Option.{slice_get_within}
-use Rattle.lit_base.specs.Chains.{IsNextWith, IsChained, IsClassOf, literal_at, hash_at}
+use Rattle.lit_base.specs.Chains.{IsNextWith, IsClassOf, Reaches, hash_at}
 use Rattle.lit_base.specs.Literals.{Literals}
 use Rattle.lit_base.specs.Occurrences.{Occurs, NoneEnds, IsFirstEnding}
 use Rattle.lit_base.specs.Suffixes.{suffix_key, hash_of}
 use Rattle.lit_base.specs.declared.suffix_class.SuffixClass.{SuffixClass}
 use Rattle.lit_base.proofs.SuffixLemmas.{AreBytes, key-occurs}
-
--- a walk is on the chain of the text's key, and no literal of the class from least on that it passed ends there
-pub record Reaches (l : Literals) (text : List ℕ) (end : ℕ) (class : SuffixClass) (least next : ℕ) : Type 0 where
-  pub within : next ≤ length class.keys.items
-  pub passed : (i : ℕ) → least ≤ i → i < next → ¬ Occurs l text (class.start + i) end
-  pub has : next < length class.keys.items → hash_at class.bits class.keys.items next ≡ hash_of class.bits (suffix_key l.folding text end class.width)
 
 module _ (l : Literals) (text : List ℕ) (end stop : ℕ) (class : SuffixClass) (chains : IsClassOf l class.start stop class) (bytes : AreBytes text) where
   -- where a literal of the class ends, the text has the key that is kept of it

@@ -1,16 +1,19 @@
 -- Keys of last bytes: how they are computed, and that a text has the key of each literal that ends in it.
-use Rattle.std.proofs.Common.{◌≡◌, ℕ, zero, suc, ◌+◌, ◌-◌, ◌*◌, ◌/◌, ◌^◌, ◌<◌, ◌≤◌, Bool, true, false, ◌&&◌, eqb, List, [], ◌∷◌, ◌++◌, length, get_or, map, drop, take, replicate, Some, inl, inr, refl, sym, ap, ◌∙◌, subst, arith}
+use Rattle.std.proofs.Common.{◌≡◌, ℕ, zero, suc, ◌+◌, ◌-◌, ◌*◌, ◌/◌, ◌^◌, ◌<◌, ◌≤◌, Bool, true, false, ◌&&◌, eqb, List, [], ◌∷◌, ◌++◌, length, get_or, drop, take, replicate, inl, inr, refl, sym, ap, ◌∙◌, subst, arith}
 use Rattle.std.proofs.Common.{Fits, w8}
 use Rattle.std.proofs.Math.Facts.{Fits-lt-pow}
+use borrow.Rule.Slice.PartMut.{put_mid}
 use Rattle.std.specs.Int.{w64, from_le_bytes}
-use Rattle.std.specs.Int.RustNames.{bit_or}
-use Rattle.std.specs.List.{slice_get, slice_range, between}
+use Rattle.std.specs.Int.RustNames.{bit_and, bit_or}
+use Rattle.std.specs.List.{slice_range}
 use Rattle.std.specs.Option.{unwrap_or}
 use Rattle.std.proofs.lemmas.Bool.{cases_lt}
 use Rattle.std.proofs.lemmas.Bool.Decides.{nat_tests, Decides-eqb}
-use Rattle.std.proofs.lemmas.List.{drop-drop, drop-map, drop-replicate, get_or_past, length-append, length-replicate}
+use Rattle.std.proofs.lemmas.List.{append-nil, drop-drop, drop-map, drop_all, take-replicate, get_or_past, length-append, length-replicate}
 use Rattle.std.proofs.lemmas.List.Edits.{length-between, get_or-between}
-use Rattle.std.proofs.lemmas.Nat.{shr-shr, shr_high, or_block}
+use Rattle.std.proofs.lemmas.Nat.{pow-add, shr-shr, shr_high, or_block}
+use Rattle.std.proofs.lemmas.Nat.Bits.{and_high_mask}
+use Rattle.std.proofs.Math.Nat.{mul_assoc}
 use Rattle.std.proofs.lemmas.Option.{unwrap_or-slice_get}
 use Rattle.std.proofs.lemmas.Slice.{between_is, between_to_end}
 use Rattle.lit_base.specs.declared.fold.Fold.{Fold}
@@ -19,7 +22,7 @@ use Rattle.lit_base.specs.Chains.{literal_at}
 use Rattle.lit_base.specs.Folding.{folded, folded_text}
 use Rattle.lit_base.specs.Literals.{Literals}
 use Rattle.lit_base.specs.Occurrences.{Occurs}
-use Rattle.lit_base.specs.Suffixes.{spelled, case_bits, suffix_key}
+use Rattle.lit_base.specs.Suffixes.{spelled, case_bits, last_bits, suffix_key}
 
 -- the elements are bytes
 pub record AreBytes (bs : List ℕ) : Type 0 where
@@ -44,14 +47,14 @@ spelled-drop (suc k) (b ∷ bs) h =
     ∙ ap (λ n. n / 2 ^ (8 * k)) (shr_high (spelled bs) 8 b first)
     ∙ spelled-drop k bs (rest_bytes b bs h)
 
--- zeros behind spell nothing
-spelled-zeros : (n : ℕ) → spelled (replicate n 0) ≡ 0
-spelled-zeros zero = refl
-spelled-zeros (suc n) = omega (arith, spelled-zeros n)
-
-spelled-append-zeros : (bs : List ℕ) (n : ℕ) → spelled (bs ++ replicate n 0) ≡ spelled bs
-spelled-append-zeros [] n = spelled-zeros n
-spelled-append-zeros (b ∷ bs) n = omega (arith, spelled-append-zeros bs n)
+-- zeros in front shift what is spelled
+spelled-zeros : (n : ℕ) (bs : List ℕ) → spelled (replicate n 0 ++ bs) ≡ spelled bs * 2 ^ (8 * n)
+spelled-zeros zero bs = omega arith
+spelled-zeros (suc n) bs =
+    let whole : 8 * suc n ≡ 8 * n + 8 = omega arith in
+    let split : 2 ^ (8 * suc n) ≡ 2 ^ (8 * n) * 2 ^ 8 = ap (λ k. 2 ^ k) whole ∙ pow-add 2 (8 * n) 8 in
+    let rest = spelled-zeros n bs in
+    ap (λ k. k * 256 + 0) rest ∙ omega arith ∙ mul_assoc (spelled bs) (2 ^ (8 * n)) 256 ∙ ap (λ k. spelled bs * k) (sym split)
 
 -- std reads eight bytes as the number that they spell
 read_is_spelled : (bs : List ℕ) → length bs ≡ 8 → from_le_bytes w64 bs ≡ spelled bs
@@ -66,14 +69,22 @@ read_is_spelled (a ∷ b ∷ c ∷ d ∷ e ∷ f ∷ []) len = absurd (omega ari
 read_is_spelled (a ∷ b ∷ c ∷ d ∷ e ∷ f ∷ g ∷ []) len = absurd (omega arith)
 read_is_spelled (a ∷ b ∷ c ∷ d ∷ e ∷ f ∷ g ∷ h ∷ i ∷ more) len = absurd (omega arith)
 
--- and so at most eight, with zeros behind them
-pub padded : (xs bytes : List ℕ) → xs ≡ bytes → length bytes ≤ 8 → from_le_bytes w64 (xs ++ drop (length bytes) (replicate 8 0)) ≡ spelled bytes
+padded_len : (bytes : List ℕ) → length bytes ≤ 8 → length (replicate (8 - length bytes) 0 ++ bytes) ≡ 8
+padded_len bytes few = omega (arith, length-append (replicate (8 - length bytes) 0) bytes, length-replicate {A = ℕ} (8 - length bytes) 0)
+
+-- and so at most eight, with zeros in front of them
+pub padded : (xs bytes : List ℕ) → xs ≡ bytes → length bytes ≤ 8
+    → from_le_bytes w64 (put_mid (8 - length bytes) (8 - (8 - length bytes)) (replicate 8 0) xs) ≡ spelled (replicate (8 - length bytes) 0 ++ bytes)
 padded xs bytes same few =
-    let zeros : drop (length bytes) (replicate 8 0) ≡ replicate (8 - length bytes) 0 = drop-replicate (length bytes) 8 0 in
-    ap (λ s. from_le_bytes w64 (s ++ drop (length bytes) (replicate 8 0))) same
-    ∙ ap (λ z. from_le_bytes w64 (bytes ++ z)) zeros
-    ∙ read_is_spelled (bytes ++ replicate (8 - length bytes) 0) (omega (arith, length-append bytes (replicate (8 - length bytes) 0), length-replicate {A = ℕ} (8 - length bytes) 0))
-    ∙ spelled-append-zeros bytes (8 - length bytes)
+    let room : ℕ = 8 - length bytes in
+    let front : take room (replicate 8 0) ≡ replicate room 0 = take-replicate room 8 0 (omega arith) in
+    let behind : drop (8 - room) (drop room (replicate 8 0)) ≡ [] =
+    drop-drop (8 - room) room (replicate 8 0) ∙ drop_all (room + (8 - room)) (replicate 8 0) (omega (arith, length-replicate {A = ℕ} 8 0)) in
+    let list : put_mid room (8 - room) (replicate 8 0) xs ≡ replicate room 0 ++ bytes =
+    ap (λ z. z ++ (xs ++ drop (8 - room) (drop room (replicate 8 0)))) front
+    ∙ ap (λ z. replicate room 0 ++ (xs ++ z)) behind
+    ∙ ap (λ z. replicate room 0 ++ z) (append-nil xs ∙ same) in
+    ap (from_le_bytes w64) list ∙ read_is_spelled (replicate room 0 ++ bytes) (padded_len bytes few)
 
 -- the bit of a letter's case in one byte, and in each of some bytes
 abbrev case_bit : Fold → ℕ
@@ -151,14 +162,47 @@ range_bytes text from end inside bytes = record {
   ];
 }
 
--- of the number that eight bytes spell, the high bits are what the last of them spell
-pub shifted : (text : List ℕ) (end width : ℕ) → AreBytes text → width ≤ 8 → 8 ≤ end → end ≤ length text
-    → spelled (slice_range text (end - 8) end) / 2 ^ (64 - 8 * width) ≡ spelled (slice_range text (end - width) end)
-shifted text end width bytes narrow room inside =
-    let bits : 64 - 8 * width ≡ 8 * (8 - width) = omega arith in
-    ap (λ n. spelled (slice_range text (end - 8) end) / 2 ^ n) bits
-    ∙ spelled-drop (8 - width) (slice_range text (end - 8) end) (range_bytes text (end - 8) end inside bytes)
-    ∙ ap spelled (drop-range text (end - 8) (end - width) (8 - width) end (omega arith))
+-- of the number that eight bytes spell, the last bits are what the last of them spell behind zeros
+pub masked : (text : List ℕ) (end width word : ℕ) → AreBytes text → width ≤ 8 → 8 ≤ end → end ≤ length text → word < 2 ^ 64 → word ≡ spelled (slice_range text (end - 8) end)
+    → bit_and word (last_bits width) ≡ spelled (replicate (8 - width) 0 ++ slice_range text (end - width) end)
+masked text end width word bytes narrow room inside fits is =
+    and_high_mask 64 (8 * (8 - width)) (omega arith) word fits
+    ∙ ap (λ n. n / 2 ^ (8 * (8 - width)) * 2 ^ (8 * (8 - width))) is
+    ∙ ap (λ n. n * 2 ^ (8 * (8 - width))) (spelled-drop (8 - width) (slice_range text (end - 8) end) (range_bytes text (end - 8) end inside bytes))
+    ∙ ap (λ s. spelled s * 2 ^ (8 * (8 - width))) (drop-range text (end - 8) (end - width) (8 - width) end (omega arith))
+    ∙ sym (spelled-zeros (8 - width) (slice_range text (end - width) end))
+
+-- what bytes spell fits as many bytes
+spelled_below : (bs : List ℕ) → AreBytes bs → spelled bs < 2 ^ (8 * length bs)
+spelled_below [] h = omega arith
+spelled_below (b ∷ bs) h =
+    let first : b < 256 = h.small 0 in
+    let whole : 8 * length (b ∷ bs) ≡ 8 * length bs + 8 = omega arith in
+    let split : 2 ^ (8 * length (b ∷ bs)) ≡ 2 ^ (8 * length bs) * 256 = ap (λ k. 2 ^ k) whole ∙ pow-add 2 (8 * length bs) 8 in
+    let rest = spelled_below bs (rest_bytes b bs h) in
+    omega (arith, split, rest, first)
+
+pub spelled_fits : (text : List ℕ) (end : ℕ) → AreBytes text → 8 ≤ end → end ≤ length text → spelled (slice_range text (end - 8) end) < 2 ^ 64
+spelled_fits text end bytes room inside =
+    let len : length (slice_range text (end - 8) end) ≡ 8 = length-between text (end - 8) end inside ∙ omega arith in
+    subst (λ n. spelled (slice_range text (end - 8) end) < 2 ^ (8 * n)) len (spelled_below (slice_range text (end - 8) end) (range_bytes text (end - 8) end inside bytes))
+
+-- zeros in front are bytes too, and fold to themselves
+zeros_bytes : (n : ℕ) (bs : List ℕ) → AreBytes bs → AreBytes (replicate n 0 ++ bs)
+zeros_bytes zero bs h = h
+zeros_bytes (suc n) bs h = zero_first (replicate n 0 ++ bs) (zeros_bytes n bs h)
+  where
+    at : (s : List ℕ) → AreBytes s → (i : ℕ) → get_or (0 ∷ s) i 0 < 256
+    at s h zero = omega arith
+    at s h (suc i) = h.small i
+
+    zero_first : (s : List ℕ) → AreBytes s → AreBytes (0 ∷ s)
+    zero_first s h = record { small = at s h }
+
+folded-zeros : (fold : Fold) (n : ℕ) (bs : List ℕ) → folded_text fold (replicate n 0 ++ bs) ≡ replicate n 0 ++ folded_text fold bs
+folded-zeros fold zero bs = refl
+folded-zeros No (suc n) bs = ap (λ s. 0 ∷ s) (folded-zeros No n bs)
+folded-zeros Ascii (suc n) bs = ap (λ s. 0 ∷ s) (folded-zeros Ascii n bs)
 
 -- the last bytes of a literal are the folded ones before its end
 last_bytes : (fold : Fold) (text t : List ℕ) (end width : ℕ) → width ≤ length t → length t ≤ end → end ≤ length text → folded_text fold (slice_range text (end - length t) end) ≡ t
@@ -177,11 +221,16 @@ same_key : (fold : Fold) (text t : List ℕ) (end width : ℕ) → AreBytes text
 unfolding suffix_key
 same_key fold text t end width bytes narrow wide room inside is =
     let part : List ℕ = slice_range text (end - width) end in
+    let zeros : List ℕ = replicate (8 - width) 0 in
     let len : length part ≡ end - (end - width) = length-between text (end - width) end inside in
-    let small : AreBytes part = range_bytes text (end - width) end inside bytes in
-    let alike = spelled-folded fold 8 part (omega arith) small in
-    let literal = ap (λ s. bit_or (spelled s) (case_bits fold)) (last_bytes fold text t end width wide room inside is) in
-    subst (λ m. bit_or (spelled part) m ≡ bit_or (spelled (folded_text fold part)) m) (eight_case_bits fold) (sym alike) ∙ sym literal
+    let whole : length (zeros ++ part) ≤ 8 = omega (arith, length-append zeros part, length-replicate {A = ℕ} (8 - width) 0) in
+    let small : AreBytes (zeros ++ part) = zeros_bytes (8 - width) part (range_bytes text (end - width) end inside bytes) in
+    let alike = spelled-folded fold 8 (zeros ++ part) whole small in
+    let fold_behind : folded_text fold (zeros ++ part) ≡ zeros ++ folded_text fold part = folded-zeros fold (8 - width) part in
+    let literal = ap (λ s. bit_or (spelled (zeros ++ s)) (case_bits fold)) (last_bytes fold text t end width wide room inside is) in
+    subst (λ m. bit_or (spelled (zeros ++ part)) m ≡ bit_or (spelled (folded_text fold (zeros ++ part))) m) (eight_case_bits fold) (sym alike)
+    ∙ ap (λ s. bit_or (spelled s) (case_bits fold)) fold_behind
+    ∙ sym literal
 
 -- where a literal ends, the text has its key
 pub key-occurs : (l : Literals) (text : List ℕ) (place end width : ℕ) → AreBytes text → width ≤ 8 → width ≤ length (literal_at l place) → Occurs l text place end

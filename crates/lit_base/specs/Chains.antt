@@ -3,6 +3,7 @@ use Rattle.std.specs.Prelude.{◌≡◌, ◌≢◌, ℕ, ◌+◌, ◌^◌, ◌<�
 use Rattle.lit_base.specs.declared.suffix_chains.SuffixChains.{SuffixChains}
 use Rattle.lit_base.specs.declared.suffix_class.SuffixClass.{SuffixClass}
 use Rattle.lit_base.specs.Literals.{Literals}
+use Rattle.lit_base.specs.Occurrences.{Occurs}
 use Rattle.lit_base.specs.Suffixes.{suffix_key, hash_of}
 
 -- next is the first number from low on that hashes so, or count where there is none below count
@@ -44,3 +45,9 @@ pub record AreChainsOf (l : Literals) (chains : SuffixChains) : Type 0 where
   pub twos : IsClassOf l chains.twos.start chains.fours.start chains.twos
   pub fours : IsClassOf l chains.fours.start chains.eights.start chains.fours
   pub eights : IsClassOf l chains.eights.start (length l.texts) chains.eights
+
+-- a walk stands on the chain of the text's key, and no literal of the class from least on that it passed ends there
+pub record Reaches (l : Literals) (text : List ℕ) (end : ℕ) (class : SuffixClass) (least next : ℕ) : Type 0 where
+  pub within : next ≤ length class.keys.items
+  pub passed : (i : ℕ) → least ≤ i → i < next → ¬ Occurs l text (class.start + i) end
+  pub has : next < length class.keys.items → hash_at class.bits class.keys.items next ≡ hash_of class.bits (suffix_key l.folding text end class.width)

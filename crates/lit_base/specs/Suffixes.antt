@@ -1,5 +1,5 @@
 -- Keys of the last bytes of a text, by which the literals that may end there are found.
-use Rattle.std.specs.Prelude.{ℕ, ◌+◌, ◌-◌, ◌*◌, ◌/◌, ◌%◌, ◌^◌, List, [], ◌∷◌, slice_range}
+use Rattle.std.specs.Prelude.{ℕ, ◌+◌, ◌-◌, ◌*◌, ◌/◌, ◌%◌, ◌^◌, List, [], ◌∷◌, ◌++◌, replicate, slice_range}
 use Rattle.std.specs.Int.RustNames.{bit_or}
 use Rattle.lit_base.specs.declared.fold.Fold.{Fold}
 use Rattle.lit_base.specs.declared.fold.Fold.TheVariants.{No, Ascii}
@@ -14,9 +14,13 @@ abbrev pub case_bits : Fold → ℕ
 case_bits No = 0
 case_bits Ascii = 2314885530818453536
 
--- the key of some bytes before a place of a text: what they spell, without the case of letters
+-- the key of some bytes before a place of a text: what they spell, behind zeros as eight bytes, without the case of letters
 unfoldable pub suffix_key : Fold → List ℕ → ℕ → ℕ → ℕ
-suffix_key fold text end width = bit_or (spelled (slice_range text (end - width) end)) (case_bits fold)
+suffix_key fold text end width = bit_or (spelled (replicate (8 - width) 0 ++ slice_range text (end - width) end)) (case_bits fold)
+
+-- the bits of the last bytes of eight
+abbrev pub last_bits : ℕ → ℕ
+last_bits width = 2 ^ 64 - 2 ^ (8 * (8 - width))
 
 -- the hash of a key, of this many bits
 unfoldable pub hash_of : ℕ → ℕ → ℕ

@@ -1,7 +1,7 @@
 ghost use Rattle.std.specs.Prelude.{◌≡◌, ℕ, ◌+◌, max, ◌<◌, ◌≤◌, ◌-◌, ◌↔◌, ◌⊎◌, [], All, Contains, IfErr, IfOk, IfSome, IsTrue, MatchOption, length, slice_index_or, slice_index};
 ghost use Rattle.std.specs.List.{AllZip};
 ghost use Rattle.std.specs.List.Sorted.{IsNonDecreasing};
-ghost use Rattle.lit_base.specs.Chains.{IsClassOf};
+ghost use Rattle.lit_base.specs.Chains.{IsClassOf, Reaches};
 ghost use Rattle.lit_base.specs.Folding.{folded_text};
 ghost use Rattle.lit_base.specs.Literals.{lengths, IsNormal};
 ghost use Rattle.lit_base.specs.Occurrences.{IsFirstEnding, NoneEnds, Occurs};
@@ -136,7 +136,7 @@ impl LitList {
             (λ place. IsFirstEnding self.now text.now from end place) }
         ensures within { IfSome result (λ place. place < length self.now.texts) }
     {
-        if from == 0 && self.filter.rules_out(self.folding, text, end) {
+        if from == 0 && self.filter.rules_out(text, end) {
             return None;
         }
         self.next_in_chains(text, end, from)
@@ -165,6 +165,7 @@ impl LitList {
     }
 
     /// The first literal of the class from place `from` on that ends at `end`, if there is one.
+    #[inline]
     fn next_in(&self, class: &SuffixClass, text: &[u8], end: usize, from: usize) -> Option<usize>
         requires class { IsClassOf self.now class.now.start (class.now.start + length class.now.keys.items) class.now }
         requires whole { class.now.start + length class.now.keys.items ≤ length self.now.texts }
@@ -180,8 +181,36 @@ impl LitList {
             return None;
         }
         let key = suffix_key(self.folding, text, end, class.width);
-        let mut next = class.first_with(key, least);
-        while next < count {
+        let next = class.first_with(key, least);
+        if count <= next {
+            return None;
+        }
+        self.walk(class, text, end, key, least, next)
+    }
+
+    /// The first literal of the class from `least` on that ends at `end`, by the rest of a chain.
+    #[inline(never)]
+    fn walk(
+        &self,
+        class: &SuffixClass,
+        text: &[u8],
+        end: usize,
+        key: u64,
+        least: usize,
+        mut next: usize,
+    ) -> Option<usize>
+        requires class { IsClassOf self.now class.now.start (class.now.start + length class.now.keys.items) class.now }
+        requires whole { class.now.start + length class.now.keys.items ≤ length self.now.texts }
+        requires inside { end ≤ length text.now }
+        requires few { length self.now.texts ≤ MAX_LITERALS }
+        requires key { key ≡ suffix_key self.now.folding text.now end class.now.width }
+        requires reaches { Reaches self.now text.now end class.now least next }
+        ensures first { MatchOption result
+            ((place : ℕ) → class.now.start + least ≤ place → place < class.now.start + length class.now.keys.items → ¬ Occurs self.now text.now place end)
+            (λ place. IsFirstEnding self.now text.now (class.now.start + least) end place) }
+        ensures within { IfSome result (λ place. place < class.now.start + length class.now.keys.items) }
+    {
+        while next < class.keys.len() {
             if least <= next && self.ends_with_key(class, text, end, key, next) {
                 return Some(class.start + next);
             }
@@ -261,5 +290,7 @@ pub struct Normal {
     pub place_of: Vec<Option<u16>>,
 }
 
+#[cfg(test)]
+mod ending_tests;
 #[cfg(test)]
 mod tests;

@@ -1,5 +1,5 @@
 //! All literals, chained by the hash of their last bytes.
-ghost use Rattle.std.specs.Prelude.{◌≡◌, ℕ, ◌<◌, ◌≤◌, All, length, slice_index_or, IfOk, []};
+ghost use Rattle.std.specs.Prelude.{ℕ, ◌<◌, ◌≤◌, All, length, slice_index_or, IfOk, []};
 ghost use Rattle.lit_base.specs.Chains.{AreChainsOf};
 ghost use Rattle.lit_base.specs.declared.limits.TheConstants.{MAX_LITERALS};
 

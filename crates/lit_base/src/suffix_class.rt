@@ -1,6 +1,6 @@
 //! One class of the literals, chained by the hash of their last bytes.
 ghost use Rattle.std.specs.Prelude.{◌≡◌, ℕ, ◌+◌, ◌^◌, ◌<◌, ◌≤◌, length, slice_index, slice_index_or, IfOk, []};
-ghost use Rattle.lit_base.specs.Chains.{IsChained, IsClassOf, IsNextWith, hash_at};
+ghost use Rattle.lit_base.specs.Chains.{IsChained, IsClassOf, hash_at};
 ghost use Rattle.lit_base.specs.Suffixes.{hash_of, suffix_key};
 ghost use Rattle.lit_base.specs.declared.limits.TheConstants.{MAX_LITERALS};
 

@@ -1,56 +1,65 @@
 //! A mark for the hash of each literal's last bytes.
-ghost use Rattle.std.specs.Prelude.{◌≡◌, ℕ, ◌+◌, ◌*◌, ◌/◌, ◌^◌, ◌<◌, ◌≤◌, ◌↔◌, All, length, vec_len, slice_index_or, IfOk, IsTrue, []};
+ghost use Rattle.std.specs.Prelude.{◌≡◌, ℕ, ◌*◌, ◌/◌, ◌^◌, ◌<◌, ◌≤◌, ◌↔◌, All, length, vec_len, slice_index_or, slice_range, ◌-◌, IfOk, IsTrue, []};
 ghost use Rattle.lit_base.specs.Marks.{IsFilterOf, IsMarked};
-ghost use Rattle.lit_base.specs.Suffixes.{hash_of, suffix_key};
-ghost use Rattle.lit_base.specs.declared.limits.TheConstants.{MAX_LITERALS};
+ghost use Rattle.lit_base.specs.Suffixes.{hash_of, spelled};
+ghost use Rattle.std.specs.Int.RustNames.{bit_and, bit_or};
+ghost use Rattle.lit_base.specs.declared.suffix_filter.TheConstants.{FILTER_BITS};
 
 use crate::fold::Fold;
 use crate::literal::Literal;
-use crate::suffix_key::{hash_of, suffix_key};
+use crate::suffix_key::{case_bits, hash_of, last_bits, last_word, suffix_key};
 use std::alloc::{AllocError, Global};
 
-/// The marks of the literals' hashes, of which each takes one bit: 64 bits at least for a literal,
-/// so that few hashes of other bytes are marked.
+/// How many bits a hash has here: 64 times as many hashes as there may be literals, so that few
+/// other bytes have one that is marked.
+pub(crate) const FILTER_BITS: usize = 16;
+
+/// The marks of the hashes of the literals' last `width` bytes, of which each takes one bit.
 #[derive(Debug, Drop)]
 pub(crate) struct SuffixFilter {
     pub width: usize,
-    pub bits: usize,
+    /// The bits of the last `width` bytes of eight.
+    pub mask: u64,
+    /// The bits of case that are left out.
+    pub case_bits: u64,
     pub marks: Vec<u64>,
 }
 
 impl SuffixFilter {
     pub fn new(alloc: Global, fold: Fold, literals: &[Literal]) -> Result<SuffixFilter, AllocError>
-        requires nonempty { All (λ t. 0 < length t) literals.now }
-        requires few { length literals.now ≤ MAX_LITERALS }
+        requires { All (λ t. 0 < length t) literals.now }
         ensures { IfOk result (IsFilterOf (record { folding = fold; texts = literals.now })) }
     {
         let width = common_width(literals);
-        let word_bits = word_bits(literals.len());
-        let bits = word_bits + 6;
-        let mut marks = Vec::from_elem(alloc, 0, 1 << word_bits)?;
+        let mut marks = Vec::from_elem(alloc, 0, 1 << (FILTER_BITS - 6))?;
         for place in 0..literals.len() {
             let literal = literals[place].as_slice();
             let key = suffix_key(fold, literal, literal.len(), width);
-            mark(&mut marks, hash_of(bits, key));
+            mark(&mut marks, hash_of(FILTER_BITS, key));
         }
-        Ok(SuffixFilter { width, bits, marks })
+        Ok(SuffixFilter {
+            width,
+            mask: last_bits(width),
+            case_bits: case_bits(fold),
+            marks,
+        })
     }
 
     /// Whether the bytes before `end` have a hash that is not marked. It does not look at fewer than
     /// eight bytes.
     #[inline]
-    pub fn rules_out(&self, fold: Fold, text: &[u8], end: usize) -> bool
-        requires some { 0 < self.now.width }
-        requires narrow { self.now.width ≤ 8 }
-        requires hashed { (0 < self.now.bits) × (self.now.bits ≤ 32) }
-        requires room { length self.now.marks.items * 64 ≡ 2 ^ self.now.bits }
+    pub fn rules_out(&self, text: &[u8], end: usize) -> bool
+        requires room { length self.now.marks.items * 64 ≡ 2 ^ FILTER_BITS }
         requires inside { end ≤ length text.now }
-        ensures { IsTrue result ↔ ((8 ≤ end) × ¬ IsMarked self.now.marks.items (hash_of self.now.bits (suffix_key fold text.now end self.now.width))) }
+        ensures { IsTrue result ↔ ((8 ≤ end) × ¬ IsMarked self.now.marks.items (hash_of FILTER_BITS (bit_or (bit_and (spelled (slice_range text.now (end - 8) end)) self.now.mask) self.now.case_bits))) }
     {
         end >= 8
             && !is_marked(
                 self.marks.as_slice(),
-                hash_of(self.bits, suffix_key(fold, text, end, self.width)),
+                hash_of(
+                    FILTER_BITS,
+                    (last_word(text, end) & self.mask) | self.case_bits,
+                ),
             )
     }
 }
@@ -67,14 +76,6 @@ fn common_width(literals: &[Literal]) -> usize
         width = width.min(literal.as_slice().len());
     }
     width
-}
-
-/// How many bits tell words apart of which there are as many as literals, at least.
-fn word_bits(count: usize) -> usize
-    requires { count ≤ MAX_LITERALS }
-    ensures { result ≤ 26 }
-{
-    (2 * count.max(1) - 1).ilog2() as usize
 }
 
 fn mark(marks: &mut Vec<u64>, number: usize)

@@ -1,6 +1,6 @@
 //! Keys of the last bytes of a text, and their hashes.
 ghost use Rattle.std.specs.Prelude.{◌≡◌, ◌+◌, ◌-◌, ◌^◌, ◌<◌, ◌≤◌, ◌++◌, length, replicate, slice_range};
-ghost use Rattle.lit_base.specs.Suffixes.{case_bits, hash_of, spelled, suffix_key};
+ghost use Rattle.lit_base.specs.Suffixes.{case_bits, hash_of, last_bits, spelled, suffix_key};
 
 use crate::fold::Fold;
 
@@ -16,14 +16,24 @@ pub(crate) fn suffix_key(fold: Fold, text: &[u8], end: usize, width: usize) -> u
     let word = if end < 8 {
         padded_word(&text[end - width..end])
     } else {
-        last_word(text, end) >> (64 - 8 * width)
+        last_word(text, end) & last_bits(width)
     };
     word | case_bits(fold)
 }
 
+/// The bits of the last `width` bytes of eight.
+#[inline]
+pub(crate) fn last_bits(width: usize) -> u64
+    requires some { 0 < width }
+    requires narrow { width ≤ 8 }
+    ensures { result ≡ last_bits width }
+{
+    u64::MAX << (8 * (8 - width))
+}
+
 /// What the eight bytes before `end` spell.
 #[inline]
-fn last_word(text: &[u8], end: usize) -> u64
+pub(crate) fn last_word(text: &[u8], end: usize) -> u64
     requires room { 8 ≤ end }
     requires inside { end ≤ length text.now }
     ensures { result ≡ spelled (slice_range text.now (end - 8) end) }
@@ -41,18 +51,18 @@ fn last_word(text: &[u8], end: usize) -> u64
     ])
 }
 
-/// What at most eight bytes spell.
+/// What at most eight bytes spell behind zeros.
 fn padded_word(bytes: &[u8]) -> u64
     requires { length bytes.now ≤ 8 }
-    ensures { result ≡ spelled bytes.now }
+    ensures { result ≡ spelled (replicate (8 - length bytes.now) 0 ++ bytes.now) }
 {
     let mut word = [0; 8];
-    word[..bytes.len()].copy_from_slice(bytes);
+    word[8 - bytes.len()..].copy_from_slice(bytes);
     u64::from_le_bytes(word)
 }
 
 #[inline]
-fn case_bits(fold: Fold) -> u64
+pub(crate) fn case_bits(fold: Fold) -> u64
     ensures { result ≡ case_bits fold }
 {
     match fold {

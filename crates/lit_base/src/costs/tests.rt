@@ -2,6 +2,7 @@ use super::*;
 use crate::fold::Fold;
 use crate::raw_list::RawList;
 use std::alloc::Global;
+use std::process::Abort;
 use std::test::Fail;
 
 #[test]
@@ -101,13 +102,17 @@ fn prices_every_assignment_of_three_literals(rt: HostRuntime) -> Result<(), Fail
     Ok(())
 }
 
+fn has_price(rt: &impl Abort, list: &LitList, numbers: &[u8], price: u64) {
+    assert!(rt; is_assignment(list, numbers));
+    assert_eq!(rt; assign_cost(list, numbers), price, "{numbers:?}");
+}
+
 #[test]
 fn prices_a_bucket_by_its_shortest(rt: HostRuntime) -> Result<(), Fail> {
     let list = list_of(rt.alloc(), "a the")?;
-    for (numbers, price) in [([0, 0], 16584), ([7, 7], 16584), ([0, 1], 4647)] {
-        assert!(rt; is_assignment(&list, &numbers));
-        assert_eq!(rt; assign_cost(&list, &numbers), price, "{numbers:?}");
-    }
+    has_price(&rt, &list, &[0, 0], 16584);
+    has_price(&rt, &list, &[7, 7], 16584);
+    has_price(&rt, &list, &[0, 1], 4647);
     assert!(rt; !is_assignment(&list, &[0, 8]) && !is_assignment(&list, &[0]));
     Ok(())
 }

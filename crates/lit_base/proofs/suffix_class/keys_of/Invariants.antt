@@ -1,4 +1,4 @@
-use Rattle.std.proofs.Common.{◌≡◌, ℕ, ◌+◌, ◌<◌, ◌≤◌, [], length, slice_index, slice_index_or}
+use Rattle.std.proofs.Common.{◌≡◌, ℕ, ◌+◌, ◌<◌, [], length, slice_index, slice_index_or}
 use Rattle.lit_base.specs.Suffixes.{suffix_key}
 use Rattle.lit_base.proofs.suffix_class.keys_of.Given as goal
 

@@ -1,5 +1,5 @@
 -- One bit is set, and the others stay.
-use Rattle.std.proofs.Common.{◌≡◌, ◌/◌, ◌<◌, length, get_or, arith}
+use Rattle.std.proofs.Common.{◌/◌, ◌<◌, length, arith}
 use Rattle.std.proofs.lemmas.List.{get_or_read}
 use Rattle.lit_base.proofs.MarkLemmas.{marked_now, marked_still}
 use Rattle.lit_base.proofs.suffix_filter.mark.Goals as goal

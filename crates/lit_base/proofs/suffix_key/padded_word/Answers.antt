@@ -1,4 +1,4 @@
--- The bytes stand before zeros, which spell nothing.
+-- The bytes stand behind zeros.
 use Rattle.std.proofs.Common.{◌∙◌}
 use Rattle.lit_base.proofs.SuffixLemmas.{padded}
 use Rattle.lit_base.proofs.suffix_key.padded_word.Goals as goal

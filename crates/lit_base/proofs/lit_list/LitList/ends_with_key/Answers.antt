@@ -1,5 +1,5 @@
 -- Where the key is another, the literal does not end there.
-use Rattle.std.proofs.Common.{◌≡◌, ◌+◌, length, get_or, sym, ◌∙◌}
+use Rattle.std.proofs.Common.{◌≡◌, get_or, sym, ◌∙◌}
 use Rattle.std.proofs.lemmas.Bool.Decides.{Decides-eqb}
 use Rattle.std.proofs.lemmas.List.{get_or_read}
 use Rattle.lit_base.proofs.ChainLemmas.{kept_key}

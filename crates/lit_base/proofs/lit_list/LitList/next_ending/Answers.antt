@@ -1,7 +1,6 @@
 -- Where the hash is not marked, no literal ends.
-use Rattle.std.proofs.Common.{sym, subst}
-use Rattle.lit_base.specs.Marks.{IsFilterOf, IsMarked}
-use Rattle.lit_base.specs.Suffixes.{hash_of, suffix_key}
+use Rattle.std.proofs.Common.{subst}
+use Rattle.lit_base.specs.Marks.{IsFilterOf}
 use Rattle.lit_base.proofs.ChainLemmas.{found_within}
 use Rattle.lit_base.proofs.MarkLemmas.{marked-occurs}
 use Rattle.lit_base.proofs.SuffixLemmas.{are_bytes}
@@ -12,10 +11,8 @@ returns-then-rules_out-clause-first c = λ place low occurs.
     let filter = c.self.inside.filter in
     let text = c.args.text.now in
     let is : IsFilterOf c.args.self.now filter = subst (λ l. IsFilterOf l filter) c.self.view_is c.self.invariant.2 in
-    let marked = marked-occurs c.args.self.now filter text place c.args.end is (are_bytes text c.type_inv.text) occurs in
-    let there : IsMarked filter.marks.items (hash_of filter.bits (suffix_key c.self.inside.folding text c.args.end filter.width)) =
-    subst (λ l. IsMarked filter.marks.items (hash_of filter.bits (suffix_key l.folding text c.args.end filter.width))) (sym c.self.view_is) marked in
-    (c.rules_out.ensures.0 c.if-rules_out.true).1 there
+    let out = c.rules_out.ensures.0 c.if-rules_out.true in
+    out.1 (marked-occurs c.args.self.now filter text place c.args.end is (are_bytes text c.type_inv.text) out.0 c.requires occurs)
 
 pub returns-clause-within : goal.returns-clause-within
 returns-clause-within c = found_within c.args.self.now c.args.text.now c.args.from c.args.end c.next_in_chains.result c.next_in_chains.ensures

@@ -1,9 +1,6 @@
 -- Each class goes on where the one before it ends, and the last one ends with the literals.
-use Rattle.std.proofs.Common.{◌≡◌, ℕ, ◌+◌, ◌≤◌, length, max, Option, MatchOption, sym, ◌∙◌, subst, arith}
+use Rattle.std.proofs.Common.{length, subst, arith}
 use Rattle.lit_base.specs.Chains.{AreChainsOf}
-use Rattle.lit_base.specs.Literals.{Literals}
-use Rattle.lit_base.specs.Occurrences.{IsFirstEnding}
-use Rattle.lit_base.specs.declared.suffix_chains.SuffixChains.{SuffixChains}
 use Rattle.lit_base.proofs.ChainLemmas.{with_class, with_last, at_none, at_some}
 use Rattle.lit_base.proofs.lit_list.LitList.next_in_chains.Goals as goal
 

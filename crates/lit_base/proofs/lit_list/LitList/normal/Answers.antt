@@ -13,8 +13,8 @@ new-requires-clause-nonempty c =
     let normal = is_normal c.args.fold c.args.raw.now c.in_ok-literals.literals.items is c.in_ok-distinct.ensures.limits c.in_ok-literals.ensures.ok.1 in
     subst (All (λ t. 0 < length t)) (sym c.as_slice-2.ensures.value) normal.nonempty
 
-pub new-requires-2-clause-nonempty : goal.new-requires-2-clause-nonempty
-new-requires-2-clause-nonempty c =
+pub new-requires-2 : goal.new-requires-2
+new-requires-2 c =
     let is : c.in_ok-literals.literals.items ≡ normal_form c.args.fold c.args.raw.now = c.in_ok-literals.ensures.ok.0 ∙ c.in_ok-distinct.ensures.keys in
     let normal = is_normal c.args.fold c.args.raw.now c.in_ok-literals.literals.items is c.in_ok-distinct.ensures.limits c.in_ok-literals.ensures.ok.1 in
     subst (All (λ t. 0 < length t)) (sym c.as_slice-3.ensures.value) normal.nonempty

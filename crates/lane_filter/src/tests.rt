@@ -1,0 +1,205 @@
+ghost use Rattle.std.specs.Prelude.{◌<◌, ◌≤◌, length};
+
+use crate::{Candidates, any_set, filter, filter_wide};
+use lit_base::{Ends, Fault, Fold, LitList, RawList, is_cut};
+use nib_mask::{Masks, plain_byte};
+use std::alloc::{AllocError, Global};
+use std::test::Fail;
+
+/// Tables that let nothing through.
+const EMPTY: Masks = Masks {
+    low: [[0; 16]; 3],
+    high: [[0; 16]; 3],
+};
+
+/// Numbers that look random, the same in each run.
+fn next_number(state: &mut u64) -> u64 {
+    *state = state
+        .wrapping_mul(6_364_136_223_846_793_005)
+        .wrapping_add(1_442_695_040_888_963_407);
+    *state >> 33
+}
+
+/// Bytes of which most are letters.
+fn bytes(alloc: Global, len: usize) -> Result<Vec<u8>, AllocError> {
+    let letters = b"abcdefghij ABCDEF.\x00\xff\x81";
+    let mut state = 7;
+    let mut bytes = Vec::new(alloc);
+    for _ in 0..len {
+        let place = next_number(&mut state) % letters.len() as u64;
+        bytes.push(letters.get(place as usize).copied().unwrap_or(0))?;
+    }
+    Ok(bytes)
+}
+
+/// A list of so many words of one to eight letters.
+fn words(alloc: Global, fold: Fold, count: usize) -> Result<LitList, Fault> {
+    let mut state = 11;
+    let mut raw = RawList::new(alloc);
+    for _ in 0..count {
+        let mut word = [0; 8];
+        for letter in word.iter_mut() {
+            *letter = b'a' + (next_number(&mut state) % 10) as u8;
+        }
+        let len = 1 + (next_number(&mut state) % 8) as usize;
+        raw.push(&word[..len])?;
+    }
+    let (list, _) = LitList::normal(alloc, &raw, fold)?;
+    Ok(list)
+}
+
+/// The tables of a list, cut into runs of nearly equal numbers.
+fn masks_of(list: &LitList) -> Masks {
+    let mut ends = Ends::new();
+    for run in 1..=8 {
+        if let Ok(end) = u16::try_from(list.len().saturating_mul(run) / 8) {
+            if end > 0 && ends.last().is_none_or(|last| *last < end) {
+                let _pushed = ends.try_push(end);
+            }
+        }
+    }
+    if is_cut(list, &ends) {
+        Masks::of(list, &ends)
+    } else {
+        EMPTY
+    }
+}
+
+/// The tables of lists of 1, 8, 100 and 1,000 words, under both folds.
+fn all_masks(alloc: Global) -> Result<Vec<Masks>, Fault> {
+    let mut all = Vec::new(alloc);
+    for fold in [Fold::No, Fold::Ascii] {
+        for count in [1, 8, 100, 1000] {
+            all.push(masks_of(&words(alloc, fold, count)?))?;
+        }
+    }
+    Ok(all)
+}
+
+/// The byte so many places before an end, zero before the text.
+fn before(text: &[u8], end: usize, back: usize) -> u8 {
+    end.checked_sub(back)
+        .and_then(|place| text.get(place).copied())
+        .unwrap_or(0)
+}
+
+/// The first end after a place whose filter byte is not zero.
+fn plain_next(masks: &Masks, text: &[u8], from: usize) -> Option<usize> {
+    (from..text.len()).map(|end| end + 1).find(|end| {
+        let end = *end;
+        plain_byte(
+            masks,
+            before(text, end, 3),
+            before(text, end, 2),
+            before(text, end, 1),
+        ) != 0
+    })
+}
+
+/// Whether both kernels give the plain filter bytes at so many places from an offset on.
+fn kernels_agree(masks: &Masks, bytes: &[u8], offset: usize, len: usize) -> bool
+    requires offset { offset < 1000 }
+    requires len { len ≤ 200 }
+{
+    let (Some(x0), Some(x1), Some(x2)) = (
+        bytes.get(offset..offset + len),
+        bytes.get(offset + 1..offset + 1 + len),
+        bytes.get(offset + 2..offset + 2 + len),
+    ) else {
+        return false;
+    };
+    let (mut by_comparisons, mut by_swizzles) = ([7; 200], [7; 200]);
+    filter(masks, x0, x1, x2, &mut by_comparisons[..len]);
+    filter_wide(masks, x0, x1, x2, &mut by_swizzles[..len]);
+    let found = by_comparisons.iter().zip(by_swizzles.iter());
+    x0.iter().zip(x1).zip(x2).zip(found).all(|(((a, b), c), (one, other))| {
+        let wanted = plain_byte(masks, *a, *b, *c);
+        *one == wanted && *other == wanted
+    })
+}
+
+/// Whether a cursor gives the candidates after a place, in order, and then none.
+fn cursor_agrees(masks: &Masks, text: &[u8], from: usize) -> bool
+    requires { from ≤ length text.now }
+{
+    let mut cursor = Candidates::new(masks, text, from);
+    let mut last = from;
+    for _ in 0..=text.len() {
+        let wanted = plain_next(masks, text, last);
+        if cursor.next_end() != wanted {
+            return false;
+        }
+        let Some(end) = wanted else {
+            return cursor.next_end().is_none();
+        };
+        last = end;
+    }
+    false
+}
+
+#[test]
+fn finds_one_literal_past_the_last_full_vector(rt: HostRuntime) -> Result<(), Fail> {
+    let mut raw = RawList::new(rt.alloc());
+    raw.push(b"ab")?;
+    let (list, _) = LitList::normal(rt.alloc(), &raw, Fold::No)?;
+    let masks = masks_of(&list);
+    let (mut x0, mut x1, mut x2) = ([b'.'; 33], [b'.'; 33], [b'.'; 33]);
+    (x0[32], x1[32], x2[32]) = (b'x', b'a', b'b');
+    let mut wanted = [0; 33];
+    wanted[32] = 1;
+    let mut out = [7; 33];
+    filter(&masks, &x0, &x1, &x2, &mut out);
+    assert_eq!(rt; out, wanted);
+    out = [7; 33];
+    filter_wide(&masks, &x0, &x1, &x2, &mut out);
+    assert_eq!(rt; out, wanted);
+    filter(&masks, &[], &[], &[], &mut []);
+    filter_wide(&masks, &[], &[], &[], &mut []);
+    Ok(())
+}
+
+#[test]
+fn tells_whether_a_byte_is_set(rt: HostRuntime) -> Result<(), Fail> {
+    let mut bytes = [0; 33];
+    assert!(rt; !any_set(&bytes));
+    bytes[32] = 1;
+    assert!(rt; any_set(&bytes));
+    let mut many = [0; 200];
+    assert!(rt; !any_set(&many) && !any_set(&[]));
+    for place in 0..200 {
+        many[place] = 128;
+        assert!(rt; any_set(&many), "at {place}");
+        many[place] = 0;
+    }
+    Ok(())
+}
+
+#[test]
+fn kernels_give_the_plain_filter_byte(rt: HostRuntime) -> Result<(), Fail> {
+    let bytes = bytes(rt.alloc(), 270)?;
+    for masks in &all_masks(rt.alloc())? {
+        for offset in 0..65 {
+            for len in 0..=200 {
+                let agree = kernels_agree(masks, &bytes, offset, len);
+                assert!(rt; agree, "{len} bytes from {offset}");
+            }
+        }
+    }
+    Ok(())
+}
+
+#[test]
+fn cursor_gives_each_candidate_once(rt: HostRuntime) -> Result<(), Fail> {
+    let bytes = bytes(rt.alloc(), 270)?;
+    for masks in &all_masks(rt.alloc())? {
+        for len in 0..=200usize {
+            let offset = len % 65;
+            let text = bytes.get(offset..offset + len).unwrap_or_default();
+            for from in [0, 1, 2, 3, 63, 64, 65, 66, 67, 130, len] {
+                let agree = from > text.len() || cursor_agrees(masks, text, from);
+                assert!(rt; agree, "{len} bytes from {from}");
+            }
+        }
+    }
+    Ok(())
+}
