@@ -1,6 +1,5 @@
 //! Certificates by the plain table: every potential from every run that begins at its place.
-use arrayvec::ArrayVec;
-use lit_base::{LitList, cost};
+use lit_base::{Ends, LitList, cost};
 use lit_cert::Certificate;
 use std::alloc::{AllocError, Global};
 
@@ -36,34 +35,52 @@ fn reached(list: &LitList, before: &[u64], start: usize, potential: u64) -> usiz
     list.len()
 }
 
-/// A certificate of the list.
-pub(super) fn certificate_of(alloc: Global, list: &LitList) -> Result<Certificate, AllocError> {
-    let mut rows: Vec<Vec<u64>> = vec![in alloc; Vec::new(alloc)]?;
+/// The rows of potentials, one behind the other.
+fn potentials(alloc: Global, list: &LitList) -> Result<Vec<u64>, AllocError> {
+    let mut all = Vec::new(alloc);
+    let mut before: Vec<u64> = Vec::new(alloc);
     for _ in 0..ROWS {
-        let before = rows.last().map(|row| row.as_slice()).unwrap_or(&[]);
         let mut row = Vec::new(alloc);
         for start in 0..list.len() {
-            row.push(potential(list, before, start))?;
+            row.push(potential(list, &before, start))?;
         }
-        rows.push(row)?;
+        all.extend_from_slice(&row)?;
+        before = row;
     }
-    let mut potentials = Vec::new(alloc);
-    for row in &rows {
-        potentials.extend_from_slice(row)?;
-    }
-    let mut ends = ArrayVec::new();
+    Ok(all)
+}
+
+/// The row of so many runs, from the rows one behind the other; none of no runs.
+fn row<'a>(list: &LitList, potentials: &'a [u64], runs: usize) -> &'a [u64] {
+    let end = runs.saturating_mul(list.len());
+    potentials
+        .get(end.saturating_sub(list.len())..end)
+        .unwrap_or_default()
+}
+
+/// The ends that reach the potentials.
+fn ends(list: &LitList, potentials: &[u64]) -> Ends {
+    let mut ends = Ends::new();
     let mut start = 0;
-    for r in (0..ROWS).rev() {
-        let before = rows.get(r).map(|row| row.as_slice()).unwrap_or(&[]);
+    for runs in 0..ROWS {
+        let before = row(list, potentials, ROWS - 1 - runs);
         start = reached(list, before, start, potential(list, before, start));
-        if ends.try_push(start as u16).is_err() || start >= list.len() {
-            break;
+        if let Ok(end) = u16::try_from(start) {
+            let _ = ends.try_push(end);
+        }
+        if start >= list.len() {
+            return ends;
         }
     }
-    let cost = rows.last().and_then(|row| row.first()).copied().unwrap_or(0);
+    ends
+}
+
+/// A certificate of the list.
+pub(super) fn certificate_of(alloc: Global, list: &LitList) -> Result<Certificate, AllocError> {
+    let potentials = potentials(alloc, list)?;
     Ok(Certificate {
-        ends,
-        cost,
+        ends: ends(list, &potentials),
+        cost: row(list, &potentials, ROWS).first().copied().unwrap_or(0),
         potentials,
     })
 }
