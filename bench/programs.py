@@ -13,7 +13,6 @@ import hashlib
 import os
 import platform
 import random
-import resource
 import shutil
 import statistics
 import subprocess
@@ -126,8 +125,12 @@ def lists(path):
 # ---------------------------------------------------------------- rows
 
 class Row:
-    def __init__(self, name, options, files, stdin=None, compare=True):
-        self.name, self.options, self.files, self.stdin, self.compare = name, options, files, stdin, compare
+    def __init__(self, name, options, files, stdin=None):
+        self.name, self.options, self.files, self.stdin = name, options, files, stdin
+
+    def suits(self, program):
+        """busybox takes minutes for a long list: it tries each pattern in turn."""
+        return program != "busybox" or not ("100" in self.name or "-i -f" in self.name)
 
 
 def rows(folder):
@@ -172,7 +175,7 @@ def peers():
     known = [
         ("GNU grep", ["grep", "-F", "-a"], "grep"),
         ("ripgrep", ["rg", "-F", "-a", "--no-config", "--no-heading", "--color=never", "--no-ignore", "-j1"], "rg"),
-        ("ugrep", ["ugrep", "-F", "-a", "--color=never", "--no-config", "-J1"], "ugrep"),
+        ("ugrep", ["ugrep", "-F", "-a", "--color=never", "-J1"], "ugrep"),
         ("busybox", ["busybox", "grep", "-F"], "busybox"),
     ]
     return [(name, words) for name, words, tool in known if shutil.which(tool)]
@@ -183,7 +186,7 @@ class Run:
         self.status, self.digest, self.size, self.cpu, self.wall, self.memory = status, digest, size, cpu, wall, memory
 
 
-def run(words, stdin, limit):
+def run(words, stdin):
     """One process, its output read through a pipe."""
     environment = dict(os.environ, LC_ALL="C")
     source = open(stdin or os.devnull, "rb")
@@ -195,8 +198,7 @@ def run(words, stdin, limit):
         if not piece:
             break
         size += len(piece)
-        if size <= limit:
-            digest.update(piece)
+        digest.update(piece)
     _, status, usage = os.wait4(child.pid, 0)
     wall = time.monotonic() - before
     child.returncode = os.waitstatus_to_exitcode(status)
@@ -210,7 +212,6 @@ def command(program, row):
     files = row.files
     options = list(row.options)
     if name == "ripgrep":
-        options = [word for word in options]
         if len(files) > 1 and "-l" not in options:
             options.append("-H")
         if not files:
@@ -223,23 +224,24 @@ def measure(row, programs, turns):
     found = {program[0]: [] for program in programs}
     for _ in range(turns):
         for program in programs:
-            found[program[0]].append(run(command(program, row), row.stdin, 1 << 40))
+            if row.suits(program[0]):
+                found[program[0]].append(run(command(program, row), row.stdin))
     return found
 
 
 def differs(row, ours, gnu):
-    return row.compare and (ours.status, ours.size, ours.digest) != (gnu.status, gnu.size, gnu.digest)
+    return (ours.status, ours.size, ours.digest) != (gnu.status, gnu.size, gnu.digest)
 
 
 def median(runs, figure):
     return statistics.median(getattr(r, figure) for r in runs)
 
 
+def best_of_others(found):
+    return min(median(runs, "cpu") for name, runs in found.items() if runs and not name.startswith("litgrep"))
+
+
 # ---------------------------------------------------------------- output
-
-def read_size(row):
-    return sum(os.path.getsize(f) for f in row.files) or (os.path.getsize(row.stdin) if row.stdin else 0)
-
 
 def as_table(results, names, ours, machine):
     lines = [machine, "",
@@ -247,10 +249,10 @@ def as_table(results, names, ours, machine):
              "by that of %s: above 1, %s is ahead. Memory is the peak of %s in MiB." % (ours, ours, ours), "",
              "| search | " + " | ".join(names) + " | ahead | memory |", "|---" * (len(names) + 3) + "|"]
     for row, found in results:
-        times = {name: median(found[name], "cpu") * 1000 for name in names}
-        best = min(times[name] for name in names if not name.startswith("litgrep"))
+        times = {name: median(found[name], "cpu") * 1000 for name in names if found[name]}
+        best = best_of_others(found) * 1000
         lines.append("| %s | %s | %.2f | %.1f |" % (
-            row.name, " | ".join("%.1f" % times[name] for name in names), best / max(times[ours], 0.001),
+            row.name, " | ".join("%.1f" % times[name] if name in times else "" for name in names), best / max(times[ours], 0.001),
             median(found[ours], "memory") / 1024))
     return "\n".join(lines) + "\n"
 
@@ -261,7 +263,7 @@ def as_plot(results, names, ours):
     height, left, width = 16, 270, 700
     bars = []
     for k, (row, found) in enumerate(results):
-        best = min(median(found[name], "cpu") for name in names if not name.startswith("litgrep"))
+        best = best_of_others(found)
         ratio = best / max(median(found[ours], "cpu"), 1e-6)
         span = max(-3.0, min(5.0, math.log2(ratio)))
         zero = left + 3 * (width - left) / 8
@@ -311,7 +313,7 @@ def main():
                 if name.startswith("litgrep") and differs(row, found[name][0], found["GNU grep"][0]):
                     wrong.append("%s: %s" % (row.name, name))
             print("%-32s %s" % (row.name, "  ".join(
-                "%s %.0f" % (name, median(found[name], "cpu") * 1000) for name in names)), flush=True)
+                "%s %.0f" % (name, median(found[name], "cpu") * 1000) for name in names if found[name])), flush=True)
     table = as_table(results, names, names[0], machine(options.size))
     print("\n" + table)
     if options.write:
