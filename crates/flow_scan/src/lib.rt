@@ -12,9 +12,12 @@ mod scanning;
 mod seam;
 mod searching;
 
-pub use compiled::Compiled;
+pub use compiled::{Compiled, least_law};
 pub use fault::Fault;
 pub use hit::Hit;
 pub use scanner::Scanner;
 pub use scanning::{pieces_law, scan_all, scan_pieces};
 pub use searching::next_end;
+
+#[cfg(test)]
+mod tests;

@@ -5,7 +5,7 @@ use Rattle.lit_base.specs.declared.fold.Fold.{Fold}
 use Rattle.lit_base.specs.declared.fold.Fold.TheVariants.{No}
 use Rattle.lit_base.specs.Lines.{IsOnePiece}
 use Rattle.lit_base.specs.NormalForm.{IsNormalForm}
-use Rattle.lit_base.specs.Selected.{is_selected}
+use Rattle.lit_base.specs.Selected.{is_selected, matches}
 use Rattle.flow_scan.specs.Plans.{Plan}
 use Rattle.line_pick.specs.declared.line_rule.LineRule.{LineRule}
 use Rattle.line_pick.specs.declared.matcher.Matcher.{Matcher}
@@ -31,6 +31,10 @@ selects plan has_empty rule = is_selected (fold_of plan) rule.whole rule.invert 
 -- the same, by what a picker compares lines with
 abbrev pub picks : Matcher → List ℕ → Bool
 picks m = selects (option_copied m.plan) m.has_empty m.rule
+
+-- whether a line matches by it, as a whole or in part
+abbrev pub matched : Matcher → Bool → List ℕ → Bool
+matched m whole = matches (fold_of (option_copied m.plan)) whole (patterns_of (option_copied m.plan) m.has_empty)
 
 -- no literal holds a newline
 abbrev pub AreInLines : Option Plan → Type 0

@@ -26,7 +26,8 @@ pub(crate) fn lend_block<S: Sink>(
     requires fits { before + length block.now < 2 ^ 64 }
     requires closed { open_rest block.now ≡ [] }
     requires apart { AreInLines (option_copied matcher.plan) }
-    ensures lent { Lent S.takes sink.old (numbered (picks matcher.entry) before (ended_lines block.now)) (answer_of result) sink.new }
+    ensures lent { Lent S.takes sink.old
+        (numbered (picks matcher.entry) before (ended_lines block.now)) (answer_of result) sink.new }
     ensures count { IfOk result (λ lines. lines ≡ before + length (ended_lines block.now)) }
     ensures bound { IfOk result (λ lines. lines ≤ before + length block.now) }
     ensures faults { result ≢ Err (Halt.Failed Fault.StreamTooLong) }
@@ -54,7 +55,9 @@ fn lend_hits<S: Sink>(
     requires fits { before + length block.now < 2 ^ 64 }
     requires closed { open_rest block.now ≡ [] }
     requires apart { All IsOnePiece compiled.now.literals.texts }
-    ensures lent { Lent S.takes sink.old (numbered (is_selected compiled.now.literals.folding false invert compiled.now.literals.texts) before (ended_lines block.now)) (answer_of result) sink.new }
+    ensures lent { let list = compiled.now.literals in Lent S.takes sink.old
+        (numbered (is_selected list.folding false invert list.texts) before (ended_lines block.now))
+        (answer_of result) sink.new }
     ensures count { IfOk result (λ lines. lines ≡ before + length (ended_lines block.now)) }
     ensures bound { IfOk result (λ lines. lines ≤ before + length block.now) }
     ensures faults { result ≢ Err (Halt.Failed Fault.StreamTooLong) }
@@ -73,7 +76,8 @@ fn lend_hits<S: Sink>(
 /// Lends all lines of the text if they are selected, and else counts them.
 fn lend_all<S: Sink>(selected: bool, text: &[u8], before: u64, sink: &mut S) -> Result<u64, Halt>
     requires { before + length text.now < 2 ^ 64 }
-    ensures lent { Lent S.takes sink.old (numbered (λ _. selected) before (ended_lines text.now)) (answer_of result) sink.new }
+    ensures lent { Lent S.takes sink.old
+        (numbered (λ _. selected) before (ended_lines text.now)) (answer_of result) sink.new }
     ensures count { IfOk result (λ lines. lines ≡ before + length (ended_lines text.now)) }
     ensures bound { IfOk result (λ lines. lines ≤ before + length text.now) }
     ensures faults { result ≢ Err (Halt.Failed Fault.StreamTooLong) }

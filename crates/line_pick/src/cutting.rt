@@ -7,7 +7,9 @@ use memchr::{memchr, memrchr};
 
 /// The text before the first newline, and the text behind it, if there is a newline.
 pub(crate) fn split_line(text: &[u8]) -> Option<(&[u8], &[u8])>
-    ensures { MatchOption result (IsOnePiece text.now) (λ parts. IsFirstLine text.now parts.0.now parts.1.now) }
+    ensures { MatchOption result
+        (IsOnePiece text.now)
+        (λ parts. IsFirstLine text.now parts.0.now parts.1.now) }
 {
     let end = memchr(b'\n', text)?;
     let (line, behind) = text.split_at(end);

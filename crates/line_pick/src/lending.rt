@@ -19,7 +19,8 @@ pub(crate) fn lend_lines<S: Sink>(
     sink: &mut S,
 ) -> Result<u64, Halt>
     requires { before + length text.now < 2 ^ 64 }
-    ensures lent { Lent S.takes sink.old (numbered (picks matcher.entry) before (ended_lines text.now)) (answer_of result) sink.new }
+    ensures lent { Lent S.takes sink.old
+        (numbered (picks matcher.entry) before (ended_lines text.now)) (answer_of result) sink.new }
     ensures count { IfOk result (λ lines. lines ≡ before + length (ended_lines text.now)) }
     ensures bound { IfOk result (λ lines. lines ≤ before + length text.now) }
     ensures faults { result ≢ Err (Halt.Failed Fault.StreamTooLong) }
@@ -42,7 +43,8 @@ pub(crate) fn lend_selected<S: Sink>(
     sink: &mut S,
 ) -> Result<(), Halt>
     requires { before + 1 < 2 ^ 64 }
-    ensures lent { Lent S.takes sink.old (numbered (picks matcher.entry) before (line.now ∷ [])) (answer_of result) sink.new }
+    ensures lent { Lent S.takes sink.old
+        (numbered (picks matcher.entry) before (line.now ∷ [])) (answer_of result) sink.new }
     ensures faults { result ≢ Err (Halt.Failed Fault.StreamTooLong) }
 {
     lend_if(matcher.selects(line), line, before, sink)
@@ -56,7 +58,8 @@ pub(crate) fn lend_if<S: Sink>(
     sink: &mut S,
 ) -> Result<(), Halt>
     requires { before + 1 < 2 ^ 64 }
-    ensures lent { Lent S.takes sink.old (numbered (λ _. selected) before (line.now ∷ [])) (answer_of result) sink.new }
+    ensures lent { Lent S.takes sink.old
+        (numbered (λ _. selected) before (line.now ∷ [])) (answer_of result) sink.new }
     ensures faults { result ≢ Err (Halt.Failed Fault.StreamTooLong) }
 {
     if selected {

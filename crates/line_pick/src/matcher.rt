@@ -1,10 +1,9 @@
 //! Which lines are selected.
 ghost use Rattle.std.specs.Prelude.{◌≡◌, ◌==◌, ◌&&◌, ◌↔◌, All, IsTrue, ◌<◌, ◌≤◌, ℕ, List, false, length, slice_index, true};
-ghost use Rattle.std.specs.Option.{option_copied};
 ghost use Rattle.lit_base.specs.Lines.{IsOnePiece};
 ghost use Rattle.lit_base.specs.Literals.{lengths};
 ghost use Rattle.lit_base.specs.Selected.{matches};
-ghost use Rattle.line_pick.specs.Matching.{StandingLaw, fold_of, patterns_of, picks};
+ghost use Rattle.line_pick.specs.Matching.{StandingLaw, matched, picks};
 
 use crate::line_rule::LineRule;
 use flow_scan::{Compiled, next_end};
@@ -43,7 +42,7 @@ impl Matcher<'_> {
 
     /// Whether the line matches one of the patterns.
     fn matches(self, line: &[u8]) -> bool
-        ensures { result ≡ matches (fold_of (option_copied self.entry.plan)) self.entry.rule.whole (patterns_of (option_copied self.entry.plan) self.entry.has_empty) line.now }
+        ensures { result ≡ matched self.entry self.entry.rule.whole line.now }
     {
         if self.rule.whole {
             self.is_pattern(line)
@@ -54,7 +53,7 @@ impl Matcher<'_> {
 
     /// Whether the line as a whole is one of the patterns.
     fn is_pattern(self, line: &[u8]) -> bool
-        ensures { result ≡ matches (fold_of (option_copied self.entry.plan)) true (patterns_of (option_copied self.entry.plan) self.entry.has_empty) line.now }
+        ensures { result ≡ matched self.entry true line.now }
     {
         if self.is_null(line) {
             return true;
@@ -74,7 +73,7 @@ impl Matcher<'_> {
 
     /// Whether one of the patterns is a slice of the line.
     fn has_pattern(self, line: &[u8]) -> bool
-        ensures { result ≡ matches (fold_of (option_copied self.entry.plan)) false (patterns_of (option_copied self.entry.plan) self.entry.has_empty) line.now }
+        ensures { result ≡ matched self.entry false line.now }
     {
         if self.has_empty {
             return true;
@@ -88,7 +87,8 @@ impl Matcher<'_> {
 
 /// Whether some literal is a slice of the line.
 fn has_literal(compiled: &Compiled, line: &[u8]) -> bool
-    ensures { result ≡ matches compiled.now.literals.folding false compiled.now.literals.texts line.now }
+    ensures { let list = compiled.now.literals in
+        result ≡ matches list.folding false list.texts line.now }
 {
     compiled.list().normal_law();
     next_end(compiled, line, 0).is_some()
@@ -106,7 +106,8 @@ fn is_literal(list: &LitList, line: &[u8]) -> bool
 /// The place of the first literal that is not shorter than `len`, or how many literals there are.
 fn first_as_long(list: &LitList, len: usize) -> usize
     ensures shorter { (place : ℕ) → place < result → slice_index (lengths list.now) place < len }
-    ensures as_long { (place : ℕ) → result ≤ place → place < length list.now.texts → len ≤ slice_index (lengths list.now) place }
+    ensures as_long { (place : ℕ) → result ≤ place → place < length list.now.texts
+        → len ≤ slice_index (lengths list.now) place }
 {
     let mut low = 0;
     let mut high = list.len();

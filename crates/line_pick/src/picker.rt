@@ -86,7 +86,8 @@ impl<'p> Picker<'p> {
     /// lent; `OutOfMemory` also where the open line cannot be kept, behind the lines lent so far.
     /// A picker that stopped, failed or finished lends nothing: it answers `Stop`, or its fault again.
     pub fn feed<S: Sink>(&mut self, piece: &[u8], sink: &mut S) -> Result<Next, Fault>
-        ensures running { self.old.state ≡ Running → Feeds S.takes self.old piece.now sink.old result self.new sink.new }
+        ensures running { self.old.state ≡ Running
+            → Feeds S.takes self.old piece.now sink.old result self.new sink.new }
         ensures over { self.old.state ≢ Running → Stays self.old sink.old result self.new sink.new }
     {
         if let Some(answer) = self.state.answer() {
@@ -102,7 +103,8 @@ impl<'p> Picker<'p> {
     /// It answers what the sink answers to that line, and else `More`. A picker that stopped, failed
     /// or finished lends nothing: it answers `Stop`, or its fault again.
     pub fn finish<S: Sink>(&mut self, sink: &mut S) -> Result<Next, Fault>
-        ensures running { self.old.state ≡ Running → Finishes S.takes self.old sink.old result self.new sink.new }
+        ensures running { self.old.state ≡ Running
+            → Finishes S.takes self.old sink.old result self.new sink.new }
         ensures over { self.old.state ≢ Running → Stays self.old sink.old result self.new sink.new }
     {
         if let Some(answer) = self.state.answer() {

@@ -50,11 +50,16 @@ impl Progress {
         requires sound { IsSound self.old }
         requires apart { AreInLines (option_copied matcher.plan) }
         ensures sound { IsSound self.new }
-        ensures lent { Lends S.takes sink.old (numbered (picks matcher.entry) self.old.lines (ended_lines (self.old.held.items ++ piece.now))) (answer_of result) sink.new }
-        ensures held { OnOk result (self.new.held.items ≡ open_rest (self.old.held.items ++ piece.now)) }
-        ensures lines { OnOk result (self.new.lines ≡ self.old.lines + length (ended_lines (self.old.held.items ++ piece.now))) }
+        ensures lent { Lends S.takes sink.old
+            (numbered (picks matcher.entry) self.old.lines (ended_lines (self.old.held.items ++ piece.now)))
+            (answer_of result) sink.new }
+        ensures held { OnOk result
+            (self.new.held.items ≡ open_rest (self.old.held.items ++ piece.now)) }
+        ensures lines { OnOk result (self.new.lines
+            ≡ self.old.lines + length (ended_lines (self.old.held.items ++ piece.now))) }
         ensures bytes { OnOk result (self.new.bytes ≡ self.old.bytes + length piece.now) }
-        ensures too_long { (result ≡ Err (Halt.Failed Fault.StreamTooLong)) ↔ (2 ^ 64 ≤ self.old.bytes + length piece.now) }
+        ensures too_long { (result ≡ Err (Halt.Failed Fault.StreamTooLong))
+            ↔ (2 ^ 64 ≤ self.old.bytes + length piece.now) }
     {
         self.bytes = longer(self.bytes, piece)?;
         match split_line(piece) {
@@ -87,9 +92,12 @@ impl Progress {
     ) -> Result<(), Halt>
         requires sound { IsSound self.old }
         requires one { IsOnePiece front.now }
-        requires counted { self.old.lines + vec_len self.old.held + length front.now + 1 ≤ self.old.bytes }
+        requires counted { self.old.lines + vec_len self.old.held + length front.now + 1
+            ≤ self.old.bytes }
         ensures sound { IsSound self.new }
-        ensures lent { Lends S.takes sink.old (numbered (picks matcher.entry) self.old.lines ((self.old.held.items ++ front.now) ∷ [])) (answer_of result) sink.new }
+        ensures lent { Lends S.takes sink.old
+            (numbered (picks matcher.entry) self.old.lines ((self.old.held.items ++ front.now) ∷ []))
+            (answer_of result) sink.new }
         ensures held { OnOk result (self.new.held.items ≡ []) }
         ensures lines { OnOk result (self.new.lines ≡ self.old.lines + 1) }
         ensures bytes { self.new.bytes ≡ self.old.bytes }
@@ -113,9 +121,12 @@ impl Progress {
         requires fresh { self.old.held.items ≡ [] }
         requires counted { self.old.lines + length text.now ≤ self.old.bytes }
         ensures sound { IsSound self.new }
-        ensures lent { Lends S.takes sink.old (numbered (picks matcher.entry) self.old.lines (ended_lines text.now)) (answer_of result) sink.new }
+        ensures lent { Lends S.takes sink.old
+            (numbered (picks matcher.entry) self.old.lines (ended_lines text.now))
+            (answer_of result) sink.new }
         ensures held { OnOk result (self.new.held.items ≡ open_rest text.now) }
-        ensures lines { OnOk result (self.new.lines ≡ self.old.lines + length (ended_lines text.now)) }
+        ensures lines { OnOk result
+            (self.new.lines ≡ self.old.lines + length (ended_lines text.now)) }
         ensures bytes { self.new.bytes ≡ self.old.bytes }
         ensures faults { result ≢ Err (Halt.Failed Fault.StreamTooLong) }
     {
@@ -129,7 +140,9 @@ impl Progress {
     /// Lends the open line, if it is a line and selected.
     pub fn lend_open<S: Sink>(&self, matcher: Matcher<'_>, sink: &mut S) -> Result<(), Halt>
         requires { IsSound self.now }
-        ensures lent { Lent S.takes sink.old (numbered (picks matcher.entry) self.now.lines (last_line self.now.held.items)) (answer_of result) sink.new }
+        ensures lent { Lent S.takes sink.old
+            (numbered (picks matcher.entry) self.now.lines (last_line self.now.held.items))
+            (answer_of result) sink.new }
         ensures faults { result ≢ Err (Halt.Failed Fault.StreamTooLong) }
     {
         if self.held.is_empty() {

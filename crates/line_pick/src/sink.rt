@@ -15,11 +15,12 @@ pub trait Sink {
     ghost use Rattle.line_pick.specs.declared.fault.Fault.{Fault};
     ghost use Rattle.line_pick.specs.declared.sink.Next.{Next};
 
-    /// How a line is taken: the sink before, the line's number, its bytes, the answer, and the sink after.
+    /// How a line is taken: the sink before, the line's number, its bytes, the answer, and the sink
+    /// after.
     ghost takes: { Self → ℕ → List ℕ → Result Next Fault → Self → Type 0 };
 
-    /// Takes a line, without its newline, and its number in the text, from 1 on. `Stop`, or a fault,
-    /// makes it the last line lent. It fails with `WriteFault` or `OutOfMemory` alone.
+    /// Takes a line, without its newline, and its number in the text, from 1 on. `Stop`, or a
+    /// fault, makes it the last line lent. It fails with `WriteFault` or `OutOfMemory` alone.
     fn line(&mut self, number: u64, bytes: &[u8]) -> Result<Next, Fault>
         ensures taken { takes self.old number bytes.now result self.new }
         ensures faults { result ≢ Err Fault.StreamTooLong };
