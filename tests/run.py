@@ -3,6 +3,7 @@
 
 import os
 import re
+import select
 import subprocess
 import sys
 import tempfile
@@ -220,6 +221,23 @@ def edges():
     os.close(writer)
 
 
+def streams():
+    """Inputs that do not end: lines come at once, and -q and -l stop reading."""
+    pipes = {"stdin": subprocess.PIPE, "stdout": subprocess.PIPE}
+    with subprocess.Popen([LITGREP, "-n", "cat"], **pipes) as program:
+        for line, shown in (b"a cat\nno dog\nhalf", b"1:a cat\n"), (b" a cat\n", b"3:half a cat\n"):
+            program.stdin.write(line)
+            program.stdin.flush()
+            is_there = bool(select.select([program.stdout], [], [], 30)[0])
+            yield f"{shown} at once", is_there and os.read(program.stdout.fileno(), 100), shown
+        program.stdin.close()
+        yield "the end of a stream", program.wait(30), 0
+    for words, shown in (["-q", "cat"], b""), (["-l", "cat"], b"(standard input)\n"):
+        with subprocess.Popen(["yes", "cat"], stdout=subprocess.PIPE, stderr=subprocess.DEVNULL) as endless:
+            yield f"{words} of an endless input", run(words, endless.stdout), (0, shown, b"")
+            endless.kill()
+
+
 def plans():
     """Each row of litplan's table, in a folder with its files, and a full device."""
     for files, words, stdin, stdout, stderr, status in PLANS:
@@ -281,7 +299,7 @@ def refused_growths():
 
 def main():
     passed = failed = 0
-    for part in (greps, options, edges, plans, refused_growths):
+    for part in (greps, options, edges, streams, plans, refused_growths):
         for name, got, want in part():
             if got == want:
                 passed += 1

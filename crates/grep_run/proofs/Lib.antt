@@ -8,3 +8,4 @@ pub mod AllLemmas
 pub mod AnswerLemmas
 pub mod PieceLemmas
 pub mod ScanLemmas
+pub mod SourceLemmas

@@ -94,8 +94,7 @@ impl<'a> Sink for Block<'a> {
             return Ok(Next::Stop);
         }
         if !self.options.count {
-            push_line(self.options, self.name, number, bytes, &mut self.text)
-                .map_err(|_| Fault::OutOfMemory)?;
+            push_line(self.options, self.name, number, bytes, &mut self.text)?;
         }
         Ok(Next::More)
     }

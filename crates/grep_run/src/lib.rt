@@ -18,3 +18,6 @@ pub use opener::{Missing, Opener};
 pub use options::GrepOptions;
 pub use running::{answer, run};
 pub use status::{Status, Stop};
+
+#[cfg(test)]
+mod tests;

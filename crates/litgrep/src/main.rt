@@ -18,3 +18,5 @@ fn main(rt: HostRuntime) -> ExitCode {
     ExitCode::from(program::serve(&rt, &mut out, &mut err).code())
 }
 
+#[cfg(test)]
+mod tests;
