@@ -32,7 +32,7 @@ pub search-alone : (o : GrepOptions) (test : List ℕ → Bool) (ask : Ask) (kno
     → Told known left (λ s l. AreShort s → SearchesAll o test (searched o test (found (ask ∷ []) s)) s l r out_old out_new err_old err_new)
 search-alone o test ask known left r out_old out_new err_old err_new p =
     Told-weaker known left _ (λ s l. AreShort s → SearchesAll o test (searched o test (found (ask ∷ []) s)) s l r out_old out_new err_old err_new) p
-        (λ s l h short. let both = h short in one-alone o test ask s l r out_old out_new err_old err_new short both.0 both.1)
+    (λ s l h short. let both = h short in one-alone o test ask s l r out_old out_new err_old err_new short both.0 both.1)
 
 -- where there are operands, their inputs are all
 pub asks-some : (operands : List (List ℕ)) → 0 < length operands → asks_or_standard operands ≡ map ask_of operands
@@ -57,6 +57,7 @@ map-some f xs e = omega (arith, is-positive (length xs) e, length-map xs f)
 pub search-none : (o : GrepOptions) (test : List ℕ → Bool) (all : List Ask) (known : Option Sources) (out err : Option (List ℕ))
     → Told known known (λ s l. AreShort s → AsksFront (asks (searched o test (found all s))) s l × IsStopped (answer_to o test (searched o test (found all s))) out out err err)
 search-none o test all known out err =
-    Told-none known (λ s l. AreShort s → AsksFront (asks (searched o test (found all s))) s l × IsStopped (answer_to o test (searched o test (found all s))) out out err err) (λ s short.
-        (record { made = []; rest = asks (searched o test (found all s)); parts = refl; after = refl },
-        record { output = AppendsFront-none out (answer_to o test (searched o test (found all s))).output; messages = AppendsFront-none err (answer_to o test (searched o test (found all s))).messages }))
+    Told-none known (λ s l. AreShort s → AsksFront (asks (searched o test (found all s))) s l × IsStopped (answer_to o test (searched o test (found all s))) out out err err) (λ s short. (
+      record { made = []; rest = asks (searched o test (found all s)); parts = refl; after = refl },
+      record { output = AppendsFront-none out (answer_to o test (searched o test (found all s))).output; messages = AppendsFront-none err (answer_to o test (searched o test (found all s))).messages },
+    ))

@@ -54,22 +54,26 @@ module _ (o : GrepOptions) (s mid left : Sources) (needles : Needles) (had : Has
 
   searched-whole : (what : Found) (status : Status) {out_old out_new err_old err_new : Option (List ℕ)} → status ≡ status_where o.quiet what.is_selected what.is_error
       → SearchesAll o (test_of o needles) (searched o (test_of o needles) (found (searched_of o) mid)) mid left (Ok what) out_old out_new err_old err_new → Answers o s left (Ok status) out_old out_new err_old err_new
-  searched-whole what status {out_old} {out_new} {err_old} {err_new} e p =
-      (behind _ p.0 ∙ ap (λ made. after_all made s) same-asks, record {
-        output = subst (λ a. Appends out_old out_new a.output) same-answer p.1.output;
-        messages = subst (λ a. Appends err_old err_new a.messages) same-answer p.1.messages;
-        answer = e ∙ ap (λ b. status_where o.quiet b what.is_error) (p.1.selected ∙ ap (λ a. a.has_selected) same-answer) ∙ ap (λ b. status_where o.quiet (grep o s).has_selected b) (p.1.error ∙ ap (λ a. a.has_error) same-answer);
-      })
+  searched-whole what status {out_old} {out_new} {err_old} {err_new} e p = (
+    behind _ p.0 ∙ ap (λ made. after_all made s) same-asks,
+    record {
+      output = subst (λ a. Appends out_old out_new a.output) same-answer p.1.output;
+      messages = subst (λ a. Appends err_old err_new a.messages) same-answer p.1.messages;
+      answer = e ∙ ap (λ b. status_where o.quiet b what.is_error) (p.1.selected ∙ ap (λ a. a.has_selected) same-answer) ∙ ap (λ b. status_where o.quiet (grep o s).has_selected b) (p.1.error ∙ ap (λ a. a.has_error) same-answer);
+    },
+  )
 
   searched-cut : (stop stop' : Stop) {out_old out_new err_old err_new : Option (List ℕ)}
       → SearchesAll o (test_of o needles) (searched o (test_of o needles) (found (searched_of o) mid)) mid left (Err stop) out_old out_new err_old err_new → Answers o s left (Err stop') out_old out_new err_old err_new
-  searched-cut stop stop' {out_old} {out_new} {err_old} {err_new} p =
-      (record {
-        made = asks (files_asked o s) ++ p.0.made;
-        rest = p.0.rest;
-        parts = sym same-asks ∙ ap (λ more. asks (files_asked o s) ++ more) p.0.parts ∙ sym (append_assoc (asks (files_asked o s)) p.0.made p.0.rest);
-        after = behind p.0.made p.0.after;
-      }, subst (λ a. IsStopped a out_old out_new err_old err_new) same-answer p.1)
+  searched-cut stop stop' {out_old} {out_new} {err_old} {err_new} p = (
+    record {
+      made = asks (files_asked o s) ++ p.0.made;
+      rest = p.0.rest;
+      parts = sym same-asks ∙ ap (λ more. asks (files_asked o s) ++ more) p.0.parts ∙ sym (append_assoc (asks (files_asked o s)) p.0.made p.0.rest);
+      after = behind p.0.made p.0.after;
+    },
+    subst (λ a. IsStopped a out_old out_new err_old err_new) same-answer p.1,
+  )
 
 -- the run where its inputs were searched
 pub answers-searched : (o : GrepOptions) (known mid left : Option Sources) (needles : Needles) (what : Found) (status : Status) (out_old out_new err_old err_new : Option (List ℕ))
@@ -78,8 +82,8 @@ pub answers-searched : (o : GrepOptions) (known mid left : Option Sources) (need
     → Told known left (λ s l. AreShort s → Answers o s l (Ok status) out_old out_new err_old err_new)
 answers-searched o known mid left needles what status out_old out_new err_old err_new e p q =
     Told-then known mid left _ _ (λ s l. AreShort s → Answers o s l (Ok status) out_old out_new err_old err_new) p q (λ s m l had all short.
-        let h = had short in
-        searched-whole o s m l needles h what status e (all (subst AreShort (sym h.after) (short-after_all (asks (files_asked o s)) s short))))
+    let h = had short in
+    searched-whole o s m l needles h what status e (all (subst AreShort (sym h.after) (short-after_all (asks (files_asked o s)) s short))))
 
 pub answers-cut : (o : GrepOptions) (known mid left : Option Sources) (needles : Needles) (stop stop' : Stop) (out_old out_new err_old err_new : Option (List ℕ))
     → Told known mid (λ s m. AreShort s → HasPatterns o s m needles)
@@ -87,8 +91,8 @@ pub answers-cut : (o : GrepOptions) (known mid left : Option Sources) (needles :
     → Told known left (λ s l. AreShort s → Answers o s l (Err stop') out_old out_new err_old err_new)
 answers-cut o known mid left needles stop stop' out_old out_new err_old err_new p q =
     Told-then known mid left _ _ (λ s l. AreShort s → Answers o s l (Err stop') out_old out_new err_old err_new) p q (λ s m l had all short.
-        let h = had short in
-        searched-cut o s m l needles h stop stop' (all (subst AreShort (sym h.after) (short-after_all (asks (files_asked o s)) s short))))
+    let h = had short in
+    searched-cut o s m l needles h stop stop' (all (subst AreShort (sym h.after) (short-after_all (asks (files_asked o s)) s short))))
 
 -- a message that the patterns have is on why they are refused
 message-of : (why : NoPatterns) (message : Option (List ℕ)) → why ≢ Refused OutOfMemory → Explains why message → message ≡ Some (text_of why)
@@ -124,12 +128,14 @@ refused-whole : (o : GrepOptions) (s left : Sources) (why : NoPatterns) (out : O
     → Answers o s left (Ok Trouble) out out err_old err_new
 refused-whole o s left why out {err_old} {err_new} p q =
     let message : patterns_message o s ≡ Some (text_of why) = message-of why (patterns_message o s) q.memory p.message in
-    let same : refused_with (text_of why) ≡ grep o s = ap (λ m. answer_where m o s) (sym message) in
-    (p.after q.memory ∙ ap (λ made. after_all made s) (sym (asks-refused o s (text_of why) message)), record {
-      output = subst (λ a. Appends out out a.output) same (Appends-nil out);
-      messages = subst (λ a. Appends err_old err_new a.messages) same q.told;
-      answer = trouble o.quiet ∙ ap (λ a. status_where o.quiet a.has_selected a.has_error) same;
-    })
+    let same : refused_with (text_of why) ≡ grep o s = ap (λ m. answer_where m o s) (sym message) in (
+      p.after q.memory ∙ ap (λ made. after_all made s) (sym (asks-refused o s (text_of why) message)),
+      record {
+        output = subst (λ a. Appends out out a.output) same (Appends-nil out);
+        messages = subst (λ a. Appends err_old err_new a.messages) same q.told;
+        answer = trouble o.quiet ∙ ap (λ a. status_where o.quiet a.has_selected a.has_error) same;
+      },
+    )
 
 -- whether memory ran out
 is_memory : Fault → Bool
@@ -158,11 +164,13 @@ memory-not why e same = let both : true ≡ false = sym (ap is_memory_of same) �
 
 refused-cut : (o : GrepOptions) (s left : Sources) (why : NoPatterns) (is_memory : Bool) (stop : Stop) (out : Option (List ℕ)) {err_old err_new : Option (List ℕ)} → LacksPatterns o s left why → IsRefusalCut why err_old err_new
     → is_memory_of why ≡ is_memory → Answers o s left (Err stop) out out err_old err_new
-refused-cut o s left why true stop out {err_old} {err_new} p q e =
-    (front-of-all o s left p.front, record {
-      output = AppendsFront-none out (grep o s).output;
-      messages = record { rest = (grep o s).messages; leaves = record { front = []; parts = refl; grown = q.untold (memory-is why e) } };
-    })
+refused-cut o s left why true stop out {err_old} {err_new} p q e = (
+  front-of-all o s left p.front,
+  record {
+    output = AppendsFront-none out (grep o s).output;
+    messages = record { rest = (grep o s).messages; leaves = record { front = []; parts = refl; grown = q.untold (memory-is why e) } };
+  },
+)
 refused-cut o s left why false stop out {err_old} {err_new} p q e =
     let message : patterns_message o s ≡ Some (text_of why) = message-of why (patterns_message o s) (memory-not why e) p.message in
     let same : refused_with (text_of why) ≡ grep o s = ap (λ m. answer_where m o s) (sym message) in
@@ -172,10 +180,10 @@ pub answers-refused : (o : GrepOptions) (known left : Option Sources) (why : NoP
     → Told known left (λ s l. AreShort s → LacksPatterns o s l why) → Refuses why r err_old err_new → Told known left (λ s l. AreShort s → Answers o s l r out out err_old err_new)
 answers-refused o known left why (Ok status) out err_old err_new e p q =
     Told-weaker known left _ (λ s l. AreShort s → Answers o s l (Ok status) out out err_old err_new) p (λ s l lacks short.
-        subst (λ st. Answers o s l (Ok st) out out err_old err_new) (sym e) (refused-whole o s l why out (lacks short) q))
+    subst (λ st. Answers o s l (Ok st) out out err_old err_new) (sym e) (refused-whole o s l why out (lacks short) q))
 answers-refused o known left why (Err stop) out err_old err_new e p q =
     Told-weaker known left _ (λ s l. AreShort s → Answers o s l (Err stop) out out err_old err_new) p (λ s l lacks short.
-        refused-cut o s l why (is_memory_of why) stop out (lacks short) q refl)
+    refused-cut o s l why (is_memory_of why) stop out (lacks short) q refl)
 
 -- a test of two flags fails only where the second does
 second-clear : (a b : Bool) → (a || b) ≡ false → b ≡ false
@@ -221,5 +229,5 @@ pub ends-starved : (o : GrepOptions) (known left : Option Sources) (why : Stop) 
     → Told known left (λ s l. AreShort s → Ends o s l Trouble (out_failed || err_fails) out_old out_new err_old err_new)
 ends-starved o known left why r out_failed err_failed err_fails out_old out_new err_old err_mid err_new p whole front fault flag =
     Told-weaker known left _ (λ s l. AreShort s → Ends o s l Trouble (out_failed || err_fails) out_old out_new err_old err_new) p (λ s l h short.
-        let stopped = h short in
-        Starved refl stopped.0 (starved (grep o s) r out_failed err_failed err_fails err_mid err_new stopped.1 whole front fault flag))
+    let stopped = h short in
+    Starved refl stopped.0 (starved (grep o s) r out_failed err_failed err_fails err_mid err_new stopped.1 whole front fault flag))

@@ -23,17 +23,17 @@ flat_map-none (x ∷ xs) = flat_map-none xs
 pub block-parts : (o : GrepOptions) (name : List ℕ) (lent : List (ℕ × List ℕ)) → flat_map (added_line o name) lent ++ ending_of o name (length lent) ≡ block_of o name lent
 block-parts o name lent =
     elim o.quiet as (λ q. flat_map (λ n. cond (q || (o.list || o.count)) [] (written_line o name n)) lent ++ (cond q [] (cond o.list (cond (nat_lt 0 (length lent)) (name ++ codes "\n") []) (cond o.count (prefix_of o name ++ (decimal (length lent) ++ codes "\n")) [])))
-        ≡ cond q [] (cond o.list (cond (has_any lent) (name ++ codes "\n") []) (cond o.count (prefix_of o name ++ (decimal (length lent) ++ codes "\n")) (flat_map (written_line o name) lent)))) [
+    ≡ cond q [] (cond o.list (cond (has_any lent) (name ++ codes "\n") []) (cond o.count (prefix_of o name ++ (decimal (length lent) ++ codes "\n")) (flat_map (written_line o name) lent)))) [
       | true ↦ append-nil _ ∙ flat_map-none lent
       | false ↦ elim o.list as (λ l. flat_map (λ n. cond (l || o.count) [] (written_line o name n)) lent ++ (cond l (cond (nat_lt 0 (length lent)) (name ++ codes "\n") []) (cond o.count (prefix_of o name ++ (decimal (length lent) ++ codes "\n")) []))
-            ≡ cond l (cond (has_any lent) (name ++ codes "\n") []) (cond o.count (prefix_of o name ++ (decimal (length lent) ++ codes "\n")) (flat_map (written_line o name) lent))) [
-          | true ↦ ap (λ t. t ++ cond (nat_lt 0 (length lent)) (name ++ codes "\n") []) (flat_map-none lent)
-          | false ↦ elim o.count as (λ k. flat_map (λ n. cond k [] (written_line o name n)) lent ++ cond k (prefix_of o name ++ (decimal (length lent) ++ codes "\n")) []
+          ≡ cond l (cond (has_any lent) (name ++ codes "\n") []) (cond o.count (prefix_of o name ++ (decimal (length lent) ++ codes "\n")) (flat_map (written_line o name) lent))) [
+            | true ↦ ap (λ t. t ++ cond (nat_lt 0 (length lent)) (name ++ codes "\n") []) (flat_map-none lent)
+            | false ↦ elim o.count as (λ k. flat_map (λ n. cond k [] (written_line o name n)) lent ++ cond k (prefix_of o name ++ (decimal (length lent) ++ codes "\n")) []
                 ≡ cond k (prefix_of o name ++ (decimal (length lent) ++ codes "\n")) (flat_map (written_line o name) lent)) [
-              | true ↦ ap (λ t. t ++ (prefix_of o name ++ (decimal (length lent) ++ codes "\n"))) (flat_map-none lent)
-              | false ↦ append-nil _
-            ]
-        ]
+                  | true ↦ ap (λ t. t ++ (prefix_of o name ++ (decimal (length lent) ++ codes "\n"))) (flat_map-none lent)
+                  | false ↦ append-nil _
+                ]
+          ]
     ]
 
 -- where no line is wanted behind the first, nothing is written of lines
@@ -46,13 +46,13 @@ none-wanted false false count text e = (cc)
 pub ending-any : (o : GrepOptions) (name : List ℕ) (count : ℕ) (lent : List (ℕ × List ℕ)) → (o.quiet || o.list) ≡ true → nat_lt 0 count ≡ has_any lent → ending_of o name count ≡ block_of o name lent
 ending-any o name count lent e any =
     elim o.quiet as (λ q. (q || o.list) ≡ true → cond q [] (cond o.list (cond (nat_lt 0 count) (name ++ codes "\n") []) (cond o.count (prefix_of o name ++ (decimal count ++ codes "\n")) []))
-        ≡ cond q [] (cond o.list (cond (has_any lent) (name ++ codes "\n") []) (cond o.count (prefix_of o name ++ (decimal (length lent) ++ codes "\n")) (flat_map (written_line o name) lent)))) [
+    ≡ cond q [] (cond o.list (cond (has_any lent) (name ++ codes "\n") []) (cond o.count (prefix_of o name ++ (decimal (length lent) ++ codes "\n")) (flat_map (written_line o name) lent)))) [
       | true ↦ λ _. refl
       | false ↦ elim o.list as (λ l. (false || l) ≡ true → cond l (cond (nat_lt 0 count) (name ++ codes "\n") []) (cond o.count (prefix_of o name ++ (decimal count ++ codes "\n")) [])
-            ≡ cond l (cond (has_any lent) (name ++ codes "\n") []) (cond o.count (prefix_of o name ++ (decimal (length lent) ++ codes "\n")) (flat_map (written_line o name) lent))) [
-          | true ↦ λ _. ap (λ b. cond b (name ++ codes "\n") []) any
-          | false ↦ λ wrong. cc
-        ]
+          ≡ cond l (cond (has_any lent) (name ++ codes "\n") []) (cond o.count (prefix_of o name ++ (decimal (length lent) ++ codes "\n")) (flat_map (written_line o name) lent))) [
+            | true ↦ λ _. ap (λ b. cond b (name ++ codes "\n") []) any
+            | false ↦ λ wrong. cc
+          ]
     ] e
 
 -- lines that add nothing each add nothing together
@@ -69,7 +69,6 @@ pub wants-none : (quiet list : Bool) → cond (quiet || list) Stop More ≡ Stop
 wants-none true list e = refl
 wants-none false true e = refl
 wants-none false false e = (cc)
-
 
 -- a block that has taken lines and wants more
 pub record HasMore (o : GrepOptions) (name : List ℕ) (lines : List (ℕ × List ℕ)) (old new : Block) : Type 0 where

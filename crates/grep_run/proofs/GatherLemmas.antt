@@ -65,7 +65,7 @@ FilesSoFar-more {old} {now} {all} {s} {mid} new name rest left p e none grown =
       patterns = p.patterns ∙ sym (append_assoc now (patterns_from (source_of name mid.named)) (all_from behind)) ∙ ap (λ ps. ps ++ all_from behind) (sym grown) ∙ ap (λ fs. new ++ all_from fs) same;
       made = p.made ++ Named name ∷ [];
       front = p.front ∙ ap (λ fs. p.made ++ (Named name ∷ asks fs)) (rest-read _ (files_read more behind) none ∙ ap (λ ps. files_read ps behind) (sym grown) ∙ ap (files_read new) same)
-        ∙ made-more p.made (Named name) (asks (files_read new (found rest left)));
+          ∙ made-more p.made (Named name) (asks (files_read new (found rest left)));
       after = e ∙ ap (after_named name) p.after ∙ sym (after_all-one p.made (Named name) s);
       short = subst AreShort (sym e) (short-after (Named name) mid p.short);
     }
@@ -106,7 +106,7 @@ FilesSoFar-stop {old} {now} {all} {s} {mid} name rest left why p e explains =
       };
       after = λ other.
           let last : asks (files_read old (found all s)) ≡ p.made ++ Named name ∷ [] =
-              p.front ∙ ap (λ b. p.made ++ (Named name ∷ asks (cond b [] behind))) (has-message why message other explains) in
+          p.front ∙ ap (λ b. p.made ++ (Named name ∷ asks (cond b [] behind))) (has-message why message other explains) in
           here ∙ ap (λ made. after_all made s) (sym last);
     }
 
@@ -191,9 +191,9 @@ pub files-more : (known mid left : Option Sources) (old now new : List (List ℕ
     → Told known left (λ s l. AreShort s → FilesSoFar old new all rest s l)
 files-more known mid left old now new name all {here} {rest} e before step =
     Told-then known mid left _ _ (λ s l. AreShort s → FilesSoFar old new all rest s l) before step (λ s m l p q short.
-        let so_far : FilesSoFar old now all (Named name ∷ rest) s m = subst (λ asks. FilesSoFar old now all asks s m) e (p short) in
-        let taken = q so_far.short in
-        FilesSoFar-more new name rest l so_far taken.0 taken.1.0 taken.1.1)
+    let so_far : FilesSoFar old now all (Named name ∷ rest) s m = subst (λ asks. FilesSoFar old now all asks s m) e (p short) in
+    let taken = q so_far.short in
+    FilesSoFar-more new name rest l so_far taken.0 taken.1.0 taken.1.1)
 
 -- and it stops
 pub files-stop : (known mid left : Option Sources) (old now : List (List ℕ)) (name : List ℕ) (all : List Ask) {here rest : List Ask} (why : NoPatterns) → here ≡ Named name ∷ rest
@@ -202,9 +202,9 @@ pub files-stop : (known mid left : Option Sources) (old now : List (List ℕ)) (
     → Told known left (λ s l. AreShort s → StopsAtFile old s l (found all s) why)
 files-stop known mid left old now name all {here} {rest} why e before step =
     Told-then known mid left _ _ (λ s l. AreShort s → StopsAtFile old s l (found all s) why) before step (λ s m l p q short.
-        let so_far : FilesSoFar old now all (Named name ∷ rest) s m = subst (λ asks. FilesSoFar old now all asks s m) e (p short) in
-        let taken = q so_far.short in
-        FilesSoFar-stop name rest l why so_far taken.0 taken.1)
+    let so_far : FilesSoFar old now all (Named name ∷ rest) s m = subst (λ asks. FilesSoFar old now all asks s m) e (p short) in
+    let taken = q so_far.short in
+    FilesSoFar-stop name rest l why so_far taken.0 taken.1)
 
 -- all patterns are had
 pub had-all : (o : GrepOptions) (known left : Option Sources) (start patterns : List (List ℕ)) (needles : Needles) → lists_refusal [] (lists_of o) ≡ None → start ≡ patterns_in (lists_of o)
@@ -212,4 +212,4 @@ pub had-all : (o : GrepOptions) (known left : Option Sources) (start patterns : 
     → Told known left (λ s l. AreShort s → HasPatterns o s l needles)
 had-all o known left start patterns needles none e taken few stands =
     Told-weaker known left _ (λ s l. AreShort s → HasPatterns o s l needles) taken (λ s l t short.
-        patterns-had o s l patterns needles none (subst (λ ps. TakesAllFiles ps patterns s l (pattern_files o s)) e (t short)) few stands)
+    patterns-had o s l patterns needles none (subst (λ ps. TakesAllFiles ps patterns s l (pattern_files o s)) e (t short)) few stands)

@@ -116,7 +116,7 @@ module _ {o : GrepOptions} {test : List ℕ → Bool} {name text : List ℕ} (pi
       let more = flat_map (added_line o name) (picked p (ended_lines (p.held ++ piece))) in
       let held : mid.text.items ≡ more = m.text ∙ ap (λ x. x ++ more) s.taken.text in
       subst (AppendsFront before after) (ap (λ x. flat_map (added_line o name) (ended_in test text) ++ x) (append-nil mid.text.items ∙ held) ∙ sym all-added)
-          (AppendsFront-behind now after (flat_map (added_line o name) (ended_in test text)) [] s.taken.written cut)
+      (AppendsFront-behind now after (flat_map (added_line o name) (ended_in test text)) [] s.taken.written cut)
 
   -- where memory runs out, what was written is a front of all
   pub fed-starved : AppendsFront before now (flat_map (added_line o name) (ended_in test (text ++ piece)))
@@ -201,8 +201,8 @@ read-front o test name c before out came more e p =
     let all = numbered test 0 (lines_of c) in
     let tail = flat_map (added_line o name) more ++ ending_of o name (length all) in
     let parts : block_of o name all ≡ flat_map (added_line o name) came ++ tail =
-        sym (block-parts o name all) ∙ ap (λ ls. flat_map (added_line o name) ls ++ ending_of o name (length all)) e ∙ ap (λ t. t ++ ending_of o name (length all)) (flat_map-append (added_line o name) came more)
-        ∙ append_assoc (flat_map (added_line o name) came) (flat_map (added_line o name) more) (ending_of o name (length all)) in
+    sym (block-parts o name all) ∙ ap (λ ls. flat_map (added_line o name) ls ++ ending_of o name (length all)) e ∙ ap (λ t. t ++ ending_of o name (length all)) (flat_map-append (added_line o name) came more)
+    ∙ append_assoc (flat_map (added_line o name) came) (flat_map (added_line o name) more) (ending_of o name (length all)) in
     record {
       rest = p.rest ++ tail;
       leaves = record {
@@ -235,13 +235,13 @@ module _ {o : GrepOptions} {test : List ℕ → Bool} {name : List ℕ} (c : Con
       let m = lent-more o name f.lent s.taken.options s.taken.called in
       let all : numbered test 0 (lines c.text) ≡ ended_in test c.text ++ picked p (last_line p.held) = all-lines test c.text [] p s.fed in
       read-whole o test name c new before now (lines c.text) clean-lines (omega (arith, few-lines c.text)) m.options m.called
-          (m.count (length (ended_in test c.text)) s.taken.count ∙ ap (λ n. min n (2 ^ 64 - 1)) (sym (length-append (ended_in test c.text) (picked p (last_line p.held)))) ∙ ap (λ ls. min (length ls) (2 ^ 64 - 1)) (sym all))
-          (record {
-            front = flat_map (added_line o name) (ended_in test c.text);
-            parts = ap (flat_map (added_line o name)) all ∙ flat_map-append (added_line o name) (ended_in test c.text) (picked p (last_line p.held))
-                ∙ ap (λ t. flat_map (added_line o name) (ended_in test c.text) ++ t) (sym (m.text ∙ ap (λ t. t ++ flat_map (added_line o name) (picked p (last_line p.held))) s.taken.text));
-            grown = s.taken.written;
-          }) Clean clean-error
+      (m.count (length (ended_in test c.text)) s.taken.count ∙ ap (λ n. min n (2 ^ 64 - 1)) (sym (length-append (ended_in test c.text) (picked p (last_line p.held)))) ∙ ap (λ ls. min (length ls) (2 ^ 64 - 1)) (sym all))
+      (record {
+        front = flat_map (added_line o name) (ended_in test c.text);
+        parts = ap (flat_map (added_line o name)) all ∙ flat_map-append (added_line o name) (ended_in test c.text) (picked p (last_line p.held))
+            ∙ ap (λ t. flat_map (added_line o name) (ended_in test c.text) ++ t) (sym (m.text ∙ ap (λ t. t ++ flat_map (added_line o name) (picked p (last_line p.held))) s.taken.text));
+        grown = s.taken.written;
+      }) Clean clean-error
 
   pub ended-halted : Finishes TakesLine p b (Ok Stop) new_p new → HasRead o test name c Clean new before now
   ended-halted f =
@@ -282,9 +282,9 @@ pub read-fault : {o : GrepOptions} {test : List ℕ → Bool} {name : List ℕ} 
 read-fault {o} {test} {name} c {p} {b} {before} {now} faulty short s =
     let lines-are : lines_of c ≡ ended_lines c.text = ap (λ f. cond f (ended_lines c.text) (lines c.text)) faulty in
     read-whole o test name c b before now (ended_lines c.text) lines-are (omega (arith, few-ended c.text)) s.taken.options s.taken.called s.taken.count
-        (record { front = flat_map (added_line o name) (ended_in test c.text); parts = sym (ap (λ t. flat_map (added_line o name) (ended_in test c.text) ++ t) s.taken.text ∙ append-nil (flat_map (added_line o name) (ended_in test c.text))); grown = s.taken.written })
-        Fault (sym (ap (λ f. f && not ((o.quiet || o.list) && has_any (numbered test 0 (lines_of c)))) faulty ∙ ap (λ ls. not ((o.quiet || o.list) && has_any (numbered test 0 ls))) lines-are
-            ∙ not-ended o.quiet o.list (ended_in test c.text) s.taken.unwanted))
+    (record { front = flat_map (added_line o name) (ended_in test c.text); parts = sym (ap (λ t. flat_map (added_line o name) (ended_in test c.text) ++ t) s.taken.text ∙ append-nil (flat_map (added_line o name) (ended_in test c.text))); grown = s.taken.written })
+    Fault (sym (ap (λ f. f && not ((o.quiet || o.list) && has_any (numbered test 0 (lines_of c)))) faulty ∙ ap (λ ls. not ((o.quiet || o.list) && has_any (numbered test 0 ls))) lines-are
+    ∙ not-ended o.quiet o.list (ended_in test c.text) s.taken.unwanted))
 
 known-step : {T : Type 0} (b : Option T) (P : T → T → Type 0) (x : T) → Told (Some x) b P → (y : T) × ((b ≡ Some y) × P x y)
 known-step None P x t = absurd t
@@ -314,9 +314,11 @@ lines-front test c front rest e =
     let ended : ended_lines c.text ≡ ended_lines front ++ behind = ap ended_lines e ∙ ended_lines-append front rest in
     elim c.is_faulty as (λ f. (more : List (ℕ × List ℕ)) × (numbered test 0 (cond f (ended_lines c.text) (lines c.text)) ≡ ended_in test front ++ more)) [
       | true ↦ (numbered test (0 + length (ended_lines front)) behind, ap (numbered test 0) ended ∙ numbered-append test 0 (ended_lines front) behind)
-      | false ↦ (numbered test (0 + length (ended_lines front)) (behind ++ last_line (open_rest c.text)),
-          ap (numbered test 0) (lines-ended_open c.text ∙ ap (λ ls. ls ++ last_line (open_rest c.text)) ended ∙ append_assoc (ended_lines front) behind (last_line (open_rest c.text)))
-          ∙ numbered-append test 0 (ended_lines front) (behind ++ last_line (open_rest c.text)))
+      | false ↦ (
+        numbered test (0 + length (ended_lines front)) (behind ++ last_line (open_rest c.text)),
+        ap (numbered test 0) (lines-ended_open c.text ∙ ap (λ ls. ls ++ last_line (open_rest c.text)) ended ∙ append_assoc (ended_lines front) behind (last_line (open_rest c.text)))
+            ∙ numbered-append test 0 (ended_lines front) (behind ++ last_line (open_rest c.text)),
+      )
     ]
 
 -- at first all are
@@ -446,7 +448,7 @@ module _ {o : GrepOptions} {test : List ℕ → Bool} {name : List ℕ} {c : Con
   finished-cut cut =
       let front = h.leaves.front in
       let parts : front ++ (b.text.items ++ ending_of o name b.count) ≡ block_of o name (numbered test 0 (lines_of c)) =
-          sym (append_assoc front b.text.items (ending_of o name b.count)) ∙ ap (λ t. t ++ ending_of o name b.count) (sym h.leaves.parts) ∙ h.whole in
+      sym (append_assoc front b.text.items (ending_of o name b.count)) ∙ ap (λ t. t ++ ending_of o name b.count) (sym h.leaves.parts) ∙ h.whole in
       subst (AppendsFront before after) (ap (λ t. front ++ t) (append-nil (b.text.items ++ ending_of b.options.now b.name.now b.count) ∙ end-same) ∙ parts) (AppendsFront-behind now after front [] h.leaves.grown cut)
 
   pub finished : (is_selected is_error : Bool) (count : ℕ) → Appends now after (b.text.items ++ ending_of b.options.now b.name.now b.count) → count ≡ b.count → is_selected ≡ nat_lt 0 count → is_error ≡ is_fault end
@@ -454,7 +456,7 @@ module _ {o : GrepOptions} {test : List ℕ → Bool} {name : List ℕ} {c : Con
   finished is_selected is_error count written same selected error =
       let front = h.leaves.front in
       let parts : front ++ (b.text.items ++ ending_of o name b.count) ≡ block_of o name (numbered test 0 (lines_of c)) =
-          sym (append_assoc front b.text.items (ending_of o name b.count)) ∙ ap (λ t. t ++ ending_of o name b.count) (sym h.leaves.parts) ∙ h.whole in
+      sym (append_assoc front b.text.items (ending_of o name b.count)) ∙ ap (λ t. t ++ ending_of o name b.count) (sym h.leaves.parts) ∙ h.whole in
       record {
         output = subst (Appends before after) (ap (λ t. front ++ t) end-same ∙ parts) (Appends-trans before now after front (b.text.items ++ ending_of b.options.now b.name.now b.count) h.leaves.grown written);
         selected = selected ∙ ap (nat_lt 0) same ∙ h.any;

@@ -76,9 +76,9 @@ InputsSoFar-more {o} {test} {all} {s} {mid} {is_selected} {has_error} {out_old} 
       messages = p.messages ∙ ap (λ is. p.told ++ flat_map (message o test) is) here ∙ sym (append_assoc p.told message_here (flat_map (message o test) behind)) ∙ ap (λ is. (p.told ++ message_here) ++ flat_map (message o test) is) there;
       err_grown = Appends-trans err_old err_mid err_new p.told message_here p.err_grown q.messages;
       selected = p.selected ∙ ap (λ is. is_selected || list_any (has_selected test) is) here ∙ ap (λ b. is_selected || (b || list_any (has_selected test) behind)) (sym q.selected)
-        ∙ or-assoc is_selected one.is_selected _ ∙ ap (λ is. (is_selected || one.is_selected) || list_any (has_selected test) is) there;
+          ∙ or-assoc is_selected one.is_selected _ ∙ ap (λ is. (is_selected || one.is_selected) || list_any (has_selected test) is) there;
       error = p.error ∙ ap (λ is. has_error || list_any (is_error o test) is) here ∙ ap (λ b. has_error || (b || list_any (is_error o test) behind)) (sym q.error)
-        ∙ or-assoc has_error one.is_error _ ∙ ap (λ is. (has_error || one.is_error) || list_any (is_error o test) is) there;
+          ∙ or-assoc has_error one.is_error _ ∙ ap (λ is. (has_error || one.is_error) || list_any (is_error o test) is) there;
       made = p.made ++ ask ∷ [];
       front = p.front ∙ ap (λ is. p.made ++ asks is) here ∙ sym (append_assoc p.made (ask ∷ []) (asks behind)) ∙ ap (λ is. (p.made ++ ask ∷ []) ++ asks is) there;
       after = e ∙ ap (after ask) p.after ∙ sym (after_all-one p.made ask s);
@@ -93,13 +93,15 @@ or-false false = refl
 pub InputsSoFar-all : {o : GrepOptions} {test : List ℕ → Bool} {all : List Ask} {s left : Sources} {out_old out_new err_old err_new : Option (List ℕ)} (what : Found)
     → InputsSoFar o test all [] s left what.is_selected what.is_error out_old out_new err_old err_new
     → (left ≡ after_all (asks (searched o test (found all s))) s) × AreSearched o (answer_to o test (searched o test (found all s))) what out_old out_new err_old err_new
-InputsSoFar-all {o} {test} {all} {s} {left} {out_old} {out_new} {err_old} {err_new} what p =
-    (p.after ∙ ap (λ made. after_all made s) (sym (p.front ∙ append-nil p.made)), record {
-      output = subst (Appends out_old out_new) (sym (p.output ∙ append-nil p.written)) p.out_grown;
-      messages = subst (Appends err_old err_new) (sym (p.messages ∙ append-nil p.told)) p.err_grown;
-      selected = sym (p.selected ∙ or-false what.is_selected);
-      error = sym (p.error ∙ or-false what.is_error);
-    })
+InputsSoFar-all {o} {test} {all} {s} {left} {out_old} {out_new} {err_old} {err_new} what p = (
+  p.after ∙ ap (λ made. after_all made s) (sym (p.front ∙ append-nil p.made)),
+  record {
+    output = subst (Appends out_old out_new) (sym (p.output ∙ append-nil p.written)) p.out_grown;
+    messages = subst (Appends err_old err_new) (sym (p.messages ∙ append-nil p.told)) p.err_grown;
+    selected = sym (p.selected ∙ or-false what.is_selected);
+    error = sym (p.error ∙ or-false what.is_error);
+  },
+)
 
 -- under -q a selected line makes its input the last
 pub InputsSoFar-last : {o : GrepOptions} {test : List ℕ → Bool} {all : List Ask} {s mid : Sources} {is_selected has_error : Bool} {out_old out_mid err_old err_mid : Option (List ℕ)}
@@ -114,15 +116,17 @@ InputsSoFar-last {o} {test} {all} {s} {mid} {is_selected} {has_error} {out_old} 
     let stops : (o.quiet && has_selected test next) ≡ true = ap (λ b. o.quiet && b) (sym q.selected) ∙ ends in
     let here : searched o test (found (ask ∷ rest) mid) ≡ next ∷ [] = ap (λ b. next ∷ cond b [] behind) stops in
     let block_here : List ℕ = block_in o test (name_of ask) (taken_by ask mid) in
-    let message_here : List ℕ = message_in o test (name_of ask) (taken_by ask mid) in
-    (e ∙ ap (after ask) p.after ∙ sym (after_all-one p.made ask s) ∙ ap (λ made. after_all made s) (sym (p.front ∙ ap (λ is. p.made ++ asks is) here)), record {
-      output = subst (Appends out_old out_new) (sym (p.output ∙ ap (λ is. p.written ++ flat_map (block o test) is) here ∙ ap (λ t. p.written ++ t) (append-nil block_here)))
-          (Appends-trans out_old out_mid out_new p.written block_here p.out_grown q.output);
-      messages = subst (Appends err_old err_new) (sym (p.messages ∙ ap (λ is. p.told ++ flat_map (message o test) is) here ∙ ap (λ t. p.told ++ t) (append-nil message_here)))
-          (Appends-trans err_old err_mid err_new p.told message_here p.err_grown q.messages);
-      selected = selected ∙ ap (λ b. is_selected || b) (q.selected ∙ sym (or-false (has_selected test next))) ∙ sym (p.selected ∙ ap (λ is. is_selected || list_any (has_selected test) is) here);
-      error = error ∙ ap (λ b. has_error || b) (q.error ∙ sym (or-false (is_error o test next))) ∙ sym (p.error ∙ ap (λ is. has_error || list_any (is_error o test) is) here);
-    })
+    let message_here : List ℕ = message_in o test (name_of ask) (taken_by ask mid) in (
+      e ∙ ap (after ask) p.after ∙ sym (after_all-one p.made ask s) ∙ ap (λ made. after_all made s) (sym (p.front ∙ ap (λ is. p.made ++ asks is) here)),
+      record {
+        output = subst (Appends out_old out_new) (sym (p.output ∙ ap (λ is. p.written ++ flat_map (block o test) is) here ∙ ap (λ t. p.written ++ t) (append-nil block_here)))
+            (Appends-trans out_old out_mid out_new p.written block_here p.out_grown q.output);
+        messages = subst (Appends err_old err_new) (sym (p.messages ∙ ap (λ is. p.told ++ flat_map (message o test) is) here ∙ ap (λ t. p.told ++ t) (append-nil message_here)))
+            (Appends-trans err_old err_mid err_new p.told message_here p.err_grown q.messages);
+        selected = selected ∙ ap (λ b. is_selected || b) (q.selected ∙ sym (or-false (has_selected test next))) ∙ sym (p.selected ∙ ap (λ is. is_selected || list_any (has_selected test) is) here);
+        error = error ∙ ap (λ b. has_error || b) (q.error ∙ sym (or-false (is_error o test next))) ∙ sym (p.error ∙ ap (λ is. has_error || list_any (is_error o test) is) here);
+      },
+    )
 
 -- where it is cut, fronts of both texts are written
 pub InputsSoFar-cut : {o : GrepOptions} {test : List ℕ → Bool} {all : List Ask} {s mid : Sources} {is_selected has_error : Bool} {out_old out_mid err_old err_mid : Option (List ℕ)}
@@ -132,16 +136,18 @@ pub InputsSoFar-cut : {o : GrepOptions} {test : List ℕ → Bool} {all : List A
     → AsksFront (asks (searched o test (found all s))) s left × IsStopped (answer_to o test (searched o test (found all s))) out_old out_new err_old err_new
 InputsSoFar-cut {o} {test} {all} {s} {mid} {is_selected} {has_error} {out_old} {out_mid} {err_old} {err_mid} ask rest left out_new err_new p e q =
     let next : Input = record { ask = ask; source = taken_by ask mid } in
-    let more : List Input = cond (o.quiet && has_selected test next) [] (searched o test (found rest (after ask mid))) in
-    (record {
-      made = p.made ++ ask ∷ [];
-      rest = asks more;
-      parts = p.front ∙ sym (append_assoc p.made (ask ∷ []) (asks more));
-      after = e ∙ ap (after ask) p.after ∙ sym (after_all-one p.made ask s);
-    }, record {
-      output = subst (AppendsFront out_old out_new) (sym p.output) (AppendsFront-behind out_mid out_new p.written (flat_map (block o test) more) p.out_grown q.output);
-      messages = subst (AppendsFront err_old err_new) (sym p.messages) (AppendsFront-behind err_mid err_new p.told (flat_map (message o test) more) p.err_grown q.messages);
-    })
+    let more : List Input = cond (o.quiet && has_selected test next) [] (searched o test (found rest (after ask mid))) in (
+      record {
+        made = p.made ++ ask ∷ [];
+        rest = asks more;
+        parts = p.front ∙ sym (append_assoc p.made (ask ∷ []) (asks more));
+        after = e ∙ ap (after ask) p.after ∙ sym (after_all-one p.made ask s);
+      },
+      record {
+        output = subst (AppendsFront out_old out_new) (sym p.output) (AppendsFront-behind out_mid out_new p.written (flat_map (block o test) more) p.out_grown q.output);
+        messages = subst (AppendsFront err_old err_new) (sym p.messages) (AppendsFront-behind err_mid err_new p.told (flat_map (message o test) more) p.err_grown q.messages);
+      },
+    )
 
 -- the asks for the operands from a place on
 pub operands-at : {Z : Type 0} (operands items : List (String Z)) (place : ℕ) (operand : String Z) (text : List ℕ) → items ≡ operands → place < length items → operand ≡ get_or items place operand → text ≡ string_bytes operand
@@ -164,9 +170,9 @@ module _ (o : GrepOptions) (test : List ℕ → Bool) (known mid left : Option S
       → Told known left (λ s l. AreShort s → InputsSoFar o test all rest s l what.is_selected what.is_error out_old out_new err_old err_new)
   inputs-more one what step goes selected error =
       Told-then known mid left _ _ (λ s l. AreShort s → InputsSoFar o test all rest s l what.is_selected what.is_error out_old out_new err_old err_new) before step (λ s m l p q short.
-          let now = so_far s m (p short) in
-          let taken = q now.short in
-          rw (selected, error) (InputsSoFar-more ask rest l one out_new err_new now taken.0 taken.1 goes))
+      let now = so_far s m (p short) in
+      let taken = q now.short in
+      rw (selected, error) (InputsSoFar-more ask rest l one out_new err_new now taken.0 taken.1 goes))
 
   -- it ends under -q
   pub inputs-last : (one what : Found) → Told mid left (λ m l. AreShort m → (l ≡ after ask m) × IsSearched o test (name_of ask) (taken_by ask m) one out_mid out_new err_mid err_new)
@@ -174,18 +180,18 @@ module _ (o : GrepOptions) (test : List ℕ → Bool) (known mid left : Option S
       → Told known left (λ s l. AreShort s → (l ≡ after_all (asks (searched o test (found all s))) s) × AreSearched o (answer_to o test (searched o test (found all s))) what out_old out_new err_old err_new)
   inputs-last one what step ends selected error =
       Told-then known mid left _ _ (λ s l. AreShort s → (l ≡ after_all (asks (searched o test (found all s))) s) × AreSearched o (answer_to o test (searched o test (found all s))) what out_old out_new err_old err_new) before step (λ s m l p q short.
-          let now = so_far s m (p short) in
-          let taken = q now.short in
-          InputsSoFar-last ask rest l one what out_new err_new now taken.0 taken.1 ends selected error)
+      let now = so_far s m (p short) in
+      let taken = q now.short in
+      InputsSoFar-last ask rest l one what out_new err_new now taken.0 taken.1 ends selected error)
 
   -- it stops
   pub inputs-cut : Told mid left (λ m l. AreShort m → (l ≡ after ask m) × IsCut o test (name_of ask) (taken_by ask m) out_mid out_new err_mid err_new)
       → Told known left (λ s l. AreShort s → AsksFront (asks (searched o test (found all s))) s l × IsStopped (answer_to o test (searched o test (found all s))) out_old out_new err_old err_new)
   inputs-cut step =
       Told-then known mid left _ _ (λ s l. AreShort s → AsksFront (asks (searched o test (found all s))) s l × IsStopped (answer_to o test (searched o test (found all s))) out_old out_new err_old err_new) before step (λ s m l p q short.
-          let now = so_far s m (p short) in
-          let taken = q now.short in
-          InputsSoFar-cut ask rest l out_new err_new now taken.0 taken.1)
+      let now = so_far s m (p short) in
+      let taken = q now.short in
+      InputsSoFar-cut ask rest l out_new err_new now taken.0 taken.1)
 
 -- at first no input is searched
 pub inputs-none : (o : GrepOptions) (test : List ℕ → Bool) (known : Option Sources) (all : List Ask) (out err : Option (List ℕ))

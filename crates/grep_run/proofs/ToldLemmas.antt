@@ -53,9 +53,9 @@ short-taken Standard s h = short-first s.standard h.standard
 -- a member before others that have the fact
 All-cons : {X : Type 0} (P : X → Type 0) (x : X) (xs : List X) → P x → All P xs → All P (x ∷ xs)
 All-cons P x xs here rest = λ k d inside. elim k as (λ n. n < length (x ∷ xs) → P (get_or (x ∷ xs) n d)) [
-      | zero ↦ λ _. here
-      | suc n ↦ λ more. rest n d (omega arith)
-    ] inside
+  | zero ↦ λ _. here
+  | suc n ↦ λ more. rest n d (omega arith)
+] inside
 
 -- the sources left by an ask are short where all are
 short-rest : (name : List ℕ) (named : List (List ℕ × Option Content)) → All IsShortEntry named → All IsShortEntry (without_first name named)

@@ -77,8 +77,8 @@ patterns_of o s = patterns_in (lists_of o) ++ flat_map (λ file. patterns_from f
 abbrev pub patterns_message : GrepOptions → Sources → Option (List ℕ)
 patterns_message o s =
     first_of (option_map patterns_refused (lists_refusal [] (lists_of o)))
-        (first_of (files_message (patterns_in (lists_of o)) (pattern_files o s))
-            (option_map patterns_refused (literals_refusal o.fold (patterns_of o s))))
+    (first_of (files_message (patterns_in (lists_of o)) (pattern_files o s))
+    (option_map patterns_refused (literals_refusal o.fold (patterns_of o s))))
 
 -- the pattern files that are asked for: none where a list is refused, else those up to the first that gives no patterns
 abbrev pub files_asked : GrepOptions → Sources → List Input

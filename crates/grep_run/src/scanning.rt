@@ -87,7 +87,12 @@ fn picker_for<'a>(request: &Request<'a>) -> Picker<'a>
         whole: request.options.whole,
     };
     let needles = request.needles;
-    Picker::new(request.alloc, needles.plan.as_ref(), needles.has_empty, rule)
+    Picker::new(
+        request.alloc,
+        needles.plan.as_ref(),
+        needles.has_empty,
+        rule,
+    )
 }
 
 // Writes what the block holds, and its end.

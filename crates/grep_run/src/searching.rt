@@ -44,7 +44,15 @@ pub fn search_all<O: Opener, W: ByteOut, E: ByteOut>(
     let mut piece = vec![in request.alloc; 0u8; read_size(request.options)]?;
     let mut block = Block::new(request.alloc, request.options);
     if request.options.operands.as_slice().is_empty() {
-        return search_operand(request, "-", opener, &mut block, piece.as_mut_slice(), out, err);
+        return search_operand(
+            request,
+            "-",
+            opener,
+            &mut block,
+            piece.as_mut_slice(),
+            out,
+            err,
+        );
     }
     search_operands(request, opener, &mut block, piece.as_mut_slice(), out, err)
 }

@@ -44,13 +44,55 @@ const FAULT: &str = "litgrep: (standard input): cannot be read\n";
 #[test]
 fn writes_numbers_and_whole_lines(rt: HostRuntime) -> Result<(), Fail> {
     for row in [
-        Row { flags: "n", lists: &["cat"], standard: "cat\ndog\nconcat", output: "1:cat\n3:concat\n", ..PLAIN },
-        Row { flags: "x", lists: &["cat"], standard: "concat\ncat\n", output: "cat\n", ..PLAIN },
-        Row { flags: "x", lists: &[""], standard: "\na\n", output: "\n", ..PLAIN },
-        Row { flags: "xi", lists: &["Cat", ""], standard: "CAT\n\ncats\n", output: "CAT\n\n", ..PLAIN },
-        Row { flags: "nc", lists: &["a"], standard: "a\n", output: "1\n", ..PLAIN },
-        Row { flags: "l", lists: &["a"], operands: &["-"], standard: "a\n", output: "(standard input)\n", ..PLAIN },
-        Row { lists: &["z"], standard: "a\n", status: Status::NoneSelected, ..PLAIN },
+        Row {
+            flags: "n",
+            lists: &["cat"],
+            standard: "cat\ndog\nconcat",
+            output: "1:cat\n3:concat\n",
+            ..PLAIN
+        },
+        Row {
+            flags: "x",
+            lists: &["cat"],
+            standard: "concat\ncat\n",
+            output: "cat\n",
+            ..PLAIN
+        },
+        Row {
+            flags: "x",
+            lists: &[""],
+            standard: "\na\n",
+            output: "\n",
+            ..PLAIN
+        },
+        Row {
+            flags: "xi",
+            lists: &["Cat", ""],
+            standard: "CAT\n\ncats\n",
+            output: "CAT\n\n",
+            ..PLAIN
+        },
+        Row {
+            flags: "nc",
+            lists: &["a"],
+            standard: "a\n",
+            output: "1\n",
+            ..PLAIN
+        },
+        Row {
+            flags: "l",
+            lists: &["a"],
+            operands: &["-"],
+            standard: "a\n",
+            output: "(standard input)\n",
+            ..PLAIN
+        },
+        Row {
+            lists: &["z"],
+            standard: "a\n",
+            status: Status::NoneSelected,
+            ..PLAIN
+        },
     ] {
         assert!(rt; comes(rt.alloc(), row)?, "{}", row.flags);
     }
@@ -60,12 +102,57 @@ fn writes_numbers_and_whole_lines(rt: HostRuntime) -> Result<(), Fail> {
 #[test]
 fn searches_several_files(rt: HostRuntime) -> Result<(), Fail> {
     for row in [
-        Row { flags: "cvi", lists: &["CAT"], operands: &["f", "g"], named: &[("f", "Cat\nx\n"), ("g", "")], output: "f:1\ng:0\n", ..PLAIN },
-        Row { flags: "nv", lists: &["b"], operands: &["f", "-"], named: &[("f", "a\nb\n")], standard: "c", output: "f:1:a\n(standard input):1:c\n", ..PLAIN },
-        Row { flags: "cl", lists: &["a"], operands: &["f"], named: &[("f", "a\na\n")], output: "f\n", ..PLAIN },
-        Row { flags: "q", lists: &["cat"], operands: &["missing", "good"], named: &[("good", "cat\n")], messages: "litgrep: missing: cannot be read\n", ..PLAIN },
-        Row { lists: &["cat"], operands: &["missing", "good"], named: &[("good", "cat\n")], output: "good:cat\n", messages: "litgrep: missing: cannot be read\n", status: Status::Trouble, ..PLAIN },
-        Row { flags: "s", lists: &["cat"], operands: &["missing", "good"], named: &[("good", "cat\n")], output: "good:cat\n", status: Status::Trouble, ..PLAIN },
+        Row {
+            flags: "cvi",
+            lists: &["CAT"],
+            operands: &["f", "g"],
+            named: &[("f", "Cat\nx\n"), ("g", "")],
+            output: "f:1\ng:0\n",
+            ..PLAIN
+        },
+        Row {
+            flags: "nv",
+            lists: &["b"],
+            operands: &["f", "-"],
+            named: &[("f", "a\nb\n")],
+            standard: "c",
+            output: "f:1:a\n(standard input):1:c\n",
+            ..PLAIN
+        },
+        Row {
+            flags: "cl",
+            lists: &["a"],
+            operands: &["f"],
+            named: &[("f", "a\na\n")],
+            output: "f\n",
+            ..PLAIN
+        },
+        Row {
+            flags: "q",
+            lists: &["cat"],
+            operands: &["missing", "good"],
+            named: &[("good", "cat\n")],
+            messages: "litgrep: missing: cannot be read\n",
+            ..PLAIN
+        },
+        Row {
+            lists: &["cat"],
+            operands: &["missing", "good"],
+            named: &[("good", "cat\n")],
+            output: "good:cat\n",
+            messages: "litgrep: missing: cannot be read\n",
+            status: Status::Trouble,
+            ..PLAIN
+        },
+        Row {
+            flags: "s",
+            lists: &["cat"],
+            operands: &["missing", "good"],
+            named: &[("good", "cat\n")],
+            output: "good:cat\n",
+            status: Status::Trouble,
+            ..PLAIN
+        },
     ] {
         assert!(rt; comes(rt.alloc(), row)?, "{}", row.flags);
     }
@@ -75,10 +162,39 @@ fn searches_several_files(rt: HostRuntime) -> Result<(), Fail> {
 #[test]
 fn takes_patterns_of_files(rt: HostRuntime) -> Result<(), Fail> {
     for row in [
-        Row { files: &["empty"], named: &[("empty", "")], standard: "a\n", status: Status::NoneSelected, ..PLAIN },
-        Row { flags: "v", files: &["empty"], named: &[("empty", "")], standard: "a\n", output: "a\n", ..PLAIN },
-        Row { flags: "s", lists: &["a"], files: &["none"], standard: "a\n", messages: "litgrep: none: cannot be read\n", status: Status::Trouble, ..PLAIN },
-        Row { lists: &["a"], files: &["p"], named: &[("p", "b\n!")], standard: "a\n", messages: "litgrep: p: cannot be read\n", status: Status::Trouble, ..PLAIN },
+        Row {
+            files: &["empty"],
+            named: &[("empty", "")],
+            standard: "a\n",
+            status: Status::NoneSelected,
+            ..PLAIN
+        },
+        Row {
+            flags: "v",
+            files: &["empty"],
+            named: &[("empty", "")],
+            standard: "a\n",
+            output: "a\n",
+            ..PLAIN
+        },
+        Row {
+            flags: "s",
+            lists: &["a"],
+            files: &["none"],
+            standard: "a\n",
+            messages: "litgrep: none: cannot be read\n",
+            status: Status::Trouble,
+            ..PLAIN
+        },
+        Row {
+            lists: &["a"],
+            files: &["p"],
+            named: &[("p", "b\n!")],
+            standard: "a\n",
+            messages: "litgrep: p: cannot be read\n",
+            status: Status::Trouble,
+            ..PLAIN
+        },
     ] {
         assert!(rt; comes(rt.alloc(), row)?, "{}", row.flags);
     }
@@ -88,10 +204,38 @@ fn takes_patterns_of_files(rt: HostRuntime) -> Result<(), Fail> {
 #[test]
 fn tells_a_read_fault(rt: HostRuntime) -> Result<(), Fail> {
     for row in [
-        Row { lists: &["a"], standard: "a\nba!", output: "a\n", messages: FAULT, status: Status::Trouble, ..PLAIN },
-        Row { flags: "c", lists: &["a"], standard: "a\nba!", output: "1\n", messages: FAULT, status: Status::Trouble, ..PLAIN },
-        Row { flags: "l", lists: &["a"], standard: "a\nba!", output: "(standard input)\n", ..PLAIN },
-        Row { flags: "q", lists: &["z"], standard: "a\nba!", messages: FAULT, status: Status::Trouble, ..PLAIN },
+        Row {
+            lists: &["a"],
+            standard: "a\nba!",
+            output: "a\n",
+            messages: FAULT,
+            status: Status::Trouble,
+            ..PLAIN
+        },
+        Row {
+            flags: "c",
+            lists: &["a"],
+            standard: "a\nba!",
+            output: "1\n",
+            messages: FAULT,
+            status: Status::Trouble,
+            ..PLAIN
+        },
+        Row {
+            flags: "l",
+            lists: &["a"],
+            standard: "a\nba!",
+            output: "(standard input)\n",
+            ..PLAIN
+        },
+        Row {
+            flags: "q",
+            lists: &["z"],
+            standard: "a\nba!",
+            messages: FAULT,
+            status: Status::Trouble,
+            ..PLAIN
+        },
     ] {
         assert!(rt; comes(rt.alloc(), row)?, "{}", row.flags);
     }
@@ -100,7 +244,13 @@ fn tells_a_read_fault(rt: HostRuntime) -> Result<(), Fail> {
 
 #[test]
 fn answers_each_read_that_fails(rt: HostRuntime) -> Result<(), Fail> {
-    let options = options_of(rt.alloc(), Row { lists: &["cat"], ..PLAIN })?;
+    let options = options_of(
+        rt.alloc(),
+        Row {
+            lists: &["cat"],
+            ..PLAIN
+        },
+    )?;
     // Four reads give the bytes, and the fifth finds their end.
     for read in 0..7 {
         let mut opener = FailingOpener::new(b"cat\ndog\nconcat", read);
@@ -123,7 +273,12 @@ fn answers_each_read_that_fails(rt: HostRuntime) -> Result<(), Fail> {
 
 #[test]
 fn stops_at_each_write_that_fails(rt: HostRuntime) -> Result<(), Fail> {
-    let row = Row { flags: "n", lists: &["cat"], standard: "cat\ndog\nconcat", ..PLAIN };
+    let row = Row {
+        flags: "n",
+        lists: &["cat"],
+        standard: "cat\ndog\nconcat",
+        ..PLAIN
+    };
     let options = options_of(rt.alloc(), row)?;
     // The last line ends behind the piece that it begins in.
     let whole = b"1:cat\n3:concat\n".as_slice();

@@ -5,21 +5,27 @@ use crate::words::options;
 use grep_run::Opener;
 use lit_base::{Fold, FromRead, read_to_end};
 use std::alloc::{AllocError, Global};
-use std::fs;
-use std::io;
 use std::io::{ErrorKind, Read};
 use std::process::Abort;
 use std::test::Fail;
+use std::{fs, io};
 
 const INPUT: &[u8] = b"cat\ndog\nconcat";
 
 #[test]
 fn reads_the_words(rt: HostRuntime) -> Result<(), Fail> {
     let alloc = rt.alloc();
-    let words = words(alloc, &["f", "-nnF", "-i", "-e=cat", "g", "-f", "p", "-ve", "-", "--", "-q"])?;
+    let words = words(
+        alloc,
+        &[
+            "f", "-nnF", "-i", "-e=cat", "g", "-f", "p", "-ve", "-", "--", "-q",
+        ],
+    )?;
     let options = options(alloc, words.as_slice())?;
     assert!(rt; matches!(options.fold, Fold::Ascii) && options.invert && options.number);
-    assert!(rt; !(options.whole || options.count || options.list || options.quiet || options.silent));
+    assert!(rt;
+        !(options.whole || options.count || options.list || options.quiet || options.silent)
+    );
     assert!(rt; are(&options.lists, &["=cat", "-"]));
     assert!(rt; are(&options.files, &["p"]));
     assert!(rt; are(&options.operands, &["f", "g", "-q"]));
@@ -42,8 +48,16 @@ fn says_what_is_wrong_with_the_words(rt: HostRuntime) -> Result<(), Fail> {
     let no_pattern = "litgrep: no pattern given\n";
     assert!(rt; usage_of(&rt, &[])?.as_str() == no_pattern);
     assert!(rt; usage_of(&rt, &["-F", "-c"])?.as_str() == no_pattern);
-    assert!(rt; usage_of(&rt, &["-z"])?.as_str().starts_with("error: unexpected argument '-z'"));
-    assert!(rt; usage_of(&rt, &["--help"])?.as_str().contains("Usage: litgrep"));
+    assert!(rt;
+        usage_of(&rt, &["-z"])?
+            .as_str()
+            .starts_with("error: unexpected argument '-z'")
+    );
+    assert!(rt;
+        usage_of(&rt, &["--help"])?
+            .as_str()
+            .contains("Usage: litgrep")
+    );
     Ok(())
 }
 
@@ -85,7 +99,10 @@ fn reads_on_after_a_signal(rt: HostRuntime) -> Result<(), Fail> {
 // Whether these are the texts.
 fn are(strings: &[String], texts: &[&str]) -> bool {
     strings.len() == texts.len()
-        && strings.iter().zip(texts).all(|(string, text)| string.as_str() == *text)
+        && strings
+            .iter()
+            .zip(texts)
+            .all(|(string, text)| string.as_str() == *text)
 }
 
 fn words(alloc: Global, texts: &[&str]) -> Result<Vec<String>, AllocError> {

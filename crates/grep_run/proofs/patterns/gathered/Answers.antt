@@ -11,8 +11,8 @@ use Rattle.grep_run.proofs.patterns.gathered.Goals as goal
 pub returns : goal.returns
 returns g c =
     had-all c.args.options.now _ _ c.in_ok-patterns.patterns c.add_files.new.patterns c.in_ok-new.field-0
-        (subst (λ xs. lists_refusal [] (map string_bytes xs) ≡ None) c.as_slice.ensures.value c.in_ok-patterns.ensures.refusal)
-        (c.in_ok-patterns.ensures.ok ∙ ap (λ xs. patterns_in (map string_bytes xs)) c.as_slice.ensures.value)
-        (subst (λ xs. Told (g.O.Opener.sources c.args.opener.now) (g.O.Opener.sources c.add_files.new.opener) (λ s left. AreShort s → TakesAllFiles c.in_ok-patterns.patterns c.add_files.new.patterns s left (found (asks_for (map string_bytes xs)) s)))
-            c.as_slice-2.ensures.value c.in_ok-add_files.ensures.answer)
-        c.in_ok-new.ensures.refusal c.in_ok-new.ensures.ok
+    (subst (λ xs. lists_refusal [] (map string_bytes xs) ≡ None) c.as_slice.ensures.value c.in_ok-patterns.ensures.refusal)
+    (c.in_ok-patterns.ensures.ok ∙ ap (λ xs. patterns_in (map string_bytes xs)) c.as_slice.ensures.value)
+    (subst (λ xs. Told (g.O.Opener.sources c.args.opener.now) (g.O.Opener.sources c.add_files.new.opener) (λ s left. AreShort s → TakesAllFiles c.in_ok-patterns.patterns c.add_files.new.patterns s left (found (asks_for (map string_bytes xs)) s)))
+    c.as_slice-2.ensures.value c.in_ok-add_files.ensures.answer)
+    c.in_ok-new.ensures.refusal c.in_ok-new.ensures.ok

@@ -6,4 +6,4 @@ use Rattle.grep_run.proofs.running.run.Goals as goal
 pub returns-in-Err-OutOfMemory-clause-ends : goal.returns-in-Err-OutOfMemory-clause-ends
 returns-in-Err-OutOfMemory-clause-ends g c =
     ends-starved c.args.options.now _ _ OutOfMemory c.say_out_of_memory.result _ _ _ _ _ _ _ _
-        c.in-Err-OutOfMemory.ensures.answer c.say_out_of_memory.ensures.ok c.say_out_of_memory.ensures.err c.say_out_of_memory.ensures.fault c.say_out_of_memory.ensures.flag
+    c.in-Err-OutOfMemory.ensures.answer c.say_out_of_memory.ensures.ok c.say_out_of_memory.ensures.err c.say_out_of_memory.ensures.fault c.say_out_of_memory.ensures.flag

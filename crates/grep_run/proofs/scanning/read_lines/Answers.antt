@@ -19,14 +19,14 @@ pub returns-in_err-end-in-Ok-clause-answer : goal.returns-in_err-end-in-Ok-claus
 returns-in_err-end-in-Ok-clause-answer g d =
     let p = err_from_is_err_and d.from_residual.result d.from_residual.ensures.1 in
     rw p.1 (λ o test name c s e short.
-        let r = d.loop-turn.invariant.reading o test name c s e in
-        so_far-cut _ d.read_some.new.buf r d.in-Ok.count _ d.in-Ok.ensures.bytes (d.in_err-end-in-Ok.ensures.answer o test name r.done _ r.stands))
+    let r = d.loop-turn.invariant.reading o test name c s e in
+    so_far-cut _ d.read_some.new.buf r d.in-Ok.count _ d.in-Ok.ensures.bytes (d.in_err-end-in-Ok.ensures.answer o test name r.done _ r.stands))
 
 pub returns-in-Some-clause-answer : goal.returns-in-Some-clause-answer
 returns-in-Some-clause-answer g d = λ o test name c s e short.
     let r = d.loop-turn.invariant.reading o test name c s e in
     so_far-ended _ d.read_some.new.buf r d.in-Ok.count d.in-Some.end _ d.feed.new.picker d.feed.new.block _ d.in-Ok.ensures.bytes short refl
-        (subst (λ x. FeedsPiece o test name r.done (take d.in-Ok.count d.read_some.new.buf) (Ok x) d.feed.new.picker d.feed.new.block (g.W.ByteOut.written d.args.out.now) (g.W.ByteOut.written d.feed.new.out)) d.in-Some.is (d.in_ok-end-in-Ok.ensures.answer o test name r.done _ r.stands))
+    (subst (λ x. FeedsPiece o test name r.done (take d.in-Ok.count d.read_some.new.buf) (Ok x) d.feed.new.picker d.feed.new.block (g.W.ByteOut.written d.args.out.now) (g.W.ByteOut.written d.feed.new.out)) d.in-Some.is (d.in_ok-end-in-Ok.ensures.answer o test name r.done _ r.stands))
 
 pub loop-turn-preserved : goal.loop-turn-preserved
 loop-turn-preserved g d = record {
@@ -34,7 +34,7 @@ loop-turn-preserved g d = record {
       let r = d.loop-turn.invariant.reading o test name c s e in
       let some : 0 < d.in-Ok.count = search rules in
       so_far-more _ d.read_some.new.buf r d.in-Ok.count d.feed.new.picker d.feed.new.block _ d.in-Ok.ensures.bytes some d.in-Ok.ensures.within
-          (subst (λ x. FeedsPiece o test name r.done (take d.in-Ok.count d.read_some.new.buf) (Ok x) d.feed.new.picker d.feed.new.block (g.W.ByteOut.written d.args.out.now) (g.W.ByteOut.written d.feed.new.out)) d.in-None.is (d.in_ok-end-in-Ok.ensures.answer o test name r.done _ r.stands));
+      (subst (λ x. FeedsPiece o test name r.done (take d.in-Ok.count d.read_some.new.buf) (Ok x) d.feed.new.picker d.feed.new.block (g.W.ByteOut.written d.args.out.now) (g.W.ByteOut.written d.feed.new.out)) d.in-None.is (d.in_ok-end-in-Ok.ensures.answer o test name r.done _ r.stands));
   room = omega (arith, d.loop-turn.invariant.room);
   flag = search rules;
 }

@@ -14,8 +14,8 @@ pub returns-in_err-finish_block-clause-answer : goal.returns-in_err-finish_block
 returns-in_err-finish_block-clause-answer g d =
     let p = err_from_is_err_and d.from_residual-in_err-finish_block.result d.from_residual-in_err-finish_block.ensures.1 in
     rw p.1 (λ c e short.
-        let h = d.in_ok-end.ensures.answer _ _ _ c (begin-stands _ d.picker_for-picker.ensures d.begin.ensures.options d.begin.ensures.name d.begin.ensures.count d.begin.ensures.text) e short in
-        finished-cut _ h d.in_err-finish_block.ensures.stopped)
+    let h = d.in_ok-end.ensures.answer _ _ _ c (begin-stands _ d.picker_for-picker.ensures d.begin.ensures.options d.begin.ensures.name d.begin.ensures.count d.begin.ensures.text) e short in
+    finished-cut _ h d.in_err-finish_block.ensures.stopped)
 
 pub returns-clause-answer : goal.returns-clause-answer
 returns-clause-answer g d = λ c e short.

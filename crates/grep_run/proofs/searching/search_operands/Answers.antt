@@ -14,15 +14,15 @@ returns-in_err-one-clause-answer g c =
     let p = err_from_is_err_and c.from_residual.result c.from_residual.ensures.1 in
     let operands = c.args.request.now.options.now.operands.items in
     rw p.1 (inputs-cut c.args.request.now.options.now (test_of c.args.request.now.options.now c.args.request.now.needles.now) _ _ _ (map ask_of (map string_bytes operands)) _ _ (ask_of c.as_str.result.now) c.loop-operand.all _ _ _ _ _ _
-        (operands-at operands c.as_slice-operand-items.result.now c.loop-operand.operand-index c.operand-item.result c.as_str.result.now c.as_slice-operand-items.ensures.value (omega arith) c.operand-item.is c.as_str.ensures.value) c.loop-operand.invariant.inputs c.in_err-one.ensures.answer)
+    (operands-at operands c.as_slice-operand-items.result.now c.loop-operand.operand-index c.operand-item.result c.as_str.result.now c.as_slice-operand-items.ensures.value (omega arith) c.operand-item.is c.as_str.ensures.value) c.loop-operand.invariant.inputs c.in_err-one.ensures.answer)
 
 pub returns-then-one-clause-answer : goal.returns-then-one-clause-answer
 returns-then-one-clause-answer g c =
     let operands = c.args.request.now.options.now.operands.items in
     let ends : (c.args.request.now.options.now.quiet && c.in_ok-one.one.is_selected) ≡ true = search rules in
     inputs-last c.args.request.now.options.now (test_of c.args.request.now.options.now c.args.request.now.needles.now) _ _ _ (map ask_of (map string_bytes operands)) _ _ (ask_of c.as_str.result.now) c.loop-operand.all _ _ _ _ _ _
-        (operands-at operands c.as_slice-operand-items.result.now c.loop-operand.operand-index c.operand-item.result c.as_str.result.now c.as_slice-operand-items.ensures.value (omega arith) c.operand-item.is c.as_str.ensures.value) c.loop-operand.invariant.inputs
-        c.in_ok-one.one c.with-all.result c.in_ok-one.ensures.answer ends c.with-all.ensures.selected c.with-all.ensures.error
+    (operands-at operands c.as_slice-operand-items.result.now c.loop-operand.operand-index c.operand-item.result c.as_str.result.now c.as_slice-operand-items.ensures.value (omega arith) c.operand-item.is c.as_str.ensures.value) c.loop-operand.invariant.inputs
+    c.in_ok-one.one c.with-all.result c.in_ok-one.ensures.answer ends c.with-all.ensures.selected c.with-all.ensures.error
 
 pub loop-operand-preserved : goal.loop-operand-preserved
 loop-operand-preserved g c =
