@@ -308,9 +308,12 @@ fn comes(alloc: Global, row: Row) -> Result<bool, AllocError> {
     let mut err_bytes = [0u8; 64];
     let mut err = CutOut::within(&mut err_bytes);
     let status = run(alloc, &options, &mut opener, &mut out, &mut err);
-    let is_output = out.written() == row.output.as_bytes();
-    let is_message = err.written() == row.messages.as_bytes();
-    Ok(is_output && is_message && status == row.status)
+    let is_written = is(out.written(), row.output) && is(err.written(), row.messages);
+    Ok(is_written && status == row.status)
+}
+
+fn is(bytes: &[u8], text: &str) -> bool {
+    bytes == text.as_bytes()
 }
 
 fn options_of(alloc: Global, row: Row) -> Result<GrepOptions, AllocError> {
