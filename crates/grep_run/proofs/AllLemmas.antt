@@ -8,9 +8,9 @@ use Rattle.grep_run.specs.declared.scanning.Found.{Found}
 use Rattle.grep_run.specs.declared.status.Stop.{Stop}
 use Rattle.grep_run.specs.Grep.{answer_to, asks, searched}
 use Rattle.grep_run.specs.Options.{ask_of, asks_or_standard}
-use Rattle.grep_run.specs.Searching.{IsCut, IsSearched, Searches, SearchesAll}
+use Rattle.grep_run.specs.Searching.{Searches, SearchesAll}
 use Rattle.grep_run.specs.Sources.{AreShort, Ask, Sources, after, found, name_of, taken_by}
-use Rattle.grep_run.proofs.SearchLemmas.{InputsSoFar, InputsSoFar-all, InputsSoFar-cut, InputsSoFar-last, InputsSoFar-more, InputsSoFar-none}
+use Rattle.grep_run.proofs.SearchLemmas.{InputsSoFar-all, InputsSoFar-cut, InputsSoFar-last, InputsSoFar-more, InputsSoFar-none}
 use Rattle.grep_run.proofs.ToldLemmas.{Told-none, Told-weaker}
 use Rattle.grep_run.specs.Running.{AsksFront, IsStopped}
 use Rattle.grep_run.proofs.FrontLemmas.{AppendsFront-none}

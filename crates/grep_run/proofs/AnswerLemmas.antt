@@ -17,15 +17,15 @@ use Rattle.grep_run.specs.declared.status.Stop.{Stop}
 use Rattle.grep_run.specs.declared.status.Stop.TheVariants as stop
 use Rattle.grep_run.specs.Fronts.{AppendsFront, is_write_fault}
 use Rattle.grep_run.specs.Gathering.{Explains, HasPatterns, IsRefusal, IsRefusalCut, LacksPatterns, Refuses, text_of}
-use Rattle.grep_run.specs.Grep.{Answer, answer_to, answer_where, asks, asks_of, asks_where, behind_files, grep, inputs_of, left_of, refused_with, searched, status_where}
+use Rattle.grep_run.specs.Grep.{Answer, answer_to, answer_where, asks, asks_of, asks_where, grep, inputs_of, refused_with, searched, status_where}
 use Rattle.grep_run.specs.Options.{searched_of}
 use Rattle.grep_run.specs.Patterns.{files_asked, patterns_message, patterns_of}
 use Rattle.grep_run.specs.Running.{Answers, AsksFront, Ends, IsStarved, IsStopped, Starved}
 use Rattle.grep_run.specs.Messages.{out_of_memory}
 use Rattle.grep_run.specs.Blocks.{selects}
 use Rattle.grep_run.specs.Scanning.{test_of}
-use Rattle.grep_run.specs.Searching.{AreSearched, SearchesAll}
-use Rattle.grep_run.specs.Sources.{AreShort, Ask, Input, Sources, after_all, found}
+use Rattle.grep_run.specs.Searching.{SearchesAll}
+use Rattle.grep_run.specs.Sources.{AreShort, Ask, Sources, after_all, found}
 use Rattle.grep_run.proofs.FrontLemmas.{AppendsFront-none}
 use Rattle.grep_run.proofs.ToldLemmas.{Told-then, Told-weaker, after_all-append, short-after_all}
 

@@ -1,23 +1,21 @@
 -- Pattern files one after another: what their patterns, their messages and their asks are.
-use Rattle.std.proofs.Common.{◌≡◌, ◌≢◌, ℕ, ◌+◌, ◌<◌, Bool, true, false, cond, String, string_bytes, length, get_or, drop, List, [], ◌∷◌, ◌++◌, map, flat_map, Option, None, Some, is_some, Result, Ok, Err, refl, sym, ap, ◌∙◌, subst, append_assoc, append-nil}
+use Rattle.std.proofs.Common.{◌≡◌, ◌≢◌, ℕ, ◌+◌, ◌<◌, true, cond, String, string_bytes, length, get_or, drop, List, [], ◌∷◌, ◌++◌, map, flat_map, Option, None, Some, is_some, refl, sym, ap, ◌∙◌, subst, append_assoc}
 use Rattle.std.specs.Option.{option_map}
 use Rattle.std.proofs.lemmas.List.{drop_more}
 use Rattle.lit_base.specs.Devices.{Told}
 use Rattle.lit_base.specs.declared.fault.Fault.{Fault}
-use Rattle.lit_base.specs.declared.fault.Fault.TheVariants.{OutOfMemory, TooManyPatterns, LiteralTooLong, TooManyLiterals, ListTooLarge}
-use Rattle.lit_base.specs.declared.fold.Fold.{Fold}
+use Rattle.lit_base.specs.declared.fault.Fault.TheVariants.{OutOfMemory}
 use Rattle.line_pick.specs.Matching.{StandsFor}
 use Rattle.grep_run.specs.declared.needles.Needles.{Needles}
 use Rattle.grep_run.specs.declared.options.GrepOptions.{GrepOptions}
 use Rattle.grep_run.specs.declared.patterns.NoPatterns.{NoPatterns}
 use Rattle.grep_run.specs.declared.patterns.NoPatterns.TheVariants.{Unreadable, Refused}
-use Rattle.grep_run.specs.Gathering.{Explains, HasPatterns, LacksPatterns, StopsAtFile, TakesAllFiles}
-use Rattle.grep_run.specs.Grep.{asks, behind_files}
-use Rattle.grep_run.specs.Messages.{patterns_refused, unreadable}
-use Rattle.grep_run.specs.Options.{asks_for, files_of, lists_of}
-use Rattle.grep_run.specs.Patterns.{content_message, file_message, files_asked, files_message, files_read, first_of, lists_refusal, literals_refusal, pattern_files, patterns_from, patterns_in, patterns_message, patterns_of}
-use Rattle.grep_run.specs.Running.{AsksFront}
-use Rattle.grep_run.specs.Sources.{AreShort, Ask, Content, Input, Named, Sources, after, after_all, after_named, found, source_of, taken_by}
+use Rattle.grep_run.specs.Gathering.{Explains, HasPatterns, StopsAtFile, TakesAllFiles}
+use Rattle.grep_run.specs.Grep.{asks}
+use Rattle.grep_run.specs.Messages.{patterns_refused}
+use Rattle.grep_run.specs.Options.{asks_for, lists_of}
+use Rattle.grep_run.specs.Patterns.{content_message, files_asked, files_message, files_read, first_of, lists_refusal, literals_refusal, pattern_files, patterns_from, patterns_in}
+use Rattle.grep_run.specs.Sources.{AreShort, Ask, Input, Named, Sources, after_all, after_named, found, source_of}
 use Rattle.grep_run.proofs.ToldLemmas.{Told-then, Told-weaker, after_all-one, short-after}
 
 -- the patterns of files
@@ -32,10 +30,6 @@ pub record FilesSoFar (old now : List (List ℕ)) (all rest : List Ask) (s left 
   pub front : asks (files_read old (found all s)) ≡ made ++ asks (files_read now (found rest left))
   pub after : left ≡ after_all made s
   pub short : AreShort left
-
--- at first none is
-pub FilesSoFar-none : (old : List (List ℕ)) (all : List Ask) (s : Sources) → AreShort s → FilesSoFar old old all all s s
-FilesSoFar-none old all s short = record { message = refl; patterns = refl; made = []; front = refl; after = refl; short = short }
 
 -- a message that there is not: what stands behind it counts
 behind-none : (message second : Option (List ℕ)) → message ≡ None → first_of message second ≡ second
@@ -70,14 +64,6 @@ FilesSoFar-more {old} {now} {all} {s} {mid} new name rest left p e none grown =
       short = subst AreShort (sym e) (short-after (Named name) mid p.short);
     }
 
--- where no file is left, all are taken
-pub FilesSoFar-all : {old now : List (List ℕ)} {all : List Ask} {s left : Sources} → FilesSoFar old now all [] s left → TakesAllFiles old now s left (found all s)
-FilesSoFar-all {old} {now} {all} {s} {left} p = record {
-  message = p.message;
-  patterns = sym (p.patterns ∙ append-nil now);
-  after = p.after ∙ ap (λ made. after_all made s) (sym (p.front ∙ append-nil p.made));
-}
-
 -- what is on a message is on the first of it and another
 Explains-first : (why : NoPatterns) (message second : Option (List ℕ)) → Explains why message → Explains why (first_of message second)
 Explains-first (Unreadable name) message second e = ap (λ m. first_of m second) e
@@ -110,21 +96,6 @@ FilesSoFar-stop {old} {now} {all} {s} {mid} name rest left why p e explains =
           here ∙ ap (λ made. after_all made s) (sym last);
     }
 
--- a refusal of the lists
-some-refused : (refusal : Option Fault) (fault : Fault) (second : Option (List ℕ)) → (fault ≢ OutOfMemory → refusal ≡ Some fault)
-    → fault ≢ OutOfMemory → first_of (option_map patterns_refused refusal) second ≡ Some (patterns_refused fault)
-some-refused refusal fault second known other = ap (λ r. first_of (option_map patterns_refused r) second) (known other)
-
-none-read : (refusal : Option Fault) (fault : Fault) (files : List Input) → refusal ≡ Some fault → cond (is_some refusal) [] files ≡ []
-none-read refusal fault files e = ap (λ r. cond (is_some r) [] files) e
-
-pub lists-refused : (o : GrepOptions) (s : Sources) (fault : Fault) → (fault ≢ OutOfMemory → lists_refusal [] (lists_of o) ≡ Some fault) → LacksPatterns o s s (Refused fault)
-lists-refused o s fault known = record {
-  message = some-refused (lists_refusal [] (lists_of o)) fault _ known;
-  front = record { made = []; rest = asks (files_asked o s); parts = refl; after = refl };
-  after = λ other. sym (ap (λ fs. after_all (asks fs) s) (none-read (lists_refusal [] (lists_of o)) fault _ (known (λ memory. other (ap Refused memory)))));
-}
-
 -- where no list is refused, the files count
 none-refused : (refusal : Option Fault) (second : Option (List ℕ)) → refusal ≡ None → first_of (option_map patterns_refused refusal) second ≡ second
 none-refused None second e = refl
@@ -136,33 +107,6 @@ all-read (Some fault) files e = (cc)
 
 files-asked : (o : GrepOptions) (s : Sources) → lists_refusal [] (lists_of o) ≡ None → files_asked o s ≡ files_read (patterns_in (lists_of o)) (pattern_files o s)
 files-asked o s e = all-read (lists_refusal [] (lists_of o)) _ e
-
-pub files-stopped : (o : GrepOptions) (s left : Sources) (why : NoPatterns) → lists_refusal [] (lists_of o) ≡ None
-    → StopsAtFile (patterns_in (lists_of o)) s left (pattern_files o s) why → LacksPatterns o s left why
-files-stopped o s left why none p =
-    let read = files-asked o s none in
-    record {
-      message = subst (Explains why) (sym (none-refused (lists_refusal [] (lists_of o)) _ none)) (Explains-first why (files_message (patterns_in (lists_of o)) (pattern_files o s)) _ p.message);
-      front = subst (λ fs. AsksFront (asks fs) s left) (sym read) p.front;
-      after = λ other. p.after other ∙ ap (λ fs. after_all (asks fs) s) (sym read);
-    }
-
--- and behind them the number of literals
-pub literals-refused : (o : GrepOptions) (s left : Sources) (patterns : List (List ℕ)) (fault : Fault) → lists_refusal [] (lists_of o) ≡ None
-    → TakesAllFiles (patterns_in (lists_of o)) patterns s left (pattern_files o s) → (fault ≢ OutOfMemory → literals_refusal o.fold patterns ≡ Some fault)
-    → LacksPatterns o s left (Refused fault)
-literals-refused o s left patterns fault none p known =
-    let read = files-asked o s none in
-    let after : left ≡ behind_files o s = p.after ∙ ap (λ fs. after_all (asks fs) s) (sym read) in
-    record {
-      message = λ other.
-          none-refused (lists_refusal [] (lists_of o)) _ none
-          ∙ behind-none _ _ p.message
-          ∙ ap (λ ps. option_map patterns_refused (literals_refusal o.fold ps)) (sym p.patterns)
-          ∙ ap (option_map patterns_refused) (known other);
-      front = record { made = asks (files_asked o s); rest = []; parts = sym (append-nil (asks (files_asked o s))); after = after };
-      after = λ other. after;
-    }
 
 pub patterns-had : (o : GrepOptions) (s left : Sources) (patterns : List (List ℕ)) (needles : Needles) → lists_refusal [] (lists_of o) ≡ None
     → TakesAllFiles (patterns_in (lists_of o)) patterns s left (pattern_files o s) → literals_refusal o.fold patterns ≡ None → StandsFor o.fold patterns needles.plan needles.has_empty

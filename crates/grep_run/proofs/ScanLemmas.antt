@@ -1,5 +1,5 @@
 -- One input, piece by piece: where picker and block stand, and what they come to.
-use Rattle.std.proofs.Common.{◌≡◌, ◌≢◌, ℕ, zero, ◌+◌, ◌-◌, ◌^◌, ◌≤◌, ◌<◌, Bool, true, false, ◌||◌, ◌&&◌, not, cond, List, [], ◌∷◌, ◌++◌, eqb, flat_map, length, min, Option, None, Some, Result, Ok, Err, refl, sym, ap, ◌∙◌, subst, append_assoc, append-nil, length-append, length-take-le, take, arith}
+use Rattle.std.proofs.Common.{◌≡◌, ◌≢◌, ℕ, ◌+◌, ◌-◌, ◌^◌, ◌≤◌, ◌<◌, Bool, true, false, ◌||◌, ◌&&◌, not, cond, List, [], ◌∷◌, ◌++◌, eqb, flat_map, length, min, Option, None, Some, Ok, Err, refl, sym, ap, ◌∙◌, subst, append_assoc, append-nil, length-append, length-take-le, take, arith}
 use Rattle.std.proofs.lemmas.Bool.{lt-ltb}
 use Rattle.std.proofs.lemmas.List.Concat.{flat_map-append}
 use Rattle.std.proofs.lemmas.List.FromFn.{length-enumerate_from}
@@ -31,12 +31,12 @@ use Rattle.grep_run.specs.Blocks.{block_in, block_of, has_any, is_trouble, lines
 use Rattle.grep_run.specs.declared.scanning.Found.{Found}
 use Rattle.grep_run.specs.Messages.{unreadable}
 use Rattle.grep_run.specs.Fronts.{AppendsFront, Leaves}
-use Rattle.grep_run.specs.Growing.{IsSameBlock, TakesLine, added_line, ending_of, next_of}
+use Rattle.grep_run.specs.Growing.{IsSameBlock, TakesLine, added_line, ending_of}
 use Rattle.grep_run.specs.Scanning.{FeedsPiece, tested_by, HasFed, HasRead, HasTaken, IsHalted, StandsBehind, ended_in, is_fault}
 use Rattle.grep_run.specs.declared.scanning.End.{End}
 use Rattle.grep_run.specs.Searching.{IsCut, IsScanned}
 use Rattle.grep_run.specs.Sources.{Content, IsShort, coming_of}
-use Rattle.grep_run.proofs.BlockLemmas.{HasMore, adds-none, any-behind, block-parts, ending-any, lent-more, lent-stop, lent-stop-text, wants-none}
+use Rattle.grep_run.proofs.BlockLemmas.{HasMore, any-behind, block-parts, ending-any, lent-more, lent-stop, lent-stop-text, wants-none}
 use Rattle.grep_run.proofs.FrontLemmas.{AppendsFront-all, AppendsFront-behind, AppendsFront-none}
 
 -- the selected lines of a text and of what follows it
@@ -261,9 +261,6 @@ module _ {o : GrepOptions} {test : List ℕ → Bool} {name : List ℕ} (c : Con
   ended-starved = read-front o test name c before now (ended_in test c.text) (picked p (last_line p.held)) clean-numbered
       (record { rest = []; leaves = record { front = flat_map (added_line o name) (ended_in test c.text); parts = sym (append-nil (flat_map (added_line o name) (ended_in test c.text))); grown = s.taken.written } })
 
-pub finishes-as : {p new_p : Picking} {b new_b : Block} {answer known : Next} → answer ≡ known → Finishes TakesLine p b (Ok answer) new_p new_b → Finishes TakesLine p b (Ok known) new_p new_b
-finishes-as {p} {new_p} {b} {new_b} e f = subst (λ n. Finishes TakesLine p b (Ok n) new_p new_b) e f
-
 -- whether lines come to an end at the last one
 pub ended-any : {o : GrepOptions} {test : List ℕ → Bool} {name : List ℕ} (c : Content) {p : Picking} (new_p : Picking) {b : Block} (new : Block) {before now : Option (List ℕ)} (answer : Next)
     → c.is_faulty ≡ false → IsShort c → StandsBehind o test name c.text p b before now → Finishes TakesLine p b (Ok answer) new_p new → HasRead o test name c Clean new before now
@@ -320,11 +317,6 @@ lines-front test c front rest e =
             ∙ numbered-append test 0 (ended_lines front) (behind ++ last_line (open_rest c.text)),
       )
     ]
-
--- at first all are
-pub ReadSoFar-none : {o : GrepOptions} {test : List ℕ → Bool} {name : List ℕ} {c : Content} {coming : Option Coming} {p : Picking} {b : Block} {before : Option (List ℕ)} → StandsBehind o test name [] p b before before
-    → coming ≡ Some (coming_of c) → ReadSoFar o test name c coming p b 0 before before
-ReadSoFar-none {c = c} s e = record { done = []; rest = c.text; parts = refl; left = e; stands = s; turns = omega arith }
 
 -- what follows a fault and a clean end
 faulty-ending : (is_faulty : Bool) (text : List ℕ) → MayFail (coming_of (record { text = text; is_faulty = is_faulty })) → (is_faulty ≡ true) × (text ≡ [])

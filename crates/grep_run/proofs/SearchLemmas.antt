@@ -7,7 +7,7 @@ use Rattle.std.specs.Io.KnownBytes.{Appends}
 use Rattle.std.proofs.KnownBytes.{Appends-nil, Appends-trans}
 use Rattle.grep_run.specs.declared.options.GrepOptions.{GrepOptions}
 use Rattle.grep_run.specs.declared.scanning.Found.{Found}
-use Rattle.grep_run.specs.Blocks.{block, block_in, has_any, has_selected, is_error, is_trouble, message, message_in, selected_in}
+use Rattle.grep_run.specs.Blocks.{block, block_in, has_selected, is_error, message, message_in}
 use Rattle.grep_run.specs.Fronts.{AppendsFront}
 use Rattle.grep_run.specs.Grep.{answer_to, asks, searched}
 use Rattle.grep_run.specs.Options.{ask_of}

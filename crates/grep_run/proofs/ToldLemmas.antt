@@ -1,5 +1,5 @@
 -- What an opener tells from one ask to the next.
-use Rattle.std.proofs.Common.{◌≡◌, ℕ, ◌<◌, zero, suc, length, get_or, Bool, true, false, cond, List, [], ◌∷◌, ◌++◌, map, All, Option, None, Some, IfSome, Result, Ok, Err, refl, sym, ap, ◌∙◌, subst, lit<, arith}
+use Rattle.std.proofs.Common.{◌≡◌, ℕ, ◌<◌, zero, suc, length, get_or, true, false, cond, List, [], ◌∷◌, ◌++◌, All, Option, None, Some, IfSome, Ok, Err, refl, lit<, arith}
 use Rattle.std.specs.Str.{bytes_eq}
 use Rattle.lit_base.specs.Devices.{Coming, Told}
 use Rattle.grep_run.specs.Sources.{AreShort, Ask, Content, IsShort, Named, OpensAs, Sources, Standard, after, after_all, after_first, coming_of, content_of, source_of, taken_by, without_first}

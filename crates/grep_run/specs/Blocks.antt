@@ -1,5 +1,5 @@
 -- What one input gives: its block of output, its message, whether a line is selected, and whether it is an error. POSIX.1-2017 `grep`, OPTIONS, STDOUT, CONSEQUENCES OF ERRORS.
-use Rattle.std.specs.Prelude.{ℕ, ◌&&◌, ◌||◌, not, Bool, true, false, List, [], ◌∷◌, ◌++◌, length, flat_map, nat_lt, if◌then◌else◌, Option, Some, None, codes, decimal}
+use Rattle.std.specs.Prelude.{ℕ, ◌&&◌, ◌||◌, not, Bool, true, List, [], ◌++◌, length, flat_map, nat_lt, if◌then◌else◌, Option, Some, None, codes, decimal}
 use Rattle.lit_base.specs.Lines.{ended_lines, lines}
 use Rattle.lit_base.specs.Selected.{is_selected}
 use Rattle.line_pick.specs.Lending.{numbered}

@@ -11,7 +11,7 @@ use Rattle.lit_base.specs.declared.limits.TheConstants.{MAX_LITERALS, MAX_TEXT_L
 use Rattle.grep_run.specs.declared.options.GrepOptions.{GrepOptions}
 use Rattle.grep_run.specs.Messages.{patterns_refused, unreadable}
 use Rattle.grep_run.specs.Options.{files_of, lists_of}
-use Rattle.grep_run.specs.Sources.{Ask, Content, Input, Sources, found, name_of}
+use Rattle.grep_run.specs.Sources.{Content, Input, Sources, found, name_of}
 
 -- the patterns of all lists, in order
 abbrev pub patterns_in : List (List ℕ) → List (List ℕ)

@@ -1,5 +1,4 @@
 -- What holds of the content that was read holds of the source that the opener told.
-use Rattle.lit_base.specs.Devices.{Coming}
 use Rattle.grep_run.specs.Gathering.{TakesFile}
 use Rattle.grep_run.specs.Sources.{Named}
 use Rattle.grep_run.proofs.ToldLemmas.{opened}

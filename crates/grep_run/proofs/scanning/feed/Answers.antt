@@ -1,6 +1,6 @@
 -- Where picker and block stand behind one more piece.
 use Rattle.std.proofs.lemmas.Result.{err_from_is_err_and}
-use Rattle.grep_run.proofs.ScanLemmas.{fed-cut, fed-halted, fed-long, fed-on, fed-starved, feeds-as}
+use Rattle.grep_run.proofs.ScanLemmas.{fed-cut, fed-halted, fed-on, fed-starved, feeds-as}
 use Rattle.grep_run.proofs.scanning.feed.Goals as goal
 
 pub returns-in_err-write-in-Ok-More-clause-answer : goal.returns-in_err-write-in-Ok-More-clause-answer

@@ -1,8 +1,7 @@
 -- A read that fails, one that finds the end, one more piece, and the last one.
-use Rattle.std.proofs.Common.{◌≡◌, ◌<◌, ℕ, [], refl, rules, arith, ap, sym, ◌∙◌, Some, Ok, subst, take}
-use Rattle.std.proofs.lemmas.Bool.Decides.{nat_tests}
+use Rattle.std.proofs.Common.{◌≡◌, ◌<◌, [], refl, rules, arith, Ok, subst, take}
 use Rattle.std.proofs.lemmas.Result.{err_from_is_err_and}
-use Rattle.grep_run.specs.Scanning.{FeedsPiece, StandsBehind}
+use Rattle.grep_run.specs.Scanning.{FeedsPiece}
 use Rattle.grep_run.proofs.ScanLemmas.{so_far-cut, so_far-end, so_far-ended, so_far-fault, so_far-more, so_far-turns}
 use Rattle.grep_run.proofs.scanning.read_lines.Goals as goal
 

@@ -1,7 +1,6 @@
 -- The block that was read, with its end.
 use Rattle.std.proofs.Common.{refl}
 use Rattle.std.proofs.lemmas.Result.{err_from_is_err_and}
-use Rattle.grep_run.specs.Scanning.{test_of}
 use Rattle.grep_run.proofs.ScanLemmas.{begin-stands, finished, finished-cut}
 use Rattle.grep_run.proofs.scanning.scan_input.Goals as goal
 

@@ -1,5 +1,4 @@
 -- A front of the message is written, and no block.
-use Rattle.std.proofs.Common.{None}
 use Rattle.std.proofs.lemmas.Result.{err_from_is_err_and}
 use Rattle.grep_run.proofs.FrontLemmas.{AppendsFront-none}
 use Rattle.grep_run.proofs.searching.pass_over.Goals as goal

@@ -1,11 +1,8 @@
 -- Standard input alone, or the operands.
-use Rattle.std.proofs.Common.{◌≡◌, ◌<◌, [], ◌∷◌, map, string_bytes, length, eqb, ◌∙◌, ap}
+use Rattle.std.proofs.Common.{◌≡◌, ◌<◌, [], map, string_bytes, length, eqb, ◌∙◌, ap}
 use Rattle.std.proofs.lemmas.Result.{err_from_is_err_and}
-use Rattle.lit_base.specs.Devices.{Told}
-use Rattle.grep_run.specs.Grep.{searched}
-use Rattle.grep_run.specs.Options.{asks_or_standard, searched_of}
-use Rattle.grep_run.specs.Searching.{SearchesAll}
-use Rattle.grep_run.specs.Sources.{AreShort, Standard, found}
+use Rattle.grep_run.specs.Options.{searched_of}
+use Rattle.grep_run.specs.Sources.{Standard}
 use Rattle.grep_run.specs.Scanning.{test_of}
 use Rattle.grep_run.proofs.AllLemmas.{search-alone, search-none, asks-some, map-none, map-some}
 use Rattle.grep_run.proofs.searching.search_all.Goals as goal

@@ -1,5 +1,5 @@
 -- An operand more is searched; under -q a selected line makes it the last, and where a write fails it is.
-use Rattle.std.proofs.Common.{◌≡◌, ◌&&◌, ◌+◌, true, false, map, string_bytes, drop, rules, arith}
+use Rattle.std.proofs.Common.{◌≡◌, ◌&&◌, true, false, map, string_bytes, rules, arith}
 use Rattle.std.proofs.lemmas.Result.{err_from_is_err_and}
 use Rattle.grep_run.specs.Options.{ask_of}
 use Rattle.grep_run.specs.Scanning.{test_of}
