@@ -1,26 +1,9 @@
 //! The files and the standard input of the system.
 use grep_run::{Missing, Opener};
-use lit_base::FromRead;
+use lit_base::{FileOrInput, FromRead};
 use std::fs::File;
-use std::io;
-use std::io::{Input, Read};
+use std::io::Input;
 use std::rt::Files;
-
-/// A file or standard input, as one reader.
-#[derive(Drop)]
-pub enum FileOrInput<F: Drop, S: Drop> {
-    File(F),
-    Input(S),
-}
-
-impl<F: Read + Drop, S: Read + Drop> Read for FileOrInput<F, S> {
-    fn read(&mut self, buf: &mut [u8]) -> io::Result<usize> {
-        match self {
-            FileOrInput::File(file) => file.read(buf),
-            FileOrInput::Input(input) => input.read(buf),
-        }
-    }
-}
 
 /// Opens the files of the system, for reading alone, and its standard input. It tells nothing of
 /// what they hold.

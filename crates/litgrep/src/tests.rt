@@ -1,9 +1,9 @@
 //! What no clause says: words that clap reads, files of the system, and reads that a signal interrupts.
 use crate::fault::Fault;
-use crate::files::{FileOrInput, SystemOpener};
+use crate::files::SystemOpener;
 use crate::words::options;
 use grep_run::Opener;
-use lit_base::{Fold, FromRead, read_to_end};
+use lit_base::{FileOrInput, Fold, FromRead, read_to_end};
 use std::alloc::{AllocError, Global};
 use std::io::{ErrorKind, Read};
 use std::process::Abort;
