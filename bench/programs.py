@@ -187,8 +187,11 @@ class Run:
 
 
 def run(words, stdin):
-    """One process, its output read through a pipe."""
+    """One process, its output read through a pipe. GNU time starts it, since the peak of a process counts from the
+    one that forked it, which would be this script."""
     environment = dict(os.environ, LC_ALL="C")
+    peak = tempfile.NamedTemporaryFile("r")
+    words = ["/usr/bin/time", "-q", "-f", "%M", "-o", peak.name] + words
     source = open(stdin or os.devnull, "rb")
     before = time.monotonic()
     child = subprocess.Popen(words, stdin=source, stdout=subprocess.PIPE, stderr=subprocess.DEVNULL, env=environment)
@@ -204,7 +207,9 @@ def run(words, stdin):
     child.returncode = os.waitstatus_to_exitcode(status)
     source.close()
     child.stdout.close()
-    return Run(child.returncode, digest.hexdigest(), size, usage.ru_utime + usage.ru_stime, wall, usage.ru_maxrss)
+    memory = int(peak.read().split()[-1])
+    peak.close()
+    return Run(child.returncode, digest.hexdigest(), size, usage.ru_utime + usage.ru_stime, wall, memory)
 
 
 def command(program, row):
@@ -220,12 +225,15 @@ def command(program, row):
 
 
 def measure(row, programs, turns):
-    """The runs of each program, in turn, so that what the machine does meanwhile meets all alike."""
+    """The runs of each program, in turn, so that what the machine does meanwhile meets all alike. A program that
+    refuses a row, as one does that takes patterns for UTF-8, has none."""
     found = {program[0]: [] for program in programs}
     for _ in range(turns):
         for program in programs:
             if row.suits(program[0]):
-                found[program[0]].append(run(command(program, row), row.stdin))
+                done = run(command(program, row), row.stdin)
+                if done.status < 2:
+                    found[program[0]].append(done)
     return found
 
 

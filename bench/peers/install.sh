@@ -4,7 +4,7 @@
 set -e
 cd "$(dirname "$0")"
 apt-get update -qq
-apt-get install -y -qq ripgrep ugrep busybox gcc cargo libhyperscan-dev librust-aho-corasick-dev librust-memchr-dev
+apt-get install -y -qq ripgrep ugrep busybox time gcc cargo libhyperscan-dev librust-aho-corasick-dev librust-memchr-dev
 mkdir -p bin
 gcc -O3 -o bin/hyperscan hyperscan.c -lhs
 cd automaton
