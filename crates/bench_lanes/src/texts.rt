@@ -1,4 +1,7 @@
 //! Literals and texts, the same in each run.
+ghost use Rattle.std.specs.Prelude.{◌≡◌, IfOk, length};
+ghost use Rattle.lit_base.specs.declared.fold.Fold.TheVariants.{No};
+
 use anyhow::Result;
 use lit_base::{Fold, LitList, RawList};
 use std::alloc::{AllocError, Global};
@@ -28,8 +31,10 @@ impl Numbers {
     }
 }
 
-/// So many words of six to nine small letters.
-pub fn literals(alloc: Global, count: u16) -> Result<LitList> {
+/// So many words of six to nine small letters, compared byte by byte.
+pub fn literals(alloc: Global, count: u16) -> Result<LitList>
+    ensures { IfOk result (λ list. list.folding ≡ No) }
+{
     let mut numbers = Numbers { state: 1 };
     let mut raw = RawList::new(alloc);
     for _ in 0..count {
@@ -44,8 +49,10 @@ pub fn literals(alloc: Global, count: u16) -> Result<LitList> {
     Ok(list)
 }
 
-/// A text of capitals, digits and spaces, in which no literal occurs and no filter finds one.
-pub fn quiet_text(alloc: Global, len: usize) -> Result<Vec<u8>, AllocError> {
+/// A text of so many capitals, digits and spaces, in which no literal occurs and no filter finds one.
+pub fn quiet_text(alloc: Global, len: usize) -> Result<Vec<u8>, AllocError>
+    ensures { IfOk result (λ text. length text.items ≡ len) }
+{
     let mut numbers = Numbers { state: 2 };
     let mut text = Vec::new(alloc);
     text.reserve(len)?;
@@ -56,17 +63,24 @@ pub fn quiet_text(alloc: Global, len: usize) -> Result<Vec<u8>, AllocError> {
 }
 
 /// The same with a literal now and then.
-pub fn rare_text(alloc: Global, len: usize, list: &LitList) -> Result<Vec<u8>, AllocError> {
+pub fn rare_text(alloc: Global, len: usize, list: &LitList) -> Result<Vec<u8>, AllocError>
+    ensures { IfOk result (λ text. length text.items ≡ len) }
+{
     let mut text = quiet_text(alloc, len)?;
+    place_literals(text.as_mut_slice(), list);
+    Ok(text)
+}
+
+/// Writes a literal in every stretch of the text.
+fn place_literals(text: &mut [u8], list: &LitList) {
     if list.len() == 0 {
-        return Ok(text);
+        return;
     }
     let mut place = DISTANCE / 2;
-    for turn in 0..len / DISTANCE {
+    for turn in 0..text.len() / DISTANCE {
         for (byte, letter) in text.iter_mut().skip(place).zip(list.get(turn % list.len())) {
             *byte = *letter;
         }
         place = place.saturating_add(DISTANCE);
     }
-    Ok(text)
 }
