@@ -2,6 +2,7 @@
 use Rattle.std.proofs.Common.{◌≡◌, ◌≢◌, ℕ, zero, suc, ◌+◌, ◌-◌, ◌*◌, ◌^◌, ◌<◌, ◌≤◌, List, [], ◌∷◌, ◌++◌, length, get_or, take, drop, map, codes, All, refl, sym, ap, subst, ◌∙◌, append_assoc, length-append, inl, inr, arith}
 use Rattle.std.specs.List.{flat_map, join_with_byte}
 use Rattle.std.specs.Fmt.{decimal}
+use Rattle.std.proofs.Math.Seq.{take-add}
 use Rattle.std.proofs.lemmas.Bool.{cases_order}
 use Rattle.std.proofs.lemmas.Fmt.{decimal_injective}
 use Rattle.std.proofs.lemmas.List.{take-take, take-append-drop, take_all, drop_all, append-nil, append_cancel_right, get_or-map, get_or-take, length-take-le, length-take, length-drop, drop-take}
@@ -71,16 +72,10 @@ rows_same zero n hs gs same = ap (λ (k : ℕ). take k hs) none ∙ sym (ap (λ 
     none = omega arith
 rows_same (suc count) n hs gs same =
     let next : suc count * n ≡ count * n + n = grind arith in
-    rw next (one_more (count * n) n hs
+    rw next (take-add (count * n) n hs
     ∙ ap (λ (t : List ℕ). t ++ take n (drop (count * n) hs)) (rows_same count n hs gs (λ r lt. same r (omega arith)))
     ∙ ap (λ (t : List ℕ). take (count * n) gs ++ t) (same count (omega arith))
-    ∙ sym (one_more (count * n) n gs))
-  where
-    one_more : (k n : ℕ) (xs : List ℕ) → take (k + n) xs ≡ take k xs ++ take n (drop k xs)
-    one_more k n xs =
-        sym (take-append-drop k (take (k + n) xs))
-        ∙ ap (λ (t : List ℕ). t ++ drop k (take (k + n) xs)) (take-take k (k + n) xs (omega arith))
-        ∙ ap (λ (t : List ℕ). take k xs ++ t) (drop-take k n xs)
+    ∙ sym (take-add (count * n) n gs))
 
 -- lines with one text have their words joined in one way
 same_joined : (ws vs : List (List ℕ)) → line_text ws ≡ line_text vs → join_with_byte 32 ws ≡ join_with_byte 32 vs
