@@ -15,7 +15,7 @@ import subprocess
 import sys
 import tempfile
 
-from programs import HERE, MB, english_block, fill, log_block, machine, word
+from programs import HERE, MB, english_block, fill, log_block, machine, random_literals, rare_literal, write_lines
 
 PEERS = os.path.join(HERE, "peers/bin")
 
@@ -25,10 +25,8 @@ def make_lists(folder, texts):
     rng = random.Random(17)
     found = {}
     for count in (1, 3, 10, 32, 100, 1000):
-        rare = ["%s%s%02x" % (word(rng), word(rng), rng.getrandbits(8)) for _ in range(count)]
         found["rare", count] = os.path.join(folder, "rare%d" % count)
-        with open(found["rare", count], "w") as out:
-            out.write("\n".join(rare) + "\n")
+        write_lines(found["rare", count], [rare_literal(rng, "%s%s%02x", 8) for _ in range(count)])
         for name, text in texts.items():
             cut = set()
             while len(cut) < count:
@@ -37,12 +35,9 @@ def make_lists(folder, texts):
                 if b"\n" not in piece:
                     cut.add(piece)
             found[name, count] = os.path.join(folder, "%s-often%d" % (name, count))
-            with open(found[name, count], "wb") as out:
-                out.write(b"\n".join(sorted(cut)) + b"\n")
+            write_lines(found[name, count], sorted(cut))
     found["bytes", 1000] = os.path.join(folder, "bytes1000")
-    with open(found["bytes", 1000], "wb") as out:
-        for _ in range(1000):
-            out.write(bytes(b for b in rng.randbytes(6) if b != 10) + b"\n")
+    write_lines(found["bytes", 1000], random_literals(rng))
     return found
 
 
@@ -85,6 +80,31 @@ def scan(words, text, literals, mode, turns):
     return float(answer[0]), int(answer[1])
 
 
+def measure(tools, text, literals, turns):
+    """The least time of each program, started three times in turn, and the hits of those that report all."""
+    best, hits = {}, {}
+    for _ in range(3):
+        for tool, words, mode, complete in tools:
+            answer = scan(words, text, literals, mode, turns)
+            if answer is None:
+                continue
+            best[tool] = min(best.get(tool, answer[0]), answer[0])
+            if complete:
+                hits[tool] = answer[1]
+    return best, hits
+
+
+def as_line(name, tools, ours, speed, hits):
+    """A row of the table: the speeds, and that of the first of our programs beside the others'."""
+    mine = speed.get(tools[0][0], 0.0)
+    others = [speed[t[0]] for t in tools if t[0] in speed and not any(t[0].startswith(o) for o, _ in ours)]
+    return "| %s | %d | %s | %.2f | %.2f |" % (
+        name, max(hits.values(), default=0),
+        " | ".join("%.2f" % speed[t[0]] if t[0] in speed else "" for t in tools),
+        mine / speed["Hyperscan block"] if speed.get("Hyperscan block") else 0.0,
+        mine / max(others) if others else 0.0)
+
+
 def main():
     parser = argparse.ArgumentParser(description=__doc__, formatter_class=argparse.RawDescriptionHelpFormatter)
     parser.add_argument("--turns", type=int, default=5, help="scans of 64 MB in one start")
@@ -102,25 +122,11 @@ def main():
             if options.only not in name:
                 continue
             turns = options.turns if size > MB else 2001
-            best, hits = {}, {}
-            for _ in range(3):
-                for tool, words, mode, complete in tools:
-                    answer = scan(words, text, literals, mode, turns)
-                    if answer is None:
-                        continue
-                    best[tool] = min(best.get(tool, 1e9), answer[0])
-                    if complete:
-                        hits[tool] = answer[1]
+            best, hits = measure(tools, text, literals, turns)
             if len(set(hits.values())) > 1:
                 wrong.append("%s: %s" % (name, hits))
             speed = {tool: size / seconds / 1e9 for tool, seconds in best.items()}
-            mine = speed.get(tools[0][0], 0.0)
-            others = [speed[t[0]] for t in tools if t[0] in speed and not any(t[0].startswith(o) for o, _ in ours)]
-            lines.append("| %s | %d | %s | %.2f | %.2f |" % (
-                name, max(hits.values(), default=0),
-                " | ".join("%.2f" % speed[t[0]] if t[0] in speed else "" for t in tools),
-                mine / speed["Hyperscan block"] if speed.get("Hyperscan block") else 0.0,
-                mine / max(others) if others else 0.0))
+            lines.append(as_line(name, tools, ours, speed, hits))
             print(lines[-1], flush=True)
     table = machine(64) + "\n\nGB/s.\n\n" + "\n".join(lines) + "\n"
     if options.write:
