@@ -76,7 +76,7 @@ loop-piece-preserved c =
     record {
       plan = ap (λ (t : Scanning). t.plan) ok ∙ before.plan;
       small = fits (length (concat (bytes_of (take (i + 1) pieces)))) (λ long.
-          let refused : Ok c.in_ok-feed.value ≡ Err StreamTooLong = c.in_ok-feed.ensures.too_long.1 (omega (arith, long, before.place, ap length joined, length-append text piece)) in
+          let refused : Ok c.in_ok-feed.field-0 ≡ Err StreamTooLong = c.in_ok-feed.ensures.too_long.1 (omega (arith, long, before.place, ap length joined, length-append text piece)) in
           (cc));
       place = omega (arith, ap (λ (t : Scanning). t.place) ok, before.place, ap length joined, length-append text piece);
       tail = ap (λ (t : Scanning). t.tail) ok ∙ tail_more s plan text piece before.plan before.tail ∙ ap (last_bytes (carry_of plan.literals)) joined;
