@@ -1,4 +1,5 @@
 mod plain;
+mod single;
 mod table;
 
 use crate::compiled::{Compiled, least_law};
@@ -7,7 +8,7 @@ use crate::hit::Hit;
 use crate::scanner::Scanner;
 use crate::scanning::{pieces_law, scan_all, scan_pieces};
 use crate::searching::next_end;
-use crate::tests::plain::{PlainScanner, plain_end, plain_hits};
+use crate::tests::plain::{PlainScanner, masks_of, plain_end, plain_hits};
 use crate::tests::table::certificate_of;
 use lit_base::{Fold, LitList, MAX_LITERAL_LEN, RawList};
 use lit_cert::Reason;
@@ -138,7 +139,10 @@ fn verifies_what_the_filter_lets_through(rt: HostRuntime) -> Result<(), Fail> {
     let alloc = rt.alloc();
     let compiled = compiled_of(alloc, &[b"abcdefgh", b"abcdefxy"])?;
     assert_eq!(rt; compiled.certificate().cost, 232);
-    assert_eq!(rt; nib_mask::plain_byte(compiled.masks(), b'f', b'g', b'y'), 1);
+    assert_eq!(rt;
+        nib_mask::plain_byte(&masks_of(&compiled), b'f', b'g', b'y'),
+        1
+    );
     assert!(rt; scan_all(alloc, &compiled, b"abcdefgy")?.is_empty());
     Ok(())
 }

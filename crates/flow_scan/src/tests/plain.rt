@@ -3,6 +3,7 @@ use crate::compiled::Compiled;
 use crate::hit::Hit;
 use lane_filter::filter;
 use lit_base::{LitList, fold_byte};
+use nib_mask::Masks;
 use std::alloc::{AllocError, Global};
 
 /// Whether the literal at a place ends at `end` in the text, byte by byte.
@@ -54,6 +55,11 @@ pub(super) fn plain_end(list: &LitList, text: &[u8], from: usize) -> Option<usiz
     None
 }
 
+/// The tables of a plan's filter.
+pub(super) fn masks_of(compiled: &Compiled) -> Masks {
+    Masks::of(compiled.list(), &compiled.certificate().ends)
+}
+
 /// A scan by the definition of packed search: it keeps every byte, and where the filter byte of a
 /// place is not zero it compares the literals of each bucket in it.
 #[derive(Drop)]
@@ -97,7 +103,7 @@ impl<'p> PlainScanner<'p> {
         let x1 = padded.get(1..count + 1).unwrap_or_default();
         let x2 = self.bytes.as_slice();
         if x0.len() == out.len() && x1.len() == out.len() && x2.len() == out.len() {
-            filter(self.compiled.masks(), x0, x1, x2, &mut out);
+            filter(&masks_of(self.compiled), x0, x1, x2, &mut out);
         }
         Ok(out)
     }
