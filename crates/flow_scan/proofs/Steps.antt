@@ -6,7 +6,7 @@ use Rattle.std.proofs.lemmas.List.Elements.{All-from_get_or}
 use Rattle.lit_base.specs.Literals.{Literals}
 use Rattle.nib_mask.specs.declared.masks.Masks.{Masks}
 use Rattle.nib_mask.specs.Candidates.{Covers, IsCandidate}
-use Rattle.flow_scan.specs.Ends.{HasEnd}
+use Rattle.lit_base.specs.Ends.{HasEnd}
 
 -- the bytes of a slice are bytes
 pub all_bytes : (text : List ℕ) → ((i : ℕ) → Fits w8 (get_or text i 0)) → All (λ b. b < 256) text
