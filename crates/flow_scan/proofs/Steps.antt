@@ -7,7 +7,7 @@ use Rattle.lit_base.specs.Literals.{Literals}
 use Rattle.lane_filter.specs.Pairs.{CoversBy}
 use Rattle.lane_filter.specs.Sieves.{Passes}
 use Rattle.lane_filter.specs.declared.sieve.Sieve.{Sieve}
-use Rattle.flow_scan.specs.Ends.{HasEnd}
+use Rattle.lit_base.specs.Ends.{HasEnd}
 
 -- the bytes of a slice are bytes
 pub all_bytes : (text : List ℕ) → ((i : ℕ) → Fits w8 (get_or text i 0)) → All (λ b. b < 256) text

@@ -1,23 +1,8 @@
--- The places of a text at which some literal ends.
-use Rattle.std.specs.Prelude.{◌≡◌, ℕ, ◌<◌, ◌≤◌, ◌↔◌, List, ◌++◌, Contains, length}
+-- The hits at a place of a text at which some literal ends.
+use Rattle.std.specs.Prelude.{◌≡◌, ℕ, ◌↔◌, List, ◌++◌, Contains}
 use Rattle.std.specs.List.Sorted.{IsStrictlySortedBy}
 use Rattle.lit_base.specs.Literals.{Literals}
 use Rattle.lit_base.specs.Occurrences.{Occurs, hit_cmp}
-
--- some literal ends at this place of the text
-abbrev pub HasEnd : Literals → List ℕ → ℕ → Type 0
-HasEnd l text end = (place : ℕ) × Occurs l text place end
-
--- none ends behind a place
-abbrev pub NoEndAfter : Literals → List ℕ → ℕ → Type 0
-NoEndAfter l text from = (end : ℕ) → from < end → ¬ HasEnd l text end
-
--- the first place behind another one at which some literal ends
-pub record IsNextEnd (l : Literals) (text : List ℕ) (from end : ℕ) : Type 0 where
-  pub after : from < end
-  pub within : end ≤ length text
-  pub here : HasEnd l text end
-  pub first : (other : ℕ) → from < other → other < end → ¬ HasEnd l text other
 
 -- the hits at one place of the text, which is counted as `at`
 pub record AreHitsAt (l : Literals) (text : List ℕ) (end at : ℕ) (found : List (ℕ × ℕ)) : Type 0 where

@@ -3,14 +3,20 @@ ghost use Rattle.std.specs.Prelude.{◌≡◌, IfSome, MatchOption};
 ghost use Rattle.lit_base.specs.Occurrences.{IsFirstEnding};
 ghost use Rattle.lane_filter.specs.Pairs.{CoversBy};
 ghost use Rattle.lane_filter.specs.Sieves.{Passes};
-ghost use Rattle.flow_scan.specs.Ends.{IsNextEnd, NoEndAfter};
+ghost use Rattle.lit_base.specs.Ends.{IsNextEnd, NoEndAfter};
 
 use lane_filter::Candidates;
 use lit_base::LitList;
 
+/// So many candidates behind one tell how close together they are.
+const CROWD: usize = 4;
+
+/// A candidate costs about as much as so many of the list's looks at the text.
+const LOOKS: usize = 4;
+
 /// The first place behind the last candidate handed out at which some literal ends, with the first
-/// of these literals. The candidates are those of the text, by a sieve for the literals. It takes
-/// no memory.
+/// of these literals. The candidates are those of the text, by a sieve for the literals; where they
+/// crowd, the list goes on by itself. It takes no memory.
 pub(crate) fn next_ending(
     list: &LitList,
     text: &[u8],
@@ -26,10 +32,50 @@ pub(crate) fn next_ending(
     ensures first { IfSome result (λ found. IsFirstEnding list.now text.now 0 found.0 found.1) }
     ensures reached { IfSome result (λ found. candidates.new.from ≡ found.0) }
 {
+    let mut rejected = 0;
+    let mut start = 0;
     while let Some(end) = candidates.next_end() {
         if let Some(first) = list.next_ending(text, end, 0) {
             return Some((end, first));
         }
+        if rejected == CROWD {
+            if are_close(list, end.saturating_sub(start)) {
+                return next_by_list(list, text, end, candidates);
+            }
+            rejected = 0;
+        }
+        if rejected == 0 {
+            start = end;
+        }
+        rejected += 1;
     }
     None
+}
+
+/// Whether candidates at which nothing ends, `CROWD` of them in so many bytes, stand so close together
+/// that the list finds the next end sooner by itself: it looks at every eighth place where each
+/// literal has eleven bytes or more, and at each place where one has fewer than five.
+fn are_close(list: &LitList, bytes: usize) -> bool {
+    !list.is_empty() && bytes < CROWD * LOOKS * (list.shortest().clamp(4, 11) - 3)
+}
+
+/// What `next_ending` says, by the list itself and behind a place.
+fn next_by_list(
+    list: &LitList,
+    text: &[u8],
+    from: usize,
+    candidates: &mut Candidates,
+) -> Option<(usize, usize)>
+    requires text { candidates.old.text ≡ text.now }
+    ensures sieve { candidates.new.sieve ≡ candidates.old.sieve }
+    ensures text { candidates.new.text ≡ candidates.old.text }
+    ensures next { MatchOption result
+        (NoEndAfter list.now text.now from)
+        (λ found. IsNextEnd list.now text.now from found.0) }
+    ensures first { IfSome result (λ found. IsFirstEnding list.now text.now 0 found.0 found.1) }
+    ensures reached { IfSome result (λ found. candidates.new.from ≡ found.0) }
+{
+    let (end, first) = list.next_end(text, from)?;
+    candidates.skip_to(end);
+    Some((end, first))
 }

@@ -1,7 +1,8 @@
 //! Where literals end in a text, and the hits there.
 ghost use Rattle.std.specs.Prelude.{◌≡◌, ◌+◌, ◌-◌, ◌^◌, ◌<◌, ◌≤◌, IsOk, MatchOption, OnOk, length};
 ghost use Rattle.lit_base.specs.Occurrences.{IsFirstEnding};
-ghost use Rattle.flow_scan.specs.Ends.{Extends, GainsHitsAt, IsNextEnd, NoEndAfter};
+ghost use Rattle.lit_base.specs.Ends.{IsNextEnd, NoEndAfter};
+ghost use Rattle.flow_scan.specs.Ends.{Extends, GainsHitsAt};
 ghost use Rattle.flow_scan.specs.Tails.{GainsHitsBehind};
 
 use crate::compiled::Compiled;

@@ -195,4 +195,15 @@ impl<'a> Candidates<'a> {
         self.from = self.first + bit;
         Some(self.from)
     }
+
+    /// Goes on behind a place of the text, as if that were the last candidate handed out.
+    #[inline]
+    pub fn skip_to(&mut self, place: usize)
+        requires { place ≤ length self.old.text }
+        ensures sieve { self.new.sieve ≡ self.old.sieve }
+        ensures text { self.new.text ≡ self.old.text }
+        ensures from { self.new.from ≡ place }
+    {
+        *self = Candidates::new(self.sieve, self.text, place);
+    }
 }

@@ -3,6 +3,7 @@ pub mod Buckets
 pub mod ChainLemmas
 pub mod Cuts
 pub mod DeviceLemmas
+pub mod EndLemmas
 pub mod EndedLemmas
 pub mod InsertLemmas
 pub mod Least

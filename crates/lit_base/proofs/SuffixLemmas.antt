@@ -9,7 +9,7 @@ use Rattle.std.specs.List.{slice_range}
 use Rattle.std.specs.Option.{unwrap_or}
 use Rattle.std.proofs.lemmas.Bool.{agree_below_at, cases_lt}
 use Rattle.std.proofs.lemmas.Bool.Decides.{nat_tests, Decides-eqb}
-use Rattle.std.proofs.lemmas.List.{append-nil, drop-drop, drop-map, drop_all, take-replicate, get_or_past, length-append, length-replicate}
+use Rattle.std.proofs.lemmas.List.{append-nil, drop-drop, drop-map, drop_all, take-replicate, take-take, take-map, get_or_past, length-append, length-replicate, length-take}
 use Rattle.std.proofs.lemmas.List.Edits.{length-between, get_or-between}
 use Rattle.std.proofs.lemmas.Nat.{pow-add, shr-shr, shr_high, or_block}
 use Rattle.std.proofs.lemmas.Nat.Bits.{and_high_mask}
@@ -222,3 +222,40 @@ key-occurs l text place end width bytes narrow wide occurs =
     let is : t ≡ literal_at l place = sym (ap (λ o. unwrap_or o []) occurs.stands) ∙ unwrap_or-slice_get l.texts place [] in
     subst (λ u. width ≤ length u → suffix_key l.folding text end width ≡ suffix_key l.folding u (length u) width) is
     (λ w. same_key l.folding text t end width bytes narrow w occurs.begins occurs.ends occurs.bytes) wide
+
+-- of a text that folds to a literal, the front folds to the literal's front
+front_folds : (fold : Fold) (text t : List ℕ) (end back : ℕ) → back ≤ length t → length t ≤ end → folded_text fold (slice_range text (end - length t) end) ≡ t
+    → folded_text fold (slice_range text (end - length t) (end - back)) ≡ take (length t - back) t
+front_folds fold text t end back few begins is =
+    let n : ℕ = length t - back in
+    let from : ℕ = end - length t in
+    let count : end - back - from ≡ n = omega arith in
+    ap (λ k. folded_text fold (take k (drop from text))) count
+    ∙ ap (folded_text fold) (sym (take-take n (end - from) (drop from text) (omega arith)))
+    ∙ sym (take-map (folded fold) n (slice_range text from end))
+    ∙ ap (take n) is
+
+-- and so the text has, so far before where a literal ends, the key that the literal has there
+same_key_inside : (fold : Fold) (text t : List ℕ) (end width back : ℕ) → AreBytes text → width ≤ 8 → width + back ≤ length t → length t ≤ end → end ≤ length text → folded_text fold (slice_range text (end - length t) end) ≡ t
+    → suffix_key fold text (end - back) width ≡ suffix_key fold t (length t - back) width
+unfolding suffix_key
+same_key_inside fold text t end width back bytes narrow wide begins inside is =
+    let n : ℕ = length t - back in
+    let front : List ℕ = take n t in
+    let len : length front ≡ n = omega (arith, length-take n t) in
+    let from : end - back - length front ≡ end - length t = omega arith in
+    let there : folded_text fold (slice_range text (end - back - length front) (end - back)) ≡ front =
+    ap (λ k. folded_text fold (slice_range text k (end - back))) from ∙ front_folds fold text t end back (omega arith) begins is in
+    let part : slice_range front (n - width) n ≡ slice_range t (n - width) n =
+    between_is front (n - width) n ∙ ap (drop (n - width)) (take-take n n t (omega arith)) ∙ sym (between_is t (n - width) n) in
+    same_key fold text front (end - back) width bytes narrow (omega arith) (omega arith) (omega arith) there
+    ∙ ap (λ k. suffix_key fold front k width) len
+    ∙ ap (λ s. bit_or (spelled (replicate (8 - width) 0 ++ s)) (case_bits fold)) part
+
+pub key-occurs_inside : (l : Literals) (text : List ℕ) (place end width back : ℕ) → AreBytes text → width ≤ 8 → width + back ≤ length (literal_at l place) → Occurs l text place end
+    → suffix_key l.folding text (end - back) width ≡ suffix_key l.folding (literal_at l place) (length (literal_at l place) - back) width
+key-occurs_inside l text place end width back bytes narrow wide occurs =
+    let t = occurs.literal in
+    let is : t ≡ literal_at l place = sym (ap (λ o. unwrap_or o []) occurs.stands) ∙ unwrap_or-slice_get l.texts place [] in
+    subst (λ u. width + back ≤ length u → suffix_key l.folding text (end - back) width ≡ suffix_key l.folding u (length u - back) width) is
+    (λ w. same_key_inside l.folding text t end width back bytes narrow w occurs.begins occurs.ends occurs.bytes) wide

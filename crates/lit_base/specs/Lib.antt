@@ -4,6 +4,7 @@ pub mod Costs
 pub mod CutDevices
 pub mod Cuts
 pub mod Devices
+pub mod Ends
 pub mod Faults
 pub mod Folding
 pub mod Lines

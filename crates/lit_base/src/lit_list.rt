@@ -2,11 +2,13 @@ ghost use Rattle.std.specs.Prelude.{◌≡◌, ℕ, ◌+◌, max, ◌<◌, ◌�
 ghost use Rattle.std.specs.List.{AllZip};
 ghost use Rattle.std.specs.List.Sorted.{IsNonDecreasing};
 ghost use Rattle.lit_base.specs.Chains.{IsClassOf, Reaches};
+ghost use Rattle.lit_base.specs.Ends.{HasEnd, IsNextEnd, NoEndAfter};
 ghost use Rattle.lit_base.specs.Folding.{folded_text};
 ghost use Rattle.lit_base.specs.Literals.{lengths, IsNormal};
 ghost use Rattle.lit_base.specs.Occurrences.{IsFirstEnding, NoneEnds, Occurs};
 ghost use Rattle.lit_base.specs.NormalForm.{IsNormalForm, IsPlaceOf, normal_form};
 ghost use Rattle.lit_base.specs.Suffixes.{suffix_key};
+ghost use Rattle.std.specs.Int.{bit_at};
 ghost use Rattle.lit_base.specs.declared.fault.Fault.TheVariants.{OutOfMemory, TooManyLiterals};
 ghost use Rattle.lit_base.specs.declared.limits.TheConstants.{MAX_LITERALS};
 
@@ -17,7 +19,7 @@ use crate::normal_form::{distinct, has_null, in_order, places};
 use crate::raw_list::RawList;
 use crate::suffix_chains::SuffixChains;
 use crate::suffix_class::SuffixClass;
-use crate::suffix_filter::SuffixFilter;
+use crate::suffix_filter::{SuffixFilter, is_marked};
 use crate::suffix_key::suffix_key;
 use std::alloc::Global;
 use std::marker::Model;
@@ -140,6 +142,88 @@ impl LitList {
             return None;
         }
         self.next_in_chains(text, end, from)
+    }
+
+    /// The first place of the text behind `from` at which some literal ends, wherever it begins,
+    /// with the first literal that ends there, if there is one. It takes no memory.
+    ///
+    /// It looks at few places where each literal has more than four bytes, and suits lists of which
+    /// the ends are many.
+    pub fn next_end(&self, text: &[u8], from: usize) -> Option<(usize, usize)>
+        ensures next { MatchOption result
+            (NoEndAfter self.now text.now from)
+            (λ found. IsNextEnd self.now text.now from found.0) }
+        ensures first { IfSome result (λ found. IsFirstEnding self.now text.now 0 found.0 found.1) }
+    {
+        if from >= text.len() {
+            return None;
+        }
+        if from >= 7 {
+            return self.next_by_strides(text, from);
+        }
+        // Before the first seven ends stand fewer than eight bytes, so each is looked at.
+        if let Some(found) = self.first_marked(text, from, 7 - from, u8::MAX) {
+            return Some(found);
+        }
+        if text.len() <= 7 {
+            return None;
+        }
+        self.next_by_strides(text, 7)
+    }
+
+    /// What `next_end` says, behind at least seven bytes: of as many ends as a stride has places, the
+    /// bytes before the first have the marks of all.
+    fn next_by_strides(&self, text: &[u8], from: usize) -> Option<(usize, usize)>
+        requires seven { 7 ≤ from }
+        requires inside { from < length text.now }
+        ensures next { MatchOption result
+            (NoEndAfter self.now text.now from)
+            (λ found. IsNextEnd self.now text.now from found.0) }
+        ensures first { IfSome result (λ found. IsFirstEnding self.now text.now 0 found.0 found.1) }
+    {
+        let stride = self.filter.stride;
+        let mut seen = from;
+        'strides: loop {
+            let marks = self.filter.marks_before(text, seen + 1);
+            if marks != 0 {
+                if let Some(found) = self.first_marked(text, seen, stride, marks) {
+                    return Some(found);
+                }
+            }
+            if text.len() - seen <= stride {
+                return None;
+            }
+            seen += stride;
+        }
+    }
+
+    /// Of so many places behind `seen`, the first at which some literal ends, if there is one. The
+    /// places where one ends are marked.
+    #[inline(never)]
+    fn first_marked(
+        &self,
+        text: &[u8],
+        seen: usize,
+        count: usize,
+        marks: u8,
+    ) -> Option<(usize, usize)>
+        requires few { count ≤ 8 }
+        requires inside { seen < length text.now }
+        requires marked { (back : ℕ) → back < count → HasEnd self.now text.now (seen + 1 + back) → bit_at marks back ≡ 1 }
+        ensures next { MatchOption result
+            ((back : ℕ) → back < count → ¬ HasEnd self.now text.now (seen + 1 + back))
+            (λ found. IsNextEnd self.now text.now seen found.0) }
+        ensures first { IfSome result (λ found. IsFirstEnding self.now text.now 0 found.0 found.1) }
+    {
+        for back in 0..count {
+            if is_marked(marks, back) && back < text.len() - seen {
+                let end = seen + 1 + back;
+                if let Some(first) = self.next_ending(text, end, 0) {
+                    return Some((end, first));
+                }
+            }
+        }
+        None
     }
 
     #[inline(never)]

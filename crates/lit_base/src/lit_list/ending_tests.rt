@@ -99,6 +99,56 @@ fn plain_next(list: &LitList, text: &[u8], end: usize, from: usize) -> Option<us
     None
 }
 
+/// The answer of a plain search for the first end behind a place.
+fn plain_next_end(list: &LitList, text: &[u8], from: usize) -> Option<(usize, usize)> {
+    for end in from..text.len() {
+        if let Some(place) = plain_next(list, text, end + 1, 0) {
+            return Some((end + 1, place));
+        }
+    }
+    None
+}
+
+/// Compares the two from every place on, from the text's end and from behind it, and answers how
+/// many of the places have an end behind them.
+fn compared_ends(rt: &impl Abort, list: &LitList, text: &[u8]) -> usize {
+    let mut found = 0usize;
+    for from in 0..text.len().saturating_add(2) {
+        let next = list.next_end(text, from);
+        assert_eq!(rt; next, plain_next_end(list, text, from), "from {from}");
+        found = found.wrapping_add(next.is_some() as usize);
+    }
+    found
+}
+
+/// A text of the list's literals, with at most eight other letters before each.
+fn text_of(alloc: Global, numbers: &mut Numbers, list: &LitList) -> Result<Vec<u8>, AllocError> {
+    let mut text = Vec::new(alloc);
+    for place in 0..list.len() {
+        let count = numbers.below(9);
+        numbers.letters(&mut text, count)?;
+        text.extend_from_slice(list.get(place))?;
+    }
+    Ok(text)
+}
+
+/// A list of so many literals, of which the shortest has so many letters.
+fn list_from(
+    alloc: Global,
+    numbers: &mut Numbers,
+    count: u64,
+    shortest: u64,
+    fold: Fold,
+) -> Result<LitList, Fault> {
+    let mut raw = RawList::new(alloc);
+    for more in 0..count {
+        let mut text = Vec::new(alloc);
+        numbers.letters(&mut text, shortest.saturating_add(more % 7))?;
+        raw.push(text.as_slice())?;
+    }
+    Ok(LitList::normal(alloc, &raw, fold)?.0)
+}
+
 /// Compares the two at every end, from the first literal on and from behind each hit, and answers
 /// how many hits there are.
 fn compared(rt: &impl Abort, list: &LitList, text: &[u8]) -> usize {
@@ -133,6 +183,24 @@ fn finds_what_a_plain_search_finds(rt: HostRuntime) -> Result<(), Fail> {
             let text = text_with(alloc, &mut numbers, &list)?;
             let hits = compared(&rt, &list, text.as_slice());
             assert!(rt; count < 1000 || hits > 100, "{hits} hits");
+        }
+    }
+    Ok(())
+}
+
+#[test]
+fn finds_the_next_end_at_each_stride(rt: HostRuntime) -> Result<(), Fail> {
+    let alloc = rt.alloc();
+    let mut numbers = Numbers { state: 11 };
+    for shortest in 1..=20 {
+        for fold in [Fold::No, Fold::Ascii] {
+            let list = list_from(alloc, &mut numbers, 9, shortest, fold)?;
+            let text = text_of(alloc, &mut numbers, &list)?;
+            assert_eq!(rt;
+                compared_ends(&rt, &list, text.as_slice()),
+                text.len(),
+                "{shortest}"
+            );
         }
     }
     Ok(())

@@ -1,0 +1,55 @@
+-- Each place of a stride has its own mark in the hash of the bytes before the first.
+use Rattle.std.proofs.Common.{◌≡◌, ℕ, ◌+◌, ◌<◌, ap, ◌∙◌, subst, arith}
+use Rattle.std.specs.Int.{bit_at}
+use Rattle.lit_base.specs.Ends.{HasEnd}
+use Rattle.lit_base.specs.Marks.{IsFilterOf}
+use Rattle.lit_base.proofs.EndLemmas.{NoneUpTo, next_further, passed}
+use Rattle.lit_base.proofs.MarkLemmas.{marked_ahead, none_unmarked}
+use Rattle.lit_base.proofs.SuffixLemmas.{are_bytes}
+use Rattle.lit_base.proofs.lit_list.LitList.next_by_strides.Goals as goal
+use Rattle.lit_base.proofs.lit_list.LitList.next_by_strides.Goals.{After-marks_before-marks, Joined-marks-ne0, then-marks-ne0+in_default, else-marks-ne0}
+
+-- an end within the stride is marked
+covered : (c : After-marks_before-marks) → (back : ℕ) → back < c.self.inside.filter.stride → HasEnd c.args.self.now c.args.text.now (c.strides.seen + 1 + back) → bit_at c.marks_before-marks.result back ≡ 1
+covered c back near here =
+    let filter = c.self.inside.filter in
+    let is : IsFilterOf c.args.self.now filter = subst (λ l. IsFilterOf l filter) c.self.view_is c.self.invariant.2 in
+    ap (λ m. bit_at m back) c.marks_before-marks.ensures
+    ∙ marked_ahead c.args.self.now filter c.args.text.now c.strides.seen is (are_bytes c.args.text.now c.type_inv.text) (omega (arith, c.requires.seven, c.strides.invariant.ahead)) back near here
+
+pub first_marked-requires-clause-marked : goal.first_marked-requires-clause-marked
+first_marked-requires-clause-marked c = covered (goal.at.first_marked-requires-clause-marked c).After-marks_before-marks
+
+pub returns-in-Some-clause-next : goal.returns-in-Some-clause-next
+returns-in-Some-clause-next c =
+    next_further c.args.self.now c.args.text.now c.args.from c.strides.seen c.strides.invariant.none c.in-Some.found.0 c.strides.invariant.ahead c.in-Some.ensures.next
+
+-- and where none was found, none is there
+none_ahead : (c : Joined-marks-ne0) → NoneUpTo c.args.self.now c.args.text.now c.args.from (c.strides.seen + c.self.inside.filter.stride)
+none_ahead c =
+    let l = c.args.self.now in
+    let text = c.args.text.now in
+    let seen = c.strides.seen in
+    let stride = c.self.inside.filter.stride in
+    let quiet : (back : ℕ) → back < stride → ¬ HasEnd l text (seen + 1 + back) = elim c.if-marks-ne0.branch [
+      | then-marks-ne0+in_default w ↦ w.in_default.ensures.next
+      | else-marks-ne0 w ↦ none_unmarked l text seen stride c.marks_before-marks.result w.if-marks-ne0.false (covered (goal.at.Joined-marks-ne0 c).After-marks_before-marks)
+    ] in
+    passed l text c.args.from seen c.strides.invariant.none stride quiet
+
+pub strides-preserved : goal.strides-preserved
+strides-preserved c = record {
+  ahead = omega (arith, c.strides.invariant.ahead);
+  inside = omega (arith, c.if-text-seen.false);
+  none = none_ahead (goal.at.strides-preserved c).Joined-marks-ne0;
+}
+
+pub strides-smaller : goal.strides-smaller
+strides-smaller c =
+    let filter = c.self.inside.filter in
+    let is : IsFilterOf c.args.self.now filter = subst (λ l. IsFilterOf l filter) c.self.view_is c.self.invariant.2 in
+    omega (arith, is.step, c.if-text-seen.false)
+
+pub returns-then-text-seen-clause-next : goal.returns-then-text-seen-clause-next
+returns-then-text-seen-clause-next c = λ end after here.
+    none_ahead (goal.at.returns-then-text-seen-clause-next c).Joined-marks-ne0 end after (omega (arith, here.1.ends, c.if-text-seen.true)) here
