@@ -1,14 +1,10 @@
 -- The next place at which a literal ends, seen from a place before the one that a search has come to.
 use Rattle.std.proofs.Common.{◌≡◌, ℕ, ◌+◌, ◌-◌, ◌<◌, ◌≤◌, List, Option, Some, None, MatchOption, inl, inr, subst, arith}
 use Rattle.std.proofs.lemmas.Bool.{cases_lt}
-use Rattle.lit_base.specs.Ends.{HasEnd, IsNextEnd, NoEndAfter}
+use Rattle.lit_base.specs.Ends.{HasEnd, IsNextEnd, NoEndAfter, NoEndUpTo}
 use Rattle.lit_base.specs.Literals.{Literals}
 
--- no literal ends between two places, the second included
-abbrev pub NoneUpTo : Literals → List ℕ → ℕ → ℕ → Type 0
-NoneUpTo l text from seen = (other : ℕ) → from < other → other ≤ seen → ¬ HasEnd l text other
-
-module _ (l : Literals) (text : List ℕ) (from seen : ℕ) (none : NoneUpTo l text from seen) where
+module _ (l : Literals) (text : List ℕ) (from seen : ℕ) (none : NoEndUpTo l text from seen) where
   -- nor then further on, if not behind the second one
   pub none_further : NoEndAfter l text seen → NoEndAfter l text from
   none_further ends end after here = elim (cases_lt seen end) [ inl later ↦ ends end later here | inr sooner ↦ none end after sooner here ]
@@ -22,12 +18,16 @@ module _ (l : Literals) (text : List ℕ) (from seen : ℕ) (none : NoneUpTo l t
     first = λ other after before here. elim (cases_lt seen other) [ inl later ↦ next.first other later before here | inr sooner ↦ none other after sooner here ];
   }
 
+  -- where none ends up to a third place, none does from the first one on
+  pub none_joined : (last : ℕ) → NoEndUpTo l text seen last → NoEndUpTo l text from last
+  none_joined last later other after within here = elim (cases_lt seen other) [ inl past ↦ later other past within here | inr sooner ↦ none other after sooner here ]
+
   pub found_further : (found : Option (ℕ × ℕ)) → from ≤ seen → MatchOption found (NoEndAfter l text seen) (λ hit. IsNextEnd l text seen hit.0) → MatchOption found (NoEndAfter l text from) (λ hit. IsNextEnd l text from hit.0)
   found_further None ahead ends = none_further ends
   found_further (Some hit) ahead next = next_further hit.0 ahead next
 
   -- so many places further
-  pub passed : (count : ℕ) → ((back : ℕ) → back < count → ¬ HasEnd l text (seen + 1 + back)) → NoneUpTo l text from (seen + count)
+  pub passed : (count : ℕ) → ((back : ℕ) → back < count → ¬ HasEnd l text (seen + 1 + back)) → NoEndUpTo l text from (seen + count)
   passed count quiet other after within here = elim (cases_lt seen other) [
     | inl later ↦
         let there : other ≡ seen + 1 + (other - (seen + 1)) = omega arith in

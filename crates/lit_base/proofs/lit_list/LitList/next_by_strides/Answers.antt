@@ -3,7 +3,8 @@ use Rattle.std.proofs.Common.{◌≡◌, ℕ, ◌+◌, ◌<◌, ap, ◌∙◌, s
 use Rattle.std.specs.Int.{bit_at}
 use Rattle.lit_base.specs.Ends.{HasEnd}
 use Rattle.lit_base.specs.Marks.{IsFilterOf}
-use Rattle.lit_base.proofs.EndLemmas.{NoneUpTo, next_further, passed}
+use Rattle.lit_base.proofs.EndLemmas.{next_further, passed}
+use Rattle.lit_base.specs.Ends.{NoEndUpTo}
 use Rattle.lit_base.proofs.MarkLemmas.{marked_ahead, none_unmarked}
 use Rattle.lit_base.proofs.SuffixLemmas.{are_bytes}
 use Rattle.lit_base.proofs.lit_list.LitList.next_by_strides.Goals as goal
@@ -25,7 +26,7 @@ returns-in-Some-clause-next c =
     next_further c.args.self.now c.args.text.now c.args.from c.strides.seen c.strides.invariant.none c.in-Some.found.0 c.strides.invariant.ahead c.in-Some.ensures.next
 
 -- and where none was found, none is there
-none_ahead : (c : Joined-marks-ne0) → NoneUpTo c.args.self.now c.args.text.now c.args.from (c.strides.seen + c.self.inside.filter.stride)
+none_ahead : (c : Joined-marks-ne0) → NoEndUpTo c.args.self.now c.args.text.now c.args.from (c.strides.seen + c.self.inside.filter.stride)
 none_ahead c =
     let l = c.args.self.now in
     let text = c.args.text.now in

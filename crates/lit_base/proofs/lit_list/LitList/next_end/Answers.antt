@@ -1,8 +1,8 @@
 -- Behind too few bytes every place is looked at, and behind them all strides.
 use Rattle.std.proofs.Common.{◌≡◌, ℕ, ◌+◌, ◌-◌, ◌<◌, ◌≤◌, subst, arith}
 use Rattle.std.proofs.lemmas.Nat.Bits.{bit_at_ones}
-use Rattle.lit_base.specs.Ends.{HasEnd}
-use Rattle.lit_base.proofs.EndLemmas.{NoneUpTo, found_further, passed}
+use Rattle.lit_base.specs.Ends.{HasEnd, NoEndUpTo}
+use Rattle.lit_base.proofs.EndLemmas.{found_further, passed}
 use Rattle.lit_base.proofs.lit_list.LitList.next_end.Goals as goal
 use Rattle.lit_base.proofs.lit_list.LitList.next_end.Goals.{In_default}
 
@@ -10,13 +10,13 @@ pub first_marked-requires-clause-marked : goal.first_marked-requires-clause-mark
 first_marked-requires-clause-marked c = λ back near here. bit_at_ones 8 back (omega (arith, near))
 
 -- none ends at the first seven places
-none_first : (c : In_default) → NoneUpTo c.args.self.now c.args.text.now c.args.from 7
+none_first : (c : In_default) → NoEndUpTo c.args.self.now c.args.text.now c.args.from 7
 none_first c =
     let l = c.args.self.now in
     let text = c.args.text.now in
     let from = c.args.from in
     let reached : from + (7 - from) ≡ 7 = omega (arith, c.if-from-ge7.false) in
-    subst (NoneUpTo l text from) reached
+    subst (NoEndUpTo l text from) reached
     (passed l text from from (λ (other : ℕ) (after : from < other) (within : other ≤ from) (there : HasEnd l text other). absurd (omega arith)) (7 - from) c.in_default.ensures.next)
 
 pub returns-then-text-le7-clause-next : goal.returns-then-text-le7-clause-next

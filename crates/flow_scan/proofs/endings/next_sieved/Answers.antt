@@ -1,0 +1,80 @@
+-- Nothing ends between two candidates, nor at one that was looked at.
+use Rattle.std.proofs.Common.{◌≡◌, ℕ, ◌+◌, ◌<◌, ◌≤◌, length, inl, inr, sym, ◌∙◌, subst, arith}
+use Rattle.std.proofs.lemmas.Bool.{cases_lt}
+use Rattle.lit_base.specs.Ends.{NoEndUpTo}
+use Rattle.lit_base.specs.Occurrences.{Occurs}
+use Rattle.lane_filter.specs.Ends.{IsFirstAfter, NoneWithin}
+use Rattle.lane_filter.specs.Sieves.{Passes}
+use Rattle.flow_scan.proofs.Steps.{all_bytes, none_before}
+use Rattle.flow_scan.proofs.endings.next_sieved.Goals as goal
+use Rattle.flow_scan.proofs.endings.next_sieved.Goals.{In_default-next_ending, then-rejected-eq-CROWD+else-are_close, else-rejected-eq-CROWD}
+
+pub returns-in-Some-next_ending-clause-next : goal.returns-in-Some-next_ending-clause-next
+returns-in-Some-next_ending-clause-next c =
+    let l = c.args.list.now in
+    let text = c.args.text.now in
+    let sieve = c.args.candidates.now.sieve in
+    let before = c.loop-end.invariant in
+    let next : IsFirstAfter (Passes sieve text) c.loop-end.candidates.from c.in-Some.end = rw before.sieve at (rw before.text at c.in-Some.ensures.first) in
+    record {
+      after = omega (arith, next.after, before.ahead);
+      within = rw before.text at c.in-Some.ensures.within;
+      here = (c.in-Some-next_ending.first, c.in-Some-next_ending.ensures.first.occurs);
+      first = none_before l sieve text c.args.candidates.now.from c.loop-end.candidates.from c.in-Some.end c.requires.covers (all_bytes text c.type_inv.text) before.none next.quiet;
+    }
+
+-- where a candidate is none, nothing ends up to it
+none_to_end : (c : In_default-next_ending) → NoEndUpTo c.args.list.now c.args.text.now c.args.candidates.now.from c.in-Some.end
+none_to_end c other after within here =
+    let l = c.args.list.now in
+    let text = c.args.text.now in
+    let sieve = c.args.candidates.now.sieve in
+    let end = c.in-Some.end in
+    let before = c.loop-end.invariant in
+    let next : IsFirstAfter (Passes sieve text) c.loop-end.candidates.from end = rw before.sieve at (rw before.text at c.in-Some.ensures.first) in
+    elim (cases_lt other end) [
+      | inl sooner ↦ none_before l sieve text c.args.candidates.now.from c.loop-end.candidates.from end c.requires.covers (all_bytes text c.type_inv.text) before.none next.quiet other after sooner here
+      | inr later ↦ let there : other ≡ end = omega (arith, within, later) in
+          c.in_default-next_ending.ensures.first here.0 (omega arith) (subst (λ e. Occurs l text here.0 e) there here.1)
+    ]
+
+-- and the candidate is further on
+end_ahead : (c : In_default-next_ending) → c.args.candidates.now.from ≤ c.in-Some.end
+end_ahead c = omega (arith, c.in-Some.ensures.first.after, c.loop-end.invariant.ahead)
+
+pub loop-end-preserved : goal.loop-end-preserved
+loop-end-preserved c =
+    let at = (goal.at.loop-end-preserved c).In_default-next_ending in
+    let before = c.loop-end.invariant in
+    let reached : c.next_end.new.self.from ≡ c.in-Some.end = c.in-Some.ensures.moved in
+    record {
+      sieve = c.next_end.ensures.sieve ∙ before.sieve;
+      text = c.next_end.ensures.text ∙ before.text;
+      counted = elim c.if-rejected-eq-CROWD.branch [
+        | then-rejected-eq-CROWD+else-are_close w ↦ omega (arith, w.rejected-is)
+        | else-rejected-eq-CROWD w ↦ omega (arith, w.rejected-is, w.if-rejected-eq-CROWD.false, before.counted)
+      ];
+      ahead = omega (arith, reached, end_ahead at);
+      none = subst (NoEndUpTo c.args.list.now c.args.text.now c.args.candidates.now.from) (sym reached) (none_to_end at);
+    }
+
+pub returns-then-are_close-clause-crowd : goal.returns-then-are_close-clause-crowd
+returns-then-are_close-clause-crowd c =
+    let at = (goal.at.returns-then-are_close-clause-crowd c).In_default-next_ending in
+    let before = c.loop-end.invariant in
+    record {
+      after = omega (arith, c.in-Some.ensures.first.after, before.ahead);
+      within = rw before.text at c.in-Some.ensures.within;
+      none = none_to_end at;
+    }
+
+pub returns-clause-next : goal.returns-clause-next
+returns-clause-next c =
+    let l = c.args.list.now in
+    let text = c.args.text.now in
+    let sieve = c.args.candidates.now.sieve in
+    let before = c.loop-end.invariant in
+    let none : NoneWithin (Passes sieve text) c.loop-end.candidates.from (length text) = rw before.sieve at (rw before.text at c.in_default.ensures.none) in
+    let nowhere = none_before l sieve text c.args.candidates.now.from c.loop-end.candidates.from (length text + 1) c.requires.covers (all_bytes text c.type_inv.text) before.none
+    (λ (other : ℕ) (after : c.loop-end.candidates.from < other) (within : other < length text + 1). none other after (omega (arith, within))) in
+    λ end after here. nowhere end after (omega (arith, here.1.ends)) here
