@@ -20,6 +20,8 @@ import sys
 import tempfile
 import time
 
+from plot import as_svg
+
 HERE = os.path.dirname(os.path.abspath(__file__))
 MB = 1 << 20
 
@@ -251,41 +253,31 @@ def best_of_others(found):
 
 # ---------------------------------------------------------------- output
 
-def as_table(results, names, ours, machine):
+def ahead(found, ours):
+    """The best of the other greps by the processor time of ours: above 1, ours is ahead."""
+    return best_of_others(found) / max(median(found[ours], "cpu"), 1e-6)
+
+
+def as_table(results, names, machine):
+    ours = [name for name in names if name.startswith("litgrep")]
     lines = [machine, "",
              "Processor time in milliseconds (user and system), the median of the turns; `ahead` is the best of the other greps",
-             "by that of %s: above 1, %s is ahead. Memory is the peak of %s in MiB." % (ours, ours, ours), "",
-             "| search | " + " | ".join(names) + " | ahead | memory |", "|---" * (len(names) + 3) + "|"]
+             "by litgrep: above 1, litgrep is ahead. Memory is the greatest peak of litgrep in MiB.", "",
+             "| search | %s | %s | memory |" % (" | ".join(names), " | ".join(name.replace("litgrep", "ahead") for name in ours)),
+             "|---" * (len(names) + len(ours) + 2) + "|"]
     for row, found in results:
         times = {name: median(found[name], "cpu") * 1000 for name in names if found[name]}
-        best = best_of_others(found) * 1000
-        lines.append("| %s | %s | %.2f | %.1f |" % (
-            row.name, " | ".join("%.1f" % times[name] if name in times else "" for name in names), best / max(times[ours], 0.001),
-            median(found[ours], "memory") / 1024))
+        lines.append("| %s | %s | %s | %.1f |" % (
+            row.name, " | ".join("%.1f" % times[name] if name in times else "" for name in names),
+            " | ".join("%.2f" % ahead(found, name) for name in ours),
+            max(median(found[name], "memory") for name in ours) / 1024))
     return "\n".join(lines) + "\n"
 
 
-def as_plot(results, names, ours):
-    """One bar a row: how far ahead of the best of the others, on a scale of powers of two."""
-    import math
-    height, left, width = 16, 270, 700
-    bars = []
-    for k, (row, found) in enumerate(results):
-        best = best_of_others(found)
-        ratio = best / max(median(found[ours], "cpu"), 1e-6)
-        span = max(-3.0, min(5.0, math.log2(ratio)))
-        zero = left + 3 * (width - left) / 8
-        unit = (width - left) / 8
-        x, w = (zero, span * unit) if span >= 0 else (zero + span * unit, -span * unit)
-        y = 30 + k * height
-        colour = "#2a7" if ratio >= 1 else "#c53"
-        bars.append('<text x="%d" y="%d" text-anchor="end">%s</text>' % (left - 8, y + 11, row.name.replace("&", "&amp;")))
-        bars.append('<rect x="%.1f" y="%d" width="%.1f" height="%d" fill="%s"/>' % (x, y, max(w, 1), height - 4, colour))
-        bars.append('<text x="%.1f" y="%d">%.2f</text>' % (max(x + w, zero) + 4, y + 11, ratio))
-    total = 40 + len(results) * height
-    head = '<text x="%d" y="16">processor time of the best other grep / that of %s</text>' % (left, ours)
-    return ('<svg xmlns="http://www.w3.org/2000/svg" width="%d" height="%d" font-family="sans-serif" font-size="11">'
-            '<rect width="100%%" height="100%%" fill="white"/>%s%s</svg>\n' % (width + 60, total, head, "".join(bars)))
+def as_plot(results, names):
+    ours = [name for name in names if name.startswith("litgrep")]
+    return as_svg("processor time of the best other grep / that of litgrep", ours,
+                  [(row.name, [ahead(found, name) for name in ours]) for row, found in results])
 
 
 def machine(size):
@@ -322,13 +314,13 @@ def main():
                     wrong.append("%s: %s" % (row.name, name))
             print("%-32s %s" % (row.name, "  ".join(
                 "%s %.0f" % (name, median(found[name], "cpu") * 1000) for name in names if found[name])), flush=True)
-    table = as_table(results, names, names[0], machine(options.size))
+    table = as_table(results, names, machine(options.size))
     print("\n" + table)
     if options.write:
         with open(os.path.join(HERE, "PROGRAMS.md"), "w") as out:
             out.write("# litgrep beside other greps\n\n" + table)
         with open(os.path.join(HERE, "programs.svg"), "w") as out:
-            out.write(as_plot(results, names, names[0]))
+            out.write(as_plot(results, names))
     for line in wrong:
         print("other output or status than GNU grep: " + line)
     return 1 if wrong else 0

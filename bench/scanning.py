@@ -6,7 +6,7 @@
 Each row is one text and one list of literals. Each program (bin/bench_scan, and those that
 bench/peers/install.sh builds) is started in turn, scans the text several times over and gives the
 median of its scans; the figure is the best of three starts. Hit counts are compared. With --write the
-table goes to bench/SCANNING.md.
+table goes to bench/SCANNING.md and the plot to bench/scanning.svg.
 """
 import argparse
 import os
@@ -15,6 +15,7 @@ import subprocess
 import sys
 import tempfile
 
+from plot import as_svg
 from programs import HERE, MB, english_block, fill, log_block, machine, word
 
 PEERS = os.path.join(HERE, "peers/bin")
@@ -85,6 +86,56 @@ def scan(words, text, literals, mode, turns):
     return float(answer[0]), int(answer[1])
 
 
+def measure(tools, text, literals, turns):
+    """The seconds of each program, the best of three starts, and the hits of those that find all."""
+    best, hits = {}, {}
+    for _ in range(3):
+        for tool, words, mode, complete in tools:
+            answer = scan(words, text, literals, mode, turns)
+            if answer is None:
+                continue
+            best[tool] = min(best.get(tool, 1e9), answer[0])
+            if complete:
+                hits[tool] = answer[1]
+    return best, hits
+
+
+class Result:
+    """The speeds of one row in GB/s, and how many hits there are."""
+
+    def __init__(self, name, size, best, hits, ours):
+        self.name, self.hits = name, hits
+        self.speed = {tool: size / seconds / 1e9 for tool, seconds in best.items()}
+        self.others = [speed for tool, speed in self.speed.items() if not tool.startswith(tuple(ours))]
+
+    def beside_hyperscan(self, name):
+        rival = self.speed.get("Hyperscan block")
+        return self.speed[name + " whole"] / rival if rival else None
+
+    def beside_best(self, name):
+        return self.speed[name + " whole"] / max(self.others) if self.others else None
+
+    def line(self, tools, ours):
+        ratios = [ratio for name in ours for ratio in (self.beside_hyperscan(name), self.beside_best(name))]
+        return "| %s | %d | %s | %s |" % (
+            self.name, max(self.hits.values(), default=0),
+            " | ".join("%.2f" % self.speed[tool[0]] if tool[0] in self.speed else "" for tool in tools),
+            " | ".join("" if ratio is None else "%.2f" % ratio for ratio in ratios))
+
+
+def as_table(results, tools, ours):
+    heads = ["%s / %s" % (name, what) for name in ours for what in ("Hyperscan block", "best")]
+    lines = [machine(64), "", "GB/s; a ratio is that of whole texts in one call.", "",
+             "| text and literals | hits | %s | %s |" % (" | ".join(tool[0] for tool in tools), " | ".join(heads)),
+             "|---" * (len(tools) + len(heads) + 2) + "|"]
+    return "\n".join(lines + [result.line(tools, ours) for result in results]) + "\n"
+
+
+def as_plot(results, ours):
+    return as_svg("GB/s of whole texts / those of Hyperscan's block mode", ours,
+                  [(result.name, [result.beside_hyperscan(name) for name in ours]) for result in results])
+
+
 def main():
     parser = argparse.ArgumentParser(description=__doc__, formatter_class=argparse.RawDescriptionHelpFormatter)
     parser.add_argument("--turns", type=int, default=5, help="scans of 64 MB in one start")
@@ -92,42 +143,23 @@ def main():
     parser.add_argument("--ours", action="append", default=[], metavar="NAME=PATH")
     parser.add_argument("--write", action="store_true")
     options = parser.parse_args()
-    ours = [g.split("=", 1) for g in options.ours] or [["scanner", os.path.join(HERE, "../bin/bench_scan")]]
-    tools = programs(ours)
-    lines = ["| text and literals | hits | " + " | ".join(t[0] for t in tools) + " | whole / Hyperscan block | whole / best |",
-             "|---" * (len(tools) + 4) + "|"]
-    wrong = []
+    given = [g.split("=", 1) for g in options.ours] or [["scanner", os.path.join(HERE, "../bin/bench_scan")]]
+    ours, tools = [name for name, _ in given], programs(given)
+    results = []
     with tempfile.TemporaryDirectory(prefix="scan-bench-") as folder:
         for name, text, literals, size in rows(folder, (("64 KiB", 65536), ("64 MiB", 64 * MB))):
-            if options.only not in name:
-                continue
-            turns = options.turns if size > MB else 2001
-            best, hits = {}, {}
-            for _ in range(3):
-                for tool, words, mode, complete in tools:
-                    answer = scan(words, text, literals, mode, turns)
-                    if answer is None:
-                        continue
-                    best[tool] = min(best.get(tool, 1e9), answer[0])
-                    if complete:
-                        hits[tool] = answer[1]
-            if len(set(hits.values())) > 1:
-                wrong.append("%s: %s" % (name, hits))
-            speed = {tool: size / seconds / 1e9 for tool, seconds in best.items()}
-            mine = speed.get(tools[0][0], 0.0)
-            others = [speed[t[0]] for t in tools if t[0] in speed and not any(t[0].startswith(o) for o, _ in ours)]
-            lines.append("| %s | %d | %s | %.2f | %.2f |" % (
-                name, max(hits.values(), default=0),
-                " | ".join("%.2f" % speed[t[0]] if t[0] in speed else "" for t in tools),
-                mine / speed["Hyperscan block"] if speed.get("Hyperscan block") else 0.0,
-                mine / max(others) if others else 0.0))
-            print(lines[-1], flush=True)
-    table = machine(64) + "\n\nGB/s.\n\n" + "\n".join(lines) + "\n"
+            if options.only in name:
+                best, hits = measure(tools, text, literals, options.turns if size > MB else 100 * options.turns + 1)
+                results.append(Result(name, size, best, hits, ours))
+                print(results[-1].line(tools, ours), flush=True)
     if options.write:
         with open(os.path.join(HERE, "SCANNING.md"), "w") as out:
-            out.write("# The scanner in memory\n\n" + table)
-    for line in wrong:
-        print("other counts: " + line)
+            out.write("# The scanner in memory\n\n" + as_table(results, tools, ours))
+        with open(os.path.join(HERE, "scanning.svg"), "w") as out:
+            out.write(as_plot(results, ours))
+    wrong = [result for result in results if len(set(result.hits.values())) > 1]
+    for result in wrong:
+        print("other counts: %s: %s" % (result.name, result.hits))
     return 1 if wrong else 0
 
 
