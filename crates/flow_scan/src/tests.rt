@@ -106,19 +106,19 @@ fn hits_of_letters(alloc: Global, compiled: &Compiled, count: u32) -> Result<Vec
 }
 
 /// The hits of a stream by a plan.
-fn hits_by(alloc: Global, compiled: &Compiled, stream: Stream) -> Result<Vec<Hit>, Fault> {
-    match stream {
-        Stream::Whole(text) => scan_all(alloc, compiled, text),
-        Stream::Pieces(pieces) => hits_of_pieces(alloc, compiled, pieces),
-        Stream::CopyAfter(first, second) => hits_of_copy(alloc, compiled, first, second),
-        Stream::Letters(count) => hits_of_letters(alloc, compiled, count),
-    }
+fn hits_by(alloc: Global, compiled: &Compiled, stream: Stream) -> Result<Vec<Hit>, Fail> {
+    Ok(match stream {
+        Stream::Whole(text) => scan_all(alloc, compiled, text)?,
+        Stream::Pieces(pieces) => hits_of_pieces(alloc, compiled, pieces)?,
+        Stream::CopyAfter(first, second) => hits_of_copy(alloc, compiled, first, second)?,
+        Stream::Letters(count) => hits_of_letters(alloc, compiled, count)?,
+    })
 }
 
 /// The hits of these literals in a stream.
 fn hits_of(alloc: Global, literals: &[&[u8]], stream: Stream) -> Result<Vec<Hit>, Fail> {
     let compiled = compiled_of(alloc, literals)?;
-    Ok(hits_by(alloc, &compiled, stream)?)
+    hits_by(alloc, &compiled, stream)
 }
 
 /// Whether these are the hits of the literals in a stream.
@@ -382,10 +382,15 @@ fn scans_agree(alloc: Global, state: &mut u64, compiled: &Compiled) -> Result<bo
     Ok(ends_agree(compiled, &text))
 }
 
-/// The same of a plan of so many random literals.
-fn plan_agrees(alloc: Global, state: &mut u64, fold: Fold, count: u32) -> Result<bool, Fail> {
+/// A plan of so many random literals.
+fn random_plan(alloc: Global, state: &mut u64, fold: Fold, count: u32) -> Result<Compiled, Fail> {
     let raw = random_literals(alloc, state, count)?;
-    let compiled = plan_of(alloc, &raw, fold)?;
+    plan_of(alloc, &raw, fold)
+}
+
+/// Whether such a plan's scans agree with the plain ones.
+fn plan_agrees(alloc: Global, state: &mut u64, fold: Fold, count: u32) -> Result<bool, Fail> {
+    let compiled = random_plan(alloc, state, fold, count)?;
     scans_agree(alloc, state, &compiled)
 }
 
