@@ -4,6 +4,7 @@ use Rattle.std.specs.Int.{bit_at}
 use Rattle.std.specs.Int.Bits.{or_zero_r}
 use Rattle.std.proofs.lemmas.Bool.{cases_Bool, and_parts, leb-true, cond-true, cond-false}
 use Rattle.std.proofs.lemmas.List.{get_or-map}
+use Rattle.std.proofs.lemmas.List.Edits.{length-between}
 use Rattle.std.proofs.lemmas.Nat.{or_block}
 use Rattle.std.proofs.lemmas.Nat.Bits.{bit_at_and, bit_at-lt}
 use Rattle.std.proofs.lemmas.Option.{get_or_from_slice_get, slice_get_within}
@@ -13,7 +14,7 @@ use Rattle.lit_base.specs.Folding.{folded}
 use Rattle.lit_base.specs.Literals.{Literals}
 use Rattle.lit_base.specs.Occurrences.{Occurs}
 use Rattle.nib_mask.proofs.LawLemmas.{cases_folded}
-use Rattle.nib_mask.proofs.Ranges.{length-range, get_or-range}
+use Rattle.nib_mask.proofs.Ranges.{get_or-range}
 use Rattle.lane_filter.specs.Lanes.{Tells}
 use Rattle.lane_filter.specs.Pairs.{CoversBy, IsPairEnd, IsRareByteOf, StandsBefore, case_bit}
 use Rattle.lane_filter.specs.declared.pair.RareByte.{RareByte}
@@ -80,7 +81,7 @@ rare_stands l text place end at rare occurs is =
     let within = is.within in
     let behind = is.behind in
     let slice = slice_range text (end - len) end in
-    let size = length-range text (end - len) end ends in
+    let size = length-between text (end - len) end ends in
     let later : end - len + at - (end - len) ≡ at = omega arith in
     let where_is : end - 1 - rare.behind ≡ end - len + at = omega arith in
     let in_slice : get_or slice at 0 ≡ get_or text (end - len + at) 0 =
