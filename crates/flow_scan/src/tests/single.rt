@@ -1,18 +1,27 @@
 //! Searches for one literal.
 use crate::compiled::Compiled;
 use crate::searching::next_end;
-use crate::tests::table::certificate_of;
-use lit_base::{Fold, LitList, RawList};
+use crate::tests::{plan_of, raw_of};
+use lit_base::Fold;
 use std::alloc::{AllocError, Global};
 use std::test::Fail;
 
+/// How many bytes the texts have besides those looked for.
+const SPARE: [usize; 8] = [0, 1, 62, 63, 64, 65, 129, 192];
+
+const SHORT: [&[u8]; 5] = [b"z", b"-", b"ee", b"k3\xff", b"the quick"];
+/// Small letters, and what is found for them where case is ignored.
+const FOLDED: [(&[u8], &[u8]); 4] = [
+    (b"z", b"Z"),
+    (b"-", b"-"),
+    (b"ee", b"eE"),
+    (b"the quick", b"tHE Quick"),
+];
+
 /// The plan of one literal.
-fn plan_of(alloc: Global, fold: Fold, literal: &[u8]) -> Result<Compiled, Fail> {
-    let mut raw = RawList::new(alloc);
-    raw.push(literal)?;
-    let (list, _) = LitList::normal(alloc, &raw, fold)?;
-    let certificate = certificate_of(alloc, &list)?;
-    Ok(Compiled::new(list, certificate)?)
+fn single(alloc: Global, fold: Fold, literal: &[u8]) -> Result<Compiled, Fail> {
+    let raw = raw_of(alloc, &[literal])?;
+    plan_of(alloc, &raw, fold)
 }
 
 /// So many dots, with these bytes at one place.
@@ -32,17 +41,24 @@ fn is_only_end(compiled: &Compiled, text: &[u8], end: usize) -> bool {
         && next_end(compiled, text, end).is_none()
 }
 
-/// How many bytes the texts have besides those looked for.
-const SPARE: [usize; 8] = [0, 1, 62, 63, 64, 65, 129, 192];
+/// Whether the plan finds these bytes at a place of a text, and there alone.
+fn finds_at(
+    alloc: Global,
+    compiled: &Compiled,
+    bytes: &[u8],
+    place: usize,
+    len: usize,
+) -> Result<bool, AllocError> {
+    let text = text_with(alloc, bytes, place, len)?;
+    Ok(is_only_end(compiled, &text, bytes.len().saturating_add(place)))
+}
 
-/// Whether the plan finds these bytes at each place of texts around some lengths.
+/// Whether it finds them at each place of the texts.
 fn finds_everywhere(alloc: Global, compiled: &Compiled, bytes: &[u8]) -> Result<bool, AllocError> {
     for spare in SPARE {
         let len = bytes.len().saturating_add(spare);
         for place in 0..=spare {
-            let text = text_with(alloc, bytes, place, len)?;
-            let end = bytes.len().saturating_add(place);
-            if !is_only_end(compiled, &text, end) {
+            if !finds_at(alloc, compiled, bytes, place, len)? {
                 return Ok(false);
             }
         }
@@ -50,68 +66,47 @@ fn finds_everywhere(alloc: Global, compiled: &Compiled, bytes: &[u8]) -> Result<
     Ok(true)
 }
 
-/// The bytes with each second letter as a capital.
-fn mixed(alloc: Global, bytes: &[u8]) -> Result<Vec<u8>, AllocError> {
-    let mut mixed = Vec::new(alloc);
-    for (place, byte) in bytes.iter().enumerate() {
-        mixed.push(if place % 2 == 0 {
-            byte.to_ascii_uppercase()
-        } else {
-            *byte
-        })?;
-    }
-    Ok(mixed)
+/// Whether a search for a literal finds these bytes at each place.
+fn finds(alloc: Global, fold: Fold, literal: &[u8], bytes: &[u8]) -> Result<bool, Fail> {
+    let compiled = single(alloc, fold, literal)?;
+    Ok(finds_everywhere(alloc, &compiled, bytes)?)
 }
 
-/// So many letters and digits, none of which stands at two places in a row.
-fn long_literal(alloc: Global, len: usize) -> Result<Vec<u8>, AllocError> {
-    let mut literal = Vec::new(alloc);
-    for place in 0..len {
-        literal.push(b'a' + (place * 7 % 26) as u8)?;
-    }
-    literal.push(b'9')?;
-    Ok(literal)
-}
-
-/// Whether a literal is found at each place of texts, whatever its case where that is ignored, and
-/// else in its own alone.
-fn is_found(alloc: Global, literal: &[u8]) -> Result<bool, Fail> {
-    let other = mixed(alloc, literal)?;
-    let exact = plan_of(alloc, Fold::No, literal)?;
-    let folded = plan_of(alloc, Fold::Ascii, literal)?;
-    let missed = next_end(&exact, &other, 0).is_none() || other.as_slice() == literal;
-    Ok(
-        missed
-            && finds_everywhere(alloc, &exact, literal)?
-            && finds_everywhere(alloc, &folded, literal)?
-            && finds_everywhere(alloc, &folded, &other)?,
-    )
+/// Where a literal ends first in a text, case told apart.
+fn first_end(alloc: Global, literal: &[u8], text: &[u8]) -> Result<Option<usize>, Fail> {
+    let compiled = single(alloc, Fold::No, literal)?;
+    Ok(next_end(&compiled, text, 0))
 }
 
 #[test]
 fn finds_short_literals_at_every_place(rt: HostRuntime) -> Result<(), Fail> {
     let alloc = rt.alloc();
-    assert!(rt; is_found(alloc, b"z")?);
-    assert!(rt; is_found(alloc, b"-")?);
-    assert!(rt; is_found(alloc, b"ee")?);
-    assert!(rt; is_found(alloc, b"k3\xff")?);
-    assert!(rt; is_found(alloc, b"the quick")?);
+    for literal in SHORT {
+        assert!(rt; finds(alloc, Fold::No, literal, literal)?);
+    }
+    for (literal, bytes) in FOLDED {
+        assert!(rt; finds(alloc, Fold::Ascii, literal, bytes)?);
+    }
     Ok(())
 }
 
 #[test]
 fn finds_long_literals_at_every_place(rt: HostRuntime) -> Result<(), Fail> {
     let alloc = rt.alloc();
-    assert!(rt; is_found(alloc, &long_literal(alloc, 70)?)?);
-    assert!(rt; is_found(alloc, &long_literal(alloc, 400)?)?);
+    let (short, long, capitals) = ([b'q'; 70], [b'q'; 300], [b'Q'; 300]);
+    assert!(rt; finds(alloc, Fold::No, &short, &short)?);
+    assert!(rt; finds(alloc, Fold::No, &long, &long)?);
+    assert!(rt; finds(alloc, Fold::Ascii, &long, &capitals)?);
     Ok(())
 }
 
 #[test]
-fn takes_no_text_that_has_the_two_bytes_alone(rt: HostRuntime) -> Result<(), Fail> {
+fn wants_more_than_the_two_bytes(rt: HostRuntime) -> Result<(), Fail> {
     let alloc = rt.alloc();
-    let compiled = plan_of(alloc, Fold::No, b"quiz")?;
-    assert!(rt; next_end(&compiled, b"quoz quaz quipquit", 0).is_none());
-    assert_eq!(rt; next_end(&compiled, b"quoz quaz quiz", 0), Some(14));
+    assert_eq!(rt;
+        first_end(alloc, b"quiz", b"quoz quaz quipquit QUIZ")?,
+        None
+    );
+    assert_eq!(rt; first_end(alloc, b"quiz", b"quoz quaz quiz")?, Some(14));
     Ok(())
 }
