@@ -1,4 +1,5 @@
 mod plain;
+mod single;
 mod table;
 
 use crate::compiled::{Compiled, least_law};
@@ -7,7 +8,7 @@ use crate::hit::Hit;
 use crate::scanner::Scanner;
 use crate::scanning::{pieces_law, scan_all, scan_pieces};
 use crate::searching::next_end;
-use crate::tests::plain::{packed_hits, plain_end, plain_hits};
+use crate::tests::plain::{masks_of, packed_hits, plain_end, plain_hits};
 use crate::tests::table::certificate_of;
 use lit_base::{Fold, LitList, MAX_LITERAL_LEN, RawList};
 use lit_cert::{Certificate, Reason};
@@ -192,7 +193,7 @@ fn finds_an_end_at_each_edge_of_a_vector(rt: HostRuntime) -> Result<(), Fail> {
 fn cost_and_mark(alloc: Global, literals: &[&[u8]], bytes: [u8; 3]) -> Result<(u64, u8), Fail> {
     let compiled = compiled_of(alloc, literals)?;
     let [x0, x1, x2] = bytes;
-    let mark = nib_mask::plain_byte(compiled.masks(), x0, x1, x2);
+    let mark = nib_mask::plain_byte(&masks_of(&compiled), x0, x1, x2);
     Ok((compiled.certificate().cost, mark))
 }
 

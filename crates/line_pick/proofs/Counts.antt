@@ -1,6 +1,11 @@
 -- Counts of a text in parts.
-use Rattle.std.proofs.Common.{◌≡◌, ℕ, ◌+◌, ◌-◌, Bool, cond, List, take, drop, count_by, sym, ap, ◌∙◌, arith}
-use Rattle.std.proofs.lemmas.List.{drop-take, take-take}
+use Rattle.std.proofs.Common.{◌≡◌, ℕ, zero, suc, ◌+◌, ◌-◌, ◌*◌, ◌/◌, ◌^◌, ◌<◌, ◌≤◌, Bool, true, false, cond, List, [], ◌∷◌, length, map, take, drop, count_by, sym, ap, ◌∙◌, arith}
+use Rattle.std.specs.Int.RustNames.{count_ones}
+use Rattle.std.specs.Simd.Lanes.{mask_l}
+use Rattle.std.proofs.Math.Nat.{div-one, zero-div}
+use Rattle.std.proofs.lemmas.Nat.{shr-shr}
+use Rattle.std.proofs.lemmas.Simd.{ones-mask_l}
+use Rattle.std.proofs.lemmas.List.{drop-drop, drop-map, drop-take, length-drop, take-take, take_all}
 use Rattle.std.proofs.lemmas.List.Sums.{sum_by-take-drop}
 
 -- up to a place, and from it on
@@ -16,3 +21,29 @@ count_by-more p text at n =
     ∙ ap (λ k. count_by p (take at (take (at + n) text)) + count_by p (take k (drop at text))) size
     ∙ ap (λ t. count_by p (take at (take (at + n) text)) + count_by p t) (sym (drop-take at n text))
     ∙ count_by-parts p (take (at + n) text) at
+
+-- the lowest bit is the first lane
+halved : (b : Bool) (n : ℕ) → (cond b 1 0 + 2 * n) / 2 ^ 1 ≡ n
+halved true n = omega arith
+halved false n = omega arith
+
+-- a mask with its low bits shifted out is that of the lanes behind the first ones
+mask_l-drop : (ms : List Bool) (k : ℕ) → mask_l ms / 2 ^ k ≡ mask_l (drop k ms)
+mask_l-drop ms zero = div-one (mask_l ms)
+mask_l-drop [] (suc k) = zero-div (2 ^ suc k)
+mask_l-drop (m ∷ ms) (suc k) =
+    let more : suc k ≡ 1 + k = omega arith in
+    ap (λ j. mask_l (m ∷ ms) / 2 ^ j) more ∙ sym (shr-shr (mask_l (m ∷ ms)) 1 k) ∙ ap (λ n. n / 2 ^ k) (halved m (mask_l ms)) ∙ mask_l-drop ms k
+
+-- the last bytes of a text, as lanes of its last 64
+pub ones-last : (p : ℕ → Bool) (text lanes : List ℕ) (left : ℕ) → 64 ≤ length text → left < 64 → lanes ≡ take ((length text - 64 + 64) - (length text - 64)) (drop (length text - 64) text)
+    → count_ones (mask_l (map p lanes) / 2 ^ (64 - 1 - left) / 2 ^ 1) ≡ count_by p (drop (length text - left) text)
+ones-last p text lanes left long few is =
+    let at = length text - 64 in
+    let size : (at + 64) - at ≡ 64 = omega arith in
+    let off = (64 - 1 - left) + 1 in
+    let place : at + off ≡ length text - left = omega arith in
+    let all : lanes ≡ drop at text = is ∙ ap (λ n. take n (drop at text)) size ∙ take_all 64 (drop at text) (omega (arith, length-drop at text)) in
+    ap count_ones (shr-shr (mask_l (map p lanes)) (64 - 1 - left) 1 ∙ mask_l-drop (map p lanes) off ∙ ap mask_l (drop-map p off lanes))
+    ∙ ones-mask_l p (drop off lanes)
+    ∙ ap (λ t. count_by p (drop off t)) all ∙ ap (count_by p) (drop-drop off at text ∙ ap (λ k. drop k text) place)

@@ -1,9 +1,9 @@
 -- The first line of a text that holds a literal, by the first place at which a literal ends.
-use Rattle.std.proofs.Common.{◌≡◌, ℕ, ◌+◌, ◌-◌, ◌<◌, ◌≤◌, true, false, List, [], ◌∷◌, ◌++◌, length, take, drop, map, All, inl, inr, refl, sym, ap, ◌∙◌, subst, append_assoc, append-nil, take-append-drop, arith}
+use Rattle.std.proofs.Common.{◌≡◌, ◌≢◌, ℕ, ◌+◌, ◌-◌, ◌<◌, ◌≤◌, true, false, List, [], ◌∷◌, ◌++◌, length, take, drop, map, All, inl, inr, refl, sym, ap, ◌∙◌, subst, append_assoc, append-nil, take-append-drop, arith}
 use Rattle.std.specs.Str.Iter.{HasSubslice}
-use Rattle.std.proofs.Math.Seq.{drop-append_seam}
-use Rattle.std.proofs.lemmas.List.{map-append, length-map, length-append, length-take, length-drop}
-use Rattle.std.proofs.lemmas.List.Elements.{All-weaker}
+use Rattle.std.proofs.Math.Seq.{drop-append_seam, take-append_seam}
+use Rattle.std.proofs.lemmas.List.{append_cancel_left, map-append, length-map, length-append, length-take, length-drop}
+use Rattle.std.proofs.lemmas.List.Elements.{All-append, All-weaker}
 use Rattle.std.proofs.lemmas.Option.{get_or_from_slice_get, slice_get_within}
 use Rattle.lit_base.specs.declared.fold.Fold.{Fold}
 use Rattle.lit_base.specs.declared.fold.Fold.TheVariants.{No, Ascii}
@@ -15,7 +15,7 @@ use Rattle.lit_base.proofs.MatchLemmas.{matching}
 use Rattle.flow_scan.specs.Ends.{HasEnd, IsNextEnd, NoEndAfter}
 use Rattle.line_pick.specs.Cutting.{IsFirstLine, IsLastCut}
 use Rattle.line_pick.specs.Hits.{AllMiss, IsFirstHit}
-use Rattle.line_pick.proofs.Crossing.{cancel, crossing, ended_lines-slices, ends_in_newline, middle_slice}
+use Rattle.line_pick.proofs.Crossing.{crossing, ended_lines-slices, ends_in_newline, middle_slice}
 use Rattle.line_pick.proofs.Literals.{not_passed, occurs-parts, own_folded, own_some, own, slice-occurs}
 use Rattle.line_pick.proofs.Newlines.{open_rest-block}
 
@@ -32,6 +32,23 @@ map-newline fold front rest = map-append (folded fold) front (10 ∷ rest) ∙ a
 split_front : (text front tail missed head : List ℕ) (end : ℕ) → front ≡ take (end - 1) text → tail ≡ drop (end - 1) text → IsLastCut front missed head → text ≡ missed ++ (head ++ tail)
 split_front text front tail missed head end is_front is_tail cut =
     sym (take-append-drop (end - 1) text) ∙ ap (λ u. u ++ drop (end - 1) text) (sym is_front ∙ cut.whole) ∙ ap (λ u. (missed ++ head) ++ u) (sym is_tail) ∙ append_assoc missed head tail
+
+-- the two parts of the line, before the end of a literal and from there on, lie in the text
+pub line-room : (text front tail missed head ending behind : List ℕ) (at : ℕ) → front ≡ take at text → tail ≡ drop at text → IsLastCut front missed head → IsFirstLine tail ending behind
+    → length missed + (length head + length ending) ≤ length text
+line-room text front tail missed head ending behind at is_front is_tail cut last =
+    omega (arith, ap length is_front, length-take at text, ap length is_tail, length-drop at text, ap length cut.whole, length-append missed head, ap length last.whole, length-append ending (10 ∷ behind))
+
+-- a line of two parts, of which the newline stands behind the second
+joined_line : (head tail ending behind rest line : List ℕ) → IsOnePiece head → IsFirstLine tail ending behind → rest ≡ head ++ tail → line ≡ take (length head + length ending) rest → IsFirstLine rest line behind
+joined_line head tail ending behind rest line one last is_rest is_line =
+    let whole : rest ≡ (head ++ ending) ++ 10 ∷ behind = is_rest ∙ ap (λ t. head ++ t) last.whole ∙ sym (append_assoc head ending (10 ∷ behind)) in
+    let same : line ≡ head ++ ending =
+    is_line ∙ ap (λ n. take n rest) (sym (length-append head ending)) ∙ ap (take (length (head ++ ending))) whole ∙ take-append_seam (head ++ ending) (10 ∷ behind) in
+    record {
+      one = subst IsOnePiece (sym same) (All-append (λ b. b ≢ 10) head ending one last.one);
+      whole = whole ∙ ap (λ t. t ++ 10 ∷ behind) (sym same);
+    }
 
 module _ (l : Literals) (normal : IsNormal l) where
   -- a line that holds a literal has it where it stands in a text
@@ -72,7 +89,7 @@ module _ (l : Literals) (normal : IsNormal l) where
       (front : text ≡ missed ++ (head ++ tail)) (one : IsOnePiece head) (size : length missed + length head + 1 ≡ end) where
     -- the newline of the line stands behind the end of a literal
     line_end : length head ≤ length line
-    line_end = elim (crossing line rest [] head tail one (sym (cancel missed (head ++ tail) (line ++ 10 ∷ rest) (sym front ∙ whole)))) [
+    line_end = elim (crossing line rest [] head tail one (sym (append_cancel_left missed (head ++ tail) (line ++ 10 ∷ rest) (sym front ∙ whole)))) [
       | inl before ↦ omega (arith, before)
       | inr behind ↦ absurd (omega (arith, behind))
     ]
@@ -116,12 +133,13 @@ module _ (l : Literals) (normal : IsNormal l) where
         let same = own_folded l normal line h.0 t inside here in
         (matching.matches l.folding false l.texts line).1 (h.0, t, inside, here, (slice.0, slice.1, slice.2 ∙ ap (λ u. slice.0 ++ (u ++ slice.1)) (sym same)))
 
-  -- the line that the first end stands in is the first that holds a literal
-  pub first-hit : (apart : All IsOnePiece l.texts) (text front tail missed head rest line behind : List ℕ) (end : ℕ) → IsNextEnd l text 0 end → front ≡ take (end - 1) text → tail ≡ drop (end - 1) text
-      → IsLastCut front missed head → rest ≡ drop (length missed) text → IsFirstLine rest line behind → IsFirstHit l text missed line behind
-  first-hit apart text front tail missed head rest line behind end n is_front is_tail cut is_rest first =
+  -- the line that the first end stands in is the first that holds a literal: what is before that end, and up to the next newline
+  pub first-hit : (apart : All IsOnePiece l.texts) (text front tail missed head ending rest line behind : List ℕ) (end : ℕ) → IsNextEnd l text 0 end → front ≡ take (end - 1) text → tail ≡ drop (end - 1) text
+      → IsLastCut front missed head → IsFirstLine tail ending behind → rest ≡ drop (length missed) text → line ≡ take (length head + length ending) rest → IsFirstHit l text missed line behind
+  first-hit apart text front tail missed head ending rest line behind end n is_front is_tail cut last is_rest is_line =
       let parts = split_front text front tail missed head end is_front is_tail cut in
       let later : rest ≡ head ++ tail = is_rest ∙ ap (drop (length missed)) parts ∙ drop-append_seam missed (head ++ tail) in
+      let first = joined_line head tail ending behind rest line cut.one last later is_line in
       let whole : text ≡ missed ++ (line ++ 10 ∷ behind) = parts ∙ ap (λ u. missed ++ u) (sym later ∙ first.whole) in
       let size : length missed + length head + 1 ≡ end = omega (arith, n.after, n.within, length-append missed head, ap length cut.whole, ap length is_front, length-take (end - 1) text) in
       record {
@@ -133,11 +151,10 @@ module _ (l : Literals) (normal : IsNormal l) where
       }
 
   -- in a text of ended lines it has a newline
-  pub no-hit-open : (text front tail missed head rest : List ℕ) (end : ℕ) → IsNextEnd l text 0 end → front ≡ take (end - 1) text → tail ≡ drop (end - 1) text
-      → IsLastCut front missed head → rest ≡ drop (length missed) text → IsOnePiece rest → open_rest text ≡ [] → ⊥
-  no-hit-open text front tail missed head rest end n is_front is_tail cut is_rest one closed =
+  pub no-hit-open : (text front tail missed head : List ℕ) (end : ℕ) → IsNextEnd l text 0 end → front ≡ take (end - 1) text → tail ≡ drop (end - 1) text
+      → IsLastCut front missed head → IsOnePiece tail → open_rest text ≡ [] → ⊥
+  no-hit-open text front tail missed head end n is_front is_tail cut one closed =
       let parts = split_front text front tail missed head end is_front is_tail cut in
-      let later : rest ≡ head ++ tail = is_rest ∙ ap (drop (length missed)) parts ∙ drop-append_seam missed (head ++ tail) in
-      let whole : text ≡ missed ++ rest = parts ∙ ap (λ u. missed ++ u) (sym later) in
-      let none : rest ≡ [] = sym (open_rest-block missed rest cut.closed one) ∙ sym (ap open_rest whole) ∙ closed in
-      omega (arith, ap length none, ap length later, length-append head tail, ap length is_tail, length-drop (end - 1) text, n.after, n.within)
+      let joined = All-append (λ b. b ≢ 10) head tail cut.one one in
+      let none : head ++ tail ≡ [] = sym (open_rest-block missed (head ++ tail) cut.closed joined) ∙ sym (ap open_rest parts) ∙ closed in
+      omega (arith, ap length none, length-append head tail, ap length is_tail, length-drop (end - 1) text, n.after, n.within)

@@ -1,5 +1,6 @@
 //! How many newlines a text has.
-ghost use Rattle.std.specs.Prelude.{◌≡◌, ◌==◌, ◌+◌, ◌≤◌, count_by, length, slice_range};
+ghost use Rattle.std.specs.Prelude.{◌≡◌, ◌==◌, ◌+◌, ◌-◌, ◌<◌, ◌≤◌, count_by, drop, length, map, slice_range};
+ghost use Rattle.std.specs.Simd.Lanes.{mask_l};
 
 use std::simd::prelude::*;
 
@@ -10,14 +11,16 @@ const LANES: usize = 64;
 pub(crate) fn count_newlines(text: &[u8]) -> usize
     ensures { result ≡ count_by (λ b. b == 10) text.now }
 {
+    if text.len() < LANES {
+        return count_one_by_one(text);
+    }
     let mut count = 0;
     let mut at = 0;
     while text.len() - at >= LANES {
         count += count_in_lanes(text, at);
         at += LANES;
     }
-    let (_, rest) = text.split_at(at);
-    count + count_one_by_one(rest)
+    count + count_last(text, text.len() - at)
 }
 
 /// How many of the 64 bytes from a place on are newlines.
@@ -27,7 +30,20 @@ fn count_in_lanes(text: &[u8], at: usize) -> usize
     ensures count { result ≡ count_by (λ b. b == 10) (slice_range text.now at (at + 64)) }
     ensures few { result ≤ 64 }
 {
-    lanes_with_newline(load(text, at))
+    newline_bits(load(text, at)).count_ones() as usize
+}
+
+/// How many of the last bytes, fewer than 64, are newlines. They are compared as part of the last 64:
+/// one by one they took as long as all bytes before them, where a text is some lines long.
+#[inline(always)]
+fn count_last(text: &[u8], left: usize) -> usize
+    requires long { 64 ≤ length text.now }
+    requires few { left < 64 }
+    ensures { result ≡ count_by (λ b. b == 10) (drop (length text.now - left) text.now) }
+{
+    let bits = newline_bits(load(text, text.len() - LANES));
+    // The lanes before them are shifted out, in two steps: all 64 may be.
+    (bits >> (LANES - 1 - left) >> 1).count_ones() as usize
 }
 
 /// The 64 bytes from a place on.
@@ -40,12 +56,12 @@ fn load(text: &[u8], at: usize) -> u8x64
     u8x64::from_slice(&text[at..])
 }
 
-/// How many lanes are newlines.
+/// A bit for each lane, set where it is a newline.
 #[inline(always)]
-fn lanes_with_newline(bytes: u8x64) -> usize
-    ensures { result ≡ count_by (λ b. b == 10) bytes }
+fn newline_bits(bytes: u8x64) -> u64
+    ensures { result ≡ mask_l (map (λ b. b == 10) bytes) }
 {
-    bytes.simd_eq(u8x64::splat(b'\n')).to_bitmask().count_ones() as usize
+    bytes.simd_eq(u8x64::splat(b'\n')).to_bitmask()
 }
 
 /// The same count, byte by byte.

@@ -27,10 +27,11 @@ pub(crate) fn first_hit<'t>(compiled: &Compiled, text: &'t [u8]) -> Option<Hit<'
 {
     compiled.list().normal_law();
     let end = next_end(compiled, text, 0)?;
-    let (front, _) = text.split_at(end - 1);
-    let (missed, _) = split_ended(front);
+    let (front, tail) = text.split_at(end - 1);
+    let (missed, head) = split_ended(front);
+    let (ending, behind) = split_line(tail)?;
     let (_, rest) = text.split_at(missed.len());
-    let (line, behind) = split_line(rest)?;
+    let (line, _) = rest.split_at(head.len() + ending.len());
     Some(Hit {
         missed,
         line,

@@ -62,6 +62,10 @@ impl Progress {
             ↔ (2 ^ 64 ≤ self.old.bytes + length piece.now) }
     {
         self.bytes = longer(self.bytes, piece)?;
+        let is_fresh = self.held.is_empty();
+        if is_fresh {
+            return self.take_lines(matcher, piece, sink);
+        }
         match split_line(piece) {
             None => self.hold(piece),
             Some((front, behind)) => {
@@ -110,7 +114,8 @@ impl Progress {
         Ok(())
     }
 
-    /// Takes text behind a newline: lends the lines that newlines end in it, and holds the rest.
+    /// Takes text at the beginning of a line: lends the lines that newlines end in it, in place, and
+    /// holds the rest.
     fn take_lines<S: Sink>(
         &mut self,
         matcher: Matcher<'_>,

@@ -15,7 +15,7 @@ use std::process::ExitCode;
 fn main(rt: HostRuntime) -> ExitCode {
     let mut out = ToWrite::new(rt.stdout());
     let mut err = ToWrite::new(rt.stderr());
-    ExitCode::from(program::serve(&rt, &mut out, &mut err).code())
+    ExitCode::from(program::serve(&rt, rt.stdin(), &mut out, &mut err).code())
 }
 
 #[cfg(test)]

@@ -6,13 +6,14 @@ use crate::files::SystemOpener;
 use crate::words::{options, words};
 use grep_run::{Status, Stop, run, say_out_of_memory, write_whole};
 use lit_base::ByteOut;
-use std::io::Input;
+use std::io::Read;
 use std::rt::{Env, Files};
 
-/// Serves the words of the command line, and answers how the program ends. A write that fails ends
-/// it with `Trouble`.
-pub fn serve<R: Env + Files + Input + AllocGlobal, W: ByteOut, E: ByteOut>(
+/// Serves the words of the command line over a standard input, and answers how the program ends. A
+/// write that fails ends it with `Trouble`.
+pub fn serve<R: Env + Files + AllocGlobal, S: Read + Copy + Drop, W: ByteOut, E: ByteOut>(
     rt: &R,
+    standard: S,
     out: &mut W,
     err: &mut E,
 ) -> Status
@@ -20,13 +21,14 @@ pub fn serve<R: Env + Files + Input + AllocGlobal, W: ByteOut, E: ByteOut>(
         → (W.has_failed out.new || E.has_failed err.new) ≡ (W.has_failed out.old || E.has_failed err.old) }
 {
     match words(rt) {
-        Ok(words) => serve_words(rt, words.as_slice(), out, err),
+        Ok(words) => serve_words(rt, standard, words.as_slice(), out, err),
         Err(fault) => refuse(&fault, err),
     }
 }
 
-fn serve_words<R: Files + Input + AllocGlobal, W: ByteOut, E: ByteOut>(
+fn serve_words<R: Files + AllocGlobal, S: Read + Copy + Drop, W: ByteOut, E: ByteOut>(
     rt: &R,
+    standard: S,
     words: &[String],
     out: &mut W,
     err: &mut E,
@@ -35,7 +37,10 @@ fn serve_words<R: Files + Input + AllocGlobal, W: ByteOut, E: ByteOut>(
         → (W.has_failed out.new || E.has_failed err.new) ≡ (W.has_failed out.old || E.has_failed err.old) }
 {
     match options(rt.alloc(), words) {
-        Ok(options) => run(rt.alloc(), &options, &mut SystemOpener::new(rt), out, err),
+        Ok(options) => {
+            let mut opener = SystemOpener::new(rt, standard);
+            run(rt.alloc(), &options, &mut opener, out, err)
+        }
         Err(fault) => refuse(&fault, err),
     }
 }

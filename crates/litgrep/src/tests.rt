@@ -67,7 +67,7 @@ fn opens_what_there_is(rt: HostRuntime) -> Result<(), Fail> {
     let mut path = std::env::temp_dir(&rt)?;
     path.push(format!(in alloc; "litgrep_{}", std::process::id(rt.process()))?.as_str())?;
     fs::write(&rt, path.as_path(), "two\nlines")?;
-    let mut opener = SystemOpener::new(&rt);
+    let mut opener = SystemOpener::new(&rt, rt.stdin());
     let opened = opener.open_named(path.as_path().as_str());
     fs::remove_file(&rt, path.as_path())?;
     let mut text = Vec::new(alloc);

@@ -3,6 +3,7 @@ use crate::compiled::Compiled;
 use crate::hit::Hit;
 use lane_filter::filter;
 use lit_base::{LitList, fold_byte};
+use nib_mask::Masks;
 use std::alloc::{AllocError, Global};
 
 /// Whether the literal at a place ends at `end` in the text, byte by byte.
@@ -54,6 +55,11 @@ pub(super) fn plain_end(list: &LitList, text: &[u8], from: usize) -> Option<usiz
     None
 }
 
+/// The tables of a plan's filter.
+pub(super) fn masks_of(compiled: &Compiled) -> Masks {
+    Masks::of(compiled.list(), &compiled.certificate().ends)
+}
+
 /// The text behind two zero bytes.
 fn padded(alloc: Global, text: &[u8]) -> Result<Vec<u8>, AllocError> {
     let mut padded = vec![in alloc; 0, 0]?;
@@ -69,7 +75,7 @@ fn marks(alloc: Global, compiled: &Compiled, text: &[u8]) -> Result<Vec<u8>, All
     let x0 = padded.get(..count).unwrap_or_default();
     let x1 = padded.get(1..count + 1).unwrap_or_default();
     if x0.len() == out.len() && x1.len() == out.len() && text.len() == out.len() {
-        filter(compiled.masks(), x0, x1, text, &mut out);
+        filter(&masks_of(compiled), x0, x1, text, &mut out);
     }
     Ok(out)
 }

@@ -56,13 +56,13 @@ returns-in_ok-end_line-in-Some-clause-lent g c =
     let cut = first-held held c.requires.sound.one c.in-Some.ensures in
     Lends-lines (sym (numbered-first test lines (held ++ c.args.piece.now) (held ++ c.in-Some.front.now) c.in-Some.behind.now cut))
     (Lends-join (Lent-from_Lends c.in_ok-end_line-in-Some.ensures.lent)
-    (Lends-lines (ap (λ n. numbered test n (ended_lines c.in-Some.behind.now)) c.in_ok-end_line-in-Some.ensures.lines) c.take_lines.ensures.lent)
-    (answer_of-StreamTooLong c.take_lines.result c.take_lines.ensures.faults))
+    (Lends-lines (ap (λ n. numbered test n (ended_lines c.in-Some.behind.now)) c.in_ok-end_line-in-Some.ensures.lines) c.take_lines-in-Some.ensures.lent)
+    (answer_of-StreamTooLong c.take_lines-in-Some.result c.take_lines-in-Some.ensures.faults))
 
 pub returns-in_ok-end_line-in-Some-clause-held : goal.returns-in_ok-end_line-in-Some-clause-held
 returns-in_ok-end_line-in-Some-clause-held g c =
     let held = c.args.self.now.held.items in
-    on_ok_weaker c.take_lines.result (λ e. e ∙ sym (open_rest-first (first-held held c.requires.sound.one c.in-Some.ensures))) c.take_lines.ensures.held
+    on_ok_weaker c.take_lines-in-Some.result (λ e. e ∙ sym (open_rest-first (first-held held c.requires.sound.one c.in-Some.ensures))) c.take_lines-in-Some.ensures.held
 
 pub returns-in_ok-end_line-in-Some-clause-lines : goal.returns-in_ok-end_line-in-Some-clause-lines
 returns-in_ok-end_line-in-Some-clause-lines g c =
@@ -70,4 +70,4 @@ returns-in_ok-end_line-in-Some-clause-lines g c =
     let held = c.args.self.now.held.items in
     let cut = first-held held c.requires.sound.one c.in-Some.ensures in
     let count = count-first test 0 (held ++ c.args.piece.now) (held ++ c.in-Some.front.now) c.in-Some.behind.now cut in
-    on_ok_weaker c.take_lines.result (λ e. omega (arith, e, count, c.in_ok-end_line-in-Some.ensures.lines)) c.take_lines.ensures.lines
+    on_ok_weaker c.take_lines-in-Some.result (λ e. omega (arith, e, count, c.in_ok-end_line-in-Some.ensures.lines)) c.take_lines-in-Some.ensures.lines
