@@ -23,68 +23,82 @@ fn has_plan(list: &LitList, plan: &Certificate, ends: &[u16], cost: u64) -> bool
     plan.ends.as_slice() == ends && plan.cost == cost && check(list, plan).is_ok()
 }
 
+/// Whether the patterns have a plan of these ends and this cost.
+fn are_planned(alloc: Global, patterns: &[&[u8]], ends: &[u16], cost: u64) -> Result<bool, Fail> {
+    let list = list_of(alloc, patterns)?;
+    let found = plan(alloc, &list)?;
+    Ok(has_plan(&list, &found, ends, cost))
+}
+
+/// Patterns, and the ends and the cost of their plan.
+static WORKED: [(&[&[u8]], &[u16], u64); 6] = [
+    (&[b"cat", b"dog", b"horse"], &[1, 2, 3], 934),
+    (&[b"a"], &[1], 4296),
+    (&[b"abcdefgh", b"abcdefgi"], &[2], 232),
+    (&[b"a", b"the"], &[1, 2], 4647),
+    (
+        &[
+            b"aaaaaaaa",
+            b"bbbbbbbb",
+            b"cccccccc",
+            b"dddddddd",
+            b"eeeeeeee",
+            b"ffffffff",
+            b"gggggggg",
+            b"hhhhhhhh",
+            b"iiiiiiii",
+        ],
+        &[4, 9],
+        728,
+    ),
+    (
+        &[
+            b"aaaaa",
+            b"aaaaaaa",
+            b"bbbbbbb",
+            b"aaaaaaaa",
+            b"bbbbbbbb",
+            b"cccccccc",
+            b"dddddddd",
+        ],
+        &[2, 7],
+        803,
+    ),
+];
+
 #[test]
 fn plans_the_worked_lists(rt: HostRuntime) -> Result<(), Fail> {
-    let rows: [(&[&[u8]], &[u16], u64); 6] = [
-        (&[b"cat", b"dog", b"horse"], &[1, 2, 3], 934),
-        (&[b"a"], &[1], 4296),
-        (&[b"abcdefgh", b"abcdefgi"], &[2], 232),
-        (&[b"a", b"the"], &[1, 2], 4647),
-        (
-            &[
-                b"aaaaaaaa",
-                b"bbbbbbbb",
-                b"cccccccc",
-                b"dddddddd",
-                b"eeeeeeee",
-                b"ffffffff",
-                b"gggggggg",
-                b"hhhhhhhh",
-                b"iiiiiiii",
-            ],
-            &[4, 9],
-            728,
-        ),
-        (
-            &[
-                b"aaaaa",
-                b"aaaaaaa",
-                b"bbbbbbb",
-                b"aaaaaaaa",
-                b"bbbbbbbb",
-                b"cccccccc",
-                b"dddddddd",
-            ],
-            &[2, 7],
-            803,
-        ),
-    ];
-    for (patterns, ends, price) in rows {
-        let list = list_of(rt.alloc(), patterns)?;
-        let found = plan(rt.alloc(), &list)?;
-        assert!(rt; has_plan(&list, &found, ends, price), "cost {price}");
+    for (patterns, ends, price) in &WORKED {
+        assert!(rt;
+            are_planned(rt.alloc(), patterns, ends, *price)?,
+            "cost {price}"
+        );
     }
     Ok(())
 }
 
+/// Whether the plan of the patterns has these potentials.
+fn have_potentials(alloc: Global, patterns: &[&[u8]], wanted: &[u64]) -> Result<bool, Fail> {
+    let list = list_of(alloc, patterns)?;
+    let found = plan(alloc, &list)?;
+    Ok(found.potentials.as_slice() == wanted)
+}
+
+static OF_THREE: [u64; 24] = [
+    1559, 804, 232, 1036, 583, 232, 934, 583, 232, 934, 583, 232, 934, 583, 232, 934, 583, 232,
+    934, 583, 232, 934, 583, 232,
+];
+
+static OF_TWO: [u64; 16] = [
+    232, 208, 232, 208, 232, 208, 232, 208, 232, 208, 232, 208, 232, 208, 232, 208,
+];
+
 #[test]
 fn gives_the_worked_potentials(rt: HostRuntime) -> Result<(), Fail> {
-    let three = [
-        1559, 804, 232, 1036, 583, 232, 934, 583, 232, 934, 583, 232, 934, 583, 232, 934, 583, 232,
-        934, 583, 232, 934, 583, 232,
-    ];
-    let list = list_of(rt.alloc(), &[b"cat", b"dog", b"horse"])?;
-    let found = plan(rt.alloc(), &list)?;
-    assert_eq!(rt; found.potentials.as_slice(), three.as_slice());
-    let list = list_of(rt.alloc(), &[b"a"])?;
-    let found = plan(rt.alloc(), &list)?;
-    assert_eq!(rt; found.potentials.as_slice(), [4296; 8].as_slice());
-    let two = [
-        232, 208, 232, 208, 232, 208, 232, 208, 232, 208, 232, 208, 232, 208, 232, 208,
-    ];
-    let list = list_of(rt.alloc(), &[b"abcdefgh", b"abcdefgi"])?;
-    let found = plan(rt.alloc(), &list)?;
-    assert_eq!(rt; found.potentials.as_slice(), two.as_slice());
+    let alloc = rt.alloc();
+    assert!(rt; have_potentials(alloc, &[b"cat", b"dog", b"horse"], &OF_THREE)?);
+    assert!(rt; have_potentials(alloc, &[b"a"], &[4296; 8])?);
+    assert!(rt; have_potentials(alloc, &[b"abcdefgh", b"abcdefgi"], &OF_TWO)?);
     Ok(())
 }
 
@@ -134,14 +148,24 @@ fn plans_by_the_meters_prices(rt: HostRuntime) -> Result<(), Fail> {
     Ok(())
 }
 
+/// How many prices a plan of the list asks for, if it has these ends and this cost.
+fn prices_asked(
+    alloc: Global,
+    list: &LitList,
+    ends: &[u16],
+    cost: u64,
+) -> Result<Option<u64>, Fault> {
+    let mut meter = ListMeter::new(list);
+    let found = plan_counted(alloc, list.len() as u16, &mut meter)?;
+    let is_found = has_plan(list, &found, ends, cost);
+    Ok(if is_found { Some(meter.count()) } else { None })
+}
+
 #[test]
 fn asks_for_few_prices(rt: HostRuntime) -> Result<(), Fail> {
     let list = list_of(rt.alloc(), &[b"cat", b"dog", b"horse"])?;
-    let n = list.len() as u16;
-    let mut meter = ListMeter::new(&list);
-    let found = plan_counted(rt.alloc(), n, &mut meter)?;
-    assert!(rt; has_plan(&list, &found, &[1, 2, 3], 934));
-    assert!(rt; meter.count() <= 96);
+    let asked = prices_asked(rt.alloc(), &list, &[1, 2, 3], 934)?;
+    assert!(rt; asked.is_some_and(|count| count <= 96));
     Ok(())
 }
 
@@ -158,14 +182,9 @@ fn pairs(alloc: Global) -> Result<LitList, lit_base::Fault> {
 #[test]
 fn plans_a_full_list_with_few_prices(rt: HostRuntime) -> Result<(), Fail> {
     let list = pairs(rt.alloc())?;
-    if list.len() != 1024 {
-        return Ok(assert!(rt; false));
-    }
-    let mut meter = ListMeter::new(&list);
-    let found = plan_counted(rt.alloc(), 1024, &mut meter)?;
     let ends = [128, 256, 384, 512, 640, 768, 896, 1024];
-    assert!(rt; has_plan(&list, &found, &ends, 67_110_464));
-    assert!(rt; meter.count() <= 180_224);
+    let asked = prices_asked(rt.alloc(), &list, &ends, 67_110_464)?;
+    assert!(rt; asked.is_some_and(|count| count <= 180_224));
     Ok(())
 }
 
@@ -199,26 +218,38 @@ fn next(seed: u32) -> u32 {
     seed ^ (seed << 5)
 }
 
+/// So many patterns of random bytes.
+fn random_patterns(alloc: Global, seed: &mut u32, count: u32) -> Result<RawList, lit_base::Fault> {
+    let mut raw = RawList::new(alloc);
+    for _ in 0..count {
+        *seed = next(*seed);
+        let bytes = [*seed, next(*seed), next(*seed ^ 5)].map(|s| s.to_be_bytes());
+        let len = 1 + (*seed % 11) as usize;
+        raw.push(bytes.as_flattened().get(..len).unwrap_or(b"a"))?;
+    }
+    Ok(raw)
+}
+
+/// Whether the plan of the list has the potentials of the whole table, and is certified.
+fn table_agrees(alloc: Global, list: &LitList) -> Result<bool, Fail> {
+    let found = plan(alloc, list)?;
+    let rows = table(alloc, list)?;
+    Ok(found.potentials == rows && check(list, &found).is_ok())
+}
+
+/// The same of so many random patterns.
+fn patterns_agree(alloc: Global, seed: &mut u32, count: u32) -> Result<bool, Fail> {
+    let raw = random_patterns(alloc, seed, count)?;
+    let (list, _) = LitList::normal(alloc, &raw, Fold::Ascii)?;
+    table_agrees(alloc, &list)
+}
+
 #[test]
 fn agrees_with_the_whole_table(rt: HostRuntime) -> Result<(), Fail> {
     let mut seed = 2_463_534_242;
     for count in 1..40_u32 {
-        let mut raw = RawList::new(rt.alloc());
-        for _ in 0..count {
-            seed = next(seed);
-            let bytes = [seed, next(seed), next(seed ^ 5)].map(|s| s.to_be_bytes());
-            let len = 1 + (seed % 11) as usize;
-            raw.push(bytes.as_flattened().get(..len).unwrap_or(b"a"))?;
-        }
-        let (list, _) = LitList::normal(rt.alloc(), &raw, Fold::Ascii)?;
-        let found = plan(rt.alloc(), &list)?;
-        let rows = table(rt.alloc(), &list)?;
-        assert_eq!(rt;
-            found.potentials.as_slice(),
-            rows.as_slice(),
-            "{count} patterns"
-        );
-        assert!(rt; check(&list, &found).is_ok());
+        let agrees = patterns_agree(rt.alloc(), &mut seed, count)?;
+        assert!(rt; agrees, "{count} patterns");
     }
     Ok(())
 }

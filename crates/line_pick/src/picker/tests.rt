@@ -66,28 +66,38 @@ impl Sink for Kept {
     }
 }
 
-/// A plan of these patterns under the fold, and whether one of them is null. Without a literal there
-/// is no plan.
-fn planned(
-    alloc: Global,
-    patterns: &[&[u8]],
-    fold: Fold,
-) -> Result<(Option<Compiled>, bool), Fail> {
+/// The literals of these patterns under the fold, and whether one of them is null.
+fn list_of(alloc: Global, patterns: &[&[u8]], fold: Fold) -> Result<(LitList, bool), Fail> {
     let mut raw = RawList::new(alloc);
     for pattern in patterns {
         raw.push(pattern)?;
     }
     let (list, normal) = LitList::normal(alloc, &raw, fold)?;
-    let has_empty = normal.has_empty;
+    Ok((list, normal.has_empty))
+}
+
+/// A plan of the literals. Without a literal there is none.
+fn plan_of(alloc: Global, list: LitList) -> Result<Option<Compiled>, Fail> {
     if list.is_empty() {
-        return Ok((None, has_empty));
+        return Ok(None);
     }
     let certificate = certificate_of(alloc, &list)?;
     match Compiled::new(list, certificate) {
-        Ok(compiled) => Ok((Some(compiled), has_empty)),
+        Ok(compiled) => Ok(Some(compiled)),
         Err((PlanFault::NotCertified { reason }, _, _)) => Err(Fail::from(reason)),
         Err(_) => Err(Fail::from("no plan")),
     }
+}
+
+/// A plan of these patterns under the fold, and whether one of them is null.
+fn planned(
+    alloc: Global,
+    patterns: &[&[u8]],
+    fold: Fold,
+) -> Result<(Option<Compiled>, bool), Fail> {
+    let (list, has_empty) = list_of(alloc, patterns, fold)?;
+    let plan = plan_of(alloc, list)?;
+    Ok((plan, has_empty))
 }
 
 /// The certificate of a few literals.
@@ -159,14 +169,23 @@ fn are_equal(fold: Fold, a: &[u8], b: &[u8]) -> bool {
             .all(|(x, y)| fold_byte(fold, *x) == fold_byte(fold, *y))
 }
 
-fn is_match(patterns: &[&[u8]], fold: Fold, rule: LineRule, line: &[u8]) -> bool {
-    for pattern in patterns {
-        if are_equal(fold, line, pattern) || !rule.whole && pattern.is_empty() {
+/// Patterns, and how lines are compared with them.
+#[derive(Clone, Copy)]
+struct Search {
+    patterns: &'static [&'static [u8]],
+    fold: Fold,
+    rule: LineRule,
+}
+
+fn is_match(search: Search, line: &[u8]) -> bool {
+    let is_whole = search.rule.whole;
+    for pattern in search.patterns {
+        if are_equal(search.fold, line, pattern) || !is_whole && pattern.is_empty() {
             return true;
         }
-        if !rule.whole && !pattern.is_empty() {
+        if !is_whole && !pattern.is_empty() {
             for window in line.windows(pattern.len()) {
-                if are_equal(fold, window, pattern) {
+                if are_equal(search.fold, window, pattern) {
                     return true;
                 }
             }
@@ -176,102 +195,153 @@ fn is_match(patterns: &[&[u8]], fold: Fold, rule: LineRule, line: &[u8]) -> bool
 }
 
 /// The selected lines of a text behind their numbers, by plain matching.
-fn selected(
-    alloc: Global,
-    patterns: &[&[u8]],
-    fold: Fold,
-    rule: LineRule,
-    text: &[u8],
-) -> Result<Vec<u8>, Fail> {
+fn selected(alloc: Global, search: Search, text: &[u8]) -> Result<Vec<u8>, Fail> {
     let mut kept = Kept::new(alloc, Mood::Takes);
     let mut number = 0u64;
     for line in Lines::new(text) {
         number = number.saturating_add(1);
-        if is_match(patterns, fold, rule, line) != rule.invert {
+        if is_match(search, line) != search.rule.invert {
             kept.keep(number, line)?;
         }
     }
     Ok(kept.text)
 }
 
+/// A call of a picker, with a piece or at the end, and its answer with what the sink has kept then.
+type Turn = (Option<&'static [u8]>, Result<Next, Fault>, &'static [u8]);
+
+/// The first of the turns, from 0, whose answer or kept lines are others.
+fn first_wrong(picker: &mut Picker<'_>, sink: &mut Kept, turns: &[Turn]) -> Option<usize> {
+    for (place, turn) in turns.iter().enumerate() {
+        let (piece, answer, kept) = *turn;
+        let given = match piece {
+            Some(piece) => picker.feed(piece, sink),
+            None => picker.finish(sink),
+        };
+        if given != answer || sink.text.as_slice() != kept {
+            return Some(place);
+        }
+    }
+    None
+}
+
+/// The same of a picker for these patterns, and a sink of this mood.
+fn first_wrong_of(
+    rt: &(impl Abort + AllocGlobal),
+    patterns: &[&[u8]],
+    rule: LineRule,
+    mood: Mood,
+    turns: &[Turn],
+) -> Result<Option<usize>, Fail> {
+    let (plan, has_empty) = planned(rt.alloc(), patterns, Fold::No)?;
+    let mut picker = picker_of(rt, rt.alloc(), &plan, has_empty, rule);
+    let mut sink = Kept::new(rt.alloc(), mood);
+    Ok(first_wrong(&mut picker, &mut sink, turns))
+}
+
+/// Turns of which the sink gets the second line alone.
+static IN_PIECES: [Turn; 6] = [
+    (Some(b"conc"), Ok(Next::More), b""),
+    (Some(b"at\nca"), Ok(Next::More), b""),
+    (Some(b"t"), Ok(Next::More), b""),
+    (None, Ok(Next::More), b"2:cat\n"),
+    (None, Ok(Next::Stop), b"2:cat\n"),
+    (Some(b"cat\n"), Ok(Next::Stop), b"2:cat\n"),
+];
+
 #[test]
 fn compares_a_line_in_pieces_as_a_whole(rt: HostRuntime) -> Result<(), Fail> {
-    let (plan, has_empty) = planned(rt.alloc(), &[b"cat"], Fold::No)?;
-    let mut picker = picker_of(&rt, rt.alloc(), &plan, has_empty, WHOLE);
-    let mut sink = Kept::new(rt.alloc(), Mood::Takes);
-    for piece in [b"conc".as_slice(), b"at\nca", b"t"] {
-        assert_eq!(rt; picker.feed(piece, &mut sink)?, Next::More);
-        assert!(rt; sink.text.is_empty());
-    }
-    assert_eq!(rt; picker.finish(&mut sink)?, Next::More);
-    assert_eq!(rt; sink.text.as_slice(), b"2:cat\n".as_slice());
-    assert_eq!(rt; picker.finish(&mut sink)?, Next::Stop);
-    assert_eq!(rt; picker.feed(b"cat\n", &mut sink)?, Next::Stop);
-    assert_eq!(rt; sink.text.as_slice(), b"2:cat\n".as_slice());
+    let wrong = first_wrong_of(&rt, &[b"cat"], WHOLE, Mood::Takes, &IN_PIECES)?;
+    assert_eq!(rt; wrong, None);
     Ok(())
 }
+
+/// Turns of which the sink gets the empty line alone.
+static EMPTY_LINE: [Turn; 2] = [
+    (Some(b"\na\n"), Ok(Next::More), b"1:\n"),
+    (None, Ok(Next::More), b"1:\n"),
+];
 
 #[test]
 fn takes_the_null_pattern_as_the_empty_line(rt: HostRuntime) -> Result<(), Fail> {
-    let mut picker = Picker::new(rt.alloc(), None, true, WHOLE);
-    let mut sink = Kept::new(rt.alloc(), Mood::Takes);
-    assert_eq!(rt; picker.feed(b"\na\n", &mut sink)?, Next::More);
-    assert_eq!(rt; picker.finish(&mut sink)?, Next::More);
-    assert_eq!(rt; sink.text.as_slice(), b"1:\n".as_slice());
+    let wrong = first_wrong_of(&rt, &[b""], WHOLE, Mood::Takes, &EMPTY_LINE)?;
+    assert_eq!(rt; wrong, None);
     Ok(())
 }
+
+/// Turns that go on behind a stop.
+static STOPPED: [Turn; 3] = [
+    (Some(b"a\nb\na\na\n"), Ok(Next::Stop), b"1:a\n3:a\n"),
+    (Some(b"a\n"), Ok(Next::Stop), b"1:a\n3:a\n"),
+    (None, Ok(Next::Stop), b"1:a\n3:a\n"),
+];
 
 #[test]
 fn lends_nothing_after_a_stop(rt: HostRuntime) -> Result<(), Fail> {
-    let (plan, has_empty) = planned(rt.alloc(), &[b"a"], Fold::No)?;
-    let mut picker = picker_of(&rt, rt.alloc(), &plan, has_empty, PARTS);
-    let mut sink = Kept::new(rt.alloc(), Mood::StopsAt(3));
-    assert_eq!(rt; picker.feed(b"a\nb\na\na\n", &mut sink)?, Next::Stop);
-    assert_eq!(rt; picker.feed(b"a\n", &mut sink)?, Next::Stop);
-    assert_eq!(rt; picker.finish(&mut sink)?, Next::Stop);
-    assert_eq!(rt; sink.text.as_slice(), b"1:a\n3:a\n".as_slice());
+    let wrong = first_wrong_of(&rt, &[b"a"], PARTS, Mood::StopsAt(3), &STOPPED)?;
+    assert_eq!(rt; wrong, None);
     Ok(())
 }
 
+/// Turns that go on behind a line that cannot be written.
+static UNWRITTEN: [Turn; 4] = [
+    (Some(b"a"), Ok(Next::More), b""),
+    (Some(b"\naa\na\n"), Err(Fault::WriteFault), b"1:a\n2:aa\n"),
+    (Some(b"a\n"), Err(Fault::WriteFault), b"1:a\n2:aa\n"),
+    (None, Err(Fault::WriteFault), b"1:a\n2:aa\n"),
+];
+
+/// Turns that go on behind a line for which there is no memory.
+static UNKEPT: [Turn; 4] = [
+    (Some(b"a"), Ok(Next::More), b""),
+    (Some(b"\naa\na\n"), Err(Fault::OutOfMemory), b"1:a\n2:aa\n"),
+    (Some(b"a\n"), Err(Fault::OutOfMemory), b"1:a\n2:aa\n"),
+    (None, Err(Fault::OutOfMemory), b"1:a\n2:aa\n"),
+];
+
 #[test]
 fn answers_a_fault_of_the_sink_again(rt: HostRuntime) -> Result<(), Fail> {
-    let (plan, has_empty) = planned(rt.alloc(), &[b"a"], Fold::No)?;
-    for fault in [Fault::WriteFault, Fault::OutOfMemory] {
-        let mut picker = picker_of(&rt, rt.alloc(), &plan, has_empty, PARTS);
-        let mut sink = Kept::new(rt.alloc(), Mood::FailsAt(2, fault));
-        assert_eq!(rt; picker.feed(b"a", &mut sink), Ok(Next::More));
-        assert_eq!(rt; picker.feed(b"\naa\na\n", &mut sink), Err(fault));
-        assert_eq!(rt; picker.feed(b"a\n", &mut sink), Err(fault));
-        assert_eq!(rt; picker.finish(&mut sink), Err(fault));
-        assert_eq!(rt; sink.text.as_slice(), b"1:a\n2:aa\n".as_slice());
-    }
+    let mood = Mood::FailsAt(2, Fault::WriteFault);
+    assert_eq!(rt;
+        first_wrong_of(&rt, &[b"a"], PARTS, mood, &UNWRITTEN)?,
+        None
+    );
+    let mood = Mood::FailsAt(2, Fault::OutOfMemory);
+    assert_eq!(rt; first_wrong_of(&rt, &[b"a"], PARTS, mood, &UNKEPT)?, None);
     Ok(())
 }
+
+/// Turns that go on behind the last place.
+static TOO_LONG: [Turn; 4] = [
+    (Some(b"a\nb"), Ok(Next::More), b"1:a\n"),
+    (Some(b""), Ok(Next::More), b"1:a\n"),
+    (Some(b"\n"), Err(Fault::StreamTooLong), b"1:a\n"),
+    (None, Err(Fault::StreamTooLong), b"1:a\n"),
+];
 
 #[test]
 fn fails_where_the_stream_is_too_long(rt: HostRuntime) -> Result<(), Fail> {
     let mut picker = Picker::new(rt.alloc(), None, true, PARTS);
     picker.progress.bytes = u64::MAX - 3;
     let mut sink = Kept::new(rt.alloc(), Mood::Takes);
-    assert_eq!(rt; picker.feed(b"a\nb", &mut sink), Ok(Next::More));
-    assert_eq!(rt; picker.feed(b"", &mut sink), Ok(Next::More));
-    assert_eq!(rt; picker.feed(b"\n", &mut sink), Err(Fault::StreamTooLong));
-    assert_eq!(rt; picker.finish(&mut sink), Err(Fault::StreamTooLong));
-    assert_eq!(rt; sink.text.as_slice(), b"1:a\n".as_slice());
+    assert_eq!(rt; first_wrong(&mut picker, &mut sink, &TOO_LONG), None);
     Ok(())
 }
+
+/// Each fault with its number and text.
+static FAULTS: [(Fault, u8, &str); 3] = [
+    (Fault::OutOfMemory, 1, "out of memory"),
+    (Fault::WriteFault, 18, "a write failed"),
+    (Fault::StreamTooLong, 20, "the stream is too long"),
+];
 
 #[test]
 fn names_its_faults(rt: HostRuntime) -> Result<(), Fail> {
     standing_law();
-    for (fault, number, text) in [
-        (Fault::OutOfMemory, 1, "out of memory"),
-        (Fault::WriteFault, 18, "a write failed"),
-        (Fault::StreamTooLong, 20, "the stream is too long"),
-    ] {
-        assert_eq!(rt; fault.number(), number);
+    for (fault, number, text) in &FAULTS {
+        assert_eq!(rt; fault.number(), *number);
         let shown = format!(in rt.alloc(); "{fault}")?;
-        assert_eq!(rt; shown.as_str(), text);
+        assert_eq!(rt; shown.as_str(), *text);
     }
     Ok(())
 }
@@ -314,66 +384,97 @@ fn picked(
     Ok(sink.text)
 }
 
-/// Compares what is lent of some texts with what plain matching selects.
-fn compare(
-    rt: &impl Abort,
-    alloc: Global,
-    patterns: &[&[u8]],
-    fold: Fold,
+/// Whether what is lent of a text is this, in pieces of each size.
+fn is_lent(
+    rt: &(impl Abort + AllocGlobal),
+    plan: &Option<Compiled>,
+    has_empty: bool,
     rule: LineRule,
-) -> Result<(), Fail> {
-    let (plan, has_empty) = planned(alloc, patterns, fold)?;
+    text: &[u8],
+    wanted: &[u8],
+) -> Result<bool, Fail> {
+    for size in [1, 2, 3, 5, 23] {
+        let picker = picker_of(rt, rt.alloc(), plan, has_empty, rule);
+        let lent = picked(picker, rt.alloc(), text, size)?;
+        if lent.as_slice() != wanted {
+            return Ok(false);
+        }
+    }
+    Ok(true)
+}
+
+/// Whether what is lent of the text of this number is what plain matching selects.
+fn is_selection_lent(
+    rt: &(impl Abort + AllocGlobal),
+    plan: &Option<Compiled>,
+    has_empty: bool,
+    search: Search,
+    number: u64,
+) -> Result<bool, Fail> {
+    let text = text_of(rt.alloc(), number, 23)?;
+    let wanted = selected(rt.alloc(), search, &text)?;
+    is_lent(rt, plan, has_empty, search.rule, &text, &wanted)
+}
+
+/// The first text, by number, of which another text is lent than plain matching selects.
+fn first_other(
+    rt: &(impl Abort + AllocGlobal),
+    plan: &Option<Compiled>,
+    has_empty: bool,
+    search: Search,
+) -> Result<Option<u64>, Fail> {
     for number in 0..12 {
-        let text = text_of(alloc, number, 23)?;
-        let want = selected(alloc, patterns, fold, rule, text.as_slice())?;
-        for size in [1, 2, 3, 5, 23] {
-            let picker = picker_of(rt, alloc, &plan, has_empty, rule);
-            let got = picked(picker, alloc, text.as_slice(), size)?;
-            assert_eq!(rt; got.as_slice(), want.as_slice(), "{rule:?}");
+        if !is_selection_lent(rt, plan, has_empty, search, number)? {
+            return Ok(Some(number));
+        }
+    }
+    Ok(None)
+}
+
+/// The same by the plan of the patterns.
+fn first_other_of(rt: &(impl Abort + AllocGlobal), search: Search) -> Result<Option<u64>, Fail> {
+    let (plan, has_empty) = planned(rt.alloc(), search.patterns, search.fold)?;
+    first_other(rt, &plan, has_empty, search)
+}
+
+/// Compares what is lent of some texts with what plain matching selects, under both folds and each
+/// rule.
+fn compare_all(
+    rt: &(impl Abort + AllocGlobal),
+    patterns: &'static [&'static [u8]],
+) -> Result<(), Fail> {
+    for fold in [Fold::No, Fold::Ascii] {
+        for (invert, whole) in [(false, false), (false, true), (true, false), (true, true)] {
+            let rule = LineRule { invert, whole };
+            let other = first_other_of(
+                rt,
+                Search {
+                    patterns,
+                    fold,
+                    rule,
+                },
+            )?;
+            assert_eq!(rt; other, None, "{patterns:?}, {fold:?}, {rule:?}");
         }
     }
     Ok(())
 }
 
-/// The same under both folds and each rule.
-fn compare_all(rt: &impl Abort, alloc: Global, patterns: &[&[u8]]) -> Result<(), Fail> {
-    for fold in [Fold::No, Fold::Ascii] {
-        for invert in [false, true] {
-            compare(
-                rt,
-                alloc,
-                patterns,
-                fold,
-                LineRule {
-                    invert,
-                    whole: false,
-                },
-            )?;
-            compare(
-                rt,
-                alloc,
-                patterns,
-                fold,
-                LineRule {
-                    invert,
-                    whole: true,
-                },
-            )?;
-        }
-    }
-    Ok(())
-}
+static PATTERNS: [&[&[u8]]; 8] = [
+    &[],
+    &[b""],
+    &[b"a"],
+    &[b"ab", b"Ba"],
+    &[b"b", b"", b"abc"],
+    &[b"a", b"aa", b"aab", b"c"],
+    &[b"aba", b"ab", b"bab", b"bb"],
+    &[b"aabbc"],
+];
 
 #[test]
 fn lends_what_plain_matching_selects(rt: HostRuntime) -> Result<(), Fail> {
-    let alloc = rt.alloc();
-    compare_all(&rt, alloc, &[])?;
-    compare_all(&rt, alloc, &[b""])?;
-    compare_all(&rt, alloc, &[b"a"])?;
-    compare_all(&rt, alloc, &[b"ab", b"Ba"])?;
-    compare_all(&rt, alloc, &[b"b", b"", b"abc"])?;
-    compare_all(&rt, alloc, &[b"a", b"aa", b"aab", b"c"])?;
-    compare_all(&rt, alloc, &[b"aba", b"ab", b"bab", b"bb"])?;
-    compare_all(&rt, alloc, &[b"aabbc"])?;
+    for patterns in &PATTERNS {
+        compare_all(&rt, patterns)?;
+    }
     Ok(())
 }
