@@ -106,22 +106,31 @@ def make_texts(folder, size):
     lists(path)
 
 
+def write_lines(path, lines):
+    with open(path, "wb") as out:
+        out.writelines(line + b"\n" for line in lines)
+
+
+def rare_literal(rng, shape, bits):
+    """Two made-up words and a number, written in this shape: hardly any text has them."""
+    return (shape % (word(rng), word(rng), rng.getrandbits(bits))).encode()
+
+
+def random_literals(rng):
+    """A thousand literals of random bytes."""
+    return [bytes(b for b in rng.randbytes(6) if b != 10) for _ in range(1000)]
+
+
 def lists(path):
     """Pattern files: rare ones that hardly occur, frequent ones that occur in many lines."""
     rng = random.Random(11)
     for count in (10, 100, 1000):
-        rare = ["%s%s %04x" % (word(rng), word(rng), rng.getrandbits(16)) for _ in range(count)]
-        often = ["id=%03x" % (7 * k % 4096) if k % 3 else "user=%d" % (100 + k) for k in range(count)]
-        for name, patterns in (("rare", rare), ("often", often)):
-            with open(path("%s%d" % (name, count)), "w") as out:
-                out.write("\n".join(patterns) + "\n")
-    with open(path("bytes1000"), "wb") as out:
-        for _ in range(1000):
-            out.write(bytes(b for b in rng.randbytes(6) if b != 10) + b"\n")
-    with open(path("lines1000"), "wb") as out:
-        for k, line in enumerate(log_block(0, 4 * MB).split(b"\n")):
-            if k % 30 == 0 and k < 30000:
-                out.write(line + b"\n")
+        rare = [rare_literal(rng, "%s%s %04x", 16) for _ in range(count)]
+        often = [b"id=%03x" % (7 * k % 4096) if k % 3 else b"user=%d" % (100 + k) for k in range(count)]
+        write_lines(path("rare%d" % count), rare)
+        write_lines(path("often%d" % count), often)
+    write_lines(path("bytes1000"), random_literals(rng))
+    write_lines(path("lines1000"), log_block(0, 4 * MB).split(b"\n")[:30000:30])
 
 
 # ---------------------------------------------------------------- rows

@@ -16,7 +16,7 @@ import sys
 import tempfile
 
 from plot import as_svg
-from programs import HERE, MB, english_block, fill, log_block, machine, word
+from programs import HERE, MB, english_block, fill, log_block, machine, random_literals, rare_literal, write_lines
 
 PEERS = os.path.join(HERE, "peers/bin")
 
@@ -26,10 +26,8 @@ def make_lists(folder, texts):
     rng = random.Random(17)
     found = {}
     for count in (1, 3, 10, 32, 100, 1000):
-        rare = ["%s%s%02x" % (word(rng), word(rng), rng.getrandbits(8)) for _ in range(count)]
         found["rare", count] = os.path.join(folder, "rare%d" % count)
-        with open(found["rare", count], "w") as out:
-            out.write("\n".join(rare) + "\n")
+        write_lines(found["rare", count], [rare_literal(rng, "%s%s%02x", 8) for _ in range(count)])
         for name, text in texts.items():
             cut = set()
             while len(cut) < count:
@@ -38,12 +36,9 @@ def make_lists(folder, texts):
                 if b"\n" not in piece:
                     cut.add(piece)
             found[name, count] = os.path.join(folder, "%s-often%d" % (name, count))
-            with open(found[name, count], "wb") as out:
-                out.write(b"\n".join(sorted(cut)) + b"\n")
+            write_lines(found[name, count], sorted(cut))
     found["bytes", 1000] = os.path.join(folder, "bytes1000")
-    with open(found["bytes", 1000], "wb") as out:
-        for _ in range(1000):
-            out.write(bytes(b for b in rng.randbytes(6) if b != 10) + b"\n")
+    write_lines(found["bytes", 1000], random_literals(rng))
     return found
 
 

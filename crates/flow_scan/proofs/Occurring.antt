@@ -1,21 +1,18 @@
 -- Where literals occur in a text and in its parts.
 use Rattle.std.proofs.Common.{◌≡◌, ℕ, ◌+◌, ◌-◌, ◌<◌, ◌≤◌, List, ◌++◌, length, take, drop, slice_range, refl, sym, ap, ◌∙◌, subst, arith}
-use Rattle.std.proofs.lemmas.List.{length-append, length-drop, length-take, drop-append-le, take-append-le, drop-drop, drop_at, append_assoc, take-append-drop}
+use Rattle.std.proofs.Math.Seq.{drop-append-add}
+use Rattle.std.proofs.lemmas.List.{length-append, length-drop, length-take, drop-append-le, take-append-le, append_assoc, take-append-drop}
 use Rattle.lit_base.specs.Folding.{folded_text}
 use Rattle.lit_base.specs.Literals.{Literals}
 use Rattle.lit_base.specs.Occurrences.{Occurs}
 use Rattle.flow_scan.specs.Tails.{HasBounds, carry_of, last_bytes}
-
--- a front of two texts joined, long enough, drops the first text
-pub drop-behind : (a b : List ℕ) (n : ℕ) → drop (length a + n) (a ++ b) ≡ drop n b
-drop-behind a b n = sym (drop-drop n (length a) (a ++ b)) ∙ ap (drop n) (drop_at a b (length a) refl)
 
 -- the last m of the bytes up to an end in the second text are the same in both
 range_behind : (a b : List ℕ) (m e : ℕ) → m ≤ e → slice_range (a ++ b) (length a + e - m) (length a + e) ≡ slice_range b (e - m) e
 range_behind a b m e fits =
     let at : length a + e - m ≡ length a + (e - m) = omega arith in
     let count : length a + e - (length a + (e - m)) ≡ e - (e - m) = omega arith in
-    rw (at, count) (ap (take (e - (e - m))) (drop-behind a b (e - m)))
+    rw (at, count) (ap (take (e - (e - m))) (drop-append-add a b (e - m)))
 
 -- the bytes up to an end in the first text are those of this text alone
 range_before : (a b : List ℕ) (i e : ℕ) → i ≤ e → e ≤ length a → slice_range (a ++ b) i e ≡ slice_range a i e

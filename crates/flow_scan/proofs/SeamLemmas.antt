@@ -1,11 +1,11 @@
 -- Parts of the room of a seam, before and after a write.
 use Rattle.std.proofs.Common.{◌≡◌, ℕ, ◌+◌, ◌-◌, ◌≤◌, List, ◌++◌, length, take, drop, sym, ap, ◌∙◌, subst, arith}
 use Rattle.std.specs.List.{copy_within}
-use Rattle.std.proofs.Math.Seq.{take-add}
-use Rattle.std.proofs.lemmas.List.{length-append, length-drop, length-take, take_at, drop-drop, drop-take, take_all}
+use Rattle.std.proofs.Math.Seq.{drop-append-add, take-add}
+use Rattle.std.proofs.lemmas.List.{length-append, length-drop, length-take, length-take-le, take_at, drop-drop, drop-take, take_all}
 use Rattle.flow_scan.specs.Seams.{Seaming}
 use Rattle.flow_scan.specs.Tails.{last_bytes}
-use Rattle.flow_scan.proofs.Occurring.{drop-behind, last_len}
+use Rattle.flow_scan.proofs.Occurring.{last_len}
 use Rattle.flow_scan.proofs.TailSteps.{last_of_short}
 
 -- two seams with the same parts are one
@@ -23,14 +23,10 @@ part_two start held ahead xs before =
     ap (λ n. take n (drop start xs)) count ∙ take-add m ahead (drop start xs)
     ∙ ap (λ ys. ys ++ take ahead (drop m (drop start xs))) front ∙ ap (λ ys. drop start (take held xs) ++ take ahead ys) rest
 
--- how long a front is that fits
-front_len : (n : ℕ) (xs : List ℕ) → n ≤ length xs → length (take n xs) ≡ n
-front_len n xs fits = omega (arith, length-take n xs)
-
 -- the slice from the tail on is the tail and what is offered
 pub text_of : (carry held ahead len : ℕ) (xs : List ℕ) → held ≤ length xs → len ≡ length (last_bytes carry (take held xs)) → take (held + ahead - (held - len)) (drop (held - len) xs) ≡ last_bytes carry (take held xs) ++ take ahead (drop held xs)
 text_of carry held ahead len xs fits is_len =
-    let front = front_len held xs fits in
+    let front = length-take-le held xs fits in
     let start : held - len ≡ length (take held xs) - carry = omega (arith, is_len, front, last_len carry (take held xs)) in
     ap (λ n. take (held + ahead - n) (drop n xs)) start
     ∙ part_two (length (take held xs) - carry) held ahead xs (omega (arith, front))
@@ -47,7 +43,7 @@ tail_moved carry held xs more fits =
     let here : take carry (copy_within xs start held 0) ≡ moved =
     ap (λ n. take carry (take n (drop start xs) ++ rest)) count ∙ take_at moved rest carry len in
     let there : last_bytes carry (take held xs) ≡ moved =
-    ap (λ n. drop (n - carry) (take held xs)) (front_len held xs fits) ∙ ap (λ n. drop start (take n xs)) (sym all) ∙ drop-take start carry xs in
+    ap (λ n. drop (n - carry) (take held xs)) (length-take-le held xs fits) ∙ ap (λ n. drop start (take n xs)) (sym all) ∙ drop-take start carry xs in
     ap (last_bytes carry) here ∙ last_of_short carry moved (omega (arith, len)) ∙ sym there
 
 -- a piece that fits the carry stands whole behind what is held
@@ -63,4 +59,4 @@ kept_long carry xs rest piece long =
     let len : length last ≡ carry = omega (arith, last_len carry piece) in
     let skip : length (xs ++ piece) - carry ≡ length xs + (length piece - carry) = omega (arith, length-append xs piece) in
     ap (last_bytes carry) (take_at last rest carry len) ∙ last_of_short carry last (omega (arith, len))
-    ∙ sym (ap (λ n. drop n (xs ++ piece)) skip ∙ drop-behind xs piece (length piece - carry))
+    ∙ sym (ap (λ n. drop n (xs ++ piece)) skip ∙ drop-append-add xs piece (length piece - carry))

@@ -4,8 +4,9 @@ use Rattle.std.proofs.Math.Facts.{Fits-lt-pow}
 use Rattle.std.proofs.lemmas.Bool.{cases_lt}
 use Rattle.std.proofs.lemmas.List.Elements.{All-from_get_or}
 use Rattle.lit_base.specs.Literals.{Literals}
-use Rattle.nib_mask.specs.declared.masks.Masks.{Masks}
-use Rattle.nib_mask.specs.Candidates.{Covers, IsCandidate}
+use Rattle.lane_filter.specs.Pairs.{CoversBy}
+use Rattle.lane_filter.specs.Sieves.{Passes}
+use Rattle.lane_filter.specs.declared.sieve.Sieve.{Sieve}
 use Rattle.flow_scan.specs.Ends.{HasEnd}
 
 -- the bytes of a slice are bytes
@@ -13,6 +14,6 @@ pub all_bytes : (text : List ℕ) → ((i : ℕ) → Fits w8 (get_or text i 0)) 
 all_bytes text fits = All-from_get_or (λ b. b < 256) text 0 (λ i _. Fits-lt-pow (fits i))
 
 -- what ends nowhere up to a place, and has no candidate from there to another, ends nowhere before the other
-pub none_before : (l : Literals) (masks : Masks) (text : List ℕ) (old from to : ℕ) → Covers l masks → All (λ b. b < 256) text → ((other : ℕ) → old < other → other ≤ from → ¬ HasEnd l text other) → ((other : ℕ) → from < other → other < to → ¬ IsCandidate masks text other) → (other : ℕ) → old < other → other < to → ¬ HasEnd l text other
-none_before l masks text old from to covers bytes passed quiet other after before here =
+pub none_before : (l : Literals) (sieve : Sieve) (text : List ℕ) (old from to : ℕ) → CoversBy l (Passes sieve) → All (λ b. b < 256) text → ((other : ℕ) → old < other → other ≤ from → ¬ HasEnd l text other) → ((other : ℕ) → from < other → other < to → ¬ Passes sieve text other) → (other : ℕ) → old < other → other < to → ¬ HasEnd l text other
+none_before l sieve text old from to covers bytes passed quiet other after before here =
     elim (cases_lt from other) [ inl later ↦ quiet other later before (covers text here.0 other bytes here.1) | inr within ↦ passed other after within here ]

@@ -1,6 +1,7 @@
 -- The last bytes of a text are enough to tell what a piece behind it adds, piece by piece.
 use Rattle.std.proofs.Common.{◌≡◌, ℕ, ◌+◌, ◌-◌, ◌≤◌, List, [], ◌∷◌, ◌++◌, length, take, drop, refl, sym, ap, ◌∙◌, subst, arith}
 use Rattle.std.specs.List.{concat}
+use Rattle.std.proofs.lemmas.List.Folds.{concat-append}
 use Rattle.std.proofs.lemmas.List.{append-nil, append_assoc, length-append, length-take, take-append-drop, take_at, drop_at, drop-append-le, drop-drop}
 use Rattle.lit_base.specs.Literals.{Literals}
 use Rattle.lit_base.specs.Occurrences.{IsHits, Occurs}
@@ -129,10 +130,4 @@ hits_fed l text piece place old new b reached before gains =
 
 -- one more piece, joined
 pub concat_push : (pieces : List (List ℕ)) (piece : List ℕ) → concat (pieces ++ piece ∷ []) ≡ concat pieces ++ piece
-concat_push [] piece = append-nil piece
-concat_push (p ∷ pieces) piece = ap (λ t. p ++ t) (concat_push pieces piece) ∙ sym (append_assoc p (concat pieces) piece)
-
--- pieces behind others, joined
-pub concat_append : (pieces more : List (List ℕ)) → concat (pieces ++ more) ≡ concat pieces ++ concat more
-concat_append [] more = refl
-concat_append (p ∷ pieces) more = ap (λ t. p ++ t) (concat_append pieces more) ∙ sym (append_assoc p (concat pieces) (concat more))
+concat_push pieces piece = concat-append pieces (piece ∷ []) ∙ ap (λ t. concat pieces ++ t) (append-nil piece)

@@ -4,8 +4,9 @@ use Rattle.lit_base.specs.Literals.{Literals}
 use Rattle.lit_cert.specs.Certificates.{CertificateParts}
 use Rattle.lit_cert.specs.Certified.{IsCertified, IsFirstFailure}
 use Rattle.lit_cert.specs.declared.reason.Reason.{Reason}
-use Rattle.nib_mask.specs.declared.masks.Masks.{Masks}
-use Rattle.nib_mask.specs.Candidates.{Covers}
+use Rattle.lane_filter.specs.Pairs.{CoversBy}
+use Rattle.lane_filter.specs.Sieves.{Passes}
+use Rattle.lane_filter.specs.declared.sieve.Sieve.{Sieve}
 use Rattle.flow_scan.specs.declared.fault.Fault.{Fault}
 use Rattle.flow_scan.specs.declared.fault.Fault.TheVariants.{NotCertified}
 
@@ -14,10 +15,10 @@ pub record Plan : Type 0 where
   pub literals : Literals
   pub certificate : CertificateParts
 
--- what its fields keep: the certificate holds, and no occurrence goes past the filter
-pub record IsCompiled (list : Literals) (certificate : CertificateParts) (masks : Masks) : Type 0 where
+-- what its fields keep: the certificate holds, and no occurrence goes past the sieve
+pub record IsCompiled (list : Literals) (certificate : CertificateParts) (sieve : Sieve) : Type 0 where
   pub certified : IsCertified 8 list certificate
-  pub covers : Covers list masks
+  pub covers : CoversBy list (Passes sieve)
 
 -- the answer where a list and a certificate are no plan: the first condition that fails, and both as they were
 pub record IsRefusalOf (list : Literals) (certificate : CertificateParts) (fault : Fault) (old_list : Literals) (old_certificate : CertificateParts) : Type 0 where

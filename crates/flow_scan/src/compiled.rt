@@ -4,15 +4,16 @@ ghost use Rattle.lit_base.specs.Literals.{lengths};
 ghost use Rattle.lit_base.specs.Assignments.{NoAssignmentBelow, assign_price, assignment_of};
 ghost use Rattle.lit_cert.specs.Certified.{IsCertified};
 ghost use Rattle.lit_base.specs.declared.limits.TheConstants.{MAX_LITERAL_LEN};
-ghost use Rattle.nib_mask.specs.Candidates.{Covers};
+ghost use Rattle.lane_filter.specs.Pairs.{CoversBy};
+ghost use Rattle.lane_filter.specs.Sieves.{Passes};
 ghost use Rattle.flow_scan.specs.Plans.{IsRefusalOf, Plan};
 ghost use Rattle.flow_scan.specs.Tails.{HasBounds, carry_of};
 
 use crate::carry::carry;
 use crate::fault::Fault;
+use lane_filter::Sieve;
 use lit_base::LitList;
 use lit_cert::{Certificate, certified_law, check};
-use nib_mask::Masks;
 use std::marker::Model;
 
 /// Literals with a plan that was checked: who holds one needs no other check.
@@ -20,7 +21,7 @@ use std::marker::Model;
 pub struct Compiled {
     list: LitList,
     certificate: Certificate,
-    masks: Masks,
+    sieve: Sieve,
 }
 
 impl Model for Compiled {
@@ -30,7 +31,7 @@ impl Model for Compiled {
 
     ghost view = { λ p. record { literals = p.list; certificate = p.certificate } };
 
-    ghost invariant = { λ p. IsCompiled p.list p.certificate p.masks };
+    ghost invariant = { λ p. IsCompiled p.list p.certificate p.sieve };
 }
 
 impl Compiled {
@@ -47,7 +48,7 @@ impl Compiled {
         ensures least { OnOk result (NoAssignmentBelow 8 list certificate.cost) }
     {
         match check(&list, &certificate) {
-            Ok(()) => Ok(with_masks(list, certificate)),
+            Ok(()) => Ok(with_sieve(list, certificate)),
             Err(reason) => Err((Fault::NotCertified { reason }, list, certificate)),
         }
     }
@@ -67,11 +68,11 @@ impl Compiled {
         &self.certificate
     }
 
-    /// The filter's tables, which let each occurrence through.
-    pub(crate) fn masks(&self) -> &Masks
-        ensures { Covers self.now.literals result.now }
+    /// The sieve that suits the literals, which lets each occurrence through.
+    pub(crate) fn sieve(&self) -> &Sieve
+        ensures { CoversBy self.now.literals (Passes result.now) }
     {
-        &self.masks
+        &self.sieve
     }
 
     /// How many bytes a literal may have before a piece in which it ends.
@@ -85,15 +86,15 @@ impl Compiled {
 }
 
 /// The plan of a certificate that holds.
-fn with_masks(list: LitList, certificate: Certificate) -> Compiled
+fn with_sieve(list: LitList, certificate: Certificate) -> Compiled
     requires { IsCertified 8 list certificate }
     ensures { result ≡ record { literals = list; certificate = certificate } }
 {
-    let masks = Masks::of(&list, &certificate.ends);
+    let sieve = Sieve::of(&list, &certificate.ends);
     Compiled {
         list,
         certificate,
-        masks,
+        sieve,
     }
 }
 

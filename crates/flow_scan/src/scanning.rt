@@ -1,5 +1,5 @@
 //! Scans of whole texts, and the law on which scans in pieces stand.
-ghost use Rattle.std.specs.Prelude.{◌≡◌, ◌^◌, ◌<◌, ◌≤◌, ◌⊎◌, IfErr, IfOk, IsOkUnless, length};
+ghost use Rattle.std.specs.Prelude.{◌≡◌, ◌^◌, ◌<◌, ◌≤◌, ◌⊎◌, IfErr, IfOk, IsErr, IsOkUnless, length};
 ghost use Rattle.std.specs.List.{concat};
 ghost use Rattle.lit_base.specs.Assignments.{NoAssignmentBelow};
 ghost use Rattle.lit_base.specs.Occurrences.{IsHits};
@@ -41,6 +41,7 @@ pub fn scan_pieces(
     ensures hits { IfOk result (λ hits. IsHits compiled.now.literals (concat (bytes_of pieces.now)) hits.items) }
     ensures refused { IfErr result (λ fault. (fault ≡ OutOfMemory)
         ⊎ ((fault ≡ StreamTooLong) × (2 ^ 64 ≤ length (concat (bytes_of pieces.now))))) }
+    ensures too_long { 2 ^ 64 ≤ length (concat (bytes_of pieces.now)) → IsErr result }
 {
     least_law(compiled);
     let _carry = compiled.carry();

@@ -21,7 +21,7 @@ pub fn next_end(compiled: &Compiled, text: &[u8], from: usize) -> Option<usize>
     if from >= text.len() {
         return None;
     }
-    let mut candidates = Candidates::new(compiled.masks(), text, from);
+    let mut candidates = Candidates::new(compiled.sieve(), text, from);
     match next_ending(compiled.list(), text, &mut candidates) {
         Some((end, _)) => Some(end),
         None => None,
@@ -44,7 +44,7 @@ pub(crate) fn add_hits(
     ensures quiet { NoEndAfter compiled.now.literals text.now from → IsOk result }
 {
     let list = compiled.list();
-    let mut candidates = Candidates::new(compiled.masks(), text, from);
+    let mut candidates = Candidates::new(compiled.sieve(), text, from);
     while let Some((end, first)) = next_ending(list, text, &mut candidates) {
         add_hits_at(list, text, end, first, at + (end - from) as u64, out)?;
     }

@@ -1,4 +1,5 @@
 mod plain;
+mod single;
 mod table;
 
 use crate::compiled::{Compiled, least_law};
@@ -7,28 +8,39 @@ use crate::hit::Hit;
 use crate::scanner::Scanner;
 use crate::scanning::{pieces_law, scan_all, scan_pieces};
 use crate::searching::next_end;
-use crate::tests::plain::{PlainScanner, plain_end, plain_hits};
+use crate::tests::plain::{masks_of, packed_hits, plain_end, plain_hits};
 use crate::tests::table::certificate_of;
 use lit_base::{Fold, LitList, MAX_LITERAL_LEN, RawList};
-use lit_cert::Reason;
+use lit_cert::{Certificate, Reason};
 use std::alloc::{AllocError, Global};
 use std::test::Fail;
 
-/// The list of these literals.
-fn list_of(alloc: Global, fold: Fold, literals: &[&[u8]]) -> Result<LitList, Fail> {
+/// These literals, as they come.
+fn raw_of(alloc: Global, literals: &[&[u8]]) -> Result<RawList, Fail> {
     let mut raw = RawList::new(alloc);
     for literal in literals {
         raw.push(literal)?;
     }
-    let (list, _) = LitList::normal(alloc, &raw, fold)?;
+    Ok(raw)
+}
+
+/// The list of raw literals.
+fn list_of(alloc: Global, raw: &RawList, fold: Fold) -> Result<LitList, Fail> {
+    let (list, _) = LitList::normal(alloc, raw, fold)?;
     Ok(list)
+}
+
+/// The plan of raw literals.
+fn plan_of(alloc: Global, raw: &RawList, fold: Fold) -> Result<Compiled, Fail> {
+    let list = list_of(alloc, raw, fold)?;
+    let certificate = certificate_of(alloc, &list)?;
+    Ok(Compiled::new(list, certificate)?)
 }
 
 /// The plan of these literals.
 fn compiled_of(alloc: Global, literals: &[&[u8]]) -> Result<Compiled, Fail> {
-    let list = list_of(alloc, Fold::No, literals)?;
-    let certificate = certificate_of(alloc, &list)?;
-    Ok(Compiled::new(list, certificate)?)
+    let raw = raw_of(alloc, literals)?;
+    plan_of(alloc, &raw, Fold::No)
 }
 
 /// So many times one byte.
@@ -43,6 +55,17 @@ fn are(hits: &[Hit], wanted: &[(u16, u64)]) -> bool {
             && hit.end_at == *end_at)
 }
 
+/// A stream, and how it comes.
+#[derive(Clone, Copy)]
+enum Stream<'a> {
+    Whole(&'a [u8]),
+    Pieces(&'a [&'a [u8]]),
+    /// A piece, and another one that a copy of the scanner is fed.
+    CopyAfter(&'a [u8], &'a [u8]),
+    /// So many letters `a`, each a piece.
+    Letters(u32),
+}
+
 /// The hits that pieces give, fed in turn.
 fn hits_of_pieces(alloc: Global, compiled: &Compiled, pieces: &[&[u8]]) -> Result<Vec<Hit>, Fault> {
     let mut hits = Vec::new(alloc);
@@ -53,7 +76,13 @@ fn hits_of_pieces(alloc: Global, compiled: &Compiled, pieces: &[&[u8]]) -> Resul
     Ok(hits)
 }
 
-/// The hits that a copy of the scanner gives for one more piece, taken after another.
+/// Feeds a piece to a copy of the scanner.
+fn feed_to_copy(scanner: &Scanner, piece: &[u8], out: &mut Vec<Hit>) -> Result<(), Fault> {
+    let mut copy = scanner.copy()?;
+    copy.feed(piece, out)
+}
+
+/// The hits that a scanner gives for one piece, and then a copy of it for another.
 fn hits_of_copy(
     alloc: Global,
     compiled: &Compiled,
@@ -63,109 +92,146 @@ fn hits_of_copy(
     let mut hits = Vec::new(alloc);
     let mut scanner = Scanner::new(alloc, compiled)?;
     scanner.feed(first, &mut hits)?;
-    let mut copy = scanner.copy()?;
-    copy.feed(second, &mut hits)?;
+    feed_to_copy(&scanner, second, &mut hits)?;
     Ok(hits)
 }
 
-/// The hits of one letter fed so many times.
-fn hits_of_letters(
-    alloc: Global,
-    compiled: &Compiled,
-    letter: u8,
-    count: u32,
-) -> Result<Vec<Hit>, Fault> {
+/// The hits of so many letters `a`, fed one by one.
+fn hits_of_letters(alloc: Global, compiled: &Compiled, count: u32) -> Result<Vec<Hit>, Fault> {
     let mut hits = Vec::new(alloc);
     let mut scanner = Scanner::new(alloc, compiled)?;
     for _ in 0..count {
-        scanner.feed(&[letter], &mut hits)?;
+        scanner.feed(b"a", &mut hits)?;
     }
     Ok(hits)
 }
 
+/// The hits of a stream by a plan.
+fn hits_by(alloc: Global, compiled: &Compiled, stream: Stream) -> Result<Vec<Hit>, Fail> {
+    Ok(match stream {
+        Stream::Whole(text) => scan_all(alloc, compiled, text)?,
+        Stream::Pieces(pieces) => hits_of_pieces(alloc, compiled, pieces)?,
+        Stream::CopyAfter(first, second) => hits_of_copy(alloc, compiled, first, second)?,
+        Stream::Letters(count) => hits_of_letters(alloc, compiled, count)?,
+    })
+}
+
+/// The hits of these literals in a stream.
+fn hits_of(alloc: Global, literals: &[&[u8]], stream: Stream) -> Result<Vec<Hit>, Fail> {
+    let compiled = compiled_of(alloc, literals)?;
+    hits_by(alloc, &compiled, stream)
+}
+
+/// Whether these are the hits of the literals in a stream.
+fn gives(
+    alloc: Global,
+    literals: &[&[u8]],
+    stream: Stream,
+    wanted: &[(u16, u64)],
+) -> Result<bool, Fail> {
+    let hits = hits_of(alloc, literals, stream)?;
+    Ok(are(&hits, wanted))
+}
+
+const PRONOUNS: [&[u8]; 4] = [b"he", b"his", b"she", b"hers"];
+
 #[test]
 fn gives_hits_as_pieces_come(rt: HostRuntime) -> Result<(), Fail> {
     let alloc = rt.alloc();
-    let compiled = compiled_of(alloc, &[b"he", b"his", b"she", b"hers"])?;
-    assert!(rt; hits_of_pieces(alloc, &compiled, &[b"us", b"h"])?.is_empty());
-    let hits = hits_of_pieces(alloc, &compiled, &[b"us", b"h", b"ers"])?;
-    assert!(rt; are(&hits, &[(0, 4), (2, 4), (3, 6)]));
-    let copied = hits_of_copy(alloc, &compiled, b"ush", b"ers")?;
-    assert!(rt; copied == hits);
+    let wanted = [(0, 4), (2, 4), (3, 6)];
+    assert!(rt; gives(alloc, &PRONOUNS, Stream::Pieces(&[b"us", b"h"]), &[])?);
+    assert!(rt;
+        gives(
+            alloc,
+            &PRONOUNS,
+            Stream::Pieces(&[b"us", b"h", b"ers"]),
+            &wanted
+        )?
+    );
+    assert!(rt; gives(alloc, &PRONOUNS, Stream::CopyAfter(b"ush", b"ers"), &wanted)?);
     Ok(())
-}
-
-/// A text of 100 bytes in which `xyz` ends at one place.
-fn text_with_end(alloc: Global, end: usize) -> Result<Vec<u8>, AllocError> {
-    let mut text = repeated(alloc, b'.', end.saturating_sub(3))?;
-    text.extend_from_slice(b"xyz")?;
-    text.extend_from_slice(&repeated(alloc, b'.', 100_usize.saturating_sub(end))?)?;
-    Ok(text)
 }
 
 #[test]
 fn gives_the_worked_hits_of_whole_texts(rt: HostRuntime) -> Result<(), Fail> {
     let alloc = rt.alloc();
-    let doubled = compiled_of(alloc, &[b"aa"])?;
-    assert!(rt;
-        are(
-            &scan_all(alloc, &doubled, b"aaaa")?,
-            &[(0, 2), (0, 3), (0, 4)]
-        )
-    );
-    let longer = compiled_of(alloc, &[b"ab", b"abc"])?;
-    assert!(rt; are(&scan_all(alloc, &longer, b"ab")?, &[(0, 2)]));
+    let thrice = [(0, 2), (0, 3), (0, 4)];
+    assert!(rt; gives(alloc, &[b"aa"], Stream::Whole(b"aaaa"), &thrice)?);
+    assert!(rt; gives(alloc, &[b"ab", b"abc"], Stream::Whole(b"ab"), &[(0, 2)])?);
     Ok(())
+}
+
+/// A text of 100 bytes in which `xyz` ends at one place.
+fn text_with_end(alloc: Global, end: usize) -> Result<Vec<u8>, AllocError> {
+    let mut text = repeated(alloc, b'.', 100)?;
+    for (place, byte) in text.iter_mut().enumerate() {
+        *byte = match end.saturating_sub(place) {
+            3 => b'x',
+            2 => b'y',
+            1 => b'z',
+            _ => b'.',
+        };
+    }
+    Ok(text)
+}
+
+/// Whether the end in such a text is found, and no other.
+fn is_found_at(alloc: Global, end: usize) -> Result<bool, Fail> {
+    let text = text_with_end(alloc, end)?;
+    gives(alloc, &[b"xyz"], Stream::Whole(&text), &[(0, end as u64)])
 }
 
 #[test]
 fn finds_an_end_at_each_edge_of_a_vector(rt: HostRuntime) -> Result<(), Fail> {
-    let alloc = rt.alloc();
-    let compiled = compiled_of(alloc, &[b"xyz"])?;
-    for end in [31_usize, 32, 33, 34] {
-        let text = text_with_end(alloc, end)?;
-        assert_eq!(rt; text.len(), 100);
-        assert!(rt;
-            are(&scan_all(alloc, &compiled, &text)?, &[(0, end as u64)]),
-            "at {end}"
-        );
+    for end in [31, 32, 33, 34, 63, 64, 65, 66, 100] {
+        assert!(rt; is_found_at(rt.alloc(), end)?, "at {end}");
     }
     Ok(())
+}
+
+/// What the plan of these literals costs, and its filter byte where these three bytes end.
+fn cost_and_mark(alloc: Global, literals: &[&[u8]], bytes: [u8; 3]) -> Result<(u64, u8), Fail> {
+    let compiled = compiled_of(alloc, literals)?;
+    let [x0, x1, x2] = bytes;
+    let mark = nib_mask::plain_byte(&masks_of(&compiled), x0, x1, x2);
+    Ok((compiled.certificate().cost, mark))
 }
 
 #[test]
 fn verifies_what_the_filter_lets_through(rt: HostRuntime) -> Result<(), Fail> {
     let alloc = rt.alloc();
-    let compiled = compiled_of(alloc, &[b"abcdefgh", b"abcdefxy"])?;
-    assert_eq!(rt; compiled.certificate().cost, 232);
-    assert_eq!(rt; nib_mask::plain_byte(compiled.masks(), b'f', b'g', b'y'), 1);
-    assert!(rt; scan_all(alloc, &compiled, b"abcdefgy")?.is_empty());
+    let literals: [&[u8]; 2] = [b"abcdefgh", b"abcdefxy"];
+    assert_eq!(rt; cost_and_mark(alloc, &literals, *b"fgy")?, (232, 1));
+    assert!(rt; gives(alloc, &literals, Stream::Whole(b"abcdefgy"), &[])?);
     Ok(())
+}
+
+/// Whether the longest literal of letters `a` ends at these places of so many letters, and what its
+/// plan costs.
+fn longest_in_letters(
+    alloc: Global,
+    count: u32,
+    wanted: &[(u16, u64)],
+) -> Result<(bool, u64), Fail> {
+    let literal = repeated(alloc, b'a', MAX_LITERAL_LEN)?;
+    let are_given = gives(alloc, &[&literal], Stream::Letters(count), wanted)?;
+    let (cost, _) = cost_and_mark(alloc, &[&literal], *b"aaa")?;
+    Ok((are_given, cost))
 }
 
 #[test]
 fn carries_the_longest_literal_byte_by_byte(rt: HostRuntime) -> Result<(), Fail> {
     let alloc = rt.alloc();
-    let literal = repeated(alloc, b'a', MAX_LITERAL_LEN)?;
-    let compiled = compiled_of(alloc, &[&literal])?;
-    assert_eq!(rt; compiled.certificate().cost, 208);
-    assert!(rt; hits_of_letters(alloc, &compiled, b'a', 4094)?.is_empty());
-    assert!(rt;
-        are(
-            &hits_of_letters(alloc, &compiled, b'a', 4095)?,
-            &[(0, 4095)]
-        )
-    );
-    let hits = hits_of_letters(alloc, &compiled, b'a', 4096)?;
-    assert!(rt; are(&hits, &[(0, 4095), (0, 4096)]));
+    assert_eq!(rt; longest_in_letters(alloc, 4094, &[])?, (true, 208));
+    let wanted = [(0, 4095), (0, 4096)];
+    assert_eq!(rt; longest_in_letters(alloc, 4095, &wanted[..1])?, (true, 208));
+    assert_eq!(rt; longest_in_letters(alloc, 4096, &wanted)?, (true, 208));
     Ok(())
 }
 
 #[test]
 fn gives_each_end_once_over_many_seams(rt: HostRuntime) -> Result<(), Fail> {
-    let alloc = rt.alloc();
-    let compiled = compiled_of(alloc, &[b"aa"])?;
-    let hits = hits_of_letters(alloc, &compiled, b'a', 100_000)?;
+    let hits = hits_of(rt.alloc(), &[b"aa"], Stream::Letters(100_000))?;
     assert_eq!(rt; hits.len(), 99_999);
     for (place, hit) in hits.iter().enumerate() {
         assert_eq!(rt; hit.end_at, place as u64 + 2);
@@ -173,37 +239,46 @@ fn gives_each_end_once_over_many_seams(rt: HostRuntime) -> Result<(), Fail> {
     Ok(())
 }
 
+/// Whether a scan that has one place left refuses two bytes and stays as it was, and whether it then
+/// takes one.
+fn refuses_two_and_takes_one(alloc: Global, compiled: &Compiled) -> Result<(bool, bool), Fault> {
+    let base = u64::MAX - 1;
+    let mut hits = Vec::new(alloc);
+    let mut scanner = Scanner::new_at(alloc, compiled, base)?;
+    let is_refused = matches!(scanner.feed(b"aa", &mut hits), Err(Fault::StreamTooLong))
+        && scanner.place() == base
+        && hits.is_empty();
+    scanner.feed(b"a", &mut hits)?;
+    let is_taken = scanner.place() == u64::MAX && are(&hits, &[(0, u64::MAX)]);
+    Ok((is_refused, is_taken))
+}
+
 #[test]
 fn refuses_to_pass_the_last_place(rt: HostRuntime) -> Result<(), Fail> {
     let alloc = rt.alloc();
     let compiled = compiled_of(alloc, &[b"a"])?;
-    let base = u64::MAX - 1;
-    let mut scanner = Scanner::new_at(alloc, &compiled, base)?;
-    let mut hits = Vec::new(alloc);
-    assert!(rt; matches!(scanner.feed(b"aa", &mut hits), Err(Fault::StreamTooLong)));
-    assert_eq!(rt; scanner.place(), base);
-    assert!(rt; hits.is_empty());
-    scanner.feed(b"a", &mut hits)?;
-    assert_eq!(rt; scanner.place(), u64::MAX);
-    assert!(rt; are(&hits, &[(0, u64::MAX)]));
+    let answers = refuses_two_and_takes_one(alloc, &compiled)?;
+    assert_eq!(rt; answers, (true, true));
     Ok(())
+}
+
+/// What is handed back where a plan is refused: the fault, how many literals, and the cost.
+fn handed_back(list: LitList, certificate: Certificate) -> Option<(Fault, usize, u64)> {
+    match Compiled::new(list, certificate) {
+        Ok(_compiled) => None,
+        Err((fault, list, certificate)) => Some((fault, list.len(), certificate.cost)),
+    }
 }
 
 #[test]
 fn hands_back_what_it_refuses(rt: HostRuntime) -> Result<(), Fail> {
     let alloc = rt.alloc();
-    let list = list_of(alloc, Fold::No, &[b"a"])?;
+    let list = list_of(alloc, &raw_of(alloc, &[b"a"])?, Fold::No)?;
     let mut certificate = certificate_of(alloc, &list)?;
     certificate.cost = 4297;
-    match Compiled::new(list, certificate) {
-        Ok(_compiled) => assert!(rt; false),
-        Err((fault, list, certificate)) => {
-            let reason = Reason::Total;
-            assert_eq!(rt; fault, Fault::NotCertified { reason });
-            assert_eq!(rt; list.len(), 1);
-            assert_eq!(rt; certificate.cost, 4297);
-        }
-    }
+    let reason = Reason::Total;
+    let wanted = Some((Fault::NotCertified { reason }, 1, 4297));
+    assert_eq!(rt; handed_back(list, certificate), wanted);
     Ok(())
 }
 
@@ -232,17 +307,15 @@ fn random_text(
     Ok(text)
 }
 
-/// A plan of so many random literals, which share tails, heads and lengths.
-fn random_plan(alloc: Global, state: &mut u64, fold: Fold, count: u32) -> Result<Compiled, Fail> {
+/// So many random literals, which share tails, heads and lengths.
+fn random_literals(alloc: Global, state: &mut u64, count: u32) -> Result<RawList, Fail> {
     let mut raw = RawList::new(alloc);
     raw.push(b"ab")?;
     for _ in 1..count {
         let limit = 2 + next_random(state) % 14;
         raw.push(&random_text(alloc, state, b"abAb", limit)?)?;
     }
-    let (list, _) = LitList::normal(alloc, &raw, fold)?;
-    let certificate = certificate_of(alloc, &list)?;
-    Ok(Compiled::new(list, certificate)?)
+    Ok(raw)
 }
 
 /// A text cut into pieces of fewer bytes than `limit`, empty ones too.
@@ -261,22 +334,32 @@ fn cut(alloc: Global, state: &mut u64, text: &[u8], limit: u64) -> Result<Vec<Ve
     Ok(pieces)
 }
 
-/// Whether each scan of a text, and of it in these pieces, gives the hits of the plain ones.
-fn hits_agree(
+/// Whether the scans of a text, and of it in these pieces, and packed search give these hits.
+fn scans_give(
     alloc: Global,
     compiled: &Compiled,
     text: &[u8],
     pieces: &[Vec<u8>],
+    wanted: &[Hit],
 ) -> Result<bool, Fail> {
-    let wanted = plain_hits(alloc, compiled.list(), text)?;
-    let mut plain = PlainScanner::new(alloc, compiled);
-    let mut hits = Vec::new(alloc);
-    for piece in pieces {
-        plain.feed(alloc, piece, &mut hits)?;
-    }
+    let packed = packed_hits(alloc, compiled, text)?;
     let whole = scan_all(alloc, compiled, text)?;
     let joined = scan_pieces(alloc, compiled, pieces)?;
-    Ok(hits == wanted && whole == wanted && joined == wanted)
+    Ok(packed.as_slice() == wanted && whole.as_slice() == wanted && joined.as_slice() == wanted)
+}
+
+/// Whether each scan of a text, and of it cut into pieces of fewer bytes than `limit`, gives the hits
+/// of the plain loop.
+fn hits_agree(
+    alloc: Global,
+    state: &mut u64,
+    compiled: &Compiled,
+    text: &[u8],
+    limit: u64,
+) -> Result<bool, Fail> {
+    let pieces = cut(alloc, state, text, limit)?;
+    let wanted = plain_hits(alloc, compiled.list(), text)?;
+    scans_give(alloc, compiled, text, &pieces, &wanted)
 }
 
 /// Whether the next end behind each place is that of the plain loop.
@@ -289,19 +372,38 @@ fn ends_agree(compiled: &Compiled, text: &[u8]) -> bool {
     true
 }
 
+/// Whether a plan's scans of a random text agree with the plain ones, and its ends.
+fn scans_agree(alloc: Global, state: &mut u64, compiled: &Compiled) -> Result<bool, Fail> {
+    let text = random_text(alloc, state, b"aAbBc", 600)?;
+    for limit in [24, 200] {
+        if !hits_agree(alloc, state, compiled, &text, limit)? {
+            return Ok(false);
+        }
+    }
+    Ok(ends_agree(compiled, &text))
+}
+
+/// A plan of so many random literals.
+fn random_plan(alloc: Global, state: &mut u64, fold: Fold, count: u32) -> Result<Compiled, Fail> {
+    let raw = random_literals(alloc, state, count)?;
+    plan_of(alloc, &raw, fold)
+}
+
+/// Whether such a plan's scans agree with the plain ones.
+fn plan_agrees(alloc: Global, state: &mut u64, fold: Fold, count: u32) -> Result<bool, Fail> {
+    let compiled = random_plan(alloc, state, fold, count)?;
+    scans_agree(alloc, state, &compiled)
+}
+
 #[test]
 fn agrees_with_the_plain_scanners(rt: HostRuntime) -> Result<(), Fail> {
-    let alloc = rt.alloc();
     let mut state = 7;
     for count in [1, 2, 3, 9, 40, 150, 1024] {
         for fold in [Fold::No, Fold::Ascii] {
-            let compiled = random_plan(alloc, &mut state, fold, count)?;
-            let text = random_text(alloc, &mut state, b"aAbBc", 600)?;
-            let small = cut(alloc, &mut state, &text, 24)?;
-            let large = cut(alloc, &mut state, &text, 200)?;
-            assert!(rt; hits_agree(alloc, &compiled, &text, &small)?, "of {count}");
-            assert!(rt; hits_agree(alloc, &compiled, &text, &large)?, "of {count}");
-            assert!(rt; ends_agree(&compiled, &text), "of {count}");
+            assert!(rt;
+                plan_agrees(rt.alloc(), &mut state, fold, count)?,
+                "of {count}, {fold:?}"
+            );
         }
     }
     Ok(())

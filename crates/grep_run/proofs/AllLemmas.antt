@@ -11,7 +11,7 @@ use Rattle.grep_run.specs.Options.{ask_of, asks_or_standard}
 use Rattle.grep_run.specs.Searching.{Searches, SearchesAll}
 use Rattle.grep_run.specs.Sources.{AreShort, Ask, Sources, after, found, name_of, taken_by}
 use Rattle.grep_run.proofs.SearchLemmas.{InputsSoFar-all, InputsSoFar-cut, InputsSoFar-last, InputsSoFar-more, InputsSoFar-none}
-use Rattle.grep_run.proofs.ToldLemmas.{Told-none, Told-weaker}
+use Rattle.lit_base.proofs.ToldLemmas.{Told-none, Told-weaker}
 use Rattle.grep_run.specs.Running.{AsksFront, IsStopped}
 use Rattle.grep_run.proofs.FrontLemmas.{AppendsFront-none}
 

@@ -2,6 +2,7 @@
 use Rattle.std.proofs.Common.{◌≡◌, ◌≢◌, ℕ, Bool, true, false, IfOk, OnOk, OnErr, ◌||◌, List, [], ◌++◌, Option, None, Some, Result, Ok, Err, refl, sym, ap, ◌∙◌, subst, append_assoc, append-nil}
 use Rattle.std.specs.Io.KnownBytes.{Appends}
 use Rattle.std.proofs.KnownBytes.{Appends-nil, Appends-trans}
+use Rattle.std.proofs.lemmas.Bool.{or_parts}
 use Rattle.lit_base.specs.Devices.{Told}
 use Rattle.lit_base.specs.declared.fault.Fault.{Fault}
 use Rattle.lit_base.specs.declared.fault.Fault.TheVariants.{OutOfMemory, TooManyPatterns, LiteralTooLong, TooManyLiterals, ListTooLarge}
@@ -27,7 +28,8 @@ use Rattle.grep_run.specs.Scanning.{test_of}
 use Rattle.grep_run.specs.Searching.{SearchesAll}
 use Rattle.grep_run.specs.Sources.{AreShort, Ask, Sources, after_all, found}
 use Rattle.grep_run.proofs.FrontLemmas.{AppendsFront-none}
-use Rattle.grep_run.proofs.ToldLemmas.{Told-then, Told-weaker, after_all-append, short-after_all}
+use Rattle.lit_base.proofs.ToldLemmas.{Told-then, Told-weaker}
+use Rattle.grep_run.proofs.ToldLemmas.{after_all-append, short-after_all}
 
 -- tests that agree on each line are one
 same-function : (f h : List ℕ → Bool) → ((line : List ℕ) → f line ≡ h line) → f ≡ h
@@ -185,11 +187,6 @@ answers-refused o known left why (Err stop) out err_old err_new e p q =
     Told-weaker known left _ (λ s l. AreShort s → Answers o s l (Err stop) out out err_old err_new) p (λ s l lacks short.
     refused-cut o s l why (is_memory_of why) stop out (lacks short) q refl)
 
--- a test of two flags fails only where the second does
-second-clear : (a b : Bool) → (a || b) ≡ false → b ≡ false
-second-clear true b e = (cc)
-second-clear false b e = e
-
 -- behind fronts of both texts stands the message on want of memory, whole unless its write failed
 starved : (a : Answer) (r : Result (Unit {0}) Stop) (out_failed err_failed err_fails : Bool) {out_old out_new err_old : Option (List ℕ)} (err_mid err_new : Option (List ℕ))
     → IsStopped a out_old out_new err_old err_mid → OnOk r (Appends err_mid err_new out_of_memory) → OnErr r (AppendsFront err_mid err_new out_of_memory) → OnErr r (r ≡ Err stop.WriteFault)
@@ -217,7 +214,7 @@ starved a (Err e) out_failed err_failed err_fails {out_old} {out_new} {err_old} 
       last_message = front.leaves.parts;
       errors = Appends-trans err_old err_mid err_new p.messages.leaves.front front.leaves.front p.messages.leaves.grown front.leaves.grown;
       whole = λ clear.
-          let unset : is_write_fault {T = Unit {0}} (Err e) ≡ false = second-clear err_failed (is_write_fault {T = Unit {0}} (Err e)) (sym flag ∙ second-clear out_failed err_fails clear) in
+          let unset : is_write_fault {T = Unit {0}} (Err e) ≡ false = (or_parts err_failed (is_write_fault {T = Unit {0}} (Err e)) (sym flag ∙ (or_parts out_failed err_fails clear).1)).1 in
           let both : true ≡ false = sym failed ∙ unset in (cc);
     }
 

@@ -16,7 +16,8 @@ use Rattle.grep_run.specs.Messages.{patterns_refused}
 use Rattle.grep_run.specs.Options.{asks_for, lists_of}
 use Rattle.grep_run.specs.Patterns.{content_message, files_asked, files_message, files_read, first_of, lists_refusal, literals_refusal, pattern_files, patterns_from, patterns_in}
 use Rattle.grep_run.specs.Sources.{AreShort, Ask, Input, Named, Sources, after_all, after_named, found, source_of}
-use Rattle.grep_run.proofs.ToldLemmas.{Told-then, Told-weaker, after_all-one, short-after}
+use Rattle.lit_base.proofs.ToldLemmas.{Told-then, Told-weaker}
+use Rattle.grep_run.proofs.ToldLemmas.{after_all-one, short-after}
 
 -- the patterns of files
 abbrev pub all_from : List Input → List (List ℕ)

@@ -1,5 +1,6 @@
 -- One input, piece by piece: where picker and block stand, and what they come to.
 use Rattle.std.proofs.Common.{◌≡◌, ◌≢◌, ℕ, ◌+◌, ◌-◌, ◌^◌, ◌≤◌, ◌<◌, Bool, true, false, ◌||◌, ◌&&◌, not, cond, List, [], ◌∷◌, ◌++◌, eqb, flat_map, length, min, Option, None, Some, Ok, Err, refl, sym, ap, ◌∙◌, subst, append_assoc, append-nil, length-append, length-take-le, take, arith}
+use Rattle.std.proofs.Math.Bool.{and-false}
 use Rattle.std.proofs.lemmas.Bool.{lt-ltb}
 use Rattle.std.proofs.lemmas.List.Concat.{flat_map-append}
 use Rattle.std.proofs.lemmas.List.FromFn.{length-enumerate_from}
@@ -87,11 +88,6 @@ taken-more o name before_lines more all old mid new before now after t m e writt
 -- a lending that stopped lent its lines
 lent-stopped : {s t : Block} {lines : List (ℕ × List ℕ)} → Lends TakesLine s lines (Ok Stop) t → Lent TakesLine s lines (Ok Stop) t
 lent-stopped (Whole h) = h
-
--- nothing is both
-never : (b : Bool) → (b && false) ≡ false
-never true = refl
-never false = refl
 
 module _ {o : GrepOptions} {test : List ℕ → Bool} {name text : List ℕ} (piece : List ℕ) {p : Picking} (new_p : Picking) {b : Block} (mid : Block) {before : Option (List ℕ)} (now : Option (List ℕ))
     (s : StandsBehind o test name text p b before now) where
@@ -191,7 +187,7 @@ read-halted o test name c b before out came more e h =
       whole = ending-any o name b.count (numbered test 0 (lines_of c)) wanted both;
       leaves = record { front = []; parts = sym h.text; grown = h.written };
       any = both;
-      error = sym (ap (λ w. c.is_faulty && not (w && has_any (numbered test 0 (lines_of c)))) wanted ∙ ap (λ a. c.is_faulty && not a) any ∙ never c.is_faulty);
+      error = sym (ap (λ w. c.is_faulty && not (w && has_any (numbered test 0 (lines_of c)))) wanted ∙ ap (λ a. c.is_faulty && not a) any ∙ and-false c.is_faulty);
     }
 
 -- what was written is a front of the block

@@ -1,6 +1,7 @@
 -- Inputs one after another: what is written, what is found, and what is asked for.
 use Rattle.std.proofs.Common.{◌≡◌, ℕ, ◌+◌, ◌<◌, String, string_bytes, length, get_or, drop, Bool, true, false, ◌||◌, ◌&&◌, cond, List, [], ◌∷◌, ◌++◌, map, flat_map, Option, refl, sym, ap, ◌∙◌, subst, append_assoc, append-nil}
 use Rattle.std.specs.List.{list_any}
+use Rattle.std.proofs.Math.Bool.{or-false, or_assoc}
 use Rattle.std.proofs.lemmas.List.{drop_more}
 use Rattle.lit_base.specs.Devices.{Told}
 use Rattle.std.specs.Io.KnownBytes.{Appends}
@@ -15,7 +16,8 @@ use Rattle.grep_run.specs.Running.{AsksFront, IsStopped}
 use Rattle.grep_run.specs.Searching.{AreSearched, IsCut, IsSearched}
 use Rattle.grep_run.specs.Sources.{AreShort, Ask, Input, Sources, after, after_all, found, name_of, taken_by}
 use Rattle.grep_run.proofs.FrontLemmas.{AppendsFront-behind}
-use Rattle.grep_run.proofs.ToldLemmas.{Told-none, Told-then, after_all-one, short-after}
+use Rattle.lit_base.proofs.ToldLemmas.{Told-none, Told-then}
+use Rattle.grep_run.proofs.ToldLemmas.{after_all-one, short-after}
 
 -- the asks before those that are left are made, and their inputs searched
 pub record InputsSoFar (o : GrepOptions) (test : List ℕ → Bool) (all rest : List Ask) (s left : Sources) (is_selected has_error : Bool) (out_old out_new err_old err_new : Option (List ℕ)) : Type 0 where
@@ -50,10 +52,6 @@ InputsSoFar-none o test all s out err short = record {
   short = short;
 }
 
-or-assoc : (a b c : Bool) → (a || (b || c)) ≡ ((a || b) || c)
-or-assoc true b c = refl
-or-assoc false b c = refl
-
 -- an input that is not the last
 pub InputsSoFar-more : {o : GrepOptions} {test : List ℕ → Bool} {all : List Ask} {s mid : Sources} {is_selected has_error : Bool} {out_old out_mid err_old err_mid : Option (List ℕ)}
     (ask : Ask) (rest : List Ask) (left : Sources) (one : Found) (out_new err_new : Option (List ℕ))
@@ -76,18 +74,14 @@ InputsSoFar-more {o} {test} {all} {s} {mid} {is_selected} {has_error} {out_old} 
       messages = p.messages ∙ ap (λ is. p.told ++ flat_map (message o test) is) here ∙ sym (append_assoc p.told message_here (flat_map (message o test) behind)) ∙ ap (λ is. (p.told ++ message_here) ++ flat_map (message o test) is) there;
       err_grown = Appends-trans err_old err_mid err_new p.told message_here p.err_grown q.messages;
       selected = p.selected ∙ ap (λ is. is_selected || list_any (has_selected test) is) here ∙ ap (λ b. is_selected || (b || list_any (has_selected test) behind)) (sym q.selected)
-          ∙ or-assoc is_selected one.is_selected _ ∙ ap (λ is. (is_selected || one.is_selected) || list_any (has_selected test) is) there;
+          ∙ sym (or_assoc is_selected one.is_selected _) ∙ ap (λ is. (is_selected || one.is_selected) || list_any (has_selected test) is) there;
       error = p.error ∙ ap (λ is. has_error || list_any (is_error o test) is) here ∙ ap (λ b. has_error || (b || list_any (is_error o test) behind)) (sym q.error)
-          ∙ or-assoc has_error one.is_error _ ∙ ap (λ is. (has_error || one.is_error) || list_any (is_error o test) is) there;
+          ∙ sym (or_assoc has_error one.is_error _) ∙ ap (λ is. (has_error || one.is_error) || list_any (is_error o test) is) there;
       made = p.made ++ ask ∷ [];
       front = p.front ∙ ap (λ is. p.made ++ asks is) here ∙ sym (append_assoc p.made (ask ∷ []) (asks behind)) ∙ ap (λ is. (p.made ++ ask ∷ []) ++ asks is) there;
       after = e ∙ ap (after ask) p.after ∙ sym (after_all-one p.made ask s);
       short = subst AreShort (sym e) (short-after ask mid p.short);
     }
-
-or-false : (b : Bool) → (b || false) ≡ b
-or-false true = refl
-or-false false = refl
 
 -- where no input is left, all are searched
 pub InputsSoFar-all : {o : GrepOptions} {test : List ℕ → Bool} {all : List Ask} {s left : Sources} {out_old out_new err_old err_new : Option (List ℕ)} (what : Found)

@@ -1,36 +1,15 @@
 -- What an opener tells from one ask to the next.
-use Rattle.std.proofs.Common.{◌≡◌, ℕ, ◌<◌, zero, suc, length, get_or, true, false, cond, List, [], ◌∷◌, ◌++◌, All, Option, None, Some, IfSome, Ok, Err, refl, lit<, arith}
+use Rattle.std.proofs.Common.{◌≡◌, ℕ, true, false, cond, List, [], ◌∷◌, ◌++◌, All, Option, None, Some, IfSome, Ok, Err, refl, lit<, arith}
 use Rattle.std.specs.Str.{bytes_eq}
+use Rattle.std.proofs.lemmas.List.Elements.{All-cons, All-tail}
 use Rattle.lit_base.specs.Devices.{Coming, Told}
 use Rattle.grep_run.specs.Sources.{AreShort, Ask, Content, IsShort, Named, OpensAs, Sources, Standard, after, after_all, after_first, coming_of, content_of, source_of, taken_by, without_first}
 use Rattle.grep_run.specs.declared.opener.Missing.{Missing}
-
--- one step after another
-pub Told-then : {T : Type 0} (a b c : Option T) (P Q R : T → T → Type 0) → Told a b P → Told b c Q → ((x y z : T) → P x y → Q y z → R x z) → Told a c R
-Told-then None b c P Q R p q join = tt
-Told-then (Some x) None c P Q R p q join = absurd p
-Told-then (Some x) (Some y) None P Q R p q join = absurd q
-Told-then (Some x) (Some y) (Some z) P Q R p q join = join x y z p q
-
--- no step
-pub Told-none : {T : Type 0} (a : Option T) (R : T → T → Type 0) → ((x : T) → R x x) → Told a a R
-Told-none None R here = tt
-Told-none (Some x) R here = here x
-
--- what one relation says, another does
-pub Told-weaker : {T : Type 0} (a b : Option T) (P R : T → T → Type 0) → Told a b P → ((x y : T) → P x y → R x y) → Told a b R
-Told-weaker None b P R p weaker = tt
-Told-weaker (Some x) None P R p weaker = absurd p
-Told-weaker (Some x) (Some y) P R p weaker = weaker x y p
 
 -- the content of an ask is short where all are
 short-first : (contents : List Content) → All IsShort contents → IsShort (content_of contents)
 short-first [] h = lit< tt
 short-first (d ∷ rest) h = h 0 d (omega arith)
-
--- a fact of all members is one of all behind the first
-All-rest : {X : Type 0} (P : X → Type 0) (x : X) (xs : List X) → All P (x ∷ xs) → All P xs
-All-rest P x xs h = λ k d inside. h (suc k) d (omega arith)
 
 -- what stands under a name is short
 abbrev IsShortEntry : List ℕ × Option Content → Type 0
@@ -42,7 +21,7 @@ short-named name [] h = tt
 short-named name (e ∷ rest) h =
     elim (bytes_eq e.0 name) as (λ b. IfSome (cond b e.1 (source_of name rest)) IsShort) [
       | true ↦ h 0 e (omega arith)
-      | false ↦ short-named name rest (All-rest IsShortEntry e rest h)
+      | false ↦ short-named name rest (All-tail IsShortEntry e rest h)
     ]
 
 -- what any ask takes is short where all are
@@ -50,25 +29,18 @@ pub short-taken : (ask : Ask) (s : Sources) → AreShort s → IfSome (taken_by 
 short-taken (Named name) s h = short-named name s.named h.named
 short-taken Standard s h = short-first s.standard h.standard
 
--- a member before others that have the fact
-All-cons : {X : Type 0} (P : X → Type 0) (x : X) (xs : List X) → P x → All P xs → All P (x ∷ xs)
-All-cons P x xs here rest = λ k d inside. elim k as (λ n. n < length (x ∷ xs) → P (get_or (x ∷ xs) n d)) [
-  | zero ↦ λ _. here
-  | suc n ↦ λ more. rest n d (omega arith)
-] inside
-
 -- the sources left by an ask are short where all are
 short-rest : (name : List ℕ) (named : List (List ℕ × Option Content)) → All IsShortEntry named → All IsShortEntry (without_first name named)
 short-rest name [] h = h
 short-rest name (e ∷ rest) h =
     elim (bytes_eq e.0 name) as (λ b. All IsShortEntry (cond b rest (e ∷ without_first name rest))) [
-      | true ↦ All-rest IsShortEntry e rest h
-      | false ↦ All-cons IsShortEntry e (without_first name rest) (h 0 e (omega arith)) (short-rest name rest (All-rest IsShortEntry e rest h))
+      | true ↦ All-tail IsShortEntry e rest h
+      | false ↦ All-cons IsShortEntry e (without_first name rest) (h 0 e (omega arith)) (short-rest name rest (All-tail IsShortEntry e rest h))
     ]
 
 short-after_first : (contents : List Content) → All IsShort contents → All IsShort (after_first contents)
 short-after_first [] h = h
-short-after_first (d ∷ rest) h = All-rest IsShort d rest h
+short-after_first (d ∷ rest) h = All-tail IsShort d rest h
 
 pub short-after : (ask : Ask) (s : Sources) → AreShort s → AreShort (after ask s)
 short-after (Named name) s h = record { named = short-rest name s.named h.named; standard = h.standard }

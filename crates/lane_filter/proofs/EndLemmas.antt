@@ -104,15 +104,22 @@ candidate_is_marked masks text place end at within =
       λ h none. h.marked (same ∙ none),
     )
 
--- the marks of 64 places of a text, from some place after `from` on, are those of the ends three places later
-pub block_marked : (masks : Masks) (text : List ℕ) (from place first done whole mask : ℕ) → first ≡ place + 3 → done ≡ place + 66
-    → from ≤ done → first ≤ from + 1 → done ≤ length text → Tells (IsMarked masks text) place 64 whole
-    → ((k : ℕ) → (bit_at mask k ≡ 1) ↔ ((from + 1 ≤ first + k) × (bit_at whole k ≡ 1))) → AreMarked (IsCandidate masks text) from first done mask
-block_marked masks text from place first done whole mask start long reached low within told bits =
-    marked_by_bits (IsCandidate masks text) from first done mask reached (omega arith) low
-    (λ k.
+-- the marks of 64 places of a text are those of the ends three places later
+pub marks_of_ends : (masks : Masks) (text : List ℕ) (place first mask : ℕ) → first ≡ place + 3 → first + 63 ≤ length text → Tells (IsMarked masks text) place 64 mask
+    → Tells (IsCandidate masks text) first 64 mask
+marks_of_ends masks text place first mask start within told k =
     let at : (k < 64) → IsMarked masks text (place + k) ↔ IsCandidate masks text (first + k) =
     λ l. candidate_is_marked masks text (place + k) (first + k) (omega arith) (omega arith) in (
-      λ s. let h = (bits k).0 s in let t = (told k).0 h.1 in (h.0, t.0, (at t.0).0 t.1),
-      λ h. (bits k).1 (h.0, (told k).1 (h.1, (at h.1).1 h.2)),
+      λ s. let t = (told k).0 s in (t.0, (at t.0).0 t.1),
+      λ h. (told k).1 (h.0, (at h.0).1 h.1),
+    )
+
+-- the marks of 64 ends, from some place after `from` on, are those of the ends after it
+pub block_marked : (P : ℕ → Type 0) (from first done whole mask : ℕ) → first + 63 ≡ done → from ≤ done → first ≤ from + 1 → Tells P first 64 whole
+    → ((k : ℕ) → (bit_at mask k ≡ 1) ↔ ((from + 1 ≤ first + k) × (bit_at whole k ≡ 1))) → AreMarked P from first done mask
+block_marked P from first done whole mask long reached low told bits =
+    marked_by_bits P from first done mask reached long low
+    (λ k. (
+      λ s. let h = (bits k).0 s in let t = (told k).0 h.1 in (h.0, t.0, t.1),
+      λ h. (bits k).1 (h.0, (told k).1 (h.1, h.2)),
     ))

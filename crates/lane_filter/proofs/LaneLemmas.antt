@@ -1,10 +1,12 @@
 -- What the operations on vectors hold, lane by lane.
-use Rattle.std.proofs.Common.{◌≡◌, ◌≢◌, ◌↔◌, ℕ, ◌+◌, ◌*◌, ◌/◌, ◌%◌, ◌^◌, ◌<◌, List, Bool, true, false, not, cond, eqb, length, get_or, map, replicate, refl, sym, ap, ◌∙◌, subst, arith, w8}
+use Rattle.std.proofs.Common.{◌≡◌, ◌≢◌, ◌↔◌, ℕ, ◌+◌, ◌*◌, ◌/◌, ◌%◌, ◌^◌, ◌<◌, List, Bool, true, false, not, cond, eqb, length, get_or, map, replicate, bit_or, refl, sym, ap, ◌∙◌, subst, arith, inl, inr, w8}
 use Rattle.std.specs.Int.{bit_at}
 use Rattle.std.specs.Simd.Lanes.{zip2, sel_l, mask_l, top}
-use Rattle.std.proofs.lemmas.Simd.{length-zip2, get_or-zip2, get_or-replicate, length-sel_l, get_or-sel_l, tops_compared, bitmask_splat, bit_mask_l, swz_l, SwzOk, SwzOk-from_below, length-swz_l, get_or-swz_l_below, Each1-from_get_or}
+use Rattle.std.proofs.lemmas.Simd.{length-zip2, get_or-zip2, get_or-replicate, length-sel_l, get_or-sel_l, tops_compared, bitmask_splat, bit_mask_l, mask_l-mod, swz_l, SwzOk, SwzOk-from_below, length-swz_l, get_or-swz_l_below, Each1-from_get_or}
 use Rattle.std.proofs.Math.ListN.{get_or-map}
-use Rattle.std.proofs.lemmas.Bool.{eqb-true, eqb-false}
+use Rattle.std.proofs.lemmas.Bool.{cases_lt, eqb-true, eqb-false, ne_eqb}
+use Rattle.std.proofs.lemmas.List.{get_or_past}
+use Rattle.std.proofs.lemmas.Nat.Bits.{bit_at-zero}
 use Rattle.lane_filter.specs.Lanes.{HasLanes, HoldsTwice}
 
 -- a vector holds its own lanes
@@ -79,3 +81,64 @@ bit_of_nonzero v k long =
     let told = set_if_not_zero (get_or v k 0) (eqb (get_or v k 0) 0) refl in
     let whole = ap (λ m. bit_at m k) same ∙ bit in
     (λ h. told.0 (sym whole ∙ h), λ h. whole ∙ told.1 h)
+
+-- the test of a lane for a number, as a bit
+set_if_equal : (x y : ℕ) (b : Bool) → eqb x y ≡ b → (cond {A = ℕ} b 1 0 ≡ 1) ↔ (x ≡ y)
+set_if_equal x y true e = (λ h. eqb-true x y e, λ h. refl)
+set_if_equal x y false e = (λ h. absurd (omega arith), λ same. absurd (eqb-false x y e same))
+
+-- the lanes of a vector of 64 that, with some bits set, are a byte
+pub equal_lanes : List ℕ → ℕ → ℕ → List Bool
+equal_lanes v set byte = zip2 eqb (zip2 bit_or v (replicate 64 set)) (replicate 64 byte)
+
+equal_lanes-len : (v : List ℕ) (set byte : ℕ) → length v ≡ 64 → length (zip2 bit_or v (replicate 64 set)) ≡ 64
+equal_lanes-len v set byte long = length-zip2 bit_or v (replicate 64 set) long ∙ long
+
+-- their mask, as it is computed
+equal_mask : (v : List ℕ) (set byte : ℕ) → length v ≡ 64
+    → mask_l (map (top 7) (zip2 (λ m n. cond (eqb m n) 255 0) (zip2 bit_or v (replicate 64 set)) (replicate 64 byte))) % 2 ^ 64 ≡ mask_l (equal_lanes v set byte)
+unfolding equal_lanes
+equal_mask v set byte long =
+    let both = zip2 bit_or v (replicate 64 set) in
+    let long_both : length both ≡ 64 = equal_lanes-len v set byte long in
+    let long_tests : length (zip2 eqb both (replicate 64 byte)) ≡ 64 = length-zip2 eqb both (replicate 64 byte) long_both ∙ long_both in
+    ap (λ ms. mask_l ms % 2 ^ 64) (tops_compared w8 eqb both (replicate 64 byte)) ∙ mask_l-mod (zip2 eqb both (replicate 64 byte)) 64 (omega arith)
+
+-- a bit of it
+bit_of_equal : (v : List ℕ) (set byte k : ℕ) → length v ≡ 64 → (bit_at (mask_l (equal_lanes v set byte)) k ≡ 1) ↔ ((k < 64) × (bit_or (get_or v k 0) set ≡ byte))
+unfolding equal_lanes
+bit_of_equal v set byte k long =
+    let both = zip2 bit_or v (replicate 64 set) in
+    let long_both : length both ≡ 64 = equal_lanes-len v set byte long in
+    let tests = zip2 eqb both (replicate 64 byte) in
+    let long_tests : length tests ≡ 64 = length-zip2 eqb both (replicate 64 byte) long_both ∙ long_both in
+    let bit : bit_at (mask_l tests) k ≡ cond (get_or tests k false) 1 0 = bit_mask_l tests k in
+    elim (cases_lt k 64) [
+      | inl l ↦
+          let lane : get_or both k 0 ≡ bit_or (get_or v k 0) set =
+          get_or-zip2 bit_or v (replicate 64 set) k 0 0 0 (omega arith) l ∙ ap (λ x. bit_or (get_or v k 0) x) (get_or-replicate 64 k set 0 l) in
+          let test : get_or tests k false ≡ eqb (bit_or (get_or v k 0) set) byte =
+          get_or-zip2 eqb both (replicate 64 byte) k 0 0 false (omega arith) l ∙ (λ i. eqb (lane i) (get_or-replicate 64 k byte 0 l i)) in
+          let whole = bit ∙ ap (λ b. cond b 1 0) test in
+          let told = set_if_equal (bit_or (get_or v k 0) set) byte _ refl in
+          (λ h. (l, told.0 (sym whole ∙ h)), λ h. whole ∙ told.1 h.1)
+      | inr past ↦
+          let none : bit_at (mask_l tests) k ≡ 0 = bit ∙ ap (λ b. cond b 1 0) (get_or_past tests k false (omega arith)) in
+          (λ h. absurd (omega (arith, none, h)), λ h. absurd (omega (arith, h.0)))
+    ]
+
+-- what the bits of the mask tell of the lanes
+pub told_equal : (v : List ℕ) (set byte k : ℕ) → length v ≡ 64
+    → (bit_at (mask_l (map (top 7) (zip2 (λ m n. cond (eqb m n) 255 0) (zip2 bit_or v (replicate 64 set)) (replicate 64 byte))) % 2 ^ 64) k ≡ 1) ↔ ((k < 64) × (bit_or (get_or v k 0) set ≡ byte))
+told_equal v set byte k long =
+    let same = ap (λ m. bit_at m k) (equal_mask v set byte long) in
+    let told = bit_of_equal v set byte k long in
+    (λ h. told.0 (sym same ∙ h), λ h. same ∙ told.1 h)
+
+-- where a lane is the byte, the mask is not 0
+pub some_equal : (v : List ℕ) (set byte k : ℕ) → length v ≡ 64 → k < 64 → bit_or (get_or v k 0) set ≡ byte
+    → not (eqb (mask_l (map (top 7) (zip2 (λ m n. cond (eqb m n) 255 0) (zip2 bit_or v (replicate 64 set)) (replicate 64 byte))) % 2 ^ 64) 0) ≡ true
+some_equal v set byte k long l same =
+    let mask = mask_l (map (top 7) (zip2 (λ m n. cond (eqb m n) 255 0) (zip2 bit_or v (replicate 64 set)) (replicate 64 byte))) % 2 ^ 64 in
+    let there : bit_at mask k ≡ 1 = (told_equal v set byte k long).1 (l, same) in
+    ap not (ne_eqb mask 0 (λ none. absurd (omega (arith, there, ap (λ m. bit_at m k) none ∙ bit_at-zero k))))

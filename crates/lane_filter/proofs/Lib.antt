@@ -5,3 +5,4 @@ pub mod EntryLemmas
 pub mod FilterLemmas
 pub mod FourLemmas
 pub mod LaneLemmas
+pub mod PairLemmas

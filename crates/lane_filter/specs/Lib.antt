@@ -6,4 +6,6 @@ pub mod Entries
 pub mod Filtered
 pub mod Fours
 pub mod Lanes
+pub mod Pairs
+pub mod Sieves
 pub mod WideTables

@@ -1,13 +1,13 @@
 //! The places of a text at which an occurrence may end.
 ghost use Rattle.std.specs.Prelude.{◌≡◌, ◌+◌, ◌<◌, ◌≤◌, length, IfSome};
 ghost use Rattle.std.specs.Option.{IfNone};
-ghost use Rattle.nib_mask.specs.Candidates.{IsCandidate};
 ghost use Rattle.lane_filter.specs.Ends.{NoneWithin, IsFirstAfter, AreMarked};
+ghost use Rattle.lane_filter.specs.Sieves.{Passes};
 
 use crate::bits::{from_bit, split_lowest};
-use crate::plain::is_candidate;
-use crate::tables::Tables;
-use nib_mask::Masks;
+use crate::marker::Marker;
+use crate::nibbles::Nibbles;
+use crate::sieve::Sieve;
 use std::marker::Model;
 
 /// Ends in a row, up to `done`: bit k of `mask` is set where `first + k` is a candidate.
@@ -19,15 +19,15 @@ struct Block {
 }
 
 /// The candidates after a place, by look at one place after the other up to another.
-fn plain_block(masks: &Masks, text: &[u8], from: usize, to: usize) -> Block
+fn plain_block<M: Marker>(marker: &M, text: &[u8], from: usize, to: usize) -> Block
     requires ordered { from ≤ to }
     requires within { to ≤ length text.now }
-    ensures marked { AreMarked (IsCandidate masks.now text.now) from result.first result.done result.mask }
+    ensures marked { AreMarked (M.candidate marker.now text.now) from result.first result.done result.mask }
     ensures within { result.done ≤ to }
     ensures ended { result.mask ≡ 0 → result.done ≡ to }
 {
     for end in from + 1..to + 1 {
-        if is_candidate(masks, text, end) {
+        if marker.is_candidate(text, end) {
             return Block {
                 first: end,
                 mask: 1,
@@ -42,20 +42,19 @@ fn plain_block(masks: &Masks, text: &[u8], from: usize, to: usize) -> Block
     }
 }
 
-/// The first block after a place with a candidate, or the end of the text. Each block of 64 is read
-/// by three loads shifted by a byte.
-fn wide_block(masks: &Masks, text: &[u8], from: usize) -> Block
-    requires long { 66 ≤ length text.now }
-    requires some { 2 ≤ from }
+/// The first block after a place with a candidate, or the end of the text.
+#[inline(always)]
+fn wide_block<M: Marker>(marker: &M, text: &[u8], from: usize) -> Block
+    requires long { M.reaches marker.now + 63 ≤ length text.now }
+    requires after { M.reaches marker.now ≤ from + 1 }
     requires within { from ≤ length text.now }
-    ensures marked { AreMarked (IsCandidate masks.now text.now) from result.first result.done result.mask }
+    ensures marked { AreMarked (M.candidate marker.now text.now) from result.first result.done result.mask }
     ensures within { result.done ≤ length text.now }
     ensures ended { result.mask ≡ 0 → result.done ≡ length text.now }
 {
-    let tables = Tables::of(masks);
     let mut seen = from;
     while text.len() - seen >= 64 {
-        let mask = tables.marks(text, seen - 2);
+        let mask = marker.marks(text, seen + 1);
         if mask != 0 {
             return Block {
                 first: seen + 1,
@@ -65,15 +64,16 @@ fn wide_block(masks: &Masks, text: &[u8], from: usize) -> Block
         }
         seen += 64;
     }
-    last_block(masks, text, seen)
+    last_block(marker, text, seen)
 }
 
 /// The ends after a place, fewer than 64, as part of the last 64 ends.
-fn last_block(masks: &Masks, text: &[u8], seen: usize) -> Block
-    requires long { 66 ≤ length text.now }
+#[inline(always)]
+fn last_block<M: Marker>(marker: &M, text: &[u8], seen: usize) -> Block
+    requires long { M.reaches marker.now + 63 ≤ length text.now }
     requires within { seen ≤ length text.now }
     requires short { length text.now < seen + 64 }
-    ensures marked { AreMarked (IsCandidate masks.now text.now) seen result.first result.done result.mask }
+    ensures marked { AreMarked (M.candidate marker.now text.now) seen result.first result.done result.mask }
     ensures done { result.done ≡ length text.now }
 {
     let done = text.len();
@@ -85,7 +85,7 @@ fn last_block(masks: &Masks, text: &[u8], seen: usize) -> Block
             done,
         };
     }
-    let whole = Tables::of(masks).marks(text, done - 66);
+    let whole = marker.marks(text, first);
     Block {
         first,
         mask: from_bit(whole, seen + 1 - first),
@@ -93,31 +93,44 @@ fn last_block(masks: &Masks, text: &[u8], seen: usize) -> Block
     }
 }
 
-/// The first block after a place with a candidate, or the end of the text.
-fn next_block(masks: &Masks, text: &[u8], from: usize) -> Block
+/// The first block after a place with a candidate, or the end of the text. A block of 64 needs as
+/// many bytes before its first end as the test looks at.
+fn next_block<M: Marker>(marker: &M, text: &[u8], from: usize) -> Block
     requires { from ≤ length text.now }
-    ensures marked { AreMarked (IsCandidate masks.now text.now) from result.first result.done result.mask }
+    ensures marked { AreMarked (M.candidate marker.now text.now) from result.first result.done result.mask }
     ensures within { result.done ≤ length text.now }
     ensures ended { result.mask ≡ 0 → result.done ≡ length text.now }
 {
-    if text.len() < 66 {
-        return plain_block(masks, text, from, text.len());
+    let reach = marker.reach();
+    if text.len() < reach + 63 {
+        return plain_block(marker, text, from, text.len());
     }
-    if from >= 2 {
-        return wide_block(masks, text, from);
-    }
-    let start = plain_block(masks, text, from, 2);
+    let front = from.max(reach - 1);
+    let start = plain_block(marker, text, from, front);
     if start.mask != 0 {
         return start;
     }
-    wide_block(masks, text, 2)
+    wide_block(marker, text, front)
 }
 
-/// The places of a text at which an occurrence may end, in order. A contract sees the masks, the
+/// The same by a sieve.
+fn sieved_block(sieve: &Sieve, text: &[u8], from: usize) -> Block
+    requires { from ≤ length text.now }
+    ensures marked { AreMarked (Passes sieve.now text.now) from result.first result.done result.mask }
+    ensures within { result.done ≤ length text.now }
+    ensures ended { result.mask ≡ 0 → result.done ≡ length text.now }
+{
+    match sieve {
+        Sieve::Nibbles(masks) => next_block(&Nibbles::new(masks), text, from),
+        Sieve::Bytes(pair) => next_block(pair, text, from),
+    }
+}
+
+/// The places of a text at which an occurrence may end, in order. A contract sees the sieve, the
 /// text, and the last end handed out.
 #[derive(Drop)]
 pub struct Candidates<'a> {
-    masks: &'a Masks,
+    sieve: &'a Sieve,
     text: &'a [u8],
     from: usize,
     first: usize,
@@ -140,14 +153,14 @@ impl<'a> Model for Candidates<'a> {
 impl<'a> Candidates<'a> {
     /// The candidates of the text after a place. It looks at nothing yet.
     #[inline]
-    pub fn new(masks: &'a Masks, text: &'a [u8], from: usize) -> Candidates<'a>
+    pub fn new(sieve: &'a Sieve, text: &'a [u8], from: usize) -> Candidates<'a>
         requires { from ≤ length text.now }
-        ensures masks { result.masks ≡ masks.now }
+        ensures sieve { result.sieve ≡ sieve.now }
         ensures text { result.text ≡ text.now }
         ensures from { result.from ≡ from }
     {
         Candidates {
-            masks,
+            sieve,
             text,
             from,
             first: from,
@@ -159,16 +172,17 @@ impl<'a> Candidates<'a> {
     /// The first candidate after the last one handed out.
     #[inline(always)]
     pub fn next_end(&mut self) -> Option<usize>
-        ensures masks { self.new.masks ≡ self.old.masks }
+        ensures sieve { self.new.sieve ≡ self.old.sieve }
         ensures text { self.new.text ≡ self.old.text }
-        ensures first { IfSome result (IsFirstAfter (IsCandidate self.old.masks self.old.text) self.old.from) }
+        ensures first { IfSome result (IsFirstAfter (Passes self.old.sieve self.old.text) self.old.from) }
+        ensures within { IfSome result (λ end. end ≤ length self.old.text) }
         ensures moved { IfSome result (λ end. self.new.from ≡ end) }
-        ensures none { IfNone result (NoneWithin (IsCandidate self.old.masks self.old.text) self.old.from
+        ensures none { IfNone result (NoneWithin (Passes self.old.sieve self.old.text) self.old.from
             (length self.old.text)) }
         ensures stays { IfNone result (self.new.from ≡ self.old.from) }
     {
         if self.mask == 0 {
-            let block = next_block(self.masks, self.text, self.done);
+            let block = sieved_block(self.sieve, self.text, self.done);
             self.first = block.first;
             self.mask = block.mask;
             self.done = block.done;

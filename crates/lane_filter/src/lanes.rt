@@ -1,8 +1,8 @@
-//! Single vectors of 32 bytes, lane by lane.
-ghost use Rattle.std.specs.Prelude.{◌≡◌, ◌≢◌, ◌↔◌, ℕ, ◌+◌, ◌/◌, ◌%◌, ◌<◌, ◌≤◌, ◌==◌, if◌then◌else◌, ◌++◌, List, length, slice_index, bit_and, bit_or};
+//! Single vectors of 32 and of 64 bytes, lane by lane.
+ghost use Rattle.std.specs.Prelude.{◌≡◌, ◌≢◌, ◌↔◌, ℕ, ◌+◌, ◌/◌, ◌%◌, ◌<◌, ◌≤◌, ◌==◌, if◌then◌else◌, ◌++◌, List, length, slice_index, bit_and, bit_or, IsTrue};
 ghost use Rattle.std.specs.Int.{bit_at};
 ghost use Rattle.std.specs.Simd.Lanes.{put_chunk};
-ghost use Rattle.lane_filter.specs.Lanes.{HasLanes, HoldsTwice};
+ghost use Rattle.lane_filter.specs.Lanes.{HasLanes, HoldsBelow, HoldsTwice};
 
 use std::simd::prelude::*;
 
@@ -101,4 +101,33 @@ pub(crate) fn nonzero_bits(front: u8x32, back: u8x32) -> u64
         ],
     );
     joined.simd_ne(u8x64::splat(0)).to_bitmask()
+}
+
+/// The 64 bytes from a place on.
+#[inline(always)]
+pub(crate) fn load_64(bytes: &[u8], at: usize) -> u8x64
+    requires { at + 64 ≤ length bytes.now }
+    ensures { HoldsBelow (λ k. slice_index bytes.now (at + k)) 64 result }
+{
+    u8x64::from_slice(&bytes[at..])
+}
+
+/// Bit k is set where lane k, with these bits set, is the byte.
+#[inline(always)]
+pub(crate) fn equal_bits(bytes: u8x64, set: u8, byte: u8) -> u64
+    ensures { (k : ℕ) → (bit_at result k ≡ 1) ↔ ((k < 64) × (bit_or (slice_index bytes k) set ≡ byte)) }
+{
+    (bytes | u8x64::splat(set))
+        .simd_eq(u8x64::splat(byte))
+        .to_bitmask()
+}
+
+/// Whether some lane, with these bits set, is the byte.
+#[inline(always)]
+pub(crate) fn has_equal(bytes: u8x64, set: u8, byte: u8) -> bool
+    ensures { (k : ℕ) → k < 64 → bit_or (slice_index bytes k) set ≡ byte → IsTrue result }
+{
+    (bytes | u8x64::splat(set))
+        .simd_eq(u8x64::splat(byte))
+        .any()
 }

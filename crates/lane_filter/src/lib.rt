@@ -1,7 +1,9 @@
-//! The filter of a packed search over many places at once, by vectors of 32 bytes.
+//! The filter of a packed search over many places at once, by vectors of 32 bytes, and the search
+//! for two bytes of an only literal, by vectors of 64.
 //!
 //! Theorems: `filter` and `filter_wide` write the plain filter byte at each place, for every length;
-//! `Candidates` hands out exactly the candidates of a text, in order and each once.
+//! no occurrence goes past the `Sieve` of its literals; `Candidates` hands out exactly the places of a
+//! text that a sieve lets pass, in order and each once.
 #![tactic(auto)]
 
 mod bits;
@@ -10,11 +12,17 @@ mod entries;
 mod four;
 mod kernels;
 mod lanes;
+mod marker;
+mod nibbles;
+mod pair;
 mod plain;
+mod sieve;
 mod tables;
 
 pub use candidates::Candidates;
 pub use kernels::{any_set, filter, filter_wide};
+pub use pair::BytePair;
+pub use sieve::Sieve;
 
 #[cfg(test)]
 mod tests;

@@ -1,6 +1,6 @@
 ghost use Rattle.std.specs.Prelude.{◌<◌, ◌≤◌, length};
 
-use crate::{Candidates, any_set, filter, filter_wide};
+use crate::{Candidates, Sieve, any_set, filter, filter_wide};
 use lit_base::{Ends, Fault, Fold, LitList, RawList, is_cut};
 use nib_mask::{Masks, plain_byte};
 use std::alloc::{AllocError, Global};
@@ -122,7 +122,8 @@ fn kernels_agree(masks: &Masks, bytes: &[u8], offset: usize, len: usize) -> bool
 fn cursor_agrees(masks: &Masks, text: &[u8], from: usize) -> bool
     requires { from ≤ length text.now }
 {
-    let mut cursor = Candidates::new(masks, text, from);
+    let sieve = Sieve::Nibbles(*masks);
+    let mut cursor = Candidates::new(&sieve, text, from);
     let mut last = from;
     for _ in 0..=text.len() {
         let wanted = plain_next(masks, text, last);

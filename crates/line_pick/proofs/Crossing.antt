@@ -6,11 +6,8 @@ use Rattle.std.proofs.lemmas.Bool.{eqb-true}
 use Rattle.std.proofs.lemmas.List.Elements.{All-nil, All-cons, All-head, All-tail, All-weaker}
 use Rattle.std.proofs.lemmas.List.Splits.{length-slice_split}
 use Rattle.lit_base.specs.Lines.{IsOnePiece, ended_lines, last_piece, open_rest, pieces, without_last}
-
--- what is cut off in front of both
-pub cancel : (xs ys zs : List ℕ) → xs ++ ys ≡ xs ++ zs → ys ≡ zs
-cancel [] ys zs e = e
-cancel (x ∷ xs) ys zs e = cancel xs ys zs (cc)
+use Rattle.lit_base.proofs.EndedLemmas.{All-without_last}
+use Rattle.lit_base.proofs.PieceLemmas.{some_piece}
 
 -- a slice without a newline stands before a newline or behind it
 pub crossing : (u v a t b : List ℕ) → IsOnePiece t → u ++ 10 ∷ v ≡ a ++ (t ++ b) → (length a + length t ≤ length u) ⊎ (length u < length a)
@@ -53,7 +50,7 @@ closed_byte b bs (p ∷ []) e closed = absurd (cc)
 closed_byte b bs (p ∷ q ∷ more) e closed = closed
 
 closed_behind : (b : ℕ) (bs : List ℕ) (here : Bool) → eqb b 10 ≡ here → 0 < length bs → last_piece (cond here ([] ∷ pieces bs) (onto_first b (pieces bs))) ≡ [] → last_piece (pieces bs) ≡ []
-closed_behind b bs true e some closed = by (pieces bs) (omega (arith, length-slice_split (λ x. eqb x 10) bs)) closed
+closed_behind b bs true e some closed = by (pieces bs) (some_piece bs) closed
   where
     by : (ps : List (List ℕ)) → 0 < length ps → last_piece ([] ∷ ps) ≡ [] → last_piece ps ≡ []
     by [] none h = absurd (omega arith)
@@ -110,17 +107,12 @@ pieces-sliced : (text : List ℕ) → Sliced text (pieces text)
 pieces-sliced [] = record { first = []; others = []; rest = []; parts = refl; front = refl; each = All-nil (HasSubslice []) }
 pieces-sliced (b ∷ bs) = sliced_more b bs (pieces bs) (eqb b 10) (pieces-sliced bs)
 
-all-without_last : (P : List ℕ → Type 0) (ps : List (List ℕ)) → All P ps → All P (without_last ps)
-all-without_last P [] h = All-nil P
-all-without_last P (p ∷ []) h = All-nil P
-all-without_last P (p ∷ q ∷ more) h = All-cons P p (without_last (q ∷ more)) (All-head P p (q ∷ more) h) (all-without_last P (q ∷ more) (All-tail P p (q ∷ more) h))
-
 -- each ended line is a slice of the text
 pub ended_lines-slices : (text : List ℕ) → All (HasSubslice text) (ended_lines text)
 unfolding ended_lines
 ended_lines-slices text =
     let s = pieces-sliced text in
-    all-without_last (HasSubslice text) (pieces text) (subst (All (HasSubslice text)) (sym s.parts) (All-cons (HasSubslice text) s.first s.others ([], s.rest, s.front) s.each))
+    All-without_last (HasSubslice text) (pieces text) (subst (All (HasSubslice text)) (sym s.parts) (All-cons (HasSubslice text) s.first s.others ([], s.rest, s.front) s.each))
 
 -- there are as many ended lines as newlines
 length-without_last : (ps : List (List ℕ)) → 0 < length ps → length (without_last ps) + 1 ≡ length ps

@@ -2,7 +2,7 @@
 use Rattle.std.proofs.Common.{◌≡◌, ◌≢◌, ℕ, ◌+◌, ◌-◌, ◌<◌, ◌≤◌, true, false, List, [], ◌∷◌, ◌++◌, length, take, drop, map, All, inl, inr, refl, sym, ap, ◌∙◌, subst, append_assoc, append-nil, take-append-drop, arith}
 use Rattle.std.specs.Str.Iter.{HasSubslice}
 use Rattle.std.proofs.Math.Seq.{drop-append_seam, take-append_seam}
-use Rattle.std.proofs.lemmas.List.{map-append, length-map, length-append, length-take, length-drop}
+use Rattle.std.proofs.lemmas.List.{append_cancel_left, map-append, length-map, length-append, length-take, length-drop}
 use Rattle.std.proofs.lemmas.List.Elements.{All-append, All-weaker}
 use Rattle.std.proofs.lemmas.Option.{get_or_from_slice_get, slice_get_within}
 use Rattle.lit_base.specs.declared.fold.Fold.{Fold}
@@ -15,7 +15,7 @@ use Rattle.lit_base.proofs.MatchLemmas.{matching}
 use Rattle.flow_scan.specs.Ends.{HasEnd, IsNextEnd, NoEndAfter}
 use Rattle.line_pick.specs.Cutting.{IsFirstLine, IsLastCut}
 use Rattle.line_pick.specs.Hits.{AllMiss, IsFirstHit}
-use Rattle.line_pick.proofs.Crossing.{cancel, crossing, ended_lines-slices, ends_in_newline, middle_slice}
+use Rattle.line_pick.proofs.Crossing.{crossing, ended_lines-slices, ends_in_newline, middle_slice}
 use Rattle.line_pick.proofs.Literals.{not_passed, occurs-parts, own_folded, own_some, own, slice-occurs}
 use Rattle.line_pick.proofs.Newlines.{open_rest-block}
 
@@ -89,7 +89,7 @@ module _ (l : Literals) (normal : IsNormal l) where
       (front : text ≡ missed ++ (head ++ tail)) (one : IsOnePiece head) (size : length missed + length head + 1 ≡ end) where
     -- the newline of the line stands behind the end of a literal
     line_end : length head ≤ length line
-    line_end = elim (crossing line rest [] head tail one (sym (cancel missed (head ++ tail) (line ++ 10 ∷ rest) (sym front ∙ whole)))) [
+    line_end = elim (crossing line rest [] head tail one (sym (append_cancel_left missed (head ++ tail) (line ++ 10 ∷ rest) (sym front ∙ whole)))) [
       | inl before ↦ omega (arith, before)
       | inr behind ↦ absurd (omega (arith, behind))
     ]

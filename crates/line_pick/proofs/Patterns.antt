@@ -1,5 +1,6 @@
 -- The patterns of a picker: the literals of its plan, and the null pattern.
 use Rattle.std.proofs.Common.{◌≡◌, ℕ, Bool, true, false, ◌||◌, ◌&&◌, cond, eqb, length, List, [], ◌∷◌, ◌++◌, Option, None, Some, refl, sym, ap, ◌∙◌, append-nil, arith}
+use Rattle.std.proofs.Math.Bool.{or-false, or-true}
 use Rattle.std.proofs.lemmas.List.Folds.{list_any-append}
 use Rattle.std.proofs.lemmas.Bool.{ne_eqb}
 use Rattle.flow_scan.specs.Plans.{Plan}
@@ -13,14 +14,6 @@ use Rattle.line_pick.specs.Matching.{fold_of, literals_of}
 with_null : (fold : Fold) (whole : Bool) (texts : List (List ℕ)) (line : List ℕ) → matches fold whole (texts ++ [] ∷ []) line ≡ (matches fold whole texts line || (matches_pattern fold whole line [] || false))
 unfolding matches
 with_null fold whole texts line = list_any-append (matches_pattern fold whole line) texts ([] ∷ [])
-
-or-true : (b : Bool) → (b || (true || false)) ≡ true
-or-true true = refl
-or-true false = refl
-
-or-false : (b : Bool) → (b || (false || false)) ≡ b
-or-false true = refl
-or-false false = refl
 
 -- where the null pattern matches, the line does
 pub null-matches : (fold : Fold) (whole has_empty : Bool) (texts : List (List ℕ)) (line : List ℕ) → has_empty ≡ true → matches_pattern fold whole line [] ≡ true

@@ -1,5 +1,6 @@
 -- A plan and a null pattern select what the raw patterns select that they stand for.
 use Rattle.std.proofs.Common.{◌≡◌, ◌≢◌, ℕ, ◌+◌, Bool, true, false, not, ◌&&◌, cond, eqb, leb, List, [], ◌∷◌, ◌++◌, length, map, get_or, All, Contains, Option, None, Some, inl, inr, ◌↔◌, refl, sym, ap, ◌∙◌, subst, arith}
+use Rattle.std.specs.Cmp.{both_ways}
 use Rattle.std.specs.Str.Iter.{HasSubslice}
 use Rattle.std.proofs.lemmas.List.{get_or_default}
 use Rattle.std.proofs.lemmas.List.Elements.{All-map, Contains-append_left, Contains-append_right, Contains-append_cases}
@@ -12,6 +13,7 @@ use Rattle.lit_base.specs.Selected.{MatchesPattern, matches}
 use Rattle.lit_base.proofs.MatchLemmas.{matching}
 use Rattle.lit_base.proofs.NormalForms.{folded_text-folded_text}
 use Rattle.lit_base.proofs.Members.{In, contains_from_in, in_from_contains}
+use Rattle.lit_base.proofs.PieceLemmas.{null_if}
 use Rattle.flow_scan.specs.Plans.{Plan}
 use Rattle.line_pick.specs.Matching.{AreInLines, StandingLaw, StandsFor, fold_of, literals_of, patterns_of}
 use Rattle.line_pick.proofs.Patterns.{null-misses, null-matches, null-occurs, null-whole, none-matches}
@@ -39,12 +41,6 @@ folded-newline Ascii b e = lower_newline (leb 65 b && leb b 90) b refl e
 folded-one : (fold : Fold) (t : List ℕ) → IsOnePiece t → IsOnePiece (folded_text fold t)
 folded-one fold t one = All-map (λ b. b ≢ 10) (folded fold) t (λ k d inside e. one k d inside (folded-newline fold (get_or t k d) e))
 
--- two tests that pass together are one
-same_true : (a b : Bool) → (a ≡ true → b ≡ true) → (b ≡ true → a ≡ true) → a ≡ b
-same_true true b f g = sym (f refl)
-same_true false true f g = g refl
-same_true false false f g = refl
-
 -- a match is one of a pattern that is there
 some_pattern : (fold : Fold) (whole : Bool) (patterns : List (List ℕ)) (line p : List ℕ) → Contains patterns p → MatchesPattern fold whole line p → matches fold whole patterns line ≡ true
 some_pattern fold whole patterns line p there h = (matching.matches fold whole patterns line).1 (there.0, p, there.1, there.2, h)
@@ -55,9 +51,6 @@ same_folded fold true line p q e h = h ∙ e
 same_folded fold false line p q e h = subst (HasSubslice (folded_text fold line)) e h
 
 -- the null pattern, where there is one
-abbrev null_if : Bool → List (List ℕ)
-null_if due = cond due ([] ∷ []) []
-
 in_null : (due : Bool) (p : List ℕ) → Contains (null_if due) p → (due ≡ true) × ([] ≡ p)
 in_null true p w = (refl, elim (in_from_contains p ([] ∷ []) w) [ inl e ↦ e | inr h ↦ absurd h ])
 in_null false p w = absurd (omega (arith, w.1))
@@ -91,7 +84,7 @@ module _ (fold : Fold) (raw texts : List (List ℕ)) (has_empty : Bool) (form : 
   -- the normal form matches what the raw patterns match
   normal-matches : matches fold whole (texts ++ null_if has_empty) line ≡ matches fold whole raw line
   normal-matches =
-      same_true (matches fold whole (texts ++ null_if has_empty) line) (matches fold whole raw line)
+      both_ways (matches fold whole (texts ++ null_if has_empty) line) (matches fold whole raw line)
       (λ e. let w = (matching.matches fold whole (texts ++ null_if has_empty) line).0 e in
       elim (Contains-append_cases texts (null_if has_empty) w.1 (w.0, w.2, w.3)) [ inl there ↦ from_text w.1 there w.4 | inr there ↦ from_null w.1 there w.4 ])
       (λ e. let w = (matching.matches fold whole raw line).0 e in to_text w.1 (w.0, w.2, w.3) w.4)

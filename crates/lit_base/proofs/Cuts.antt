@@ -21,7 +21,7 @@ next_end c n ends i start price h so =
     (cuts.0, cuts-le n (get_or ends i 0) (drop (i + 1) ends) cuts.1)
 
 -- a cut from p on has an end where some place is left
-length-cuts : (n p : ℕ) (ends : List ℕ) → CutsFrom n p ends → p < n → 1 ≤ length ends
+pub length-cuts : (n p : ℕ) (ends : List ℕ) → CutsFrom n p ends → p < n → 1 ≤ length ends
 length-cuts n p [] cuts some = absurd (omega (arith, cuts))
 length-cuts n p (end ∷ ends) cuts some = omega arith
 

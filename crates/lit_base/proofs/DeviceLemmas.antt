@@ -27,9 +27,6 @@ unsure-reads (Some x) (Some y) (Err e) buf p =
 clean-Faulty : Clean ≢ Faulty
 clean-Faulty e = cc
 
-faulty-Clean : Faulty ≢ Clean
-faulty-Clean e = cc
-
 -- bytes from the front of a text are the next ones
 gives_front : (text buf : List ℕ) (n : ℕ) (e : Ending) → take n buf ≡ take n text → Gives (record { text = text; ending = e }) (record { text = drop n text; ending = e }) (take n buf)
 gives_front text buf n e p = record { text = sym (take-append-drop n text) ∙ ap (λ l. l ++ drop n text) (sym p); ending = refl }

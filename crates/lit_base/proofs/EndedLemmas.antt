@@ -1,14 +1,11 @@
 -- The lines that newlines ended, and the open rest behind the last newline.
-use Rattle.std.proofs.Common.{◌≡◌, ◌≢◌, ℕ, ◌<◌, Bool, true, false, cond, eqb, List, [], ◌∷◌, ◌++◌, length, All, refl, sym, ap, ◌∙◌, arith}
+use Rattle.std.proofs.Common.{◌≡◌, ◌≢◌, ℕ, ◌<◌, true, false, cond, eqb, List, [], ◌∷◌, ◌++◌, length, All, refl, sym, ap, ◌∙◌, arith}
 use Rattle.std.specs.List.{onto_first}
-use Rattle.std.proofs.lemmas.List.Splits.{slice_split_at, slice_split_none, length-slice_split}
+use Rattle.std.proofs.lemmas.List.Splits.{slice_split_at, slice_split_none}
 use Rattle.std.proofs.lemmas.List.Elements.{All-nil, All-cons, All-head, All-tail}
 use Rattle.lit_base.specs.Lines.{IsOnePiece, ended_lines, last_line, last_piece, lines, open_rest, pieces, without_empty_last, without_last}
 use Rattle.lit_base.proofs.LineLemmas.{none_passes, pieces-apart}
-
--- there is always a piece
-some_piece : (text : List ℕ) → 0 < length (pieces text)
-some_piece text = omega (arith, length-slice_split (λ b. eqb b 10) text)
+use Rattle.lit_base.proofs.PieceLemmas.{some_piece}
 
 -- a piece that others follow stays, and the last piece is theirs
 without_last-cons : (p : List ℕ) (ps : List (List ℕ)) → 0 < length ps → without_last (p ∷ ps) ≡ p ∷ without_last ps
@@ -36,10 +33,6 @@ last_piece-append (p ∷ ps) qs some = last_piece-cons p (ps ++ qs) (longer ps) 
     longer : (rs : List (List ℕ)) → 0 < length (rs ++ qs)
     longer [] = some
     longer (r ∷ rs) = omega arith
-
--- a byte in front, by whether it is a newline
-in_front : Bool → ℕ → List (List ℕ) → List (List ℕ)
-in_front newline b ps = cond newline ([] ∷ ps) (onto_first b ps)
 
 -- a newline in front of a text, and another byte
 behind_newline : (ps whole : List (List ℕ)) (more : List ℕ) → 0 < length ps → whole ≡ without_last ps ++ pieces (last_piece ps ++ more)
@@ -96,16 +89,17 @@ pub open_rest-none : (line : List ℕ) → IsOnePiece line → open_rest line �
 unfolding open_rest
 open_rest-none line one = ap last_piece (slice_split_none (λ b. eqb b 10) line (none_passes line one))
 
--- of pieces without a newline, the last is one, and so are the others
+-- of pieces without a newline, the last is one
 last-apart : (ps : List (List ℕ)) → All IsOnePiece ps → IsOnePiece (last_piece ps)
 last-apart [] all = All-nil (λ c. c ≢ 10)
 last-apart (p ∷ []) all = All-head IsOnePiece p [] all
 last-apart (p ∷ q ∷ more) all = last-apart (q ∷ more) (All-tail IsOnePiece p (q ∷ more) all)
 
-others-apart : (ps : List (List ℕ)) → All IsOnePiece ps → All IsOnePiece (without_last ps)
-others-apart [] all = All-nil IsOnePiece
-others-apart (p ∷ []) all = All-nil IsOnePiece
-others-apart (p ∷ q ∷ more) all = All-cons IsOnePiece p (without_last (q ∷ more)) (All-head IsOnePiece p (q ∷ more) all) (others-apart (q ∷ more) (All-tail IsOnePiece p (q ∷ more) all))
+-- what holds of all pieces holds of all but the last
+pub All-without_last : (P : List ℕ → Type 0) (ps : List (List ℕ)) → All P ps → All P (without_last ps)
+All-without_last P [] all = All-nil P
+All-without_last P (p ∷ []) all = All-nil P
+All-without_last P (p ∷ q ∷ more) all = All-cons P p (without_last (q ∷ more)) (All-head P p (q ∷ more) all) (All-without_last P (q ∷ more) (All-tail P p (q ∷ more) all))
 
 pub open_rest-apart : (text : List ℕ) → IsOnePiece (open_rest text)
 unfolding open_rest
@@ -113,7 +107,7 @@ open_rest-apart text = last-apart (pieces text) (pieces-apart text)
 
 pub ended_lines-apart : (text : List ℕ) → All IsOnePiece (ended_lines text)
 unfolding ended_lines
-ended_lines-apart text = others-apart (pieces text) (pieces-apart text)
+ended_lines-apart text = All-without_last IsOnePiece (pieces text) (pieces-apart text)
 
 -- without an empty last piece: all but the last, and the last if it is not empty
 without_empty_last-split : (ps : List (List ℕ)) → without_empty_last ps ≡ without_last ps ++ last_line (last_piece ps)

@@ -19,5 +19,6 @@ pub mod Runs
 pub mod SearchLemmas
 pub mod SortedLists
 pub mod SuffixLemmas
+pub mod ToldLemmas
 pub mod TransferLemmas
 pub mod Weights

@@ -1,7 +1,7 @@
 -- Lines: the first one is what stands before the first newline.
 use Rattle.std.proofs.Common.{◌≡◌, ◌≢◌, ℕ, ◌+◌, ◌<◌, ◌≤◌, Bool, true, false, not, cond, eqb, get_or, List, [], ◌∷◌, ◌++◌, length, take, drop, All, Some, None, inl, inr, refl, sym, ap, subst, ◌∙◌, arith}
 use Rattle.std.specs.List.{slice_split, before_first, after_first, position_or_len, position, onto_first, join_with_byte}
-use Rattle.std.proofs.lemmas.Bool.{cases_lt, lt-ltb, le-ltb, ne_eqb, eqb-false}
+use Rattle.std.proofs.lemmas.Bool.{cases_lt, lt-ltb, le-ltb, ne_eqb, eqb-false, not-true}
 use Rattle.std.proofs.lemmas.List.Sums.{prefix_len_passes}
 use Rattle.std.proofs.lemmas.List.Splits.{slice_split_at, slice_split_first, slice_split_none, length-slice_split}
 use Rattle.std.proofs.lemmas.List.Elements.{All-nil, All-cons, All-head, All-tail}
@@ -36,17 +36,12 @@ lines-cut text h =
     ∙ without_empty_last-cons (before_first (λ b. eqb b 10) text) (slice_split (λ b. eqb b 10) (after_first (λ b. eqb b 10) text))
     (omega (arith, length-slice_split (λ b. eqb b 10) (after_first (λ b. eqb b 10) text)))
 
--- what a test does not pass fails it
-unset : (b : Bool) → not b ≡ true → b ≡ false
-unset true h = (cc)
-unset false h = refl
-
 -- a text without a newline is one line
 lines-whole : (text : List ℕ) → 0 < length text → length text ≤ position_or_len (λ b. eqb b 10) text → lines text ≡ text ∷ []
 unfolding lines
 lines-whole text some h =
     let none : All (λ b. eqb b 10 ≡ false) text =
-    λ k d inside. unset _ (prefix_len_passes (λ b. not (eqb b 10)) text k d (omega arith)) in
+    λ k d inside. not-true _ (prefix_len_passes (λ b. not (eqb b 10)) text k d (omega arith)) in
     ap without_empty_last (slice_split_none (λ b. eqb b 10) text none) ∙ one text some
 
 -- a newline that is there stands inside, at the first place that passes

@@ -1,32 +1,19 @@
 -- What the tests for a match mean.
-use Rattle.std.proofs.Common.{◌≡◌, ℕ, Bool, true, false, ◌||◌, eqb, List, [], ◌∷◌, ◌++◌, length, drop, ◌↔◌, ◌⊎◌, inl, inr, refl, sym, ap}
+use Rattle.std.proofs.Common.{◌≡◌, ℕ, Bool, true, false, eqb, List, [], ◌∷◌, ◌++◌, length, drop, ◌↔◌, inl, inr, refl, sym, ap}
 use Rattle.std.specs.List.{starts_with}
 use Rattle.std.specs.Str.Iter.{HasSubslice}
 use Rattle.std.proofs.lemmas.Slice.Eq.{bytes_eq-Decides, starts_is}
 use Rattle.std.proofs.lemmas.List.Folds.{Any-from_list_any, list_any-from_Any}
+use Rattle.std.proofs.lemmas.Bool.{or_cases, or_left, or_right}
 use Rattle.std.proofs.lemmas.Bool.Decides.{Decides-eqb}
 use Rattle.lit_base.specs.declared.fold.Fold.{Fold}
 use Rattle.lit_base.specs.Folding.{folded_text}
 use Rattle.lit_base.specs.Selected.{MatchesPattern, Matches, occurs_in, matches_pattern, matches, MatchingLaw}
 
--- a test of two alternatives passes by one of them
-either : (a b : Bool) → (a || b) ≡ true → (a ≡ true) ⊎ (b ≡ true)
-either true b h = inl refl
-either false b h = inr h
-
--- and by each
-by_first : (a b : Bool) → a ≡ true → (a || b) ≡ true
-by_first true b h = refl
-by_first false b h = (cc)
-
-by_second : (a b : Bool) → b ≡ true → (a || b) ≡ true
-by_second true b h = refl
-by_second false b h = h
-
 -- where the test passes, the piece is a slice of the text
 found : (piece text : List ℕ) → occurs_in piece text ≡ true → HasSubslice text piece
 found piece [] h = let e : piece ≡ [] = (bytes_eq-Decides piece []).0 h in ([], [], sym (ap (λ p. p ++ []) e))
-found piece (b ∷ bs) h = elim (either (starts_with eqb (b ∷ bs) piece) (occurs_in piece bs) h) [
+found piece (b ∷ bs) h = elim (or_cases (starts_with eqb (b ∷ bs) piece) (occurs_in piece bs) h) [
   | inl begins ↦ ([], drop (length piece) (b ∷ bs), (starts_is (λ x y. Decides-eqb x y) (b ∷ bs) piece _ refl).0 begins)
   | inr later ↦ let w : HasSubslice bs piece = found piece bs later in (b ∷ w.0, w.1, ap (λ t. b ∷ t) w.2)
 ]
@@ -40,8 +27,8 @@ empty_middle (x ∷ before) piece after e = (cc)
 -- where the piece is a slice of the text, the test passes
 finds : (piece text before after : List ℕ) → text ≡ before ++ (piece ++ after) → occurs_in piece text ≡ true
 finds piece [] before after e = (bytes_eq-Decides piece []).1 (empty_middle before piece after e)
-finds piece (b ∷ bs) [] after e = by_first _ _ ((starts_is (λ x y. Decides-eqb x y) (b ∷ bs) piece _ refl).1 after e)
-finds piece (b ∷ bs) (x ∷ before) after e = by_second _ _ (finds piece bs before after (cc))
+finds piece (b ∷ bs) [] after e = or_left _ _ ((starts_is (λ x y. Decides-eqb x y) (b ∷ bs) piece _ refl).1 after e)
+finds piece (b ∷ bs) (x ∷ before) after e = or_right _ _ (finds piece bs before after (cc))
 
 -- one pattern: the test passes if and only if the line matches it
 one_pattern : (fold : Fold) (whole : Bool) (line pattern : List ℕ) → (matches_pattern fold whole line pattern ≡ true) ↔ MatchesPattern fold whole line pattern

@@ -14,9 +14,12 @@ is_open (b ∷ c ∷ cs) = is_open (c ∷ cs)
 abbrev pub null_if : Bool → List (List ℕ)
 null_if due = cond due ([] ∷ []) []
 
--- there is a piece
-some_piece : (text : List ℕ) → pieces text ≢ []
-some_piece text e = absurd (omega (arith, length-slice_split (λ b. eqb b 10) text, ap length e))
+-- there is always a piece
+pub some_piece : (text : List ℕ) → 0 < length (pieces text)
+some_piece text = omega (arith, length-slice_split (λ b. eqb b 10) text)
+
+not_none : (text : List ℕ) → pieces text ≢ []
+not_none text e = absurd (omega (arith, some_piece text, ap length e))
 
 -- a text that is not empty has more than one null piece: by whether its first byte is a newline
 not_null_by : (c : ℕ) (here : Bool) (ps : List (List ℕ)) → ps ≢ [] → cond here ([] ∷ ps) (onto_first c ps) ≢ [] ∷ []
@@ -25,7 +28,7 @@ not_null_by c false [] some e = some refl
 not_null_by c false (p ∷ ps) some e = (cc)
 
 not_null : (c : ℕ) (cs : List ℕ) → pieces (c ∷ cs) ≢ [] ∷ []
-not_null c cs = not_null_by c (eqb c 10) (pieces cs) (some_piece cs)
+not_null c cs = not_null_by c (eqb c 10) (pieces cs) (not_none cs)
 
 -- a newline in front puts a null piece in front
 behind_newline : (ps tail : List (List ℕ)) → ps ≢ [] → ps ≡ without_empty_last ps ++ tail → [] ∷ ps ≡ without_empty_last ([] ∷ ps) ++ tail
@@ -49,8 +52,8 @@ pieces_split (b ∷ c ∷ cs) =
     let tail : List (List ℕ) = null_if (is_open (c ∷ cs)) in
     let e = pieces_split (c ∷ cs) in
     elim (eqb b 10) as (λ t. cond t ([] ∷ ps) (onto_first b ps) ≡ without_empty_last (cond t ([] ∷ ps) (onto_first b ps)) ++ tail) [
-      | true ↦ behind_newline ps tail (some_piece (c ∷ cs)) e
-      | false ↦ behind_byte b ps tail (some_piece (c ∷ cs)) (not_null c cs) e
+      | true ↦ behind_newline ps tail (not_none (c ∷ cs)) e
+      | false ↦ behind_byte b ps tail (not_none (c ∷ cs)) (not_null c cs) e
     ]
 
 pub pieces-lines : (text : List ℕ) → pieces text ≡ lines text ++ null_if (is_open text)

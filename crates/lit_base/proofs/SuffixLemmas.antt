@@ -1,5 +1,5 @@
 -- Keys of last bytes: how they are computed, and that a text has the key of each literal that ends in it.
-use Rattle.std.proofs.Common.{◌≡◌, ℕ, zero, suc, ◌+◌, ◌-◌, ◌*◌, ◌/◌, ◌^◌, ◌<◌, ◌≤◌, Bool, true, false, ◌&&◌, eqb, List, [], ◌∷◌, ◌++◌, length, get_or, drop, take, replicate, inl, inr, refl, sym, ap, ◌∙◌, subst, arith}
+use Rattle.std.proofs.Common.{◌≡◌, ℕ, zero, suc, ◌+◌, ◌-◌, ◌*◌, ◌/◌, ◌^◌, ◌<◌, ◌≤◌, true, eqb, List, [], ◌∷◌, ◌++◌, length, get_or, drop, take, replicate, inl, inr, refl, sym, ap, ◌∙◌, subst, arith}
 use Rattle.std.proofs.Common.{Fits, w8}
 use Rattle.std.proofs.Math.Facts.{Fits-lt-pow}
 use borrow.Rule.Slice.PartMut.{put_mid}
@@ -7,7 +7,7 @@ use Rattle.std.specs.Int.{w64, from_le_bytes}
 use Rattle.std.specs.Int.RustNames.{bit_and, bit_or}
 use Rattle.std.specs.List.{slice_range}
 use Rattle.std.specs.Option.{unwrap_or}
-use Rattle.std.proofs.lemmas.Bool.{cases_lt}
+use Rattle.std.proofs.lemmas.Bool.{agree_below_at, cases_lt}
 use Rattle.std.proofs.lemmas.Bool.Decides.{nat_tests, Decides-eqb}
 use Rattle.std.proofs.lemmas.List.{append-nil, drop-drop, drop-map, drop_all, take-replicate, get_or_past, length-append, length-replicate}
 use Rattle.std.proofs.lemmas.List.Edits.{length-between, get_or-between}
@@ -99,29 +99,11 @@ eight_case_bits : (fold : Fold) → case_bits_in fold 8 ≡ case_bits fold
 eight_case_bits No = refl
 eight_case_bits Ascii = refl
 
--- a test of all numbers below one
-abbrev all_below : ℕ → (ℕ → Bool) → Bool
-all_below zero test = true
-all_below (suc n) test = test n && all_below n test
-
-both : (a b : Bool) → (a && b) ≡ true → (a ≡ true) × (b ≡ true)
-both true b h = (refl, h)
-both false b h = (cc)
-
-one_below : (n : ℕ) (test : ℕ → Bool) → all_below n test ≡ true → (i : ℕ) → i < n → test i ≡ true
-one_below zero test h i l = absurd (omega arith)
-one_below (suc n) test h i l =
-    let parts = both (test n) (all_below n test) h in
-    elim (cases_lt i n) [
-      | inl below ↦ one_below n test parts.1 i below
-      | inr last ↦ let e : n ≡ i = omega arith in subst (λ k. test k ≡ true) e parts.0
-    ]
-
 -- with the bit of the case set, a byte and its folded byte are the same
 folded_with_case : (fold : Fold) (b : ℕ) → b < 256 → bit_or (folded fold b) (case_bit fold) ≡ bit_or b (case_bit fold)
 folded_with_case No b l = refl
 folded_with_case Ascii b l =
-    (Decides-eqb (bit_or (folded Ascii b) 32) (bit_or b 32)).0 (one_below 256 (λ k. eqb (bit_or (folded Ascii k) 32) (bit_or k 32)) refl b l)
+    (Decides-eqb (bit_or (folded Ascii b) 32) (bit_or b 32)).0 (agree_below_at (λ k. eqb (bit_or (folded Ascii k) 32) (bit_or k 32)) (λ _. true) 256 b refl l)
 
 folded_small : (fold : Fold) (b : ℕ) → b < 256 → folded fold b < 256
 folded_small No b l = l

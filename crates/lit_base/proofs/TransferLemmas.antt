@@ -7,6 +7,7 @@ use Rattle.std.proofs.KnownBytes.{Appends-nil, Appends-trans, Appends-kept}
 use Rattle.lit_base.specs.declared.device.Failed.{Failed}
 use Rattle.lit_base.specs.Devices.{Faulty, Coming, EndsHere, Gives, MayFail, ReadGives, Told}
 use Rattle.lit_base.specs.Transfers.{AppendsPrefix, FaultFollows, ReadsAll, ReadsInto}
+use Rattle.lit_base.proofs.ToldLemmas.{Told-then, Told-weaker}
 
 -- a fact that holds whatever is answered
 pub OnErr-any : {T E P : Type 0} (r : Result T E) → P → OnErr r P
@@ -50,11 +51,9 @@ ReadsInto-none (Some x) xs = record { bytes = []; text = sym (append-nil xs); gi
 
 -- bytes that were given, and then others
 Gives-trans : (a b c : Option Coming) (bs cs : List ℕ) → Told a b (λ x y. Gives x y bs) → Told b c (λ x y. Gives x y cs) → Told a c (λ x y. Gives x y (bs ++ cs))
-Gives-trans None b c bs cs p q = tt
-Gives-trans (Some x) None c bs cs p q = absurd p
-Gives-trans (Some x) (Some y) None bs cs p q = absurd q
-Gives-trans (Some x) (Some y) (Some z) bs cs p q =
-    record { text = p.text ∙ ap (λ l. bs ++ l) q.text ∙ sym (append_assoc bs cs z.text); ending = q.ending ∙ p.ending }
+Gives-trans a b c bs cs p q =
+    Told-then a b c (λ x y. Gives x y bs) (λ x y. Gives x y cs) (λ x y. Gives x y (bs ++ cs)) p q
+    (λ x y z p q. record { text = p.text ∙ ap (λ l. bs ++ l) q.text ∙ sym (append_assoc bs cs z.text); ending = q.ending ∙ p.ending })
 
 -- what is gained in two steps is gained in one
 pub ReadsInto-more : {a b : Option Coming} (c : Option Coming) {xs ys zs : List ℕ} → ReadsInto a b xs ys → ReadsInto b c ys zs → ReadsInto a c xs zs
@@ -66,10 +65,7 @@ ReadsInto-more {a} {b} c {xs} {ys} {zs} r s = record {
 
 -- a fact on what is told last
 pub Told-last : (P : Coming → Coming → Type 0) (a b c : Option Coming) (Q : Coming → Type 0) → Told a b P → Told b c (λ _ y. Q y) → Told a c (λ _ y. Q y)
-Told-last P None b c Q p q = tt
-Told-last P (Some x) None c Q p q = absurd p
-Told-last P (Some x) (Some y) None Q p q = absurd q
-Told-last P (Some x) (Some y) (Some z) Q p q = q
+Told-last P a b c Q p q = Told-then a b c P (λ _ y. Q y) (λ _ y. Q y) p q (λ x y z p q. q)
 
 -- all was read where a clean end stands behind what was
 pub ReadsInto-all : (a b : Option Coming) (xs ys : List ℕ) (limit : ℕ) → ReadsInto a b xs ys → Told a b (λ _ y. EndsHere y) → length ys ≤ length xs + limit → IfSome a (ReadsAll limit xs ys)
@@ -102,12 +98,6 @@ ReadsInto-many (Some x) None xs ys limit most r many = absurd r.given
 ReadsInto-many (Some x) (Some y) xs ys limit most r many =
     λ few. absurd (omega (arith, ap length r.text, length-append xs r.bytes, ap length r.given.text, length-append r.bytes y.text))
 
--- what follows from a fact on what is told
-pub Told-weaker : (P Q : Coming → Coming → Type 0) (a b : Option Coming) → ((x y : Coming) → P x y → Q x y) → Told a b P → Told a b Q
-Told-weaker P Q None b f p = tt
-Told-weaker P Q (Some x) None f p = absurd p
-Told-weaker P Q (Some x) (Some y) f p = f x y p
-
 -- what is kept of a list, where the part behind `old` was filled and only its first k bytes count
 take-filled : (old buf whole post rest : List ℕ) (start len k : ℕ) → start ≡ length old → take start whole ≡ old → k ≤ length buf → start + length buf ≤ len
     → take (start + k) (take len (take start whole ++ (buf ++ post) ++ rest)) ≡ old ++ take k buf
@@ -126,7 +116,7 @@ pub ReadsInto-read : (a b : Option Coming) (old now buf whole post rest : List �
 ReadsInto-read a b old now buf whole post rest start len n read kept at front some fits = record {
   bytes = take n buf;
   text = kept ∙ take-filled old buf whole post rest start len n at front some fits;
-  given = Told-weaker _ _ a b (λ x y p. p.0) read;
+  given = Told-weaker a b _ _ read (λ x y p. p.0);
 }
 
 -- a read that failed, after which nothing of the room is kept
@@ -136,5 +126,5 @@ pub ReadsInto-failed : (a b : Option Coming) (old now buf whole post rest : List
 ReadsInto-failed a b old now buf whole post rest start len e read kept at front fits = record {
   bytes = [];
   text = kept ∙ ap (λ i. take i (take len (take start whole ++ (buf ++ post) ++ rest))) (sym (add-zero start)) ∙ take-filled old buf whole post rest start len 0 at front (omega arith) fits;
-  given = Told-weaker (λ x y. ReadGives x y (Err e) buf) (λ x y. Gives x y []) a b (λ x y p. record { text = ap (λ c. c.text) (sym p.1); ending = ap (λ c. c.ending) p.1 }) read;
+  given = Told-weaker a b (λ x y. ReadGives x y (Err e) buf) (λ x y. Gives x y []) read (λ x y p. record { text = ap (λ c. c.text) (sym p.1); ending = ap (λ c. c.ending) p.1 });
 }

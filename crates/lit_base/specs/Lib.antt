@@ -14,6 +14,7 @@ pub mod Occurrences
 pub mod Patterns
 pub mod Potentials
 pub mod RawLists
+pub mod Readers
 pub mod Selected
 pub mod Suffixes
 pub mod Transfers

@@ -8,7 +8,7 @@ use crate::limits::MAX_TURNS;
 use std::io;
 use std::io::{Error, ErrorKind, Read, Write};
 
-/// A file or standard input, as one reader.
+/// A file or standard input, as one reader, which tells what the one that it is tells.
 #[derive(Drop)]
 pub enum FileOrInput<F: Drop, S: Drop> {
     File(F),
@@ -16,6 +16,10 @@ pub enum FileOrInput<F: Drop, S: Drop> {
 }
 
 impl<F: Read + Drop, S: Read + Drop> Read for FileOrInput<F, S> {
+    ghost use Rattle.lit_base.specs.Readers.{remaining_in};
+
+    ghost remaining = { remaining_in F.remaining S.remaining };
+
     fn read(&mut self, buf: &mut [u8]) -> io::Result<usize> {
         match self {
             FileOrInput::File(file) => file.read(buf),

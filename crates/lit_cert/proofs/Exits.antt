@@ -1,20 +1,20 @@
 -- What a reader of the lines has met at each of them.
-use Rattle.std.proofs.Common.{◌≡◌, ◌≢◌, ℕ, zero, suc, ◌+◌, ◌-◌, ◌*◌, ◌/◌, ◌^◌, ◌<◌, ◌≤◌, List, [], ◌∷◌, ◌++◌, length, get_or, take, drop, map, codes, All, refl, sym, ap, subst, ◌∙◌, length-append, arith}
-use Rattle.std.specs.List.{flat_map, join_with_byte}
+use Rattle.std.proofs.Common.{◌≡◌, ◌≢◌, ℕ, ◌+◌, ◌-◌, ◌*◌, ◌^◌, ◌<◌, ◌≤◌, List, [], ◌∷◌, ◌++◌, length, get_or, take, drop, map, codes, refl, sym, ap, subst, ◌∙◌, arith}
+use Rattle.std.specs.List.{flat_map}
 use Rattle.std.specs.Fmt.{decimal}
 use Rattle.std.proofs.lemmas.Fmt.{decimal_injective}
 use Rattle.std.proofs.lemmas.List.{get_or-map, get_or-take, length-take-le, append_cancel_right, append-nil, append_assoc, length-drop}
-use Rattle.std.proofs.lemmas.List.Elements.{All-nil, All-cons, All-replicate, All-take, All-drop}
+use Rattle.std.proofs.lemmas.List.Elements.{All-nil, All-cons, All-take, All-drop}
 use Rattle.std.proofs.lemmas.List.Concat.{flat_map-append}
 use Rattle.std.proofs.Math.Nat.{mul-le-mul_right}
 use Rattle.lit_cert.specs.declared.fault.Fault.{Fault}
 use Rattle.lit_cert.specs.declared.fault.Fault.TheVariants.{OutOfMemory, BadCertText, ReadFault, WriteFault}
 use Rattle.lit_cert.specs.Certificates.{CertificateParts}
 use Rattle.lit_cert.specs.Spelling.{literals_in, IsCount, HasEnds, HasText, literals_words, ends_words, cost_words, row_words, rows_of, head_lines, lines_of, line_text, spelling}
-use Rattle.lit_cert.specs.Reading.{AreNumbers, IsRow, NoLine, StartsWithHead, StartsWithRows, IsFirstBad, IsBadRow, IsBadText}
+use Rattle.lit_cert.specs.Reading.{IsRow, NoLine, StartsWithHead, StartsWithRows, IsFirstBad, IsBadRow, IsBadText}
 use Rattle.lit_cert.proofs.Plain.{IsMost}
-use Rattle.lit_cert.proofs.FirstBad.{first_bad, bad_end, length-lines_of}
-use Rattle.lit_cert.proofs.Completed.{completed, count_is, completed_fits, completed_lines, completed_front, count_of, line_of_row, line_of_end}
+use Rattle.lit_cert.proofs.FirstBad.{first_bad, length-lines_of}
+use Rattle.lit_cert.proofs.Completed.{completed, count_is, completed_fits, completed_front, count_of, line_of_row, line_of_end}
 
 -- the ends and the price that a text without them is completed by
 abbrev some_ends : List ℕ

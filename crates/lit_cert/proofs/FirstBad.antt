@@ -1,14 +1,13 @@
 -- The first bad line, as it is met.
-use Rattle.std.proofs.Common.{◌≡◌, ◌≢◌, ℕ, zero, suc, ◌+◌, ◌-◌, ◌*◌, ◌/◌, ◌^◌, ◌<◌, ◌≤◌, List, [], ◌∷◌, ◌++◌, length, get_or, take, drop, map, codes, All, refl, sym, ap, subst, ◌∙◌, append_assoc, length-append, arith}
-use Rattle.std.specs.List.{flat_map, join_with_byte}
-use Rattle.std.specs.Fmt.{decimal}
-use Rattle.std.proofs.lemmas.List.{length-map, length-take-le, take_all, take_more, append-nil}
+use Rattle.std.proofs.Common.{◌≡◌, ◌≢◌, ℕ, ◌+◌, ◌-◌, ◌<◌, List, [], ◌∷◌, ◌++◌, length, get_or, take, map, codes, sym, ap, ◌∙◌, append_assoc, length-append, arith}
+use Rattle.std.specs.List.{flat_map}
+use Rattle.std.proofs.lemmas.List.{length-take-le, take_all, take_more, append-nil}
 use Rattle.std.proofs.lemmas.List.Elements.{All-take}
 use Rattle.std.proofs.lemmas.List.Concat.{flat_map-append}
 use Rattle.std.proofs.lemmas.List.FromFn.{length-map-range_with_len}
 use Rattle.lit_cert.specs.Certificates.{CertificateParts}
-use Rattle.lit_cert.specs.Spelling.{literals_in, IsCount, HasEnds, HasText, literals_words, ends_words, cost_words, row_words, rows_of, head_lines, lines_of, line_text, spelling}
-use Rattle.lit_cert.specs.Reading.{AreNumbers, IsRow, NoLine, StartsWithRows, Follows, IsRightTo, IsFirstBad}
+use Rattle.lit_cert.specs.Spelling.{literals_in, HasText, rows_of, lines_of, line_text, spelling}
+use Rattle.lit_cert.specs.Reading.{Follows, IsFirstBad}
 use Rattle.lit_cert.proofs.Rows.{row_at}
 use Rattle.lit_cert.proofs.Plain.{IsMost, IsPlain, plain_lines, same_lines}
 

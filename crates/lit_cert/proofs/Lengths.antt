@@ -1,5 +1,5 @@
 -- How long a certificate's text is at most.
-use Rattle.std.proofs.Common.{◌≡◌, ℕ, zero, suc, ◌+◌, ◌*◌, ◌^◌, ◌<◌, ◌≤◌, List, [], ◌∷◌, ◌++◌, length, take, drop, map, codes, All, refl, sym, ap, ◌∙◌, length-append, arith}
+use Rattle.std.proofs.Common.{◌≡◌, ℕ, zero, suc, ◌+◌, ◌*◌, ◌^◌, ◌<◌, ◌≤◌, List, [], ◌∷◌, ◌++◌, length, take, drop, map, codes, All, ap, ◌∙◌, length-append, arith}
 use Rattle.std.specs.List.{flat_map, join_with_byte}
 use Rattle.std.specs.Fmt.{decimal}
 use Rattle.std.proofs.lemmas.Fmt.{length-decimal-le}
@@ -8,7 +8,7 @@ use Rattle.std.proofs.lemmas.List.Elements.{All-nil, All-cons, All-head, All-tai
 use Rattle.std.proofs.lemmas.List.Concat.{flat_map-append}
 use Rattle.std.proofs.Math.Nat.{mul-le-mul_left}
 use Rattle.lit_cert.specs.Certificates.{CertificateParts}
-use Rattle.lit_cert.specs.Spelling.{literals_in, IsCount, HasEnds, HasText, literals_words, ends_words, cost_words, row_words, rows_of, head_lines, lines_of, line_text, spelling}
+use Rattle.lit_cert.specs.Spelling.{literals_in, HasText, literals_words, ends_words, cost_words, row_words, rows_of, head_lines, line_text, spelling}
 use Rattle.lit_cert.specs.Reading.{AreNumbers}
 use Rattle.lit_cert.proofs.Rows.{row_at, rows_of_more, rows_of_none}
 use Rattle.lit_cert.proofs.Plain.{IsMost}

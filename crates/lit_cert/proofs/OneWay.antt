@@ -1,15 +1,16 @@
 -- A text is that of one certificate, or has one first bad line.
-use Rattle.std.proofs.Common.{◌≡◌, ◌≢◌, ℕ, zero, suc, ◌+◌, ◌-◌, ◌*◌, ◌^◌, ◌<◌, ◌≤◌, List, [], ◌∷◌, ◌++◌, length, get_or, take, drop, map, codes, All, refl, sym, ap, subst, ◌∙◌, append_assoc, length-append, inl, inr, arith}
+use Rattle.std.proofs.Common.{◌≡◌, ℕ, zero, suc, ◌+◌, ◌-◌, ◌*◌, ◌^◌, ◌<◌, ◌≤◌, List, [], ◌∷◌, ◌++◌, length, get_or, take, drop, map, All, refl, sym, ap, ◌∙◌, append_assoc, inl, inr, arith}
 use Rattle.std.specs.List.{flat_map, join_with_byte}
 use Rattle.std.specs.Fmt.{decimal}
+use Rattle.std.proofs.Math.Seq.{take-add}
 use Rattle.std.proofs.lemmas.Bool.{cases_order}
 use Rattle.std.proofs.lemmas.Fmt.{decimal_injective}
-use Rattle.std.proofs.lemmas.List.{take-take, take-append-drop, take_all, drop_all, append-nil, append_cancel_right, get_or-map, get_or-take, length-take-le, length-take, length-drop, drop-take}
-use Rattle.std.proofs.lemmas.List.Elements.{All-take, All-drop, All-weaker, All-cons, All-nil}
+use Rattle.std.proofs.lemmas.List.{take-take, take-append-drop, take_all, drop_all, append-nil, append_cancel_right, get_or-map, length-take}
+use Rattle.std.proofs.lemmas.List.Elements.{All-take, All-drop, All-weaker, All-cons}
 use Rattle.std.proofs.lemmas.List.Concat.{flat_map-append}
 use Rattle.lit_cert.specs.Certificates.{CertificateParts}
-use Rattle.lit_cert.specs.Spelling.{literals_in, HasText, IsCount, HasEnds, literals_words, ends_words, cost_words, row_words, rows_of, head_lines, lines_of, line_text, spelling}
-use Rattle.lit_cert.specs.Reading.{AreNumbers, IsRow, Follows, IsRightTo, IsFirstBad}
+use Rattle.lit_cert.specs.Spelling.{literals_in, HasText, HasEnds, ends_words, cost_words, row_words, lines_of, line_text, spelling}
+use Rattle.lit_cert.specs.Reading.{AreNumbers, IsRightTo, IsFirstBad}
 use Rattle.lit_cert.proofs.Rows.{row_at}
 use Rattle.lit_cert.proofs.RowLines.{same_numbers}
 use Rattle.lit_cert.proofs.Plain.{IsMost, plain_lines, same_lines}
@@ -71,16 +72,10 @@ rows_same zero n hs gs same = ap (λ (k : ℕ). take k hs) none ∙ sym (ap (λ 
     none = omega arith
 rows_same (suc count) n hs gs same =
     let next : suc count * n ≡ count * n + n = grind arith in
-    rw next (one_more (count * n) n hs
+    rw next (take-add (count * n) n hs
     ∙ ap (λ (t : List ℕ). t ++ take n (drop (count * n) hs)) (rows_same count n hs gs (λ r lt. same r (omega arith)))
     ∙ ap (λ (t : List ℕ). take (count * n) gs ++ t) (same count (omega arith))
-    ∙ sym (one_more (count * n) n gs))
-  where
-    one_more : (k n : ℕ) (xs : List ℕ) → take (k + n) xs ≡ take k xs ++ take n (drop k xs)
-    one_more k n xs =
-        sym (take-append-drop k (take (k + n) xs))
-        ∙ ap (λ (t : List ℕ). t ++ drop k (take (k + n) xs)) (take-take k (k + n) xs (omega arith))
-        ∙ ap (λ (t : List ℕ). take k xs ++ t) (drop-take k n xs)
+    ∙ sym (take-add (count * n) n gs))
 
 -- lines with one text have their words joined in one way
 same_joined : (ws vs : List (List ℕ)) → line_text ws ≡ line_text vs → join_with_byte 32 ws ≡ join_with_byte 32 vs

@@ -1,12 +1,10 @@
 -- The lines of a certificate have no newline within them, so a text has them in one way.
-use Rattle.std.proofs.Common.{◌≡◌, ◌≢◌, ℕ, zero, suc, ◌+◌, ◌*◌, ◌^◌, ◌<◌, ◌≤◌, List, [], ◌∷◌, ◌++◌, length, get_or, take, drop, map, codes, All, refl, sym, ap, subst, ◌∙◌, append_assoc, length-append, zero-add, arith}
+use Rattle.std.proofs.Common.{◌≡◌, ℕ, ◌+◌, ◌*◌, ◌^◌, ◌<◌, ◌≤◌, List, [], ◌∷◌, ◌++◌, length, get_or, take, drop, map, codes, All, refl, sym, ap, subst, ◌∙◌, append_assoc, zero-add, arith}
 use Rattle.std.specs.List.{flat_map, join_with_byte, range_with_len}
-use Rattle.std.specs.Fmt.{decimal}
-use Rattle.std.proofs.lemmas.List.{length-map, get_or-map}
-use Rattle.std.proofs.lemmas.List.Elements.{All-nil, All-cons, All-head, All-tail, All-append, All-map, All-take, All-drop, All-from_get_or, All-from_recursion}
+use Rattle.std.proofs.lemmas.List.Elements.{All-cons, All-head, All-tail, All-append, All-map, All-take, All-drop, All-from_get_or, All-from_recursion}
 use Rattle.std.proofs.lemmas.List.FromFn.{length-range_with_len, get_or-range_with_len}
 use Rattle.lit_cert.specs.Certificates.{CertificateParts}
-use Rattle.lit_cert.specs.Spelling.{literals_in, IsCount, HasEnds, HasText, literals_words, ends_words, cost_words, row_words, rows_of, head_lines, lines_of, line_text}
+use Rattle.lit_cert.specs.Spelling.{literals_in, IsCount, HasText, row_words, rows_of, head_lines, lines_of, line_text}
 use Rattle.lit_cert.specs.Reading.{AreNumbers}
 use Rattle.lit_cert.proofs.Lines.{Lacks, lacks_join, lacks_by_test, lacks_decimals, plain_number, plain_ends, same_cut}
 

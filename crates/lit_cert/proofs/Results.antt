@@ -1,7 +1,7 @@
 -- A `Result` made an `Option` by `ok()`.
-use Rattle.std.proofs.Common.{◌≡◌, ℕ, Option, Some, None, Result, Ok, Err, refl, subst, ap, sym, ◌∙◌}
+use Rattle.std.proofs.Common.{◌≡◌, ℕ, Option, Some, None, Result, Ok, Err, refl, subst, sym, ◌∙◌}
 use Rattle.std.proofs.lemmas.Bool.{false≢true}
-use Rattle.std.specs.Result.{OkIff, OnOk, IsOk, IfErr, IsErrAnd, result_ok}
+use Rattle.std.specs.Result.{IsOk, IfErr, IsErrAnd, result_ok}
 use Rattle.std.specs.Option.{ok_or, IfSome, IfNone}
 use Rattle.lit_cert.specs.declared.fault.Fault.{Fault}
 use Rattle.lit_cert.specs.declared.fault.Fault.TheVariants.{OutOfMemory, BadCertText, ReadFault, WriteFault}

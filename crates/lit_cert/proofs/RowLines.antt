@@ -1,13 +1,13 @@
 -- The line of one row: its number, and so many potentials.
-use Rattle.std.proofs.Common.{◌≡◌, ◌≢◌, ℕ, ◌+◌, ◌^◌, ◌<◌, ◌≤◌, List, [], ◌∷◌, ◌++◌, length, get_or, take, drop, map, All, refl, sym, ap, subst, ◌∙◌, arith}
+use Rattle.std.proofs.Common.{◌≡◌, ◌≢◌, ℕ, ◌+◌, ◌^◌, ◌<◌, ◌≤◌, List, [], ◌∷◌, ◌++◌, length, get_or, drop, map, refl, sym, ◌∙◌, arith}
 use Rattle.std.specs.List.{join_with_byte}
 use Rattle.std.specs.Fmt.{decimal}
 use Rattle.std.proofs.lemmas.Fmt.{decimal_injective}
-use Rattle.std.proofs.lemmas.List.Elements.{All-nil, All-cons, All-head, All-tail}
-use Rattle.lit_cert.specs.Spelling.{line_text, row_words}
+use Rattle.std.proofs.lemmas.List.Elements.{All-cons, All-head, All-tail}
+use Rattle.lit_cert.specs.Spelling.{row_words}
 use Rattle.lit_cert.specs.Reading.{AreNumbers, HasNumbers, IsRow, NoLine}
-use Rattle.lit_cert.proofs.Lines.{Lacks, lacks_decimals, line_is, is_line}
-use Rattle.lit_cert.proofs.Splits.{words_in, words_of_numbers}
+use Rattle.lit_cert.proofs.Lines.{Lacks, lacks_decimals, line_is}
+use Rattle.lit_cert.proofs.Splits.{words_of_numbers}
 
 -- numbers with the same texts are the same
 same_decimals : (xs ys : List ℕ) → AreNumbers xs → AreNumbers ys → map decimal xs ≡ map decimal ys → xs ≡ ys

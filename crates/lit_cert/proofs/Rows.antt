@@ -1,11 +1,11 @@
 -- The rows of potentials, one after the other.
-use Rattle.std.proofs.Common.{◌≡◌, ℕ, ◌+◌, ◌-◌, ◌*◌, ◌≤◌, List, [], ◌∷◌, ◌++◌, length, take, drop, map, codes, refl, ap, ◌∙◌, sym, subst, append_assoc, arith}
-use Rattle.std.specs.List.{flat_map, range_with_len}
+use Rattle.std.proofs.Common.{◌≡◌, ℕ, ◌+◌, ◌*◌, List, [], ◌∷◌, ◌++◌, take, drop, codes, ap, ◌∙◌, sym, subst, append_assoc, arith}
+use Rattle.std.specs.List.{flat_map}
 use Rattle.std.proofs.lemmas.List.{flat_map_more, append-nil}
 use Rattle.std.proofs.lemmas.List.Concat.{flat_map-append}
 use Rattle.std.proofs.lemmas.List.FromFn.{map-range_with_len_more}
 use Rattle.lit_cert.specs.Certificates.{CertificateParts}
-use Rattle.lit_cert.specs.Spelling.{literals_in, row_words, rows_of, head_lines, lines_of, line_text, spelling}
+use Rattle.lit_cert.specs.Spelling.{literals_in, row_words, rows_of, head_lines, line_text, spelling}
 
 -- row r + 1 of n potentials each
 abbrev pub row_at : ℕ → List ℕ → ℕ → List (List ℕ)

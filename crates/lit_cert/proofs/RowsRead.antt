@@ -1,15 +1,13 @@
 -- Reading the rows one after the other.
-use Rattle.std.proofs.Common.{◌≡◌, ◌≢◌, ℕ, zero, suc, ◌+◌, ◌-◌, ◌*◌, ◌^◌, ◌<◌, ◌≤◌, List, [], ◌∷◌, ◌++◌, length, take, drop, map, refl, sym, ap, subst, ◌∙◌, append_assoc, length-append, arith}
+use Rattle.std.proofs.Common.{◌≡◌, ℕ, zero, suc, ◌+◌, ◌-◌, ◌*◌, ◌^◌, ◌<◌, ◌≤◌, List, [], ◌∷◌, ◌++◌, length, take, drop, refl, sym, ap, ◌∙◌, append_assoc, length-append, arith}
 use Rattle.std.specs.List.{flat_map}
-use Rattle.std.proofs.lemmas.List.{take-append-le, drop-append-le, take_all, drop_at, length-drop, append-nil, flat_map_more}
+use Rattle.std.proofs.lemmas.List.{take-append-le, drop-append-le, take_all, drop_at, length-drop, flat_map_more}
 use Rattle.std.proofs.lemmas.List.Elements.{All-append}
-use Rattle.std.proofs.lemmas.List.Concat.{flat_map-append}
-use Rattle.std.proofs.Math.Nat.{mul-le-mul_left, mul_comm}
 use Rattle.lit_cert.specs.declared.fault.Fault.{Fault}
 use Rattle.lit_cert.specs.declared.fault.Fault.TheVariants.{OutOfMemory, BadCertText, ReadFault, WriteFault}
 use Rattle.lit_cert.specs.Spelling.{line_text, row_words, rows_of}
 use Rattle.lit_cert.specs.Reading.{IsRow, NoLine, StartsWithRows, IsBadLine, IsBadRow}
-use Rattle.lit_cert.proofs.Rows.{row_at, rows_of_more, rows_of_none}
+use Rattle.lit_cert.proofs.Rows.{row_at, rows_of_more}
 
 -- a row does not see what stands after it
 row_at_front : (n r : ℕ) (ps xs : List ℕ) → (r + 1) * n ≤ length ps → row_at n (ps ++ xs) r ≡ row_at n ps r

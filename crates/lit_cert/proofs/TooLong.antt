@@ -1,13 +1,12 @@
 -- The first bad line of a text that is longer than any certificate's stands in the front of it.
-use Rattle.std.proofs.Common.{◌≡◌, ℕ, zero, suc, ◌+◌, ◌-◌, ◌*◌, ◌<◌, ◌≤◌, List, [], ◌∷◌, ◌++◌, length, take, drop, map, refl, sym, ap, subst, ◌∙◌, append_assoc, length-append, arith}
+use Rattle.std.proofs.Common.{◌≡◌, ℕ, ◌+◌, ◌-◌, ◌*◌, ◌<◌, ◌≤◌, List, ◌++◌, length, take, drop, refl, sym, ap, ◌∙◌, append_assoc, length-append, arith}
 use Rattle.std.specs.List.{flat_map}
-use Rattle.std.proofs.lemmas.List.{take-append-le, take-append-drop, drop-append-le, take_at, take_all, drop_all, append-nil, nil_from_length}
+use Rattle.std.proofs.lemmas.List.{take-append-le, take-append-drop, take_at, append-nil}
 use Rattle.std.proofs.lemmas.List.Concat.{flat_map-append}
 use Rattle.lit_cert.specs.Certificates.{CertificateParts}
 use Rattle.lit_cert.specs.Spelling.{HasText, lines_of, line_text, spelling}
 use Rattle.lit_cert.specs.Reading.{Follows, IsRightTo, IsFirstBad}
 use Rattle.lit_cert.proofs.Plain.{IsMost}
-use Rattle.lit_cert.proofs.FirstBad.{length-lines_of}
 use Rattle.lit_cert.proofs.Lengths.{length-spelling-le}
 
 -- no certificate's text has so many bytes

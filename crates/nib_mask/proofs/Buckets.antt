@@ -6,10 +6,11 @@ use Rattle.std.proofs.lemmas.Bool.{cases_lt, lt-ltb, le-ltb}
 use Rattle.std.proofs.lemmas.Nat.Bits.{bit_at_and, same_from_bits}
 use Rattle.std.proofs.lemmas.Simd.{bit_mask_l, mask_l-lt}
 use Rattle.std.proofs.lemmas.List.{length-map}
+use Rattle.std.proofs.lemmas.List.Edits.{length-between}
 use Rattle.lit_base.specs.Cuts.{CutsFrom}
 use Rattle.lit_base.proofs.Cuts.{cuts-le}
 use Rattle.nib_mask.specs.Runs.{bucket_of, runs_from, runs_mask}
-use Rattle.nib_mask.proofs.Ranges.{length-range, get_or-range}
+use Rattle.nib_mask.proofs.Ranges.{get_or-range}
 
 -- the first end lies past no literal
 pub first-within : (n p : ℕ) (ends : List ℕ) → CutsFrom n p ends → 1 ≤ length ends → get_or ends 0 0 ≤ n
@@ -82,7 +83,7 @@ run_passes test texts p (end ∷ ends) place cuts from inside pass =
       | inl before ↦
           let here : bucket_of (end ∷ ends) place ≡ 0 = ap (λ t. cond t 0 (suc (bucket_of ends place))) (lt-ltb place end before) in
           let run = slice_range texts p end in
-          let long = length-range texts p end (cuts-le (length texts) end ends cuts.1) in
+          let long = length-between texts p end (cuts-le (length texts) end ends cuts.1) in
           let holds : Holds run (get_or texts place []) =
           record { place = place - p; inside = omega (arith, long); stands = get_or-range texts p end place [] from before } in
           ap (λ b. get_or tests b false) here ∙ pass run holds

@@ -3,11 +3,12 @@ use Rattle.std.proofs.Common.{◌≡◌, ℕ, ◌+◌, ◌-◌, ◌<◌, ◌≤�
 use Rattle.std.specs.List.{list_all, list_any}
 use Rattle.std.proofs.lemmas.Bool.{cases_lt}
 use Rattle.std.proofs.lemmas.List.{get_or-drop, length-drop}
+use Rattle.std.proofs.lemmas.List.Edits.{length-between}
 use Rattle.std.proofs.lemmas.List.Folds.{list_all_more, list_any_more, list_all_at, list_any_at}
 use Rattle.lit_base.specs.declared.fold.Fold.{Fold}
 use Rattle.nib_mask.specs.declared.half.Half.{Half}
 use Rattle.nib_mask.specs.FilterSet.{has_half, is_used, reaches, shares_half}
-use Rattle.nib_mask.proofs.Ranges.{length-range, get_or-range}
+use Rattle.nib_mask.proofs.Ranges.{get_or-range}
 
 -- a range with no place
 none : {X Y : Type 0} (f : List X → Y) (xs : List X) (start end : ℕ) → end ≤ start → f (slice_range xs start end) ≡ f (take 0 (drop start xs))
@@ -54,7 +55,7 @@ module _ (position : ℕ) (texts : List (List ℕ)) (start : ℕ) where
   pub is_used-not : (end place : ℕ) (literal : List ℕ) → start ≤ place → place < end → end ≤ length texts → literal ≡ get_or texts place literal → reaches position literal ≡ false → is_used position (slice_range texts start end) ≡ false
   unfolding is_used
   is_used-not end place literal from before within is short =
-      list_all_at (reaches position) (slice_range texts start end) (place - start) literal (omega (arith, length-range texts start end within))
+      list_all_at (reaches position) (slice_range texts start end) (place - start) literal (omega (arith, length-between texts start end within))
       (ap (reaches position) (get_or-range texts start end place literal from before ∙ sym is) ∙ short)
 
   -- all literals up to where a loop over them ended
@@ -77,7 +78,7 @@ module _ (position : ℕ) (texts : List (List ℕ)) (start : ℕ) where
     pub shares_half-some : (end place : ℕ) (literal : List ℕ) → start ≤ place → place < end → end ≤ length texts → literal ≡ get_or texts place literal → has_half fold position half value literal ≡ true → shares_half fold position half value (slice_range texts start end) ≡ true
     unfolding shares_half
     shares_half-some end place literal from before within is has =
-        list_any_at (has_half fold position half value) (slice_range texts start end) (place - start) literal (omega (arith, length-range texts start end within))
+        list_any_at (has_half fold position half value) (slice_range texts start end) (place - start) literal (omega (arith, length-between texts start end within))
         (ap (has_half fold position half value) (get_or-range texts start end place literal from before ∙ sym is) ∙ has)
 
     -- all literals up to where a loop over them ended

@@ -3,6 +3,7 @@ use Rattle.std.proofs.Common.{◌≡◌, ℕ, ◌+◌, ◌-◌, ◌<◌, ◌&&�
 use Rattle.std.specs.Int.{bit_at}
 use Rattle.std.proofs.lemmas.Bool.{cases_Bool, both_ways, and_from, and_parts, or_left, or_right, leb-true, le-leb, eq-eqb, cond-true, cond-false}
 use Rattle.std.proofs.lemmas.List.{get_or-map, get_or-append_right}
+use Rattle.std.proofs.lemmas.List.Edits.{get_or-between, length-between}
 use Rattle.std.proofs.lemmas.List.Folds.{list_all_at, list_any_at}
 use Rattle.std.proofs.lemmas.Option.{get_or_from_slice_get, slice_get_within}
 use Rattle.lit_base.specs.declared.fold.Fold.{Fold}
@@ -17,7 +18,6 @@ use Rattle.nib_mask.specs.FilterSet.{capital, filter_set, half_of, has_half, is_
 use Rattle.nib_mask.specs.Candidates.{filter_set_at}
 use Rattle.nib_mask.specs.Runs.{bucket_of}
 use Rattle.nib_mask.proofs.Buckets.{Holds, bit_at-bucket}
-use Rattle.nib_mask.proofs.Ranges.{length-range, get_or-range}
 
 -- a byte is, without its case, the literal's byte at the position, where the literal reaches it
 pub record Agrees (fold : Fold) (position byte : ℕ) (literal : List ℕ) : Type 0 where
@@ -98,12 +98,10 @@ agrees-occurs l text before place end position i occurs two low at = record {
       let ends = occurs.ends in
       let slice = slice_range text (end - len) end in
       let index = len + position - 3 in
-      let size = length-range text (end - len) end ends in
-      let later : end - len + index - (end - len) ≡ index = omega arith in
+      let size = length-between text (end - len) end ends in
       let where_is : i - 2 ≡ end - len + index = omega arith in
       let in_text = get_or-append_right before text 2 i 0 two (omega arith) in
-      let in_slice : get_or slice index 0 ≡ get_or text (end - len + index) 0 =
-      ap (λ k. get_or slice k 0) (sym later) ∙ get_or-range text (end - len) end (end - len + index) 0 (omega arith) (omega arith) in
+      let in_slice : get_or slice index 0 ≡ get_or text (end - len + index) 0 = get_or-between text (end - len) end index 0 (omega arith) in
       ap (folded l.folding) (in_text ∙ ap (λ k. get_or text k 0) where_is ∙ sym in_slice)
       ∙ sym (get_or-map (folded l.folding) slice index 0 0 (omega (arith, size)))
       ∙ ap (λ t. get_or t index 0) occurs.bytes;

@@ -6,7 +6,7 @@ use Rattle.std.proofs.lemmas.List.Elements.{All-from_get_or}
 use Rattle.lit_base.specs.Costs.{AreSmall}
 use Rattle.lit_base.specs.Cuts.{CutsFrom, IsCut, cut_price}
 use Rattle.lit_base.specs.Potentials.{potential}
-use Rattle.lit_base.proofs.Cuts.{cuts-le}
+use Rattle.lit_base.proofs.Cuts.{cuts-le, length-cuts}
 use Rattle.lit_base.proofs.Least.{potential-inner, potential-end}
 use Rattle.lit_cert.proofs.Potentials.{row_at, row_within}
 use Rattle.run_planner.specs.TailCosts.{IsTailCost, AreTailCosts}
@@ -17,14 +17,9 @@ use Rattle.run_planner.proofs.Tails.{tail_cost-end, tail_cost-le}
 abbrev Behind : (ℕ → ℕ → ℕ) → (ℕ → ℕ) → ℕ → ℕ → Type 0
 Behind c rest n s = (q : ℕ) → q ≤ n → (q < n → 1 ≤ s) → IsTailCost c n s q (rest q)
 
--- a cut from p on has an end where some place is left
-some_end : (n p : ℕ) (ends : List ℕ) → CutsFrom n p ends → p < n → 1 ≤ length ends
-some_end n p [] cuts some = absurd (omega (arith, cuts))
-some_end n p (end ∷ ends) cuts some = omega arith
-
 -- behind an end before n there are further runs
 more_runs : (n s end : ℕ) (ends : List ℕ) → CutsFrom n end ends → length ends ≤ s → end < n → 1 ≤ s
-more_runs n s end ends cuts few inner = omega (arith, some_end n end ends cuts inner, few)
+more_runs n s end ends cuts few inner = omega (arith, length-cuts n end ends cuts inner, few)
 
 -- the first end of a cheapest cut reaches the price
 reaches : (c : ℕ → ℕ → ℕ) (rest : ℕ → ℕ) (n s p v end : ℕ) (ends : List ℕ) → IsTailCost c n (suc s) p v → Behind c rest n s → p < end → CutsFrom n end ends → length ends ≤ s → c p end + cut_price c end ends ≡ v → c p end + rest end ≡ v
@@ -137,7 +132,7 @@ first_entry rows n r w width some =
 no_fewer : (c : ℕ → ℕ → ℕ) (n : ℕ) (rows : List ℕ) (r most : ℕ) (ends : List ℕ) → 0 < n → r ≤ most → AreTailCosts c n most rows → ((s : ℕ) → 1 ≤ s → s < r → potential rows n s 0 ≡ potential rows n most 0 → ⊥) → CutsFrom n 0 ends → cut_price c 0 ends ≡ potential rows n most 0 → r ≤ length ends
 no_fewer c n rows r most ends some within tails fewest cuts price = elim (cases_lt (length ends) r) [
   | inl less ↦
-      let from_one = some_end n 0 ends cuts some in
+      let from_one = length-cuts n 0 ends cuts some in
       let most_from_one : 1 ≤ most = omega (arith, from_one, less, within) in
       let here = tails (length ends) 0 from_one (omega (arith, less, within)) some in
       let all = tails most 0 most_from_one (omega arith) some in

@@ -3,6 +3,7 @@ use crate::compiled::Compiled;
 use crate::hit::Hit;
 use lane_filter::filter;
 use lit_base::{LitList, fold_byte};
+use nib_mask::Masks;
 use std::alloc::{AllocError, Global};
 
 /// Whether the literal at a place ends at `end` in the text, byte by byte.
@@ -54,71 +55,68 @@ pub(super) fn plain_end(list: &LitList, text: &[u8], from: usize) -> Option<usiz
     None
 }
 
-/// A scan by the definition of packed search: it keeps every byte, and where the filter byte of a
-/// place is not zero it compares the literals of each bucket in it.
-#[derive(Drop)]
-pub(super) struct PlainScanner<'p> {
-    compiled: &'p Compiled,
-    bytes: Vec<u8>,
+/// The tables of a plan's filter.
+pub(super) fn masks_of(compiled: &Compiled) -> Masks {
+    Masks::of(compiled.list(), &compiled.certificate().ends)
 }
 
-impl<'p> PlainScanner<'p> {
-    pub(super) fn new(alloc: Global, compiled: &'p Compiled) -> Self {
-        PlainScanner {
-            compiled,
-            bytes: Vec::new(alloc),
-        }
-    }
+/// The text behind two zero bytes.
+fn padded(alloc: Global, text: &[u8]) -> Result<Vec<u8>, AllocError> {
+    let mut padded = vec![in alloc; 0, 0]?;
+    padded.extend_from_slice(text)?;
+    Ok(padded)
+}
 
-    pub(super) fn feed(
-        &mut self,
-        alloc: Global,
-        piece: &[u8],
-        out: &mut Vec<Hit>,
-    ) -> Result<(), AllocError> {
-        let before = self.bytes.len();
-        self.bytes.extend_from_slice(piece)?;
-        let marks = self.marks(alloc)?;
-        for (place, mark) in marks.iter().enumerate() {
-            if place >= before {
-                self.add_hits(place + 1, *mark, out)?;
-            }
-        }
-        Ok(())
+/// The filter byte of each place, two zero bytes standing before the first.
+fn marks(alloc: Global, compiled: &Compiled, text: &[u8]) -> Result<Vec<u8>, AllocError> {
+    let padded = padded(alloc, text)?;
+    let count = text.len();
+    let mut out = vec![in alloc; 0; count]?;
+    let x0 = padded.get(..count).unwrap_or_default();
+    let x1 = padded.get(1..count + 1).unwrap_or_default();
+    if x0.len() == out.len() && x1.len() == out.len() && text.len() == out.len() {
+        filter(&masks_of(compiled), x0, x1, text, &mut out);
     }
+    Ok(out)
+}
 
-    /// The filter byte of each place, two zero bytes standing before the first.
-    fn marks(&self, alloc: Global) -> Result<Vec<u8>, AllocError> {
-        let mut padded = vec![in alloc; 0, 0]?;
-        padded.extend_from_slice(&self.bytes)?;
-        let count = self.bytes.len();
-        let mut out = vec![in alloc; 0; count]?;
-        let x0 = padded.get(..count).unwrap_or_default();
-        let x1 = padded.get(1..count + 1).unwrap_or_default();
-        let x2 = self.bytes.as_slice();
-        if x0.len() == out.len() && x1.len() == out.len() && x2.len() == out.len() {
-            filter(self.compiled.masks(), x0, x1, x2, &mut out);
-        }
-        Ok(out)
-    }
-
-    /// The hits at an end, bucket by bucket.
-    fn add_hits(&self, end: usize, mark: u8, out: &mut Vec<Hit>) -> Result<(), AllocError> {
-        let mut start = 0;
-        for (bucket, run_end) in self.compiled.certificate().ends.iter().enumerate() {
-            let stop = usize::from(*run_end);
-            if bucket < 8 && mark >> bucket & 1 == 1 {
-                for place in start..stop {
-                    if ends_at(self.compiled.list(), place, &self.bytes, end) {
-                        out.push(Hit {
-                            lit: place as u16,
-                            end_at: end as u64,
-                        })?;
-                    }
+/// Adds the hits at an end, bucket by bucket.
+fn add_hits(
+    compiled: &Compiled,
+    text: &[u8],
+    end: usize,
+    mark: u8,
+    out: &mut Vec<Hit>,
+) -> Result<(), AllocError> {
+    let mut start = 0;
+    for (bucket, run_end) in compiled.certificate().ends.iter().enumerate() {
+        let stop = usize::from(*run_end);
+        if bucket < 8 && mark >> bucket & 1 == 1 {
+            for place in start..stop {
+                if ends_at(compiled.list(), place, text, end) {
+                    out.push(Hit {
+                        lit: place as u16,
+                        end_at: end as u64,
+                    })?;
                 }
             }
-            start = stop;
         }
-        Ok(())
+        start = stop;
     }
+    Ok(())
+}
+
+/// The hits by the definition of packed search: where the filter byte of a place is not zero, the
+/// literals of each bucket in it are compared.
+pub(super) fn packed_hits(
+    alloc: Global,
+    compiled: &Compiled,
+    text: &[u8],
+) -> Result<Vec<Hit>, AllocError> {
+    let marks = marks(alloc, compiled, text)?;
+    let mut hits = Vec::new(alloc);
+    for (place, mark) in marks.iter().enumerate() {
+        add_hits(compiled, text, place + 1, *mark, &mut hits)?;
+    }
+    Ok(hits)
 }

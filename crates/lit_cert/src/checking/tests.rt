@@ -51,6 +51,12 @@ fn of_animals(alloc: Global) -> Result<Certificate, AllocError> {
     certificate_of(alloc, &[1, 2, 3], 934, &rows)
 }
 
+/// A certificate of `cat, dog, horse` with these ends, whose potentials are all 0.
+fn of_animals_and_zeros(alloc: Global, ends: [u16; 3]) -> Result<Certificate, AllocError> {
+    let zeros: [&[u64]; 8] = [&[0, 0, 0]; 8];
+    certificate_of(alloc, &ends, 934, &zeros)
+}
+
 /// The certificate of `a`, with this potential of one run.
 fn of_letter(alloc: Global, first: u64) -> Result<Certificate, AllocError> {
     let least: &[u64] = &[4296];
@@ -58,84 +64,105 @@ fn of_letter(alloc: Global, first: u64) -> Result<Certificate, AllocError> {
     certificate_of(alloc, &[1], 4296, &rows)
 }
 
-/// Sets h(r, p) of a certificate for three literals.
-fn set_potential(certificate: &mut Certificate, r: usize, p: usize, value: u64) {
-    if let Some(place) = r
-        .checked_sub(1)
-        .and_then(|row| row.checked_mul(3)?.checked_add(p))
-    {
-        if let Some(potential) = certificate.potentials.get_mut(place) {
-            *potential = value;
-        }
+/// The certificate of `cat, dog, horse` with another h(r, p).
+fn of_animals_but(
+    alloc: Global,
+    r: usize,
+    p: usize,
+    value: u64,
+) -> Result<Certificate, AllocError> {
+    let mut certificate = of_animals(alloc)?;
+    let place = r.saturating_sub(1).saturating_mul(3).saturating_add(p);
+    if let Some(potential) = certificate.potentials.get_mut(place) {
+        *potential = value;
     }
+    Ok(certificate)
+}
+
+/// What the check answers for a certificate of these literals.
+fn answer(
+    alloc: Global,
+    literals: &[&[u8]],
+    certificate: Certificate,
+) -> Result<Result<(), Reason>, Fault> {
+    let list = list_of(alloc, literals)?;
+    Ok(check(&list, &certificate))
+}
+
+/// The same for `cat, dog, horse`.
+fn answer_on_animals(alloc: Global, certificate: Certificate) -> Result<Result<(), Reason>, Fault> {
+    answer(alloc, &[b"cat", b"dog", b"horse"], certificate)
 }
 
 #[test]
 fn accepts_the_cheapest(rt: HostRuntime) -> Result<(), Fail> {
     let alloc = rt.alloc();
-    let animals = list_of(alloc, &[b"cat", b"dog", b"horse"])?;
-    assert_eq!(rt; check(&animals, &of_animals(alloc)?), Ok(()));
-    let letter = list_of(alloc, &[b"a"])?;
-    assert_eq!(rt; check(&letter, &of_letter(alloc, 4296)?), Ok(()));
+    assert_eq!(rt; answer_on_animals(alloc, of_animals(alloc)?)?, Ok(()));
+    assert_eq!(rt; answer(alloc, &[b"a"], of_letter(alloc, 4296)?)?, Ok(()));
     Ok(())
 }
+
+/// Another h(r, p) of `cat, dog, horse`, and what the check answers.
+static OTHER_POTENTIALS: [(usize, usize, u64, Result<(), Reason>); 6] = [
+    (8, 0, 935, Err(Reason::Total)),
+    (3, 1, 584, Err(Reason::Step { r: 3, p: 1, q: 2 })),
+    (2, 0, 1037, Err(Reason::Step { r: 2, p: 0, q: 2 })),
+    (2, 0, 1560, Err(Reason::EndRow { r: 2, p: 0 })),
+    (4, 2, u64::MAX, Err(Reason::EndRow { r: 4, p: 2 })),
+    (1, 0, 0, Ok(())),
+];
 
 #[test]
 fn names_the_first_potential_that_fails(rt: HostRuntime) -> Result<(), Fail> {
     let alloc = rt.alloc();
-    let animals = list_of(alloc, &[b"cat", b"dog", b"horse"])?;
-    for (r, p, value, answer) in [
-        (8, 0, 935, Err(Reason::Total)),
-        (3, 1, 584, Err(Reason::Step { r: 3, p: 1, q: 2 })),
-        (2, 0, 1037, Err(Reason::Step { r: 2, p: 0, q: 2 })),
-        (2, 0, 1560, Err(Reason::EndRow { r: 2, p: 0 })),
-        (4, 2, u64::MAX, Err(Reason::EndRow { r: 4, p: 2 })),
-        (1, 0, 0, Ok(())),
-    ] {
-        let mut certificate = of_animals(alloc)?;
-        set_potential(&mut certificate, r, p, value);
-        assert_eq!(rt;
-            check(&animals, &certificate),
-            answer,
-            "h({r}, {p}) = {value}"
-        );
+    for (r, p, value, wanted) in &OTHER_POTENTIALS {
+        let answer = answer_on_animals(alloc, of_animals_but(alloc, *r, *p, *value)?)?;
+        assert_eq!(rt; answer, *wanted, "h({r}, {p}) = {value}");
     }
-    let letter = list_of(alloc, &[b"a"])?;
-    let above = check(&letter, &of_letter(alloc, 4297)?);
+    let above = answer(alloc, &[b"a"], of_letter(alloc, 4297)?)?;
     assert_eq!(rt; above, Err(Reason::EndRow { r: 1, p: 0 }));
+    Ok(())
+}
+
+#[test]
+fn refuses_another_number_of_literals(rt: HostRuntime) -> Result<(), Fail> {
+    let alloc = rt.alloc();
+    let length = Err(Reason::Length);
+    assert_eq!(rt; answer(alloc, &[b"a"], of_animals(alloc)?)?, length);
+    let empty = certificate_of(alloc, &[], 0, &[])?;
+    assert_eq!(rt; answer(alloc, &[], empty)?, length);
     Ok(())
 }
 
 #[test]
 fn refuses_what_is_no_plan_of_the_list(rt: HostRuntime) -> Result<(), Fail> {
     let alloc = rt.alloc();
-    let animals = list_of(alloc, &[b"cat", b"dog", b"horse"])?;
-    let letter = list_of(alloc, &[b"a"])?;
-    let empty = list_of(alloc, &[])?;
-    let length = Err(Reason::Length);
-    assert_eq!(rt; check(&letter, &of_animals(alloc)?), length);
-    assert_eq!(rt; check(&empty, &certificate_of(alloc, &[], 0, &[])?), length);
-    let zeros: [&[u64]; 8] = [&[0, 0, 0]; 8];
-    let unbound = certificate_of(alloc, &[1, 2, 3], 934, &zeros)?;
-    assert_eq!(rt; check(&animals, &unbound), Err(Reason::Total));
-    for ends in [[1, 1, 3], [1, 2, 4], [2, 3, 3]] {
-        let uncut = certificate_of(alloc, &ends, 934, &zeros)?;
-        assert_eq!(rt; check(&animals, &uncut), Err(Reason::Ends), "at {ends:?}");
+    for (ends, reason) in [
+        ([1, 2, 3], Reason::Total),
+        ([1, 1, 3], Reason::Ends),
+        ([1, 2, 4], Reason::Ends),
+        ([2, 3, 3], Reason::Ends),
+    ] {
+        let answer = answer_on_animals(alloc, of_animals_and_zeros(alloc, ends)?)?;
+        assert_eq!(rt; answer, Err(reason), "at {ends:?}");
     }
     Ok(())
 }
 
+/// Each reason as it is printed.
+static REASONS: [(Reason, &str); 5] = [
+    (Reason::Length, "length"),
+    (Reason::Ends, "ends"),
+    (Reason::Total, "total"),
+    (Reason::EndRow { r: 1, p: 0 }, "end row 1 0"),
+    (Reason::Step { r: 3, p: 1, q: 2 }, "step 3 1 2"),
+];
+
 #[test]
 fn prints_reasons(rt: HostRuntime) -> Result<(), Fail> {
-    for (reason, text) in [
-        (Reason::Length, "length"),
-        (Reason::Ends, "ends"),
-        (Reason::Total, "total"),
-        (Reason::EndRow { r: 1, p: 0 }, "end row 1 0"),
-        (Reason::Step { r: 3, p: 1, q: 2 }, "step 3 1 2"),
-    ] {
+    for (reason, text) in &REASONS {
         let printed = format!(in rt.alloc(); "{reason}")?;
-        assert_eq!(rt; printed.as_str(), text);
+        assert_eq!(rt; printed.as_str(), *text);
     }
     Ok(())
 }

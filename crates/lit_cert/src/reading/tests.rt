@@ -1,3 +1,5 @@
+ghost use Rattle.lit_cert.specs.Spelling.{IsShaped};
+
 use super::*;
 use crate::write_cert;
 use arrayvec::ArrayVec;
@@ -27,44 +29,74 @@ const POTENTIALS: [u64; 24] = [
     934, 583, 232, 934, 583, 232,
 ];
 
-/// Whether a line is one that may stand at this place, with so many potentials in a row.
-///
-/// Unlike the reader, this takes the line as text, and prints each number again.
-fn is_line(alloc: Global, place: usize, line: &str, n: usize) -> Result<bool, AllocError> {
-    let front = match place {
-        1 => return Ok(line == "litcert 1"),
-        2 => "literals ",
-        3 => "ends ",
-        4 => "cost ",
-        5 => "1 ",
-        6 => "2 ",
-        7 => "3 ",
-        8 => "4 ",
-        9 => "5 ",
-        10 => "6 ",
-        11 => "7 ",
-        12 => "8 ",
-        _ => return Ok(line == "end"),
+/// What each line of a text begins with, from the first on.
+const FRONTS: [&str; 13] = [
+    "litcert 1",
+    "literals ",
+    "ends ",
+    "cost ",
+    "1 ",
+    "2 ",
+    "3 ",
+    "4 ",
+    "5 ",
+    "6 ",
+    "7 ",
+    "8 ",
+    "end",
+];
+
+/// The number that a word prints as.
+fn printed_number(alloc: Global, word: &str) -> Result<Option<u64>, AllocError> {
+    let Ok(number) = word.parse::<u64>() else {
+        return Ok(None);
     };
-    let Some(words) = line.strip_prefix(front) else {
-        return Ok(false);
-    };
+    let printed = number.to_string(alloc)?;
+    Ok(if printed.as_str() == word {
+        Some(number)
+    } else {
+        None
+    })
+}
+
+/// The numbers between the spaces of a text, if each word prints one.
+fn printed_numbers(alloc: Global, text: &str) -> Result<Option<Vec<u64>>, AllocError> {
     let mut numbers = Vec::new(alloc);
-    for word in words.split(' ') {
-        let Ok(number) = word.parse::<u64>() else {
-            return Ok(false);
-        };
-        if number.to_string(alloc)?.as_str() != word {
-            return Ok(false);
+    for word in text.split(' ') {
+        match printed_number(alloc, word)? {
+            Some(number) => numbers.push(number)?,
+            None => return Ok(None),
         }
-        numbers.push(number)?;
     }
-    Ok(match place {
+    Ok(Some(numbers))
+}
+
+/// Whether these numbers may stand in the line at this place, with so many potentials in a row.
+fn are_of_line(place: usize, numbers: &[u64], n: usize) -> bool {
+    match place {
         2 => numbers.len() == 1 && numbers.iter().all(|number| (1..=1024).contains(number)),
         3 => numbers.len() <= 8 && numbers.iter().all(|end| *end < 65536),
         4 => numbers.len() == 1,
         _ => numbers.len() == n,
-    })
+    }
+}
+
+/// Whether a line is one that may stand at this place, with so many potentials in a row.
+///
+/// Unlike the reader, this takes the line as text, and prints each number again.
+fn is_line(alloc: Global, place: usize, line: &str, n: usize) -> Result<bool, AllocError> {
+    let front = FRONTS
+        .get(place.saturating_sub(1))
+        .copied()
+        .unwrap_or_default();
+    let Some(words) = line.strip_prefix(front) else {
+        return Ok(false);
+    };
+    if place == 1 || place == 13 {
+        return Ok(words.is_empty());
+    }
+    let numbers = printed_numbers(alloc, words)?;
+    Ok(numbers.is_some_and(|numbers| are_of_line(place, &numbers, n)))
 }
 
 /// The number of literals that a second line tells, or 0.
@@ -99,20 +131,34 @@ fn first_bad_line(alloc: Global, text: &[u8]) -> Result<usize, AllocError> {
     Ok(0)
 }
 
+/// Whether the text written of a certificate is this one.
+fn is_written_as(alloc: Global, certificate: &Certificate, text: &[u8]) -> Result<bool, Fault>
+    requires { IsShaped 8 certificate.now }
+{
+    let mut room = vec![in alloc; 0; text.len()]?;
+    let mut out = CutOut::within(&mut room);
+    write_cert(alloc, certificate, &mut out)?;
+    Ok(out.written() == text)
+}
+
+/// The bad line that the reader names, or 0 where it takes the text. None where the text written of
+/// what it took is another.
+fn bad_line(alloc: Global, text: &[u8]) -> Result<Option<usize>, Fault> {
+    match read_cert(alloc, &mut CutIn::whole(text)) {
+        Ok(certificate) => {
+            let is_same = is_written_as(alloc, &certificate, text)?;
+            Ok(if is_same { Some(0) } else { None })
+        }
+        Err(Fault::BadCertText { line }) => Ok(Some(line as usize)),
+        Err(fault) => Err(fault),
+    }
+}
+
 /// Compares what is read of a text with the slow reader, and what is read with what is written.
 fn compare(rt: &(impl Abort + AllocGlobal), text: &[u8]) -> Result<(), Fail> {
-    let want = first_bad_line(rt.alloc(), text)?;
-    match read_cert(rt.alloc(), &mut CutIn::whole(text)) {
-        Ok(certificate) => {
-            assert_eq!(rt; want, 0, "accepted {text:?}");
-            let mut room = vec![in rt.alloc(); 0; text.len()]?;
-            let mut out = CutOut::within(&mut room);
-            write_cert(rt.alloc(), &certificate, &mut out)?;
-            assert_eq!(rt; out.written(), text);
-        }
-        Err(Fault::BadCertText { line }) => assert_eq!(rt; line as usize, want, "at {text:?}"),
-        Err(fault) => panic!(rt; "{fault}"),
-    }
+    let wanted = first_bad_line(rt.alloc(), text)?;
+    let named = bad_line(rt.alloc(), text)?;
+    assert_eq!(rt; named, Some(wanted), "at {text:?}");
     Ok(())
 }
 
@@ -180,157 +226,181 @@ fn with_line(alloc: Global, place: usize, line: &[u8]) -> Result<Vec<u8>, AllocE
     Ok(text)
 }
 
+/// Whether the reader names this bad line, or takes the text where it is 0, in the text with another
+/// line at this place, and the slow reader does too.
+fn is_named(alloc: Global, place: usize, line: &[u8], wanted: usize) -> Result<bool, Fault> {
+    let text = with_line(alloc, place, line)?;
+    Ok(bad_line(alloc, &text)? == Some(wanted) && first_bad_line(alloc, &text)? == wanted)
+}
+
+/// Lines that are wrong, by their places in the text of three literals.
+static WRONG_LINES: [(usize, &[u8]); 30] = [
+    (1, b"litcert 2"),
+    (1, b"litcert  1"),
+    (1, b" litcert 1"),
+    (2, b"literals 0"),
+    (2, b"literals 03"),
+    (2, b"literals +3"),
+    (2, b"literals 1025"),
+    (2, b"literals 18446744073709551619"),
+    (2, b"literals"),
+    (2, b"literals 3 "),
+    (2, b"literals 1000000000"),
+    (3, b"ends"),
+    (3, b"ends "),
+    (3, b"ends 1  2"),
+    (3, b"ends 65536"),
+    (3, b"ends -1"),
+    (3, b"ends 00"),
+    (3, b"ends 1 2 3 4 5 6 7 8 9"),
+    (4, b"cost 18446744073709551616"),
+    (4, b"cost 0934"),
+    (4, b"cost 9 34"),
+    (5, b"01 1559 804 232"),
+    (5, b"2 1559 804 232"),
+    (5, b"1 1559 804"),
+    (5, b"1 1559 804 232 0"),
+    (5, b"1"),
+    (12, b"8 934 583 18446744073709551616"),
+    (13, b"end "),
+    (13, b"END"),
+    (14, b"x"),
+];
+
 #[test]
 fn names_the_first_bad_line(rt: HostRuntime) -> Result<(), Fail> {
-    let wrong: [(usize, &[u8]); 30] = [
-        (1, b"litcert 2"),
-        (1, b"litcert  1"),
-        (1, b" litcert 1"),
-        (2, b"literals 0"),
-        (2, b"literals 03"),
-        (2, b"literals +3"),
-        (2, b"literals 1025"),
-        (2, b"literals 18446744073709551619"),
-        (2, b"literals"),
-        (2, b"literals 3 "),
-        (2, b"literals 1000000000"),
-        (3, b"ends"),
-        (3, b"ends "),
-        (3, b"ends 1  2"),
-        (3, b"ends 65536"),
-        (3, b"ends -1"),
-        (3, b"ends 00"),
-        (3, b"ends 1 2 3 4 5 6 7 8 9"),
-        (4, b"cost 18446744073709551616"),
-        (4, b"cost 0934"),
-        (4, b"cost 9 34"),
-        (5, b"01 1559 804 232"),
-        (5, b"2 1559 804 232"),
-        (5, b"1 1559 804"),
-        (5, b"1 1559 804 232 0"),
-        (5, b"1"),
-        (12, b"8 934 583 18446744073709551616"),
-        (13, b"end "),
-        (13, b"END"),
-        (14, b"x"),
-    ];
-    for (place, line) in wrong {
-        let text = with_line(rt.alloc(), place, line)?;
-        let answer = read_cert(rt.alloc(), &mut CutIn::whole(&text));
-        assert!(rt;
-            matches!(answer, Err(Fault::BadCertText { line: named }) if named as usize == place),
-            "line {place}: {line:?}"
-        );
-        compare(&rt, &text)?;
+    for (place, line) in &WRONG_LINES {
+        let is_named = is_named(rt.alloc(), *place, line, *place)?;
+        assert!(rt; is_named, "line {place}: {line:?}");
     }
     Ok(())
 }
+
+/// Lines of the least and the greatest numbers, by their places.
+static EXTREME_LINES: [(usize, &[u8]); 6] = [
+    (3, b"ends 0"),
+    (3, b"ends 65535 0 7 7 7 1 2 3"),
+    (4, b"cost 0"),
+    (4, b"cost 18446744073709551615"),
+    (5, b"1 0 0 0"),
+    (12, b"8 18446744073709551615 0 1"),
+];
 
 #[test]
 fn takes_each_number_within_its_limit(rt: HostRuntime) -> Result<(), Fail> {
-    let right: [(usize, &[u8]); 6] = [
-        (3, b"ends 0"),
-        (3, b"ends 65535 0 7 7 7 1 2 3"),
-        (4, b"cost 0"),
-        (4, b"cost 18446744073709551615"),
-        (5, b"1 0 0 0"),
-        (12, b"8 18446744073709551615 0 1"),
-    ];
-    for (place, line) in right {
-        let text = with_line(rt.alloc(), place, line)?;
-        assert_eq!(rt; first_bad_line(rt.alloc(), &text)?, 0);
-        compare(&rt, &text)?;
+    for (place, line) in &EXTREME_LINES {
+        let is_taken = is_named(rt.alloc(), *place, line, 0)?;
+        assert!(rt; is_taken, "line {place}: {line:?}");
     }
     Ok(())
 }
 
 #[test]
-fn tells_a_fourteenth_line_and_a_missing_fourth(rt: HostRuntime) -> Result<(), Fail> {
-    let mut more = TEXT.to_vec(rt.alloc())?;
-    more.extend_from_slice(b"x")?;
+fn tells_a_line_that_is_cut_off_or_missing(rt: HostRuntime) -> Result<(), Fail> {
     // The first three lines, with the last newline and without it.
-    let texts: [(&[u8], u32); 4] = [(&more, 14), (&TEXT[..32], 4), (&TEXT[..31], 3), (b"", 1)];
-    for (text, line) in texts {
-        let answer = read_cert(rt.alloc(), &mut CutIn::whole(text));
-        assert!(rt; matches!(answer, Err(Fault::BadCertText { line: named }) if named == line));
+    for (len, line) in [(32, 4), (31, 3), (0, 1)] {
+        let named = bad_line(rt.alloc(), &TEXT[..len])?;
+        assert_eq!(rt; named, Some(line), "of the first {len} bytes");
     }
     Ok(())
+}
+
+/// The cost of the certificate for three literals, read by 50 bytes, where this call is refused.
+fn cost_read_with_refusal(alloc: Global, call: u64) -> Result<u64, Fault> {
+    let mut input = CutIn::failing_at(TEXT, call).with_step(50);
+    Ok(read_cert(alloc, &mut input)?.cost)
 }
 
 #[test]
 fn tells_each_refused_read(rt: HostRuntime) -> Result<(), Fail> {
     // Reads of at most 50 bytes, and the one that finds the end.
-    let reads = TEXT.len().div_ceil(50) + 1;
+    let reads = TEXT.len().div_ceil(50) as u64 + 1;
     for call in 0..reads + 2 {
-        let mut input = CutIn::failing_at(TEXT, call as u64).with_step(50);
-        match read_cert(rt.alloc(), &mut input) {
-            Ok(certificate) => {
-                assert!(rt; call >= reads);
-                assert_eq!(rt; certificate.cost, 934);
-            }
-            Err(fault) => {
-                assert!(rt; call < reads);
-                assert_eq!(rt; fault, Fault::ReadFault);
-            }
-        }
+        let cost = cost_read_with_refusal(rt.alloc(), call);
+        let wanted = if call < reads {
+            Err(Fault::ReadFault)
+        } else {
+            Ok(934)
+        };
+        assert_eq!(rt; cost, wanted, "at call {call}");
     }
     Ok(())
+}
+
+/// Whether the writer of the certificate for three literals, by 50 bytes, answers a refusal of this
+/// call and has written what came before, or has written all where it makes fewer calls.
+fn is_written_up_to(alloc: Global, call: usize) -> Result<bool, Fault> {
+    let certificate = read_cert(alloc, &mut CutIn::whole(TEXT))?;
+    let mut room = [0; 300];
+    let mut out = CutOut::failing_at(&mut room, call as u64).with_step(50);
+    let answer = write_cert(alloc, &certificate, &mut out);
+    let (wanted, len) = if call < TEXT.len().div_ceil(50) {
+        (Err(Fault::WriteFault), 50 * call)
+    } else {
+        (Ok(()), TEXT.len())
+    };
+    Ok(answer == wanted && TEXT.get(..len) == Some(out.written()))
 }
 
 #[test]
 fn tells_each_refused_write(rt: HostRuntime) -> Result<(), Fail> {
-    let certificate = read_cert(rt.alloc(), &mut CutIn::whole(TEXT))?;
-    let writes = TEXT.len().div_ceil(50);
-    for call in 0..writes + 2 {
-        let mut room = [0; 300];
-        let mut out = CutOut::failing_at(&mut room, call as u64).with_step(50);
-        let answer = write_cert(rt.alloc(), &certificate, &mut out);
-        let (want, len) = if call < writes {
-            (Err(Fault::WriteFault), 50 * call)
-        } else {
-            (Ok(()), TEXT.len())
-        };
-        assert_eq!(rt; answer, want);
-        assert_eq!(rt; out.written(), &TEXT[..len.min(TEXT.len())]);
+    for call in 0..TEXT.len().div_ceil(50) + 2 {
+        assert!(rt; is_written_up_to(rt.alloc(), call)?, "at call {call}");
     }
     Ok(())
 }
 
-#[test]
-fn refuses_endless_lines(rt: HostRuntime) -> Result<(), Fail> {
-    let fronts: [(&[u8], u32); 5] = [
-        (b"", 1),
-        (b"litcert 1\nliterals ", 2),
-        (b"litcert 1\nliterals 3\nends 1 2 3", 3),
-        (b"litcert 1\nliterals 1024\nends 1\ncost 0\n1 0", 5),
-        (TEXT, 14),
-    ];
-    for (front, line) in fronts {
-        for byte in *b"1 x" {
-            let mut text = front.to_vec(rt.alloc())?;
-            text.resize(1 << 20, byte)?;
-            let mut input = CutIn::whole(&text);
-            let answer = read_cert(rt.alloc(), &mut input);
-            assert_eq!(rt; answer.err(), Some(Fault::BadCertText { line }));
+/// The bad line that the reader names where this byte follows a text without an end.
+fn line_of_endless(alloc: Global, front: &[u8], byte: u8) -> Result<Option<usize>, Fault> {
+    let mut text = front.to_vec(alloc)?;
+    text.resize(1 << 20, byte)?;
+    bad_line(alloc, &text)
+}
+
+/// Whether the reader names this line whichever byte follows without an end.
+fn is_named_in_endless(alloc: Global, front: &[u8], line: usize) -> Result<bool, Fault> {
+    for byte in *b"1 x" {
+        if line_of_endless(alloc, front, byte)? != Some(line) {
+            return Ok(false);
         }
     }
+    Ok(true)
+}
+
+/// Texts whose last line goes on without an end, with that line's number.
+static ENDLESS: [(&[u8], usize); 5] = [
+    (b"", 1),
+    (b"litcert 1\nliterals ", 2),
+    (b"litcert 1\nliterals 3\nends 1 2 3", 3),
+    (b"litcert 1\nliterals 1024\nends 1\ncost 0\n1 0", 5),
+    (TEXT, 14),
+];
+
+#[test]
+fn refuses_endless_lines(rt: HostRuntime) -> Result<(), Fail> {
+    for (front, line) in &ENDLESS {
+        let is_named = is_named_in_endless(rt.alloc(), front, *line)?;
+        assert!(rt; is_named, "behind {front:?}");
+    }
     Ok(())
+}
+
+/// The longest text of a certificate.
+fn longest_text(alloc: Global) -> Result<Vec<u8>, Fault> {
+    let certificate = Certificate {
+        ends: ArrayVec::from([65535; 8]),
+        cost: u64::MAX,
+        potentials: vec![in alloc; u64::MAX; 8192]?,
+    };
+    let mut room = vec![in alloc; 0; LONGEST_TEXT]?;
+    let mut out = CutOut::within(&mut room);
+    write_cert(alloc, &certificate, &mut out)?;
+    Ok(out.written().to_vec(alloc)?)
 }
 
 #[test]
 fn reads_the_longest_text(rt: HostRuntime) -> Result<(), Fail> {
-    let mut ends = ArrayVec::new();
-    for _ in 0..8 {
-        ends.try_push(65535).ok();
-    }
-    assert!(rt; !ends.is_empty());
-    let certificate = Certificate {
-        ends,
-        cost: u64::MAX,
-        potentials: vec![in rt.alloc(); u64::MAX; 8192]?,
-    };
-    let mut room = vec![in rt.alloc(); 0; LONGEST_TEXT]?;
-    let mut out = CutOut::within(&mut room);
-    write_cert(rt.alloc(), &certificate, &mut out)?;
-    compare(&rt, out.written())
+    let text = longest_text(rt.alloc())?;
+    assert!(rt; text.len() > 170_000);
+    compare(&rt, &text)
 }

@@ -2,8 +2,8 @@
 use Rattle.std.proofs.Common.{◌≡◌, ℕ, ◌+◌, ◌<◌, length, inl, inr, ◌∙◌, subst, arith}
 use Rattle.std.proofs.lemmas.Bool.{cases_lt}
 use Rattle.lit_base.specs.Occurrences.{Occurs}
-use Rattle.nib_mask.specs.Candidates.{IsCandidate}
 use Rattle.lane_filter.specs.Ends.{IsFirstAfter, NoneWithin}
+use Rattle.lane_filter.specs.Sieves.{Passes}
 use Rattle.flow_scan.proofs.Steps.{all_bytes, none_before}
 use Rattle.flow_scan.proofs.endings.next_ending.Goals as goal
 
@@ -11,28 +11,28 @@ pub returns-in-Some-next_ending-clause-next : goal.returns-in-Some-next_ending-c
 returns-in-Some-next_ending-clause-next c =
     let l = c.args.list.now in
     let text = c.args.text.now in
-    let masks = c.args.candidates.now.masks in
+    let sieve = c.args.candidates.now.sieve in
     let before = c.loop-end.invariant in
-    let next : IsFirstAfter (IsCandidate masks text) c.loop-end.candidates.from c.in-Some.end = rw before.masks at (rw before.text at c.in-Some.ensures.first) in
+    let next : IsFirstAfter (Passes sieve text) c.loop-end.candidates.from c.in-Some.end = rw before.sieve at (rw before.text at c.in-Some.ensures.first) in
     record {
       after = omega (arith, next.after, before.ahead);
-      within = next.holds.within;
+      within = rw before.text at c.in-Some.ensures.within;
       here = (c.in-Some-next_ending.first, c.in-Some-next_ending.ensures.first.occurs);
-      first = none_before l masks text c.args.candidates.now.from c.loop-end.candidates.from c.in-Some.end c.requires.covers (all_bytes text c.type_inv.text) before.none next.quiet;
+      first = none_before l sieve text c.args.candidates.now.from c.loop-end.candidates.from c.in-Some.end c.requires.covers (all_bytes text c.type_inv.text) before.none next.quiet;
     }
 
 pub loop-end-preserved : goal.loop-end-preserved
 loop-end-preserved c =
     let l = c.args.list.now in
     let text = c.args.text.now in
-    let masks = c.args.candidates.now.masks in
+    let sieve = c.args.candidates.now.sieve in
     let end = c.in-Some.end in
     let before = c.loop-end.invariant in
-    let next : IsFirstAfter (IsCandidate masks text) c.loop-end.candidates.from end = rw before.masks at (rw before.text at c.in-Some.ensures.first) in
+    let next : IsFirstAfter (Passes sieve text) c.loop-end.candidates.from end = rw before.sieve at (rw before.text at c.in-Some.ensures.first) in
     let reached : c.next_end.new.self.from ≡ end = c.in-Some.ensures.moved in
-    let earlier = none_before l masks text c.args.candidates.now.from c.loop-end.candidates.from end c.requires.covers (all_bytes text c.type_inv.text) before.none next.quiet in
+    let earlier = none_before l sieve text c.args.candidates.now.from c.loop-end.candidates.from end c.requires.covers (all_bytes text c.type_inv.text) before.none next.quiet in
     record {
-      masks = c.next_end.ensures.masks ∙ before.masks;
+      sieve = c.next_end.ensures.sieve ∙ before.sieve;
       text = c.next_end.ensures.text ∙ before.text;
       ahead = omega (arith, reached, next.after, before.ahead);
       none = λ other after within here. elim (cases_lt other end) [
@@ -46,9 +46,9 @@ pub returns-clause-next : goal.returns-clause-next
 returns-clause-next c =
     let l = c.args.list.now in
     let text = c.args.text.now in
-    let masks = c.args.candidates.now.masks in
+    let sieve = c.args.candidates.now.sieve in
     let before = c.loop-end.invariant in
-    let none : NoneWithin (IsCandidate masks text) c.loop-end.candidates.from (length text) = rw before.masks at (rw before.text at c.in_default.ensures.none) in
-    let nowhere = none_before l masks text c.args.candidates.now.from c.loop-end.candidates.from (length text + 1) c.requires.covers (all_bytes text c.type_inv.text) before.none
+    let none : NoneWithin (Passes sieve text) c.loop-end.candidates.from (length text) = rw before.sieve at (rw before.text at c.in_default.ensures.none) in
+    let nowhere = none_before l sieve text c.args.candidates.now.from c.loop-end.candidates.from (length text + 1) c.requires.covers (all_bytes text c.type_inv.text) before.none
     (λ (other : ℕ) (after : c.loop-end.candidates.from < other) (within : other < length text + 1). none other after (omega (arith, within))) in
     λ end after here. nowhere end after (omega (arith, here.1.ends)) here

@@ -5,7 +5,7 @@ use Rattle.flow_scan.proofs.endings.next_ending.Given as goal
 -- no literal ends at the places passed
 abbrev pub invariant-loop-end : goal.invariant-loop-end
 invariant-loop-end l = record {
-  masks : l.candidates.masks ≡ l.fn.candidates.masks;
+  sieve : l.candidates.sieve ≡ l.fn.candidates.sieve;
   text : l.candidates.text ≡ l.text;
   ahead : l.fn.candidates.from ≤ l.candidates.from;
   none : (other : ℕ) → l.fn.candidates.from < other → other ≤ l.candidates.from → ¬ HasEnd l.list l.text other;

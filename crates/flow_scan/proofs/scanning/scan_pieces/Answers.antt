@@ -1,14 +1,17 @@
 -- Piece by piece the hits are those of the pieces joined.
-use Rattle.std.proofs.Common.{◌≡◌, ℕ, ◌+◌, ◌<◌, ◌≤◌, Err, inl, inr, List, [], ◌∷◌, ◌++◌, length, get_or, take, drop, sym, ap, ◌∙◌, subst, arith}
+use Rattle.std.proofs.Common.{◌≡◌, ℕ, ◌+◌, ◌^◌, ◌<◌, ◌≤◌, Ok, Err, inl, inr, List, [], ◌∷◌, ◌++◌, length, get_or, take, drop, sym, ap, ◌∙◌, subst, arith}
 use Rattle.std.specs.Global.{Vec}
 use Rattle.std.specs.List.{concat}
 use Rattle.std.proofs.lemmas.List.{length-append, map_more, take-append-drop, map-append, take_all}
+use Rattle.std.proofs.lemmas.Bool.{cases_lt}
+use Rattle.std.proofs.lemmas.List.Folds.{concat-append}
 use Rattle.std.proofs.lemmas.Result.{err_from_is_err_and}
+use Rattle.flow_scan.specs.declared.fault.Fault.TheVariants.{StreamTooLong}
 use Rattle.flow_scan.specs.Plans.{Plan}
 use Rattle.flow_scan.specs.Scanners.{Scanning, fed}
 use Rattle.flow_scan.specs.Tails.{AreHitsBehind, GainsHits, HasBounds, bytes_of, carry_of, last_bytes}
 use Rattle.flow_scan.proofs.HitLists.{hits_none, none_past}
-use Rattle.flow_scan.proofs.TailSteps.{concat_append, concat_push, hits_fed, hits_from_start, last_of_last, last_of_short}
+use Rattle.flow_scan.proofs.TailSteps.{concat_push, hits_fed, hits_from_start, last_of_last, last_of_short}
 use Rattle.flow_scan.proofs.scanning.scan_pieces.Goals as goal
 
 -- the pieces so far and one more, joined
@@ -25,7 +28,7 @@ joined_front pieces n =
     omega (
       arith,
       ap (λ ps. length (concat ps)) whole,
-      ap length (concat_append (bytes_of (take n pieces)) (bytes_of (drop n pieces))),
+      ap length (concat-append (bytes_of (take n pieces)) (bytes_of (drop n pieces))),
       length-append (concat (bytes_of (take n pieces))) (concat (bytes_of (drop n pieces))),
     )
 
@@ -41,12 +44,17 @@ hits_more s plan text piece old new b p at t before gains =
     hits_fed plan.literals text piece s.place old new b at before
     (subst (λ ts. GainsHits plan.literals ts piece s.place old new) t (subst (λ (q : Plan). GainsHits q.literals s.tail piece s.place old new) p gains))
 
+-- a number that is not too large fits
+fits : (n : ℕ) → (2 ^ 64 ≤ n → ⊥) → n < 2 ^ 64
+fits n none = elim (cases_lt n (2 ^ 64)) [ inl small ↦ small | inr large ↦ absurd (none large) ]
+
 pub loop-piece-init : goal.loop-piece-init
 loop-piece-init c =
     let l = c.args.compiled.now.literals in
     let start = c.in_ok-scanner.ensures.ok in
     record {
       plan = ap (λ (s : Scanning). s.plan) start;
+      small = omega arith;
       place = ap (λ (s : Scanning). s.place) start;
       tail = ap (λ (s : Scanning). s.tail) start ∙ sym (last_of_short (carry_of l) [] (omega arith));
       found = subst (AreHitsBehind l [] 0 0) (sym c.new-hits.ensures.items) (hits_none l [] 0 0 (none_past l [] 0 (omega arith)));
@@ -67,6 +75,9 @@ loop-piece-preserved c =
     ap (λ ts. text ++ ts) c.deref.ensures.value ∙ sym (joined_more pieces i x c.loop-piece-test.true c.piece-item.is) in
     record {
       plan = ap (λ (t : Scanning). t.plan) ok ∙ before.plan;
+      small = fits (length (concat (bytes_of (take (i + 1) pieces)))) (λ long.
+          let refused : Ok c.in_ok-feed.field-0 ≡ Err StreamTooLong = c.in_ok-feed.ensures.too_long.1 (omega (arith, long, before.place, ap length joined, length-append text piece)) in
+          (cc));
       place = omega (arith, ap (λ (t : Scanning). t.place) ok, before.place, ap length joined, length-append text piece);
       tail = ap (λ (t : Scanning). t.tail) ok ∙ tail_more s plan text piece before.plan before.tail ∙ ap (last_bytes (carry_of plan.literals)) joined;
       found = subst (λ ts. AreHitsBehind plan.literals ts 0 0 c.feed.new.out.items) joined
@@ -86,6 +97,12 @@ returns-in_err-feed-clause-refused c =
       | inl long ↦ inr (long, omega (arith, c.in_err-feed.ensures.too_long.0 (ap Err long), c.loop-piece.invariant.place, ap length joined, length-append text piece, joined_front pieces (i + 1)))
       | inr memory ↦ inl memory
     ])
+
+pub returns-clause-too_long : goal.returns-clause-too_long
+returns-clause-too_long c =
+    let pieces = c.args.pieces.now in
+    let all : take c.loop-piece.piece-index pieces ≡ pieces = take_all c.loop-piece.piece-index pieces (omega (arith, c.loop-piece-test.false)) in
+    λ long. absurd (omega (arith, long, c.loop-piece.invariant.small, ap (λ (ps : List (Vec ℕ)). length (concat (bytes_of ps))) all))
 
 pub returns-clause-hits : goal.returns-clause-hits
 returns-clause-hits c =

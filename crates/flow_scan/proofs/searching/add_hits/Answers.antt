@@ -12,7 +12,7 @@ loop-end-init c =
     let start : c.new-candidates.result.from ≡ c.args.from = c.new-candidates.ensures.from in
     let front : List ℕ = take c.new-candidates.result.from c.args.text.now in
     record {
-      covers = rw c.new-candidates.ensures.masks c.masks.ensures;
+      covers = rw c.new-candidates.ensures.sieve c.sieve.ensures;
       text = c.new-candidates.ensures.text;
       ahead = omega (arith, start);
       within = omega (arith, start, c.requires.inside);
@@ -39,7 +39,7 @@ loop-end-preserved c =
     let further : AreHitsBehind l (take end text) from at found =
     hits_further l text from c.loop-end.candidates.from end at before.found here.found before.ahead next.after next.within next.first before.added here.added in
     record {
-      covers = rw c.next_ending.ensures.masks before.covers;
+      covers = rw c.next_ending.ensures.sieve before.covers;
       text = c.next_ending.ensures.text ∙ before.text;
       ahead = omega (arith, reached, next.after, before.ahead);
       within = omega (arith, reached, next.within);

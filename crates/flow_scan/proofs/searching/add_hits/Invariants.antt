@@ -1,12 +1,13 @@
 use Rattle.std.proofs.Common.{◌≡◌, ℕ, ◌-◌, ◌≤◌, ◌++◌, List, length, take}
-use Rattle.nib_mask.specs.Candidates.{Covers}
+use Rattle.lane_filter.specs.Pairs.{CoversBy}
+use Rattle.lane_filter.specs.Sieves.{Passes}
 use Rattle.flow_scan.specs.Tails.{AreHitsBehind}
 use Rattle.flow_scan.proofs.searching.add_hits.Given as goal
 
 -- the hits added are those up to the place reached
 abbrev pub invariant-loop-end : goal.invariant-loop-end
 invariant-loop-end l = record {
-  covers : Covers l.compiled.literals l.candidates.masks;
+  covers : CoversBy l.compiled.literals (Passes l.candidates.sieve);
   text : l.candidates.text ≡ l.text;
   ahead : l.from ≤ l.candidates.from;
   within : l.candidates.from ≤ length l.text;

@@ -1,4 +1,4 @@
-use Rattle.std.proofs.Common.{List, ℕ, ◌≡◌, ◌∙◌, ap, sym, refl, drop, codes}
+use Rattle.std.proofs.Common.{List, ℕ, ◌≡◌, ◌∙◌, ap, refl, drop, codes}
 use Rattle.std.specs.Fmt.{decimal}
 use Rattle.lit_cert.specs.Spelling.{cost_words}
 use Rattle.lit_cert.proofs.Lines.{no_line_alone, line_is, plain_number, lacks_by_test}

@@ -1,6 +1,4 @@
-use Rattle.std.proofs.Common.{List, ℕ, ◌≡◌, ◌<◌, ◌^◌, ◌∙◌, ◌++◌, ◌∷◌, ap, sym, refl, drop, map, codes, arith}
-use Rattle.std.specs.List.{join_with_byte}
-use Rattle.std.specs.Fmt.{decimal}
+use Rattle.std.proofs.Common.{List, ℕ, ◌∙◌, ◌++◌, ap, sym, drop, codes}
 use Rattle.lit_cert.specs.Spelling.{ends_words}
 use Rattle.lit_cert.proofs.Lines.{line_is, is_line, behind_front, plain_ends, ends_join}
 use Rattle.lit_cert.proofs.parsing.ends_line.Goals as goal

@@ -1,5 +1,4 @@
-use Rattle.std.proofs.Common.{◌≡◌, ◌∙◌, ◌<◌, ◌^◌, ◌∷◌, ◌++◌, [], ℕ, List, eqb, sym, ap, map, length, get_or, arith, rules, tests}
-use Rattle.std.specs.List.{join_with_byte}
+use Rattle.std.proofs.Common.{◌≡◌, ◌∙◌, ◌<◌, ◌^◌, ◌∷◌, ◌++◌, [], eqb, sym, ap, map, length, get_or, arith, rules, tests}
 use Rattle.std.specs.Fmt.{decimal}
 use Rattle.std.proofs.lemmas.List.Elements.{All-weaker}
 use Rattle.std.proofs.lemmas.Fmt.{decimal_injective}
@@ -8,7 +7,7 @@ use Rattle.std.specs.Result.{is_ok}
 use Rattle.std.proofs.lemmas.List.{map_push, length-map}
 use Rattle.std.proofs.lemmas.Iterator.Splits.{YieldsList-from_slice_split}
 use Rattle.std.proofs.lemmas.Iterator.Consumers.{YieldsList-at}
-use Rattle.lit_cert.proofs.Splits.{words_in, yielded_next, yielded_all, ReadsTo, reads_more, same_count, reads_all, word_at}
+use Rattle.lit_cert.proofs.Splits.{words_in, yielded_next, yielded_all, reads_more, same_count, reads_all, word_at}
 use Rattle.lit_cert.proofs.Results.{ok_is, ok_is_not, is_ok_not}
 use Rattle.lit_cert.proofs.parsing.ends_of.Goals as goal
 

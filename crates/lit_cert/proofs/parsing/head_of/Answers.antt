@@ -1,12 +1,11 @@
-use Rattle.std.proofs.Common.{◌≡◌, ◌≢◌, ◌∙◌, ◌++◌, ◌∷◌, ◌^◌, ◌<◌, ℕ, List, [], Bor, Vec, codes, arith}
+use Rattle.std.proofs.Common.{◌≡◌, ◌++◌, ◌∷◌, ◌^◌, ◌<◌, ℕ, List, Bor, codes}
 use Rattle.lit_cert.specs.declared.fault.Fault.TheVariants.{BadCertText}
 use Rattle.arrayvec.specs.ArrayVec.{ArrayVec}
 use Rattle.lit_cert.specs.Spelling.{IsCount, HasEnds, line_text, literals_words, ends_words, cost_words}
-use Rattle.lit_cert.specs.Reading.{StartsWithRows, IsBadText}
+use Rattle.lit_cert.specs.Reading.{IsBadText}
 use Rattle.lit_cert.proofs.Plain.{eight}
-use Rattle.lit_cert.proofs.FirstBad.{bad_end}
-use Rattle.lit_cert.proofs.Exits.{bad_first, bad_count, bad_ends, bad_cost, head_read, bad_row, bad_last, all_read}
-use Rattle.lit_cert.proofs.Results.{from_none, at_none, from_some, from_same}
+use Rattle.lit_cert.proofs.Exits.{bad_first, bad_count, bad_ends, bad_cost, head_read}
+use Rattle.lit_cert.proofs.Results.{from_none, at_none, from_some}
 use Rattle.lit_cert.proofs.parsing.head_of.Goals as goal
 
 pub returns-in_err-rest-clause-wrong : goal.returns-in_err-rest-clause-wrong

@@ -1,6 +1,6 @@
 use Rattle.std.proofs.Common.{List, ℕ, ◌≡◌, ◌<◌, ◌^◌, ◌∙◌, ◌++◌, ap, sym, refl, drop, codes, ⊎_elim, arith}
 use Rattle.std.specs.Fmt.{decimal}
-use Rattle.lit_cert.specs.Spelling.{IsCount, literals_words, line_text}
+use Rattle.lit_cert.specs.Spelling.{literals_words}
 use Rattle.std.proofs.lemmas.Fmt.{decimal_injective}
 use Rattle.lit_cert.proofs.Lines.{no_line_alone, line_is, is_line, behind_front, plain_number, lacks_by_test}
 use Rattle.lit_cert.proofs.parsing.literals_line.Goals as goal

@@ -1,6 +1,5 @@
-use Rattle.std.proofs.Common.{◌≡◌, ◌≢◌, ℕ, ◌+◌, ◌<◌, ◌∙◌, List, sym, ap, length, get_or, arith}
+use Rattle.std.proofs.Common.{ℕ, ◌∙◌, List, sym, ap, get_or, arith}
 use Rattle.std.specs.Prelude.{IfSome, IfNone}
-use Rattle.std.specs.Fmt.{decimal}
 use Rattle.std.proofs.lemmas.Fmt.{decimal_digit}
 use Rattle.lit_cert.proofs.Numbers.{IsNumber, IsNoNumber, first_is_digit, zero_alone, parse_reads, first_byte, no_first_byte, one_byte, found_by, number_is_text, text_from_bytes, not_text_from_bytes}
 use Rattle.lit_cert.proofs.parsing.number_of.Goals as goal

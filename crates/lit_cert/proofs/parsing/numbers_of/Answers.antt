@@ -1,8 +1,7 @@
-use Rattle.std.proofs.Common.{◌≡◌, ◌∙◌, ◌<◌, ◌^◌, ℕ, eqb, refl, map, length, get_or, arith, rules, tests}
+use Rattle.std.proofs.Common.{◌^◌, eqb, refl, map, length, get_or, arith, rules, tests}
 use Rattle.std.proofs.lemmas.List.{length-map}
 use Rattle.std.proofs.lemmas.Iterator.Splits.{YieldsList-from_slice_split}
 use Rattle.std.proofs.lemmas.Iterator.Consumers.{YieldsList-at}
-use Rattle.lit_cert.specs.Reading.{IsBadLine}
 use Rattle.lit_cert.proofs.Splits.{words_in, yielded_next, yielded_all, same_count, reads_all, word_at}
 use Rattle.lit_cert.proofs.Results.{from_none, at_none}
 use Rattle.lit_cert.proofs.parsing.numbers_of.Goals as goal

@@ -1,9 +1,8 @@
-use Rattle.std.proofs.Common.{◌≡◌, ◌≢◌, ◌∙◌, ◌<◌, ◌+◌, ◌^◌, ◌≤◌, ◌∷◌, ◌++◌, ℕ, List, Bor, All, sym, ap, refl, map, length, get_or, drop, arith}
+use Rattle.std.proofs.Common.{◌≡◌, ◌≢◌, ◌∙◌, ◌+◌, ◌∷◌, ◌++◌, ℕ, List, Bor, All, sym, ap, refl, map, length, get_or, drop, arith}
 use Rattle.std.specs.List.{join_with_byte}
 use Rattle.std.specs.Fmt.{decimal}
 use Rattle.std.proofs.lemmas.List.{get_or_read}
 use Rattle.lit_cert.specs.Spelling.{row_words}
-use Rattle.lit_cert.specs.Reading.{AreNumbers, IsRow, NoLine, IsBadLine}
 use Rattle.lit_cert.proofs.Lines.{is_line}
 use Rattle.lit_cert.proofs.RowLines.{same_numbers, row_numbers, row_has_numbers, no_row, is_row}
 use Rattle.lit_cert.proofs.Results.{from_same, from_some, bad_line_weaker}

@@ -1,5 +1,4 @@
-use Rattle.std.proofs.Common.{◌≡◌, ◌+◌, ◌++◌, ℕ, List, drop, ap, ◌∙◌, arith}
-use Rattle.lit_cert.specs.Reading.{StartsWithRows}
+use Rattle.std.proofs.Common.{◌+◌, ◌++◌, ℕ, List, ap, ◌∙◌}
 use Rattle.lit_cert.proofs.RowsRead.{starts_none, starts_more, behind_number}
 use Rattle.lit_cert.proofs.parsing.rows.Goals as goal
 

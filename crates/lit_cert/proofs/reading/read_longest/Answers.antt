@@ -1,7 +1,6 @@
-use Rattle.std.proofs.Common.{◌≡◌, ◌+◌, ◌*◌, ◌<◌, ◌∙◌, length, sym, subst, vec_len, ap, Result, Err, arith}
+use Rattle.std.proofs.Common.{◌+◌, ◌*◌, ◌<◌, length, ap, Result, Err, arith}
 use Rattle.lit_base.specs.declared.transfer.ReadError.{ReadError}
-use Rattle.lit_cert.proofs.Received.{Spells, found_long, bad_long}
-use Rattle.lit_cert.specs.Reading.{IsBadText}
+use Rattle.lit_cert.proofs.Received.{found_long, bad_long}
 use Rattle.lit_cert.proofs.reading.read_longest.Goals as goal
 
 abbrev too_long : ReadError → Result (Unit {0}) ReadError

@@ -1,10 +1,9 @@
-use Rattle.std.proofs.Common.{◌≡◌, ◌∷◌, ◌++◌, ◌*◌, ◌+◌, ◌-◌, ◌/◌, ℕ, List, length, take, drop, map, sym, ap, ◌∙◌, string_bytes, arith}
+use Rattle.std.proofs.Common.{◌≡◌, ◌++◌, ◌*◌, ◌+◌, ◌-◌, ◌/◌, ℕ, length, take, drop, ap, ◌∙◌, string_bytes, arith}
 use Rattle.std.specs.List.{flat_map}
-use Rattle.std.specs.Fmt.{decimal}
 use Rattle.std.proofs.lemmas.Grind.{common_steps}
 use Rattle.lit_cert.specs.Certificates.{CertificateParts}
 use Rattle.lit_cert.specs.Spelling.{line_text, head_lines, row_words, rows_of}
-use Rattle.lit_cert.proofs.Rows.{rows_of_none, writes_row, writes_end}
+use Rattle.lit_cert.proofs.Rows.{writes_row, writes_end}
 use Rattle.lit_cert.proofs.writing.text_of.Goals as goal
 
 pub loop-r-init : goal.loop-r-init

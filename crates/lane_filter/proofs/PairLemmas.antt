@@ -1,0 +1,103 @@
+-- A pair of bytes: its marks, and that it stands before each end of its literal.
+use Rattle.std.proofs.Common.{◌≡◌, ℕ, ◌+◌, ◌-◌, ◌*◌, ◌<◌, ◌≤◌, ◌&&◌, leb, List, length, get_or, slice_range, bit_and, bit_or, inl, inr, sym, ap, subst, ◌∙◌, arith}
+use Rattle.std.specs.Int.{bit_at}
+use Rattle.std.specs.Int.Bits.{or_zero_r}
+use Rattle.std.proofs.lemmas.Bool.{cases_Bool, and_parts, leb-true, cond-true, cond-false}
+use Rattle.std.proofs.lemmas.List.{get_or-map}
+use Rattle.std.proofs.lemmas.List.Edits.{length-between}
+use Rattle.std.proofs.lemmas.Nat.{or_block}
+use Rattle.std.proofs.lemmas.Nat.Bits.{bit_at_and, bit_at-lt}
+use Rattle.std.proofs.lemmas.Option.{get_or_from_slice_get, slice_get_within}
+use Rattle.lit_base.specs.declared.fold.Fold.{Fold}
+use Rattle.lit_base.specs.declared.fold.Fold.TheVariants.{No, Ascii}
+use Rattle.lit_base.specs.Folding.{folded}
+use Rattle.lit_base.specs.Literals.{Literals}
+use Rattle.lit_base.specs.Occurrences.{Occurs}
+use Rattle.nib_mask.proofs.LawLemmas.{cases_folded}
+use Rattle.nib_mask.proofs.Ranges.{get_or-range}
+use Rattle.lane_filter.specs.Lanes.{Tells}
+use Rattle.lane_filter.specs.Pairs.{CoversBy, IsPairEnd, IsRareByteOf, StandsBefore, case_bit}
+use Rattle.lane_filter.specs.declared.pair.RareByte.{RareByte}
+use Rattle.lane_filter.specs.declared.pair.BytePair.{BytePair}
+
+-- the bits that both masks have tell the ends before which both bytes stand
+pub both_told : (pair : BytePair) (text : List ℕ) (first one other : ℕ) → pair.first.behind < first → pair.second.behind < first → first + 63 ≤ length text
+    → Tells (StandsBefore pair.first text) first 64 one → Tells (StandsBefore pair.second text) first 64 other → Tells (IsPairEnd pair text) first 64 (bit_and one other)
+both_told pair text first one other after_one after_other within of_one of_other k =
+    let meet = bit_at_and one other k in
+    let small = bit_at-lt one k in
+    let small_other = bit_at-lt other k in (
+      λ h.
+          let here : bit_at one k ≡ 1 = omega arith in
+          let there : bit_at other k ≡ 1 = omega arith in
+          let left = (of_one k).0 here in
+          let right = (of_other k).0 there in
+          (left.0, record { after_first = omega arith; after_second = omega arith; within = omega (arith, left.0); first = left.1; second = right.1 }),
+      λ h.
+          let here = (of_one k).1 (h.0, h.1.first) in
+          let there = (of_other k).1 (h.0, h.1.second) in
+          omega arith,
+    )
+
+-- the bit of the case in a byte from 32 a on
+case_set : (a r : ℕ) → r < 32 → bit_or (a * 32 + r) 32 ≡ bit_or a 1 * 32 + r
+case_set a r small = or_block 5 a 1 r 0 small (omega arith) ∙ ap (λ x. bit_or a 1 * 32 + x) (or_zero_r r)
+
+-- with the bit of its case set, a byte is the one that it folds to
+pub case_told : (fold : Fold) (byte other : ℕ) → folded fold byte ≡ other → bit_or byte (case_bit fold other) ≡ other
+case_told No byte other is = or_zero_r byte ∙ is
+case_told Ascii byte other is =
+    elim (cases_Bool (leb 97 other && leb other 122)) [
+      | inl letter ↦
+          let parts = and_parts (leb 97 other) (leb other 122) letter in
+          let low = leb-true 97 other parts.0 in
+          let high = leb-true other 122 parts.1 in
+          let set : bit_or byte (case_bit Ascii other) ≡ bit_or byte 32 = ap (bit_or byte) (cond-true _ 32 0 letter) in
+          elim (cases_folded Ascii byte other is) [
+            | inl same ↦
+                let split : byte ≡ 3 * 32 + (other - 96) = omega arith in
+                set ∙ ap (λ b. bit_or b 32) split ∙ case_set 3 (other - 96) (omega arith) ∙ omega arith
+            | inr capital ↦
+                let shifted : byte ≡ other - 32 = capital ∙ cond-true _ (other - 32) other letter in
+                let split : byte ≡ 2 * 32 + (other - 96) = omega arith in
+                set ∙ ap (λ b. bit_or b 32) split ∙ case_set 2 (other - 96) (omega arith) ∙ omega arith
+          ]
+      | inr no_letter ↦
+          let none : bit_or byte (case_bit Ascii other) ≡ byte = ap (bit_or byte) (cond-false _ 32 0 no_letter) ∙ or_zero_r byte in
+          elim (cases_folded Ascii byte other is) [
+            | inl same ↦ none ∙ same
+            | inr capital ↦ none ∙ capital ∙ cond-false _ (other - 32) other no_letter
+          ]
+    ]
+
+-- where a literal ends, each of its bytes stands before the end
+rare_stands : (l : Literals) (text : List ℕ) (place end at : ℕ) (rare : RareByte) (occurs : Occurs l text place end) → IsRareByteOf l.folding occurs.literal at rare
+    → (rare.behind < end) × StandsBefore rare text end
+rare_stands l text place end at rare occurs is =
+    let literal = occurs.literal in
+    let len = length literal in
+    let begins = occurs.begins in
+    let ends = occurs.ends in
+    let within = is.within in
+    let behind = is.behind in
+    let slice = slice_range text (end - len) end in
+    let size = length-between text (end - len) end ends in
+    let later : end - len + at - (end - len) ≡ at = omega arith in
+    let where_is : end - 1 - rare.behind ≡ end - len + at = omega arith in
+    let in_slice : get_or slice at 0 ≡ get_or text (end - len + at) 0 =
+    ap (λ k. get_or slice k 0) (sym later) ∙ get_or-range text (end - len) end (end - len + at) 0 (omega arith) (omega arith) in
+    let here : get_or text (end - 1 - rare.behind) 0 ≡ get_or slice at 0 = ap (λ k. get_or text k 0) where_is ∙ sym in_slice in
+    let folds : folded l.folding (get_or slice at 0) ≡ get_or literal at 0 =
+    sym (get_or-map (folded l.folding) slice at 0 0 (omega (arith, size))) ∙ ap (λ t. get_or t at 0) occurs.bytes in
+    (omega arith, (λ i. bit_or (here i) (is.case_bit i)) ∙ case_told l.folding _ _ folds ∙ sym is.byte)
+
+-- so the pair of an only literal stands before each place where it ends
+pub pair_covers : (l : Literals) (literal : List ℕ) (one other : ℕ) (pair : BytePair) → length l.texts ≡ 1 → literal ≡ get_or l.texts 0 literal
+    → IsRareByteOf l.folding literal one pair.first → IsRareByteOf l.folding literal other pair.second → CoversBy l (IsPairEnd pair)
+pair_covers l literal one other pair only is first second text place end bytes occurs =
+    let inside = slice_get_within l.texts place occurs.literal occurs.stands in
+    let start : 0 ≡ place = omega arith in
+    let same : literal ≡ occurs.literal = is ∙ ap (λ p. get_or l.texts p literal) start ∙ get_or_from_slice_get l.texts place occurs.literal literal occurs.stands in
+    let of_first = rare_stands l text place end one pair.first occurs (subst (λ t. IsRareByteOf l.folding t one pair.first) same first) in
+    let of_second = rare_stands l text place end other pair.second occurs (subst (λ t. IsRareByteOf l.folding t other pair.second) same second) in
+    record { after_first = of_first.0; after_second = of_second.0; within = occurs.ends; first = of_first.1; second = of_second.1 }

@@ -1,0 +1,36 @@
+-- Two bytes of a literal, and the places of a text before which they stand.
+use Rattle.std.specs.Prelude.{◌≡◌, ℕ, ◌+◌, ◌-◌, ◌<◌, ◌≤◌, ◌&&◌, nat_le, if◌then◌else◌, List, All, length, slice_index, bit_or}
+use Rattle.lit_base.specs.declared.fold.Fold.{Fold}
+use Rattle.lit_base.specs.declared.fold.Fold.TheVariants.{No, Ascii}
+use Rattle.lit_base.specs.Literals.{Literals}
+use Rattle.lit_base.specs.Occurrences.{Occurs}
+use Rattle.lane_filter.specs.declared.pair.RareByte.{RareByte}
+use Rattle.lane_filter.specs.declared.pair.BytePair.{BytePair}
+
+-- the bit that the case of a folded byte is told by: that of a letter, unless case counts
+abbrev pub case_bit : Fold → ℕ → ℕ
+case_bit No byte = 0
+case_bit Ascii byte = if nat_le 97 byte && nat_le byte 122 then 32 else 0
+
+-- the byte at a place of a folded literal
+pub record IsRareByteOf (fold : Fold) (literal : List ℕ) (place : ℕ) (rare : RareByte) : Type 0 where
+  pub within : place < length literal
+  pub behind : rare.behind + 1 + place ≡ length literal
+  pub byte : rare.byte ≡ slice_index literal place
+  pub case_bit : rare.case_bit ≡ case_bit fold (slice_index literal place)
+
+-- as far before an end as in the literal the text has the byte, in either case of a letter where case is ignored
+abbrev pub StandsBefore : RareByte → List ℕ → ℕ → Type 0
+StandsBefore rare text end = bit_or (slice_index text (end - 1 - rare.behind)) rare.case_bit ≡ rare.byte
+
+-- a literal with this pair of bytes may end at this place of the text: both stand before it
+pub record IsPairEnd (pair : BytePair) (text : List ℕ) (end : ℕ) : Type 0 where
+  pub after_first : pair.first.behind < end
+  pub after_second : pair.second.behind < end
+  pub within : end ≤ length text
+  pub first : StandsBefore pair.first text end
+  pub second : StandsBefore pair.second text end
+
+-- no occurrence goes past a test of ends: where a literal ends, in whatever text, the test lets the place pass
+abbrev pub CoversBy : Literals → (List ℕ → ℕ → Type 0) → Type 0
+CoversBy l passes = (text : List ℕ) (place end : ℕ) → All (λ b. b < 256) text → Occurs l text place end → passes text end

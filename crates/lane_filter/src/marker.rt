@@ -1,0 +1,28 @@
+//! Tests of the places of a text at which an occurrence may end, 64 of them at a time.
+ghost use Rattle.std.specs.Prelude.{◌≡◌, ℕ, ◌+◌, ◌≤◌, ◌↔◌, IsTrue, List, length};
+ghost use Rattle.lane_filter.specs.Lanes.{Tells};
+
+/// A test of ends.
+pub(crate) trait Marker {
+    ghost candidate: { Self → List ℕ → ℕ → Type 0 };
+
+    ghost reaches: { Self → ℕ };
+
+    /// How many bytes before an end are looked at.
+    fn reach(&self) -> usize
+        ensures value { result ≡ reaches self.now }
+        ensures some { 1 ≤ result }
+        ensures near { result ≤ 256 };
+
+    /// Whether an occurrence may end at a place of the text.
+    fn is_candidate(&self, text: &[u8], end: usize) -> bool
+        requires some { 1 ≤ end }
+        requires within { end ≤ length text.now }
+        ensures { IsTrue result ↔ candidate self.now text.now end };
+
+    /// At which of 64 places an occurrence may end.
+    fn marks(&self, text: &[u8], first: usize) -> u64
+        requires after { reaches self.now ≤ first }
+        requires within { first + 63 ≤ length text.now }
+        ensures { Tells (candidate self.now text.now) first 64 result };
+}

@@ -1,0 +1,49 @@
+//! The test of ends by a filter's tables.
+ghost use Rattle.std.specs.Prelude.{◌≡◌};
+ghost use Rattle.lane_filter.specs.WideTables.{AreTablesOf};
+
+use crate::marker::Marker;
+use crate::plain;
+use crate::tables::Tables;
+use nib_mask::Masks;
+
+/// Masks, and their tables as vectors.
+#[derive(Clone, Copy)]
+pub(crate) struct Nibbles<'a> {
+    masks: &'a Masks,
+    tables: Tables,
+    ghost of: { AreTablesOf masks.now tables },
+}
+
+impl<'a> Nibbles<'a> {
+    #[inline(always)]
+    pub(crate) fn new(masks: &'a Masks) -> Nibbles<'a>
+        ensures { result.masks.now ≡ masks.now }
+    {
+        Nibbles {
+            masks,
+            tables: Tables::of(masks),
+        }
+    }
+}
+
+impl<'a> Marker for Nibbles<'a> {
+    ghost use Rattle.nib_mask.specs.Candidates.{IsCandidate};
+
+    ghost candidate = { λ s. IsCandidate s.masks.now };
+
+    ghost reaches = { λ _. 3 };
+
+    fn reach(&self) -> usize {
+        3
+    }
+
+    fn is_candidate(&self, text: &[u8], end: usize) -> bool {
+        plain::is_candidate(self.masks, text, end)
+    }
+
+    #[inline(always)]
+    fn marks(&self, text: &[u8], first: usize) -> u64 {
+        self.tables.marks(text, first - 3)
+    }
+}

@@ -1,0 +1,185 @@
+//! Two bytes of a literal that are rare in usual text: where not both stand, it does not end.
+ghost use Rattle.std.specs.Prelude.{◌≡◌, ℕ, ◌+◌, ◌-◌, ◌<◌, ◌≤◌, ◌↔◌, IsTrue, length, slice_index, slice_index_or, max};
+ghost use Rattle.lane_filter.specs.Lanes.{HoldsBelow, Tells};
+ghost use Rattle.lane_filter.specs.Pairs.{CoversBy, IsPairEnd, IsRareByteOf, StandsBefore, case_bit};
+ghost use Rattle.lit_base.specs.declared.fold.Fold.{Fold};
+
+use crate::lanes::{equal_bits, has_equal, load_64};
+use crate::marker::Marker;
+use lit_base::{Fold, LitList};
+use memchr::arch::all::packedpair::{DefaultFrequencyRank, HeuristicFrequencyRank};
+use std::simd::prelude::*;
+
+/// From how many of a literal's last bytes the pair is chosen: the ends nearer to a text's start are
+/// looked at one by one.
+const CHOSEN_FROM: usize = 256;
+
+/// A byte of a literal, and where it stands before an end.
+#[derive(Clone, Copy, Debug, PartialEq, Eq)]
+pub(crate) struct RareByte {
+    byte: u8,
+    /// The bit that a letter's case is told by, or 0 where case counts.
+    case_bit: u8,
+    /// How many bytes stand between it and the end.
+    behind: u8,
+}
+
+impl RareByte {
+    /// The byte at a place of a folded literal.
+    fn at(fold: Fold, literal: &[u8], place: usize) -> RareByte
+        requires within { place < length literal.now }
+        requires near { length literal.now ≤ place + 256 }
+        ensures { IsRareByteOf fold literal.now place result }
+    {
+        let byte = literal[place];
+        RareByte {
+            byte,
+            case_bit: case_bit(fold, byte),
+            behind: (literal.len() - place - 1) as u8,
+        }
+    }
+
+    /// Whether the text has the byte before an end.
+    #[inline(always)]
+    fn stands_before(&self, text: &[u8], end: usize) -> bool
+        requires after { self.now.behind < end }
+        requires within { end ≤ length text.now }
+        ensures { IsTrue result ↔ StandsBefore self.now text.now end }
+    {
+        text[end - 1 - usize::from(self.behind)] | self.case_bit == self.byte
+    }
+
+    /// The bytes of the text that stand there before 64 ends.
+    #[inline(always)]
+    fn bytes_before(&self, text: &[u8], first: usize) -> u8x64
+        requires after { self.now.behind < first }
+        requires within { first + 63 ≤ length text.now }
+        ensures { HoldsBelow (λ k. slice_index text.now (first + k - 1 - self.now.behind)) 64 result }
+    {
+        load_64(text, first - 1 - usize::from(self.behind))
+    }
+
+    /// Whether the text has the byte before one of 64 ends.
+    #[inline(always)]
+    fn is_near(&self, text: &[u8], first: usize) -> bool
+        requires after { self.now.behind < first }
+        requires within { first + 63 ≤ length text.now }
+        ensures { (k : ℕ) → k < 64 → StandsBefore self.now text.now (first + k) → IsTrue result }
+    {
+        has_equal(self.bytes_before(text, first), self.case_bit, self.byte)
+    }
+
+    /// Before which of 64 ends the text has the byte.
+    #[inline(always)]
+    fn marks(&self, text: &[u8], first: usize) -> u64
+        requires after { self.now.behind < first }
+        requires within { first + 63 ≤ length text.now }
+        ensures { Tells (StandsBefore self.now text.now) first 64 result }
+    {
+        equal_bits(self.bytes_before(text, first), self.case_bit, self.byte)
+    }
+}
+
+/// Two bytes of a literal, the rarer first. They are one where it has no other.
+#[derive(Clone, Copy, Debug, PartialEq, Eq)]
+pub struct BytePair {
+    first: RareByte,
+    second: RareByte,
+}
+
+impl BytePair {
+    /// The two rarest of the last bytes of the only literal, by what is usual in text.
+    pub fn of(list: &LitList) -> BytePair
+        requires { length list.now.texts ≡ 1 }
+        ensures { CoversBy list.now (IsPairEnd result) }
+    {
+        list.normal_law();
+        let (fold, literal) = (list.fold(), list.get(0));
+        let first = rarest(fold, literal, None);
+        let second = rarest(fold, literal, Some(first));
+        BytePair {
+            first: RareByte::at(fold, literal, first),
+            second: RareByte::at(fold, literal, second),
+        }
+    }
+}
+
+impl Marker for BytePair {
+    ghost use Rattle.std.specs.Prelude.{max, ◌+◌};
+    ghost use Rattle.lane_filter.specs.Pairs.{IsPairEnd};
+
+    ghost candidate = { IsPairEnd };
+
+    ghost reaches = { λ pair. max pair.first.behind pair.second.behind + 1 };
+
+    fn reach(&self) -> usize {
+        usize::from(self.first.behind.max(self.second.behind)) + 1
+    }
+
+    fn is_candidate(&self, text: &[u8], end: usize) -> bool {
+        self.reach() <= end
+            && self.first.stands_before(text, end)
+            && self.second.stands_before(text, end)
+    }
+
+    #[inline(always)]
+    fn marks(&self, text: &[u8], first: usize) -> u64 {
+        if !self.first.is_near(text, first) {
+            return 0;
+        }
+        self.first.marks(text, first) & self.second.marks(text, first)
+    }
+}
+
+/// The bit that the case of a folded byte is told by.
+fn case_bit(fold: Fold, byte: u8) -> u8
+    ensures { result ≡ case_bit fold byte }
+{
+    match fold {
+        Fold::Ascii if byte.is_ascii_lowercase() => 32,
+        _ => 0,
+    }
+}
+
+/// The place of the rarest of a folded literal's last bytes. Beside a place chosen before it is
+/// another, where there is one, with another byte if there is one.
+fn rarest(fold: Fold, literal: &[u8], chosen: Option<usize>) -> usize
+    requires { 0 < length literal.now }
+    ensures within { result < length literal.now }
+    ensures near { length literal.now ≤ result + 256 }
+{
+    let start = literal.len().saturating_sub(CHOSEN_FROM);
+    let (mut least, mut found) = (u16::MAX, start);
+    for place in start..literal.len() {
+        let cost = cost_of(fold, literal, place, chosen);
+        if cost < least {
+            (least, found) = (cost, place);
+        }
+    }
+    found
+}
+
+/// How little a byte tells beside the one at a place chosen before.
+fn cost_of(fold: Fold, literal: &[u8], place: usize, chosen: Option<usize>) -> u16
+    requires { place < length literal.now }
+{
+    let byte = literal[place];
+    let rank = usual_rank(fold, byte);
+    match chosen {
+        Some(other) if other == place => 512 + rank,
+        Some(other) if literal.get(other) == Some(&byte) => 256 + rank,
+        _ => rank,
+    }
+}
+
+/// How common a folded byte is in usual text, in either case of a letter.
+fn usual_rank(fold: Fold, byte: u8) -> u16
+    ensures { result < 256 }
+{
+    let ranks = DefaultFrequencyRank;
+    let rank = ranks.rank(byte);
+    match fold {
+        Fold::No => u16::from(rank),
+        Fold::Ascii => u16::from(rank.max(ranks.rank(byte.to_ascii_uppercase()))),
+    }
+}

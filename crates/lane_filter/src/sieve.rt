@@ -1,0 +1,32 @@
+//! What tells the places of a text at which a literal may end.
+ghost use Rattle.std.specs.Prelude.{length};
+ghost use Rattle.lit_base.specs.Cuts.{IsCut};
+ghost use Rattle.lane_filter.specs.Pairs.{CoversBy};
+ghost use Rattle.lane_filter.specs.Sieves.{Passes};
+
+use crate::pair::BytePair;
+use lit_base::{Ends, LitList};
+use nib_mask::Masks;
+
+/// What tells the places of a text at which a literal may end.
+#[derive(Clone, Copy, Debug, PartialEq, Eq)]
+pub enum Sieve {
+    /// The tables of a filter, for any number of literals.
+    Nibbles(Masks),
+    /// Two bytes of the only literal.
+    Bytes(BytePair),
+}
+
+impl Sieve {
+    /// The sieve that suits the literals of a list, of which each run of the cut is a bucket.
+    pub fn of(list: &LitList, ends: &Ends) -> Sieve
+        requires { IsCut 8 (length list.now.texts) ends.now.items }
+        ensures { CoversBy list.now (Passes result) }
+    {
+        if list.len() == 1 {
+            Sieve::Bytes(BytePair::of(list))
+        } else {
+            Sieve::Nibbles(Masks::of(list, ends))
+        }
+    }
+}
