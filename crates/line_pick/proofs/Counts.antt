@@ -1,12 +1,12 @@
 -- Counts of a text in parts.
-use Rattle.std.proofs.Common.{◌≡◌, ℕ, zero, suc, ◌+◌, ◌-◌, ◌*◌, ◌/◌, ◌^◌, ◌<◌, ◌≤◌, Bool, true, false, cond, List, [], ◌∷◌, length, map, take, drop, count_by, sym, ap, ◌∙◌, arith}
+use Rattle.std.proofs.Common.{◌≡◌, ℕ, zero, suc, ◌+◌, ◌-◌, ◌*◌, ◌/◌, ◌^◌, ◌<◌, ◌≤◌, Bool, true, false, cond, List, [], ◌∷◌, length, map, replicate, take, drop, count_by, eqb, w8, refl, sym, ap, ◌∙◌, arith}
 use Rattle.std.specs.Int.RustNames.{count_ones}
-use Rattle.std.specs.Simd.Lanes.{mask_l}
+use Rattle.std.specs.Simd.Lanes.{mask_l, sel_l, sum_l, top, zip2}
 use Rattle.std.proofs.Math.Nat.{div-one, zero-div}
 use Rattle.std.proofs.lemmas.Nat.{shr-shr}
-use Rattle.std.proofs.lemmas.Simd.{ones-mask_l}
+use Rattle.std.proofs.lemmas.Simd.{length-zip2, ones-mask_l, sum-zip2, tops_compared, zip2_splat}
 use Rattle.std.proofs.lemmas.List.{drop-drop, drop-map, drop-take, length-drop, take-take, take_all}
-use Rattle.std.proofs.lemmas.List.Sums.{sum_by-take-drop}
+use Rattle.std.proofs.lemmas.List.Sums.{sum_by-cons, sum_by-take-drop}
 
 -- up to a place, and from it on
 pub count_by-parts : (p : ℕ → Bool) (text : List ℕ) (at : ℕ) → count_by p (take at text) + count_by p (drop at text) ≡ count_by p text
@@ -47,3 +47,28 @@ ones-last p text lanes left long few is =
     ap count_ones (shr-shr (mask_l (map p lanes)) (64 - 1 - left) 1 ∙ mask_l-drop (map p lanes) off ∙ ap mask_l (drop-map p off lanes))
     ∙ ones-mask_l p (drop off lanes)
     ∙ ap (λ t. count_by p (drop off t)) all ∙ ap (count_by p) (drop-drop off at text ∙ ap (λ k. drop k text) place)
+
+-- 1 in each lane that passes: together as many as pass
+sum-select : (p : ℕ → Bool) (xs : List ℕ) (n : ℕ) → length xs ≡ n → sum_l (sel_l (map p xs) (replicate n 1) (replicate n 0)) ≡ count_by p xs
+sum-select p [] n e = refl
+sum-select p (x ∷ xs) zero e = absurd (omega (arith, e))
+sum-select p (x ∷ xs) (suc n) e = ap (λ k. cond (p x) 1 0 + k) (sum-select p xs n (omega (arith, e))) ∙ sym (sum_by-cons (λ y. cond (p y) 1 0) x xs)
+
+-- the lanes that are newlines
+pub sum-compared : (xs : List ℕ) → length xs ≡ 64 → sum_l (sel_l (map (top 7) (zip2 (λ a b. cond (eqb a b) 255 0) xs (replicate 64 10))) (replicate 64 1) (replicate 64 0)) ≡ count_by (λ b. eqb b 10) xs
+sum-compared xs e =
+    ap (λ ms. sum_l (sel_l ms (replicate 64 1) (replicate 64 0))) (tops_compared w8 eqb xs (replicate 64 10) ∙ zip2_splat eqb xs 64 10 e) ∙ sum-select (λ b. eqb b 10) xs 64 e
+
+-- three times 64 bytes more
+pub count_by-three : (p : ℕ → Bool) (text : List ℕ) (at a b c : ℕ) → a ≡ count_by p (take ((at + 64) - at) (drop at text)) → b ≡ count_by p (take (((at + 64) + 64) - (at + 64)) (drop (at + 64) text))
+    → c ≡ count_by p (take (((at + 128) + 64) - (at + 128)) (drop (at + 128) text)) → count_by p (take at text) + (a + b + c) ≡ count_by p (take (at + 192) text)
+count_by-three p text at a b c first second third =
+    let two : (at + 64) + 64 ≡ at + 128 = omega arith in
+    let three : (at + 128) + 64 ≡ at + 192 = omega arith in
+    omega (arith, first, second, third, count_by-more p text at 64, count_by-more p text (at + 64) 64, count_by-more p text (at + 128) 64, ap (λ n. count_by p (take n text)) two, ap (λ n. count_by p (take n text)) three)
+
+-- the sums of three vectors, added lane by lane
+pub sum-three : (xs ys zs : List ℕ) → length xs ≡ 64 → length ys ≡ 64 → length zs ≡ 64 → sum_l (zip2 (λ a b. a + b) (zip2 (λ a b. a + b) xs ys) zs) ≡ sum_l xs + sum_l ys + sum_l zs
+sum-three xs ys zs ex ey ez =
+    let both = zip2 (λ a b. a + b) xs ys in
+    omega (arith, sum-zip2 xs ys (ex ∙ sym ey), sum-zip2 both zs (length-zip2 (λ a b. a + b) xs ys (ex ∙ sym ey) ∙ ex ∙ sym ez))
