@@ -37,6 +37,6 @@ crowds-preserved c =
     record {
       sieve = c.skip_to-in-Err.ensures.sieve ∙ c.next_sieved.ensures.sieve ∙ before.sieve;
       text = c.skip_to-in-Err.ensures.text ∙ c.next_sieved.ensures.text ∙ before.text;
-      ahead = omega (arith, c.skip_to-in-Err.ensures.from, crowd_ahead at);
+      ahead = omega (arith, c.skip_to-in-Err.ensures.from, crowd_ahead at, c.in-Err.ensures.crowd.within, c.min-last.ensures, c.saturating_add.ensures);
       none = subst (NoEndUpTo l text from) (sym c.skip_to-in-Err.ensures.from) further;
     }
