@@ -140,8 +140,11 @@ class Row:
         self.name, self.options, self.files, self.stdin = name, options, files, stdin
 
     def suits(self, program):
-        """busybox takes minutes for a long list: it tries each pattern in turn."""
-        return program != "busybox" or not ("100" in self.name or "-i -f" in self.name)
+        """busybox takes minutes for a long list, since it tries each pattern in turn, and ripgrep for whole lines
+        of one."""
+        if program == "busybox":
+            return not ("100" in self.name or "-i -f" in self.name)
+        return not (program == "ripgrep" and "-x" in self.name)
 
 
 def rows(folder):
