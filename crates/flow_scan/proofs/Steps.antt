@@ -4,7 +4,7 @@ use Rattle.std.proofs.Math.Facts.{Fits-lt-pow}
 use Rattle.std.proofs.lemmas.Bool.{cases_lt}
 use Rattle.std.proofs.lemmas.List.Elements.{All-from_get_or}
 use Rattle.lit_base.specs.Literals.{Literals}
-use Rattle.lane_filter.specs.Pairs.{CoversBy}
+use Rattle.nib_mask.specs.Candidates.{CoversBy}
 use Rattle.lane_filter.specs.Sieves.{Passes}
 use Rattle.lane_filter.specs.declared.sieve.Sieve.{Sieve}
 use Rattle.lit_base.specs.Ends.{HasEnd}

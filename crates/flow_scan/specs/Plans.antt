@@ -4,7 +4,7 @@ use Rattle.lit_base.specs.Literals.{Literals}
 use Rattle.lit_cert.specs.Certificates.{CertificateParts}
 use Rattle.lit_cert.specs.Certified.{IsCertified, IsFirstFailure}
 use Rattle.lit_cert.specs.declared.reason.Reason.{Reason}
-use Rattle.lane_filter.specs.Pairs.{CoversBy}
+use Rattle.nib_mask.specs.Candidates.{CoversBy}
 use Rattle.lane_filter.specs.Sieves.{Passes}
 use Rattle.lane_filter.specs.declared.sieve.Sieve.{Sieve}
 use Rattle.flow_scan.specs.declared.fault.Fault.{Fault}

@@ -4,7 +4,7 @@ ghost use Rattle.lit_base.specs.Literals.{lengths};
 ghost use Rattle.lit_base.specs.Assignments.{NoAssignmentBelow, assign_price, assignment_of};
 ghost use Rattle.lit_cert.specs.Certified.{IsCertified};
 ghost use Rattle.lit_base.specs.declared.limits.TheConstants.{MAX_LITERAL_LEN};
-ghost use Rattle.lane_filter.specs.Pairs.{CoversBy};
+ghost use Rattle.nib_mask.specs.Candidates.{CoversBy};
 ghost use Rattle.lane_filter.specs.Sieves.{Passes};
 ghost use Rattle.flow_scan.specs.Plans.{IsRefusalOf, Plan};
 ghost use Rattle.flow_scan.specs.Tails.{HasBounds, carry_of};

@@ -1,7 +1,7 @@
 //! The places of a text at which literals end, one after the other.
 ghost use Rattle.std.specs.Prelude.{◌≡◌, ◌≤◌, IfErr, IfOk, IfSome, MatchOption, length};
 ghost use Rattle.lit_base.specs.Occurrences.{IsFirstEnding};
-ghost use Rattle.lane_filter.specs.Pairs.{CoversBy};
+ghost use Rattle.nib_mask.specs.Candidates.{CoversBy};
 ghost use Rattle.lane_filter.specs.Sieves.{Passes};
 ghost use Rattle.lit_base.specs.Ends.{IsNextEnd, NoEndAfter, NoEndUpTo};
 ghost use Rattle.flow_scan.specs.Ends.{IsPassed};
@@ -15,7 +15,7 @@ const CROWD: usize = 4;
 /// A candidate costs about as much as so many of the list's looks at the text.
 const LOOKS: usize = 4;
 
-/// So many bytes behind a crowd are searched by the list before the filter is tried again.
+/// So many bytes behind a crowd are searched by the list before the sieve is tried again.
 const WINDOW: usize = 4096;
 
 /// Candidates at which nothing ends crowd up to this one.

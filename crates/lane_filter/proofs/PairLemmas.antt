@@ -1,5 +1,5 @@
 -- A pair of bytes: its marks, and that it stands before each end of its literal.
-use Rattle.std.proofs.Common.{◌≡◌, ℕ, ◌+◌, ◌-◌, ◌*◌, ◌<◌, ◌≤◌, ◌&&◌, leb, List, length, get_or, slice_range, bit_and, bit_or, inl, inr, sym, ap, subst, ◌∙◌, arith}
+use Rattle.std.proofs.Common.{◌≡◌, ℕ, ◌+◌, ◌-◌, ◌*◌, ◌<◌, ◌≤◌, ◌&&◌, leb, List, [], ◌∷◌, length, get_or, slice_get, slice_range, bit_and, bit_or, Some, inl, inr, sym, ap, subst, ◌∙◌, arith}
 use Rattle.std.specs.Int.{bit_at}
 use Rattle.std.specs.Int.Bits.{or_zero_r}
 use Rattle.std.proofs.lemmas.Bool.{cases_Bool, and_parts, leb-true, cond-true, cond-false}
@@ -13,10 +13,11 @@ use Rattle.lit_base.specs.declared.fold.Fold.TheVariants.{No, Ascii}
 use Rattle.lit_base.specs.Folding.{folded}
 use Rattle.lit_base.specs.Literals.{Literals}
 use Rattle.lit_base.specs.Occurrences.{Occurs}
+use Rattle.nib_mask.specs.Candidates.{CoversBy}
 use Rattle.nib_mask.proofs.LawLemmas.{cases_folded}
 use Rattle.nib_mask.proofs.Ranges.{get_or-range}
 use Rattle.lane_filter.specs.Lanes.{Tells}
-use Rattle.lane_filter.specs.Pairs.{CoversBy, IsPairEnd, IsRareByteOf, StandsBefore, case_bit}
+use Rattle.lane_filter.specs.Pairs.{IsPairEnd, IsPairOf, IsRareByteOf, StandsBefore, case_bit}
 use Rattle.lane_filter.specs.declared.pair.RareByte.{RareByte}
 use Rattle.lane_filter.specs.declared.pair.BytePair.{BytePair}
 
@@ -91,13 +92,25 @@ rare_stands l text place end at rare occurs is =
     sym (get_or-map (folded l.folding) slice at 0 0 (omega (arith, size))) ∙ ap (λ t. get_or t at 0) occurs.bytes in
     (omega arith, (λ i. bit_or (here i) (is.case_bit i)) ∙ case_told l.folding _ _ folds ∙ sym is.byte)
 
--- so the pair of an only literal stands before each place where it ends
-pub pair_covers : (l : Literals) (literal : List ℕ) (one other : ℕ) (pair : BytePair) → length l.texts ≡ 1 → literal ≡ get_or l.texts 0 literal
-    → IsRareByteOf l.folding literal one pair.first → IsRareByteOf l.folding literal other pair.second → CoversBy l (IsPairEnd pair)
-pair_covers l literal one other pair only is first second text place end bytes occurs =
-    let inside = slice_get_within l.texts place occurs.literal occurs.stands in
-    let start : 0 ≡ place = omega arith in
-    let same : literal ≡ occurs.literal = is ∙ ap (λ p. get_or l.texts p literal) start ∙ get_or_from_slice_get l.texts place occurs.literal literal occurs.stands in
-    let of_first = rare_stands l text place end one pair.first occurs (subst (λ t. IsRareByteOf l.folding t one pair.first) same first) in
-    let of_second = rare_stands l text place end other pair.second occurs (subst (λ t. IsRareByteOf l.folding t other pair.second) same second) in
+-- a list of one literal is that literal
+only_literal : (texts : List (List ℕ)) (literal : List ℕ) → length texts ≡ 1 → literal ≡ get_or texts 0 literal → texts ≡ literal ∷ []
+only_literal [] literal one is = absurd (omega (arith, one))
+only_literal (text ∷ []) literal one is = ap (λ t. t ∷ []) (sym is)
+only_literal (text ∷ other ∷ rest) literal one is = absurd (omega (arith, one))
+
+-- two places of it give a pair
+pub pair_of : (l : Literals) (literal : List ℕ) (one other : ℕ) (pair : BytePair) → length l.texts ≡ 1 → literal ≡ get_or l.texts 0 literal
+    → IsRareByteOf l.folding literal one pair.first → IsRareByteOf l.folding literal other pair.second → IsPairOf l pair
+pair_of l literal one other pair single is first second =
+    record { literal = literal; only = only_literal l.texts literal single is; first_place = one; first = first; second_place = other; second = second }
+
+-- both bytes of such a pair stand before each place where the literal ends
+pub pair_covers : (l : Literals) (pair : BytePair) → IsPairOf l pair → CoversBy l (IsPairEnd pair)
+pair_covers l pair of text place end bytes occurs =
+    let stands = subst (λ (texts : List (List ℕ)). slice_get texts place ≡ Some occurs.literal) of.only occurs.stands in
+    let inside = slice_get_within (of.literal ∷ []) place occurs.literal stands in
+    let start : 0 ≡ place = omega (arith, inside) in
+    let same : of.literal ≡ occurs.literal = ap (λ p. get_or (of.literal ∷ []) p of.literal) start ∙ get_or_from_slice_get (of.literal ∷ []) place occurs.literal of.literal stands in
+    let of_first = rare_stands l text place end of.first_place pair.first occurs (subst (λ t. IsRareByteOf l.folding t of.first_place pair.first) same of.first) in
+    let of_second = rare_stands l text place end of.second_place pair.second occurs (subst (λ t. IsRareByteOf l.folding t of.second_place pair.second) same of.second) in
     record { after_first = of_first.0; after_second = of_second.0; within = occurs.ends; first = of_first.1; second = of_second.1 }

@@ -1,9 +1,8 @@
 -- Two bytes of a literal, and the places of a text before which they stand.
-use Rattle.std.specs.Prelude.{◌≡◌, ℕ, ◌+◌, ◌-◌, ◌<◌, ◌≤◌, ◌&&◌, nat_le, if◌then◌else◌, List, All, length, slice_index, bit_or}
+use Rattle.std.specs.Prelude.{◌≡◌, ℕ, ◌+◌, ◌-◌, ◌<◌, ◌≤◌, ◌&&◌, nat_le, if◌then◌else◌, List, [], ◌∷◌, length, slice_index, bit_or}
 use Rattle.lit_base.specs.declared.fold.Fold.{Fold}
 use Rattle.lit_base.specs.declared.fold.Fold.TheVariants.{No, Ascii}
 use Rattle.lit_base.specs.Literals.{Literals}
-use Rattle.lit_base.specs.Occurrences.{Occurs}
 use Rattle.lane_filter.specs.declared.pair.RareByte.{RareByte}
 use Rattle.lane_filter.specs.declared.pair.BytePair.{BytePair}
 
@@ -31,6 +30,11 @@ pub record IsPairEnd (pair : BytePair) (text : List ℕ) (end : ℕ) : Type 0 wh
   pub first : StandsBefore pair.first text end
   pub second : StandsBefore pair.second text end
 
--- no occurrence goes past a test of ends: where a literal ends, in whatever text, the test lets the place pass
-abbrev pub CoversBy : Literals → (List ℕ → ℕ → Type 0) → Type 0
-CoversBy l passes = (text : List ℕ) (place end : ℕ) → All (λ b. b < 256) text → Occurs l text place end → passes text end
+-- two bytes of the only literal of a list, each with its place
+pub record IsPairOf (l : Literals) (pair : BytePair) : Type 0 where
+  pub literal : List ℕ
+  pub only : l.texts ≡ literal ∷ []
+  pub first_place : ℕ
+  pub first : IsRareByteOf l.folding literal first_place pair.first
+  pub second_place : ℕ
+  pub second : IsRareByteOf l.folding literal second_place pair.second

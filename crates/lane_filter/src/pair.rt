@@ -1,8 +1,9 @@
 //! Two bytes of a literal that are rare in usual text: where not both stand, it does not end.
 ghost use Rattle.std.specs.Prelude.{◌≡◌, ℕ, ◌+◌, ◌-◌, ◌<◌, ◌≤◌, ◌↔◌, IsTrue, length, slice_index, slice_index_or, max};
 ghost use Rattle.lane_filter.specs.Lanes.{HoldsBelow, Tells};
-ghost use Rattle.lane_filter.specs.Pairs.{CoversBy, IsPairEnd, IsRareByteOf, StandsBefore, case_bit};
+ghost use Rattle.lane_filter.specs.Pairs.{IsPairEnd, IsPairOf, IsRareByteOf, StandsBefore, case_bit};
 ghost use Rattle.lit_base.specs.declared.fold.Fold.{Fold};
+ghost use Rattle.nib_mask.specs.Candidates.{CoversBy};
 
 use crate::lanes::{equal_bits, has_equal, load_64};
 use crate::marker::Marker;
@@ -91,7 +92,8 @@ impl BytePair {
     /// The two rarest of the last bytes of the only literal, by what is usual in text.
     pub fn of(list: &LitList) -> BytePair
         requires { length list.now.texts ≡ 1 }
-        ensures { CoversBy list.now (IsPairEnd result) }
+        ensures pair { IsPairOf list.now result }
+        ensures covers { CoversBy list.now (IsPairEnd result) }
     {
         list.normal_law();
         let (fold, literal) = (list.fold(), list.get(0));

@@ -1,8 +1,8 @@
 //! What tells the places of a text at which a literal may end.
 ghost use Rattle.std.specs.Prelude.{length};
 ghost use Rattle.lit_base.specs.Cuts.{IsCut};
-ghost use Rattle.lane_filter.specs.Pairs.{CoversBy};
-ghost use Rattle.lane_filter.specs.Sieves.{Passes};
+ghost use Rattle.nib_mask.specs.Candidates.{CoversBy};
+ghost use Rattle.lane_filter.specs.Sieves.{IsSieveOf, Passes};
 
 use crate::pair::BytePair;
 use lit_base::{Ends, LitList};
@@ -21,7 +21,8 @@ impl Sieve {
     /// The sieve that suits the literals of a list, of which each run of the cut is a bucket.
     pub fn of(list: &LitList, ends: &Ends) -> Sieve
         requires { IsCut 8 (length list.now.texts) ends.now.items }
-        ensures { CoversBy list.now (Passes result) }
+        ensures sieve { IsSieveOf list.now ends.now.items result }
+        ensures covers { CoversBy list.now (Passes result) }
     {
         if list.len() == 1 {
             Sieve::Bytes(BytePair::of(list))

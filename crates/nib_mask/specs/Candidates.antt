@@ -1,5 +1,5 @@
 -- The places of a text that a filter lets through, and the law that every occurrence ends at one.
-use Rattle.std.specs.Prelude.{◌≢◌, ℕ, ◌+◌, ◌-◌, ◌<◌, ◌≤◌, List, [], ◌∷◌, ◌++◌, All, length, slice_index}
+use Rattle.std.specs.Prelude.{◌≡◌, ◌≢◌, ℕ, ◌+◌, ◌-◌, ◌<◌, ◌≤◌, List, [], ◌∷◌, ◌++◌, All, length, slice_index}
 use Rattle.lit_base.specs.Literals.{Literals}
 use Rattle.lit_base.specs.Occurrences.{Occurs}
 use Rattle.nib_mask.specs.declared.masks.Masks.{Masks}
@@ -24,7 +24,15 @@ pub record IsCandidate (masks : Masks) (text : List ℕ) (end : ℕ) : Type 0 wh
   pub within : end ≤ length text
   pub marked : filter_byte_at masks (0 ∷ 0 ∷ []) text end ≢ 0
 
--- no occurrence goes past the filter: where a literal ends, in whatever text, there is a candidate
+-- no occurrence goes past a test of ends: where a literal ends, in whatever text, the test lets the place pass
+abbrev pub CoversBy : Literals → (List ℕ → ℕ → Type 0) → Type 0
+CoversBy l passes = (text : List ℕ) (place end : ℕ) → All (λ b. b < 256) text → Occurs l text place end → passes text end
+
+-- no occurrence goes past the filter: where a literal ends, there is a candidate
 abbrev pub Covers : Literals → Masks → Type 0
-Covers l masks =
-    (text : List ℕ) (place end : ℕ) → All (λ b. b < 256) text → Occurs l text place end → IsCandidate masks text end
+Covers l masks = CoversBy l (IsCandidate masks)
+
+-- the tables give each three bytes their filter set, for literals and a cut of them
+abbrev pub GivesFilterSets : Literals → List ℕ → Masks → Type 0
+GivesFilterSets l ends masks =
+    (a b c : ℕ) → a < 256 → b < 256 → c < 256 → table_value masks a b c ≡ filter_set l ends a b c

@@ -2,10 +2,9 @@
 
 ghost use Rattle.std.specs.Prelude.{◌≡◌, ℕ, ◌<◌, ◌≤◌, ◌^◌, length, slice_index, slice_range};
 ghost use Rattle.lit_base.specs.Cuts.{CutsFrom, IsCut};
-ghost use Rattle.nib_mask.specs.FilterSet.{filter_set};
 ghost use Rattle.nib_mask.specs.Runs.{runs_mask};
 ghost use Rattle.nib_mask.specs.Tables.{allows, value_at, table_value};
-ghost use Rattle.nib_mask.specs.Candidates.{Covers};
+ghost use Rattle.nib_mask.specs.Candidates.{Covers, GivesFilterSets};
 
 use crate::fingerprint::{is_used, shares_half};
 use crate::half::Half;
@@ -25,8 +24,7 @@ impl Masks {
     /// The tables for the literals of a list, each run of the cut being a bucket.
     pub fn of(list: &LitList, ends: &Ends) -> Masks
         requires { IsCut 8 (length list.now.texts) ends.now.items }
-        ensures set { (a b c : ℕ) → a < 256 → b < 256 → c < 256
-            → table_value result a b c ≡ filter_set list.now ends.now.items a b c }
+        ensures set { GivesFilterSets list.now ends.now.items result }
         ensures covers { Covers list.now result }
     {
         prove!(list.get(0).len() == list.shortest());

@@ -1,5 +1,5 @@
 use Rattle.std.proofs.Common.{◌≡◌, ℕ, ◌-◌, ◌≤◌, ◌++◌, List, length, take}
-use Rattle.lane_filter.specs.Pairs.{CoversBy}
+use Rattle.nib_mask.specs.Candidates.{CoversBy}
 use Rattle.lane_filter.specs.Sieves.{Passes}
 use Rattle.flow_scan.specs.Tails.{AreHitsBehind}
 use Rattle.flow_scan.proofs.searching.add_hits.Given as goal

@@ -1,6 +1,6 @@
 use Rattle.std.proofs.Common.{ap, subst}
 use Rattle.lit_base.specs.Literals.{Literals}
-use Rattle.lane_filter.specs.Pairs.{CoversBy}
+use Rattle.nib_mask.specs.Candidates.{CoversBy}
 use Rattle.lane_filter.specs.Sieves.{Passes}
 use Rattle.flow_scan.specs.Plans.{Plan}
 use Rattle.flow_scan.proofs.compiled.Compiled.sieve.Goals as goal
