@@ -29,6 +29,17 @@ module _ (P : ℕ → Type 0) where
       let there = (m.all end low high holds).1 in
       absurd (omega (arith, there, ap (λ x. bit_at x (end - first)) none ∙ bit_at-zero (end - first)))
 
+  -- two stretches without places, one behind the other
+  pub quiet_on : (from mid to : ℕ) → NoneWithin P from mid → NoneWithin P mid to → NoneWithin P from to
+  quiet_on from mid to front back end low high holds =
+      ⊎_elim (λ after. back end after high holds) (λ before. front end low before holds) (cases_lt mid end)
+
+  -- so many places in a row at which it does not hold
+  pub quiet_in_row : (from count : ℕ) → ((k : ℕ) → k < count → ¬ P (from + 1 + k)) → NoneWithin P from (from + count)
+  quiet_in_row from count none end low high holds =
+      let place : end ≡ from + 1 + (end - (from + 1)) = omega arith in
+      none (end - (from + 1)) (omega arith) (subst P place holds)
+
   -- the mask 1 has its lowest bit alone
   bits_of_one : (k : ℕ) → bit_at 1 k ≡ 1 → k ≡ 0
   bits_of_one zero s = refl

@@ -1,5 +1,5 @@
 -- What the operations on vectors hold, lane by lane.
-use Rattle.std.proofs.Common.{◌≡◌, ◌≢◌, ◌↔◌, ℕ, ◌+◌, ◌*◌, ◌/◌, ◌%◌, ◌^◌, ◌<◌, List, Bool, true, false, not, cond, eqb, length, get_or, map, replicate, bit_or, refl, sym, ap, ◌∙◌, subst, arith, inl, inr, w8}
+use Rattle.std.proofs.Common.{◌≡◌, ◌≢◌, ◌↔◌, ℕ, ◌+◌, ◌*◌, ◌/◌, ◌%◌, ◌^◌, ◌<◌, ◌≤◌, List, Bool, true, false, not, cond, eqb, length, get_or, map, replicate, bit_or, refl, sym, ap, ◌∙◌, subst, arith, inl, inr, w8}
 use Rattle.std.specs.Int.{bit_at}
 use Rattle.std.specs.Simd.Lanes.{zip2, sel_l, mask_l, top}
 use Rattle.std.proofs.lemmas.Simd.{length-zip2, get_or-zip2, get_or-replicate, length-sel_l, get_or-sel_l, tops_compared, bitmask_splat, bit_mask_l, mask_l-mod, swz_l, SwzOk, SwzOk-from_below, length-swz_l, get_or-swz_l_below, Each1-from_get_or}
@@ -70,17 +70,25 @@ set_if_not_zero : (x : ℕ) (b : Bool) → eqb x 0 ≡ b → (cond {A = ℕ} (no
 set_if_not_zero x true e = (λ h. absurd (omega arith), λ ne. absurd (ne (eqb-true x 0 e)))
 set_if_not_zero x false e = (λ h. eqb-false x 0 e, λ h. refl)
 
--- a bit of the mask of the lanes that are not zero
-pub bit_of_nonzero : (v : List ℕ) (k : ℕ) → length v ≡ 64
-    → (bit_at (mask_l (map (top 7) (zip2 (λ m n. cond (not (eqb m n)) 255 0) v (replicate 64 0))) % 2 ^ 64) k ≡ 1) ↔ (get_or v k 0 ≢ 0)
-bit_of_nonzero v k long =
+-- a bit of the mask of the lanes that are not zero, of a vector of so many lanes
+pub bit_of_nonzero : (v : List ℕ) (n k : ℕ) → length v ≡ n → n ≤ 64
+    → (bit_at (mask_l (map (top 7) (zip2 (λ m n. cond (not (eqb m n)) 255 0) v (replicate n 0))) % 2 ^ 64) k ≡ 1) ↔ (get_or v k 0 ≢ 0)
+bit_of_nonzero v n k long few =
     let test : ℕ → ℕ → Bool = λ m n. not (eqb m n) in
-    let same = bitmask_splat w8 test v 64 0 long (omega arith) in
+    let same = bitmask_splat w8 test v n 0 long few in
     let bit : bit_at (mask_l (map (λ x. test x 0) v)) k ≡ cond (not (eqb (get_or v k 0) 0)) 1 0 =
     bit_mask_l (map (λ x. test x 0) v) k ∙ ap (λ b. cond b 1 0) (get_or-map (λ x. test x 0) v k 0) in
     let told = set_if_not_zero (get_or v k 0) (eqb (get_or v k 0) 0) refl in
     let whole = ap (λ m. bit_at m k) same ∙ bit in
     (λ h. told.0 (sym whole ∙ h), λ h. whole ∙ told.1 h)
+
+-- where a lane is not zero, neither is the mask
+pub some_nonzero : (v : List ℕ) (n k : ℕ) → length v ≡ n → n ≤ 64 → get_or v k 0 ≢ 0
+    → not (eqb (mask_l (map (top 7) (zip2 (λ m n. cond (not (eqb m n)) 255 0) v (replicate n 0))) % 2 ^ 64) 0) ≡ true
+some_nonzero v n k long few set =
+    let mask = mask_l (map (top 7) (zip2 (λ m n. cond (not (eqb m n)) 255 0) v (replicate n 0))) % 2 ^ 64 in
+    let there : bit_at mask k ≡ 1 = (bit_of_nonzero v n k long few).1 set in
+    ap not (ne_eqb mask 0 (λ none. absurd (omega (arith, there, ap (λ m. bit_at m k) none ∙ bit_at-zero k))))
 
 -- the test of a lane for a number, as a bit
 set_if_equal : (x y : ℕ) (b : Bool) → eqb x y ≡ b → (cond {A = ℕ} b 1 0 ≡ 1) ↔ (x ≡ y)
@@ -134,11 +142,3 @@ told_equal v set byte k long =
     let same = ap (λ m. bit_at m k) (equal_mask v set byte long) in
     let told = bit_of_equal v set byte k long in
     (λ h. told.0 (sym same ∙ h), λ h. same ∙ told.1 h)
-
--- where a lane is the byte, the mask is not 0
-pub some_equal : (v : List ℕ) (set byte k : ℕ) → length v ≡ 64 → k < 64 → bit_or (get_or v k 0) set ≡ byte
-    → not (eqb (mask_l (map (top 7) (zip2 (λ m n. cond (eqb m n) 255 0) (zip2 bit_or v (replicate 64 set)) (replicate 64 byte))) % 2 ^ 64) 0) ≡ true
-some_equal v set byte k long l same =
-    let mask = mask_l (map (top 7) (zip2 (λ m n. cond (eqb m n) 255 0) (zip2 bit_or v (replicate 64 set)) (replicate 64 byte))) % 2 ^ 64 in
-    let there : bit_at mask k ≡ 1 = (told_equal v set byte k long).1 (l, same) in
-    ap not (ne_eqb mask 0 (λ none. absurd (omega (arith, there, ap (λ m. bit_at m k) none ∙ bit_at-zero k))))

@@ -1,8 +1,8 @@
 -- A pair of bytes: its marks, and that it stands before each end of its literal.
-use Rattle.std.proofs.Common.{◌≡◌, ℕ, ◌+◌, ◌-◌, ◌*◌, ◌<◌, ◌≤◌, ◌&&◌, leb, List, [], ◌∷◌, length, get_or, slice_get, slice_range, bit_and, bit_or, Some, inl, inr, sym, ap, subst, ◌∙◌, arith}
+use Rattle.std.proofs.Common.{◌≡◌, ℕ, ◌+◌, ◌-◌, ◌*◌, ◌<◌, ◌≤◌, ◌&&◌, leb, List, [], ◌∷◌, length, get_or, slice_get, slice_range, bit_and, bit_or, Some, inl, inr, sym, ap, subst, ◌∙◌, ◌≢◌, cond, eqb, arith}
 use Rattle.std.specs.Int.{bit_at}
 use Rattle.std.specs.Int.Bits.{or_zero_r}
-use Rattle.std.proofs.lemmas.Bool.{cases_Bool, and_parts, leb-true, cond-true, cond-false}
+use Rattle.std.proofs.lemmas.Bool.{cases_Bool, cases_lt, and_parts, eq-eqb, leb-true, cond-true, cond-false}
 use Rattle.std.proofs.lemmas.List.{get_or-map}
 use Rattle.std.proofs.lemmas.List.Edits.{length-between}
 use Rattle.std.proofs.lemmas.Nat.{or_block}
@@ -16,7 +16,8 @@ use Rattle.lit_base.specs.Occurrences.{Occurs}
 use Rattle.nib_mask.specs.Candidates.{CoversBy}
 use Rattle.nib_mask.proofs.LawLemmas.{cases_folded}
 use Rattle.nib_mask.proofs.Ranges.{get_or-range}
-use Rattle.lane_filter.specs.Lanes.{Tells}
+use Rattle.lane_filter.proofs.LaneLemmas.{lanes_named}
+use Rattle.lane_filter.specs.Lanes.{HasLanes, SeesLanes, Tells, TellsLanes}
 use Rattle.lane_filter.specs.Pairs.{IsPairEnd, IsPairOf, IsRareByteOf, StandsBefore, case_bit}
 use Rattle.lane_filter.specs.declared.pair.RareByte.{RareByte}
 use Rattle.lane_filter.specs.declared.pair.BytePair.{BytePair}
@@ -39,6 +40,49 @@ both_told pair text first one other after_one after_other within of_one of_other
           let there = (of_other k).1 (h.0, h.1.second) in
           omega arith,
     )
+
+-- a lane of the bytes before 32 ends is the byte before its end
+byte_of_lane : (text : List ℕ) (behind first k : ℕ) → behind < first → get_or text (first - 1 - behind + k) 0 ≡ get_or text (first + k - 1 - behind) 0
+byte_of_lane text behind first k after =
+    let place : first - 1 - behind + k ≡ first + k - 1 - behind = omega arith in
+    ap (λ i. get_or text i 0) place
+
+-- it is told by 255 where the byte is the rare one
+pub told_in_lane : (rare : RareByte) (text : List ℕ) (first k : ℕ) (bytes told : List ℕ) → rare.behind < first → k < 32
+    → HasLanes bytes (λ j. bit_or (get_or text (first - 1 - rare.behind + j) 0) rare.case_bit)
+    → HasLanes told (λ j. cond (eqb (get_or bytes j 0) rare.byte) 255 0) → StandsBefore rare text (first + k) → get_or told k 0 ≡ 255
+told_in_lane rare text first k bytes told after l lanes tests stands =
+    let same : get_or bytes k 0 ≡ rare.byte =
+    lanes.each k l ∙ ap (λ b. bit_or b rare.case_bit) (byte_of_lane text rare.behind first k after) ∙ stands in
+    tests.each k l ∙ cond-true _ 255 0 (eq-eqb _ rare.byte same)
+
+-- the same without a bit of case
+pub told_in_exact_lane : (rare : RareByte) (text : List ℕ) (first k : ℕ) (bytes told : List ℕ) → rare.case_bit ≡ 0 → rare.behind < first → k < 32
+    → HasLanes bytes (λ j. get_or text (first - 1 - rare.behind + j) 0)
+    → HasLanes told (λ j. cond (eqb (get_or bytes j 0) rare.byte) 255 0) → StandsBefore rare text (first + k) → get_or told k 0 ≡ 255
+told_in_exact_lane rare text first k bytes told exact after l lanes tests stands =
+    let f : ℕ → ℕ = λ j. get_or text (first - 1 - rare.behind + j) 0 in
+    let same : (j : ℕ) → j < 32 → f j ≡ bit_or (f j) rare.case_bit = λ j _. sym (ap (bit_or (f j)) exact ∙ or_zero_r (f j)) in
+    told_in_lane rare text first k bytes told after l (lanes_named (λ j. bit_or (f j) rare.case_bit) lanes same) tests stands
+
+-- one of 128 ends is told by a lane of the four vectors of 32 ends
+pub told_in_four : (P : ℕ → Type 0) (answer : Type 0) (first : ℕ) (one two three four : List ℕ) → TellsLanes P first one → TellsLanes P (first + 32) two
+    → TellsLanes P (first + 64) three → TellsLanes P (first + 96) four → SeesLanes one answer → SeesLanes two answer → SeesLanes three answer → SeesLanes four answer
+    → (k : ℕ) → k < 128 → P (first + k) → answer
+told_in_four P answer first one two three four in_one in_two in_three in_four sees_one sees_two sees_three sees_four k l holds =
+    let later : (by : ℕ) → by ≤ k → P (first + by + (k - by)) =
+    λ by le. let same : first + k ≡ first + by + (k - by) = omega arith in subst P same holds in
+    let set : (lane : ℕ) → lane ≡ 255 → lane ≢ 0 = λ lane is none. absurd (omega (arith, is, none)) in
+    elim (cases_lt k 32) [
+      | inl low ↦ sees_one k low (set _ (in_one k low holds))
+      | inr from_32 ↦ elim (cases_lt k 64) [
+        | inl low ↦ sees_two (k - 32) (omega arith) (set _ (in_two (k - 32) (omega arith) (later 32 from_32)))
+        | inr from_64 ↦ elim (cases_lt k 96) [
+          | inl low ↦ sees_three (k - 64) (omega arith) (set _ (in_three (k - 64) (omega arith) (later 64 from_64)))
+          | inr from_96 ↦ sees_four (k - 96) (omega arith) (set _ (in_four (k - 96) (omega arith) (later 96 from_96)))
+        ]
+      ]
+    ]
 
 -- the bit of the case in a byte from 32 a on
 case_set : (a r : ℕ) → r < 32 → bit_or (a * 32 + r) 32 ≡ bit_or a 1 * 32 + r

@@ -52,7 +52,7 @@ fn wide_block<M: Marker>(marker: &M, text: &[u8], from: usize) -> Block
     ensures within { result.done ≤ length text.now }
     ensures ended { result.mask ≡ 0 → result.done ≡ length text.now }
 {
-    let mut seen = from;
+    let mut seen = skip_unmarked(marker, text, from);
     while text.len() - seen >= 64 {
         let mask = marker.marks(text, seen + 1);
         if mask != 0 {
@@ -62,9 +62,25 @@ fn wide_block<M: Marker>(marker: &M, text: &[u8], from: usize) -> Block
                 done: seen + 64,
             };
         }
-        seen += 64;
+        seen = skip_unmarked(marker, text, seen + 64);
     }
     last_block(marker, text, seen)
+}
+
+/// A place up to which there is no candidate after another, found by 128 ends at once.
+#[inline(always)]
+fn skip_unmarked<M: Marker>(marker: &M, text: &[u8], from: usize) -> usize
+    requires after { M.reaches marker.now ≤ from + 1 }
+    requires within { from ≤ length text.now }
+    ensures behind { from ≤ result }
+    ensures within { result ≤ length text.now }
+    ensures quiet { NoneWithin (M.candidate marker.now text.now) from result }
+{
+    let mut seen = from;
+    while text.len() - seen >= 128 && !marker.may_mark(text, seen + 1) {
+        seen += 128;
+    }
+    seen
 }
 
 /// The ends after a place, fewer than 64, as part of the last 64 ends.

@@ -2,7 +2,7 @@
 ghost use Rattle.std.specs.Prelude.{◌≡◌, ◌≢◌, ◌↔◌, ℕ, ◌+◌, ◌/◌, ◌%◌, ◌<◌, ◌≤◌, ◌==◌, if◌then◌else◌, ◌++◌, List, length, slice_index, bit_and, bit_or, IsTrue};
 ghost use Rattle.std.specs.Int.{bit_at};
 ghost use Rattle.std.specs.Simd.Lanes.{put_chunk};
-ghost use Rattle.lane_filter.specs.Lanes.{HasLanes, HoldsBelow, HoldsTwice};
+ghost use Rattle.lane_filter.specs.Lanes.{HasLanes, HoldsBelow, HoldsTwice, SeesLanes};
 
 use std::simd::prelude::*;
 
@@ -122,12 +122,29 @@ pub(crate) fn equal_bits(bytes: u8x64, set: u8, byte: u8) -> u64
         .to_bitmask()
 }
 
-/// Whether some lane, with these bits set, is the byte.
+/// Each lane with these bits set.
 #[inline(always)]
-pub(crate) fn has_equal(bytes: u8x64, set: u8, byte: u8) -> bool
-    ensures { (k : ℕ) → k < 64 → bit_or (slice_index bytes k) set ≡ byte → IsTrue result }
+pub(crate) fn with_bits(bytes: u8x32, set: u8) -> u8x32
+    ensures { HasLanes result (λ k. bit_or (slice_index bytes k) set) }
 {
-    (bytes | u8x64::splat(set))
-        .simd_eq(u8x64::splat(byte))
-        .any()
+    bytes | u8x32::splat(set)
+}
+
+/// Whether some lane is not zero.
+#[inline(always)]
+pub(crate) fn any_lane(lanes: u8x32) -> bool
+    ensures { SeesLanes lanes (IsTrue result) }
+{
+    lanes.simd_ne(u8x32::splat(0)).any()
+}
+
+/// Whether some lane of four vectors is not zero.
+#[inline(always)]
+pub(crate) fn any_lane_of(first: u8x32, second: u8x32, third: u8x32, fourth: u8x32) -> bool
+    ensures first { SeesLanes first (IsTrue result) }
+    ensures second { SeesLanes second (IsTrue result) }
+    ensures third { SeesLanes third (IsTrue result) }
+    ensures fourth { SeesLanes fourth (IsTrue result) }
+{
+    any_lane(either(either(first, second), either(third, fourth)))
 }

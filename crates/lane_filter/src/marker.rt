@@ -1,5 +1,5 @@
 //! Tests of the places of a text at which an occurrence may end, 64 of them at a time.
-ghost use Rattle.std.specs.Prelude.{◌≡◌, ℕ, ◌+◌, ◌≤◌, ◌↔◌, IsTrue, List, length};
+ghost use Rattle.std.specs.Prelude.{◌≡◌, ℕ, ◌+◌, ◌<◌, ◌≤◌, ◌↔◌, IsTrue, List, length};
 ghost use Rattle.lane_filter.specs.Lanes.{Tells};
 
 /// A test of ends.
@@ -19,6 +19,13 @@ pub(crate) trait Marker {
         requires some { 1 ≤ end }
         requires within { end ≤ length text.now }
         ensures { IsTrue result ↔ candidate self.now text.now end };
+
+    /// Whether an occurrence may end at one of 128 places. Where it is soon told, it answers no if at
+    /// none; else it answers yes.
+    fn may_mark(&self, text: &[u8], first: usize) -> bool
+        requires after { reaches self.now ≤ first }
+        requires within { first + 127 ≤ length text.now }
+        ensures { (k : ℕ) → k < 128 → candidate self.now text.now (first + k) → IsTrue result };
 
     /// At which of 64 places an occurrence may end.
     fn marks(&self, text: &[u8], first: usize) -> u64

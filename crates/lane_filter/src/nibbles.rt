@@ -43,6 +43,11 @@ impl<'a> Marker for Nibbles<'a> {
     }
 
     #[inline(always)]
+    fn may_mark(&self, _text: &[u8], _first: usize) -> bool {
+        true
+    }
+
+    #[inline(always)]
     fn marks(&self, text: &[u8], first: usize) -> u64 {
         self.tables.marks(text, first - 3)
     }

@@ -1,0 +1,15 @@
+-- Where 128 ends are told to be none, the stretch is longer by them.
+use Rattle.std.proofs.Common.{◌+◌, arith}
+use Rattle.std.proofs.lemmas.Bool.{both_ways}
+use Rattle.lane_filter.proofs.EndLemmas.{quiet_in_row, quiet_on}
+use Rattle.lane_filter.proofs.candidates.skip_unmarked.Goals as goal
+
+pub loop-seen-preserved : goal.loop-seen-preserved
+loop-seen-preserved g c =
+    let P = g.M.Marker.candidate c.args.marker.now c.args.text.now in
+    let seen = c.loop-seen.seen in (
+      omega arith,
+      omega arith,
+      quiet_on P c.args.from seen (seen + 128) c.loop-seen.invariant.2
+          (quiet_in_row P seen 128 (λ k l holds. both_ways _ c.if-not-may_mark.true (c.may_mark.ensures k l holds))),
+    )
