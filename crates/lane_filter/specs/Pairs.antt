@@ -30,6 +30,10 @@ pub record IsPairEnd (pair : BytePair) (text : List ℕ) (end : ℕ) : Type 0 wh
   pub first : StandsBefore pair.first text end
   pub second : StandsBefore pair.second text end
 
+-- the case of both bytes counts
+abbrev pub IsExact : BytePair → Type 0
+IsExact pair = (pair.first.case_bit ≡ 0) × (pair.second.case_bit ≡ 0)
+
 -- two bytes of the only literal of a list, each with its place
 pub record IsPairOf (l : Literals) (pair : BytePair) : Type 0 where
   pub literal : List ℕ

@@ -5,6 +5,7 @@ ghost use Rattle.lane_filter.specs.Ends.{NoneWithin, IsFirstAfter, AreMarked};
 ghost use Rattle.lane_filter.specs.Sieves.{Passes};
 
 use crate::bits::{from_bit, split_lowest};
+use crate::exact_pair::ExactPair;
 use crate::marker::Marker;
 use crate::nibbles::Nibbles;
 use crate::sieve::Sieve;
@@ -52,7 +53,7 @@ fn wide_block<M: Marker>(marker: &M, text: &[u8], from: usize) -> Block
     ensures within { result.done ≤ length text.now }
     ensures ended { result.mask ≡ 0 → result.done ≡ length text.now }
 {
-    let mut seen = skip_unmarked(marker, text, from);
+    let mut seen = from;
     while text.len() - seen >= 64 {
         let mask = marker.marks(text, seen + 1);
         if mask != 0 {
@@ -138,6 +139,7 @@ fn sieved_block(sieve: &Sieve, text: &[u8], from: usize) -> Block
 {
     match sieve {
         Sieve::Nibbles(masks) => next_block(&Nibbles::new(masks), text, from),
+        Sieve::Bytes(pair) if pair.is_exact() => next_block(&ExactPair::new(pair), text, from),
         Sieve::Bytes(pair) => next_block(pair, text, from),
     }
 }

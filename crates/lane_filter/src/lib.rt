@@ -9,6 +9,7 @@
 mod bits;
 mod candidates;
 mod entries;
+mod exact_pair;
 mod four;
 mod kernels;
 mod lanes;

@@ -1,7 +1,7 @@
 //! Two bytes of a literal that are rare in usual text: where not both stand, it does not end.
 ghost use Rattle.std.specs.Prelude.{◌≡◌, ℕ, ◌+◌, ◌-◌, ◌<◌, ◌≤◌, ◌↔◌, IsTrue, length, slice_index, slice_index_or, max};
 ghost use Rattle.lane_filter.specs.Lanes.{HoldsBelow, Tells, TellsLanes};
-ghost use Rattle.lane_filter.specs.Pairs.{IsPairEnd, IsPairOf, IsRareByteOf, StandsBefore, case_bit};
+ghost use Rattle.lane_filter.specs.Pairs.{IsExact, IsPairEnd, IsPairOf, IsRareByteOf, StandsBefore, case_bit};
 ghost use Rattle.lit_base.specs.declared.fold.Fold.{Fold};
 ghost use Rattle.nib_mask.specs.Candidates.{CoversBy};
 
@@ -120,8 +120,8 @@ impl BytePair {
 
     /// Whether the case of both bytes counts.
     #[inline(always)]
-    fn is_exact(&self) -> bool
-        ensures { IsTrue result ↔ ((self.now.first.case_bit ≡ 0) × (self.now.second.case_bit ≡ 0)) }
+    pub(crate) fn is_exact(&self) -> bool
+        ensures { IsTrue result ↔ IsExact self.now }
     {
         self.first.case_bit == 0 && self.second.case_bit == 0
     }
@@ -141,8 +141,8 @@ impl BytePair {
 
     /// The same where the case of both counts: without the bits of case searching is a quarter faster.
     #[inline(always)]
-    fn exact_lanes(&self, text: &[u8], first: usize) -> u8x32
-        requires exact { (self.now.first.case_bit ≡ 0) × (self.now.second.case_bit ≡ 0) }
+    pub(crate) fn exact_lanes(&self, text: &[u8], first: usize) -> u8x32
+        requires exact { IsExact self.now }
         requires after { max self.now.first.behind self.now.second.behind < first }
         requires within { first + 31 ≤ length text.now }
         ensures { TellsLanes (IsPairEnd self.now text.now) first result }
@@ -174,21 +174,12 @@ impl Marker for BytePair {
 
     #[inline(always)]
     fn may_mark(&self, text: &[u8], first: usize) -> bool {
-        if self.is_exact() {
-            any_lane_of(
-                self.exact_lanes(text, first),
-                self.exact_lanes(text, first + 32),
-                self.exact_lanes(text, first + 64),
-                self.exact_lanes(text, first + 96),
-            )
-        } else {
-            any_lane_of(
-                self.lanes(text, first),
-                self.lanes(text, first + 32),
-                self.lanes(text, first + 64),
-                self.lanes(text, first + 96),
-            )
-        }
+        any_lane_of(
+            self.lanes(text, first),
+            self.lanes(text, first + 32),
+            self.lanes(text, first + 64),
+            self.lanes(text, first + 96),
+        )
     }
 
     #[inline(always)]

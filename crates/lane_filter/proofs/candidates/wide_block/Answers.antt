@@ -14,7 +14,7 @@ pub loop-seen-preserved : goal.loop-seen-preserved
 loop-seen-preserved g c =
     let P = g.M.Marker.candidate c.args.marker.now c.args.text.now in
     let seen = c.loop-seen.seen in
-    let skipped = c.skip_unmarked-seen-in-loop-seen.ensures in
+    let skipped = c.skip_unmarked-seen.ensures in
     let block : AreMarked P seen (seen + 1) (seen + 64) c.marks-mask.result =
     block_marked P seen (seen + 1) (seen + 64) _ _ (omega arith) (omega arith) (omega arith) c.marks-mask.ensures (λ k. (λ s. (omega arith, s), λ h. h.1)) in
     let quiet = quiet_where_unmarked P c.args.from (seen + 1) (seen + 64) _ c.if-mask-ne0.false
