@@ -1,19 +1,18 @@
 -- A pair of bytes: its marks, and that it stands before each end of its literal.
-use Rattle.std.proofs.Common.{◌≡◌, ℕ, ◌+◌, ◌-◌, ◌*◌, ◌<◌, ◌≤◌, ◌&&◌, leb, List, [], ◌∷◌, length, get_or, slice_get, slice_range, bit_and, bit_or, Some, inl, inr, sym, ap, subst, ◌∙◌, ◌≢◌, cond, eqb, arith}
+use Rattle.std.proofs.Common.{◌≡◌, ℕ, ◌+◌, ◌-◌, ◌*◌, ◌<◌, ◌≤◌, ◌&&◌, leb, List, [], length, get_or, slice_range, bit_and, bit_or, ◌⊎◌, inl, inr, sym, ap, subst, ◌∙◌, ◌≢◌, cond, eqb, arith}
 use Rattle.std.specs.Int.{bit_at}
 use Rattle.std.specs.Int.Bits.{or_zero_r}
-use Rattle.std.proofs.lemmas.Bool.{cases_Bool, cases_lt, and_parts, eq-eqb, leb-true, cond-true, cond-false}
+use Rattle.std.proofs.lemmas.Bool.{cases_Bool, cases_eq, cases_lt, and_parts, eq-eqb, leb-true, cond-true, cond-false}
 use Rattle.std.proofs.lemmas.List.{get_or-map}
 use Rattle.std.proofs.lemmas.List.Edits.{length-between}
 use Rattle.std.proofs.lemmas.Nat.{or_block}
-use Rattle.std.proofs.lemmas.Nat.Bits.{bit_at_and, bit_at-lt}
-use Rattle.std.proofs.lemmas.Option.{get_or_from_slice_get, slice_get_within}
+use Rattle.std.proofs.lemmas.Nat.Bits.{bit_at_and, bit_at_or, bit_at-lt}
+use Rattle.std.proofs.lemmas.Option.{get_or_from_slice_get}
 use Rattle.lit_base.specs.declared.fold.Fold.{Fold}
 use Rattle.lit_base.specs.declared.fold.Fold.TheVariants.{No, Ascii}
 use Rattle.lit_base.specs.Folding.{folded}
 use Rattle.lit_base.specs.Literals.{Literals}
 use Rattle.lit_base.specs.Occurrences.{Occurs}
-use Rattle.nib_mask.specs.Candidates.{CoversBy}
 use Rattle.nib_mask.proofs.LawLemmas.{cases_folded}
 use Rattle.nib_mask.proofs.Ranges.{get_or-range}
 use Rattle.lane_filter.proofs.LaneLemmas.{lanes_named}
@@ -39,6 +38,24 @@ both_told pair text first one other after_one after_other within of_one of_other
           let here = (of_one k).1 (h.0, h.1.first) in
           let there = (of_other k).1 (h.0, h.1.second) in
           omega arith,
+    )
+
+-- the bits that one of two masks has tell the ends that one of two tests lets pass
+pub either_told : (P Q : ℕ → Type 0) (first one other : ℕ) → Tells P first 64 one → Tells Q first 64 other → Tells (λ end. P end ⊎ Q end) first 64 (bit_or one other)
+either_told P Q first one other of_one of_other k =
+    let joined = bit_at_or one other k in
+    let small = bit_at-lt one k in
+    let small_other = bit_at-lt other k in (
+      λ s.
+          elim (cases_eq (bit_at one k) 1) [
+            | inl set ↦ let told = (of_one k).0 set in (told.0, inl told.1)
+            | inr clear ↦ let told = (of_other k).0 (omega arith) in (told.0, inr told.1)
+          ],
+      λ (l, holds).
+          elim holds [
+            | inl left ↦ let set = (of_one k).1 (l, left) in omega arith
+            | inr right ↦ let set = (of_other k).1 (l, right) in omega arith
+          ],
     )
 
 -- a lane of the bytes before 32 ends is the byte before its end
@@ -136,25 +153,11 @@ rare_stands l text place end at rare occurs is =
     sym (get_or-map (folded l.folding) slice at 0 0 (omega (arith, size))) ∙ ap (λ t. get_or t at 0) occurs.bytes in
     (omega arith, (λ i. bit_or (here i) (is.case_bit i)) ∙ case_told l.folding _ _ folds ∙ sym is.byte)
 
--- a list of one literal is that literal
-only_literal : (texts : List (List ℕ)) (literal : List ℕ) → length texts ≡ 1 → literal ≡ get_or texts 0 literal → texts ≡ literal ∷ []
-only_literal [] literal one is = absurd (omega (arith, one))
-only_literal (text ∷ []) literal one is = ap (λ t. t ∷ []) (sym is)
-only_literal (text ∷ other ∷ rest) literal one is = absurd (omega (arith, one))
-
--- two places of it give a pair
-pub pair_of : (l : Literals) (literal : List ℕ) (one other : ℕ) (pair : BytePair) → length l.texts ≡ 1 → literal ≡ get_or l.texts 0 literal
-    → IsRareByteOf l.folding literal one pair.first → IsRareByteOf l.folding literal other pair.second → IsPairOf l pair
-pair_of l literal one other pair single is first second =
-    record { literal = literal; only = only_literal l.texts literal single is; first_place = one; first = first; second_place = other; second = second }
-
--- both bytes of such a pair stand before each place where the literal ends
-pub pair_covers : (l : Literals) (pair : BytePair) → IsPairOf l pair → CoversBy l (IsPairEnd pair)
-pair_covers l pair of text place end bytes occurs =
-    let stands = subst (λ (texts : List (List ℕ)). slice_get texts place ≡ Some occurs.literal) of.only occurs.stands in
-    let inside = slice_get_within (of.literal ∷ []) place occurs.literal stands in
-    let start : 0 ≡ place = omega (arith, inside) in
-    let same : of.literal ≡ occurs.literal = ap (λ p. get_or (of.literal ∷ []) p of.literal) start ∙ get_or_from_slice_get (of.literal ∷ []) place occurs.literal of.literal stands in
+-- both bytes of a literal's pair stand before each place where it ends
+pub pair_stands : (l : Literals) (place : ℕ) (pair : BytePair) → IsPairOf l place pair → (text : List ℕ) (end : ℕ) → Occurs l text place end → IsPairEnd pair text end
+pair_stands l place pair of text end occurs =
+    let same : of.literal ≡ occurs.literal =
+    sym (get_or_from_slice_get l.texts place of.literal [] of.stands) ∙ get_or_from_slice_get l.texts place occurs.literal [] occurs.stands in
     let of_first = rare_stands l text place end of.first_place pair.first occurs (subst (λ t. IsRareByteOf l.folding t of.first_place pair.first) same of.first) in
     let of_second = rare_stands l text place end of.second_place pair.second occurs (subst (λ t. IsRareByteOf l.folding t of.second_place pair.second) same of.second) in
     record { after_first = of_first.0; after_second = of_second.0; within = occurs.ends; first = of_first.1; second = of_second.1 }

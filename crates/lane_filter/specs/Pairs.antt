@@ -1,5 +1,6 @@
 -- Two bytes of a literal, and the places of a text before which they stand.
-use Rattle.std.specs.Prelude.{◌≡◌, ℕ, ◌+◌, ◌-◌, ◌<◌, ◌≤◌, ◌&&◌, nat_le, if◌then◌else◌, List, [], ◌∷◌, length, slice_index, bit_or}
+use Rattle.std.specs.Prelude.{◌≡◌, ℕ, ◌+◌, ◌-◌, ◌<◌, ◌≤◌, ◌&&◌, nat_le, if◌then◌else◌, List, Some, length, slice_index, bit_or}
+use Rattle.std.specs.List.{slice_get}
 use Rattle.lit_base.specs.declared.fold.Fold.{Fold}
 use Rattle.lit_base.specs.declared.fold.Fold.TheVariants.{No, Ascii}
 use Rattle.lit_base.specs.Literals.{Literals}
@@ -34,10 +35,10 @@ pub record IsPairEnd (pair : BytePair) (text : List ℕ) (end : ℕ) : Type 0 wh
 abbrev pub IsExact : BytePair → Type 0
 IsExact pair = (pair.first.case_bit ≡ 0) × (pair.second.case_bit ≡ 0)
 
--- two bytes of the only literal of a list, each with its place
-pub record IsPairOf (l : Literals) (pair : BytePair) : Type 0 where
+-- two bytes of the literal at a place of the list, each with its own place
+pub record IsPairOf (l : Literals) (place : ℕ) (pair : BytePair) : Type 0 where
   pub literal : List ℕ
-  pub only : l.texts ≡ literal ∷ []
+  pub stands : slice_get l.texts place ≡ Some literal
   pub first_place : ℕ
   pub first : IsRareByteOf l.folding literal first_place pair.first
   pub second_place : ℕ

@@ -5,9 +5,11 @@ ghost use Rattle.lane_filter.specs.Ends.{NoneWithin, IsFirstAfter, AreMarked};
 ghost use Rattle.lane_filter.specs.Sieves.{Passes};
 
 use crate::bits::{from_bit, split_lowest};
+use crate::either::Either;
 use crate::exact_pair::ExactPair;
 use crate::marker::Marker;
 use crate::nibbles::Nibbles;
+use crate::pair::BytePair;
 use crate::sieve::Sieve;
 use std::marker::Model;
 
@@ -141,7 +143,63 @@ fn sieved_block(sieve: &Sieve, text: &[u8], from: usize) -> Block
         Sieve::Nibbles(masks) => next_block(&Nibbles::new(masks), text, from),
         Sieve::Bytes(pair) if pair.is_exact() => next_block(&ExactPair::new(pair), text, from),
         Sieve::Bytes(pair) => next_block(pair, text, from),
+        Sieve::TwoPairs(one, two) => block_of_two(one, two, text, from),
+        Sieve::ThreePairs(one, two, three) => block_of_three(one, two, three, text, from),
     }
+}
+
+/// The same by two pairs of bytes.
+fn block_of_two(one: &BytePair, two: &BytePair, text: &[u8], from: usize) -> Block
+    requires { from ≤ length text.now }
+    ensures marked { AreMarked (Passes (Sieve.TwoPairs one.now two.now) text.now) from result.first result.done result.mask }
+    ensures within { result.done ≤ length text.now }
+    ensures ended { result.mask ≡ 0 → result.done ≡ length text.now }
+{
+    if one.is_exact() && two.is_exact() {
+        let either = Either {
+            one: ExactPair::new(one),
+            other: ExactPair::new(two),
+        };
+        return next_block(&either, text, from);
+    }
+    let either = Either {
+        one: *one,
+        other: *two,
+    };
+    next_block(&either, text, from)
+}
+
+/// The same by three pairs.
+fn block_of_three(
+    one: &BytePair,
+    two: &BytePair,
+    three: &BytePair,
+    text: &[u8],
+    from: usize,
+) -> Block
+    requires { from ≤ length text.now }
+    ensures marked { AreMarked (Passes (Sieve.ThreePairs one.now two.now three.now) text.now) from result.first result.done result.mask }
+    ensures within { result.done ≤ length text.now }
+    ensures ended { result.mask ≡ 0 → result.done ≡ length text.now }
+{
+    if one.is_exact() && two.is_exact() && three.is_exact() {
+        let either = Either {
+            one: ExactPair::new(one),
+            other: Either {
+                one: ExactPair::new(two),
+                other: ExactPair::new(three),
+            },
+        };
+        return next_block(&either, text, from);
+    }
+    let either = Either {
+        one: *one,
+        other: Either {
+            one: *two,
+            other: *three,
+        },
+    };
+    next_block(&either, text, from)
 }
 
 /// The places of a text at which an occurrence may end, in order. A contract sees the sieve, the

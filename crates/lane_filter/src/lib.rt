@@ -1,5 +1,5 @@
 //! The filter of a packed search over many places at once, by vectors of 32 bytes, and the search
-//! for two bytes of an only literal, by vectors of 64.
+//! for two bytes of each of a few literals.
 //!
 //! Theorems: `filter` and `filter_wide` write the plain filter byte at each place, for every length;
 //! no occurrence goes past the `Sieve` of its literals; `Candidates` hands out exactly the places of a
@@ -8,6 +8,7 @@
 
 mod bits;
 mod candidates;
+mod either;
 mod entries;
 mod exact_pair;
 mod four;

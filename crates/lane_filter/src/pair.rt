@@ -1,9 +1,9 @@
 //! Two bytes of a literal that are rare in usual text: where not both stand, it does not end.
-ghost use Rattle.std.specs.Prelude.{◌≡◌, ℕ, ◌+◌, ◌-◌, ◌<◌, ◌≤◌, ◌↔◌, IsTrue, length, slice_index, slice_index_or, max};
+ghost use Rattle.std.specs.Prelude.{◌≡◌, ℕ, ◌+◌, ◌-◌, ◌<◌, ◌≤◌, ◌↔◌, IsTrue, List, length, slice_index, slice_index_or, max};
 ghost use Rattle.lane_filter.specs.Lanes.{HoldsBelow, Tells, TellsLanes};
 ghost use Rattle.lane_filter.specs.Pairs.{IsExact, IsPairEnd, IsPairOf, IsRareByteOf, StandsBefore, case_bit};
 ghost use Rattle.lit_base.specs.declared.fold.Fold.{Fold};
-ghost use Rattle.nib_mask.specs.Candidates.{CoversBy};
+ghost use Rattle.lit_base.specs.Occurrences.{Occurs};
 
 use crate::lanes::{any_lane_of, both, equal_bits, load, load_64, value_where, with_bits};
 use crate::marker::Marker;
@@ -102,14 +102,15 @@ pub struct BytePair {
 }
 
 impl BytePair {
-    /// The two rarest of the last bytes of the only literal, by what is usual in text.
-    pub fn of(list: &LitList) -> BytePair
-        requires { length list.now.texts ≡ 1 }
-        ensures pair { IsPairOf list.now result }
-        ensures covers { CoversBy list.now (IsPairEnd result) }
+    /// The two rarest of the last bytes of the literal at a place, by what is usual in text. They
+    /// stand before each end of it.
+    pub fn of(list: &LitList, place: usize) -> BytePair
+        requires { place < length list.now.texts }
+        ensures pair { IsPairOf list.now place result }
+        ensures stands { (text : List ℕ) (end : ℕ) → Occurs list.now text place end → IsPairEnd result text end }
     {
         list.normal_law();
-        let (fold, literal) = (list.fold(), list.get(0));
+        let (fold, literal) = (list.fold(), list.get(place));
         let first = rarest(fold, literal, None);
         let second = rarest(fold, literal, Some(first));
         BytePair {

@@ -15,6 +15,10 @@ pub enum Sieve {
     Nibbles(Masks),
     /// Two bytes of the only literal.
     Bytes(BytePair),
+    /// Two bytes of each of two literals.
+    TwoPairs(BytePair, BytePair),
+    /// Two bytes of each of three literals.
+    ThreePairs(BytePair, BytePair, BytePair),
 }
 
 impl Sieve {
@@ -24,10 +28,15 @@ impl Sieve {
         ensures sieve { IsSieveOf list.now ends.now.items result }
         ensures covers { CoversBy list.now (Passes result) }
     {
-        if list.len() == 1 {
-            Sieve::Bytes(BytePair::of(list))
-        } else {
-            Sieve::Nibbles(Masks::of(list, ends))
+        match list.len() {
+            1 => Sieve::Bytes(BytePair::of(list, 0)),
+            2 => Sieve::TwoPairs(BytePair::of(list, 0), BytePair::of(list, 1)),
+            3 => Sieve::ThreePairs(
+                BytePair::of(list, 0),
+                BytePair::of(list, 1),
+                BytePair::of(list, 2),
+            ),
+            _ => Sieve::Nibbles(Masks::of(list, ends)),
         }
     }
 }

@@ -1,4 +1,4 @@
-//! Searches for one literal.
+//! Searches for one literal, and for one among two or three.
 use crate::compiled::Compiled;
 use crate::searching::next_end;
 use crate::tests::{plan_of, raw_of};
@@ -8,6 +8,9 @@ use std::test::Fail;
 
 /// How many bytes the texts have besides those looked for.
 const SPARE: [usize; 8] = [0, 1, 62, 63, 64, 65, 129, 192];
+
+/// Literals that the texts do not hold, whatever is looked for in them.
+const ABSENT: [&[u8]; 2] = [b"@@", b"~!~!"];
 
 const SHORT: [&[u8]; 5] = [b"z", b"-", b"ee", b"k3\xff", b"the quick"];
 /// Small letters, and what is found for them where case is ignored.
@@ -21,6 +24,15 @@ const FOLDED: [(&[u8], &[u8]); 4] = [
 /// The plan of one literal.
 fn single(alloc: Global, fold: Fold, literal: &[u8]) -> Result<Compiled, Fail> {
     let raw = raw_of(alloc, &[literal])?;
+    plan_of(alloc, &raw, fold)
+}
+
+/// The plan of a literal and so many others that the texts do not hold.
+fn among(alloc: Global, fold: Fold, literal: &[u8], others: usize) -> Result<Compiled, Fail> {
+    let mut raw = raw_of(alloc, &[literal])?;
+    for other in ABSENT.iter().take(others) {
+        raw.push(other)?;
+    }
     plan_of(alloc, &raw, fold)
 }
 
@@ -72,6 +84,18 @@ fn finds(alloc: Global, fold: Fold, literal: &[u8], bytes: &[u8]) -> Result<bool
     Ok(finds_everywhere(alloc, &compiled, bytes)?)
 }
 
+/// Whether a search for it and so many others finds them.
+fn finds_among(
+    alloc: Global,
+    fold: Fold,
+    literal: &[u8],
+    others: usize,
+    bytes: &[u8],
+) -> Result<bool, Fail> {
+    let compiled = among(alloc, fold, literal, others)?;
+    Ok(finds_everywhere(alloc, &compiled, bytes)?)
+}
+
 /// Where a literal ends first in a text, case told apart.
 fn first_end(alloc: Global, literal: &[u8], text: &[u8]) -> Result<Option<usize>, Fail> {
     let compiled = single(alloc, Fold::No, literal)?;
@@ -86,6 +110,17 @@ fn finds_short_literals_at_every_place(rt: HostRuntime) -> Result<(), Fail> {
     }
     for (literal, bytes) in FOLDED {
         assert!(rt; finds(alloc, Fold::Ascii, literal, bytes)?);
+    }
+    Ok(())
+}
+
+#[test]
+fn finds_one_of_two_and_of_three_at_every_place(rt: HostRuntime) -> Result<(), Fail> {
+    let alloc = rt.alloc();
+    for others in 1..=ABSENT.len() {
+        assert!(rt; finds_among(alloc, Fold::No, b"z", others, b"z")?);
+        assert!(rt; finds_among(alloc, Fold::No, b"the quick", others, b"the quick")?);
+        assert!(rt; finds_among(alloc, Fold::Ascii, b"ee", others, b"eE")?);
     }
     Ok(())
 }

@@ -1,10 +1,18 @@
-use Rattle.lane_filter.proofs.PairLemmas.{pair_covers, pair_of}
+use Rattle.std.proofs.lemmas.Option.{slice_get_read}
+use Rattle.std.proofs.Common.{refl}
+use Rattle.lane_filter.proofs.PairLemmas.{pair_stands}
 use Rattle.lane_filter.proofs.pair.BytePair.of.Goals as goal
 
 pub returns-clause-pair : goal.returns-clause-pair
 returns-clause-pair c =
-    pair_of c.args.list.now c.get-literal.result.now _ _ _ c.requires c.get-literal.ensures.value
-    (rw c.fold-fold.ensures at c.at.ensures) (rw c.fold-fold.ensures at c.at-2.ensures)
+    record {
+      literal = c.get-literal.result.now;
+      stands = slice_get_read c.args.list.now.texts _ c.args.place c.get-literal.result.now refl c.requires c.get-literal.ensures.value;
+      first_place = c.rarest-first.result;
+      first = rw c.fold-fold.ensures at c.at.ensures;
+      second_place = c.rarest-second.result;
+      second = rw c.fold-fold.ensures at c.at-2.ensures;
+    }
 
-pub returns-clause-covers : goal.returns-clause-covers
-returns-clause-covers c = pair_covers c.args.list.now _ (returns-clause-pair c)
+pub returns-clause-stands : goal.returns-clause-stands
+returns-clause-stands c = pair_stands c.args.list.now c.args.place _ (returns-clause-pair c)
