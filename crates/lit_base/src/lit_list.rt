@@ -19,7 +19,7 @@ use crate::normal_form::{distinct, has_null, in_order, places};
 use crate::raw_list::RawList;
 use crate::suffix_chains::SuffixChains;
 use crate::suffix_class::SuffixClass;
-use crate::suffix_filter::{SuffixFilter, is_marked};
+use crate::suffix_filter::SuffixFilter;
 use crate::suffix_key::suffix_key;
 use crate::toll::{GaveUp, Toll};
 use std::alloc::Global;
@@ -251,13 +251,21 @@ impl LitList {
             (λ found. IsNextEnd self.now text.now seen found.0) }
         ensures first { IfSome result (λ found. IsFirstEnding self.now text.now 0 found.0 found.1) }
     {
-        for back in 0..count {
-            if is_marked(marks, back) && back < text.len() - seen {
-                let end = seen + 1 + back;
-                if let Some(first) = self.next_ending(text, end, 0) {
-                    return Some((end, first));
-                }
+        let room = count.min(text.len() - seen);
+        let mut back = 0;
+        let mut rest = marks;
+        while rest != 0 {
+            let unmarked = rest.trailing_zeros() as usize;
+            back += unmarked;
+            if back >= room {
+                return None;
             }
+            let end = seen + 1 + back;
+            if let Some(first) = self.next_ending(text, end, 0) {
+                return Some((end, first));
+            }
+            back += 1;
+            rest = rest >> unmarked >> 1;
         }
         None
     }
