@@ -112,26 +112,29 @@ fn next_sieved(
     ensures crowd { IfErr result (λ crowd. IsPassed list.now text.now candidates.old.from crowd.last) }
     ensures further { IfErr result (λ crowd. candidates.old.from < crowd.last) }
 {
-    let reach = CROWD * LOOKS * stride_of(list);
-    let mut near = 0;
-    let mut left = 0;
+    let mut start = 0;
+    let mut left = CROWD;
     while let Some(end) = candidates.next_end() {
         if let Some(first) = list.next_ending(text, end, 0) {
             return Ok(Some((end, first)));
         }
         if left == 0 {
-            if end < near && resume <= end {
-                return Err(Crowd {
-                    last: end,
-                    bytes: reach.saturating_sub(near - end),
-                });
+            let bytes = end.saturating_sub(start);
+            if resume <= end && are_close(list, bytes) {
+                return Err(Crowd { last: end, bytes });
             }
-            near = end.saturating_add(reach);
+            start = end;
             left = CROWD;
         }
         left -= 1;
     }
     Ok(None)
+}
+
+/// Whether candidates at which nothing ends, `CROWD` of them in so many bytes, cost more than the
+/// list's looks at these bytes.
+fn are_close(list: &LitList, bytes: usize) -> bool {
+    bytes < CROWD * LOOKS * stride_of(list)
 }
 
 /// The list looks at each so-manyth place: every eighth where each literal has eleven bytes or more,

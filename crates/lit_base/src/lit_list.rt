@@ -198,6 +198,7 @@ impl LitList {
 
     /// What `next_end_unless_dear` says, behind at least seven bytes: of as many ends as a stride has
     /// places, the bytes before the first have the marks of all.
+    #[inline(never)]
     fn next_by_strides(
         &self,
         text: &[u8],

@@ -54,9 +54,9 @@ loop-end-preserved c =
       none = subst (NoEndUpTo c.args.list.now c.args.text.now c.args.candidates.now.from) (sym reached) (none_to_end at);
     }
 
-pub returns-then-resume-end-clause-crowd : goal.returns-then-resume-end-clause-crowd
-returns-then-resume-end-clause-crowd c =
-    let at = (goal.at.returns-then-resume-end-clause-crowd c).In_default-next_ending in
+pub returns-then-are_close-clause-crowd : goal.returns-then-are_close-clause-crowd
+returns-then-are_close-clause-crowd c =
+    let at = (goal.at.returns-then-are_close-clause-crowd c).In_default-next_ending in
     let before = c.loop-end.invariant in
     record {
       after = omega (arith, c.in-Some.ensures.first.after, before.ahead);
