@@ -11,16 +11,20 @@ use lit_base::LitList;
 /// So many candidates in a row tell how close together they are.
 const CROWD: usize = 4;
 
-/// A candidate at which nothing ends costs about as much as so many of the list's looks at the text.
+/// A candidate at which nothing ends costs about as much as so many of the list's looks at the text:
+/// measured, five to eight.
 const LOOKS: usize = 5;
 
-/// And a mark at which nothing ends as so many.
+/// A mark at which nothing ends counts as so many. It costs up to three times as much where marks
+/// crowd, but there the list gives up by this count as well, and nothing got quicker by a higher one.
 const LOOKS_OF_MARK: usize = 8;
 
-/// So many bytes behind a crowd are searched by the list before the sieve is tried again.
+/// So many bytes behind a crowd are searched by the list before the sieve is tried again. To tell a
+/// crowd takes about a thirtieth of the time that they do.
 const WINDOW: usize = 16384;
 
-/// The list rests for so many bytes where it gave up, and twice as many each further time.
+/// The list rests for so many bytes where it gave up, and twice as many each further time, up to the
+/// longest rest. Giving up takes about a tenth of the time that the sieve does for the shortest.
 const SHORTEST_REST: usize = 4096;
 
 const LONGEST_REST: usize = 65536;
