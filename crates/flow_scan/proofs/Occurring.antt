@@ -1,10 +1,10 @@
 -- Where literals occur in a text and in its parts.
-use Rattle.std.proofs.Common.{◌≡◌, ℕ, ◌+◌, ◌-◌, ◌<◌, ◌≤◌, List, ◌++◌, Option, Some, None, IfSome, MatchOption, length, take, drop, slice_range, refl, sym, ap, ◌∙◌, subst, arith}
+use Rattle.std.proofs.Common.{◌≡◌, ℕ, ◌+◌, ◌-◌, ◌<◌, ◌≤◌, List, ◌++◌, Option, Some, None, IfSome, MatchOption, length, take, drop, slice_range, sym, ap, ◌∙◌, subst, arith}
 use Rattle.std.proofs.Math.Seq.{drop-append-add}
 use Rattle.std.proofs.lemmas.List.{length-append, length-drop, length-take, drop-append-le, take-append-le, append_assoc, take-append-drop}
 use Rattle.lit_base.specs.Folding.{folded_text}
 use Rattle.lit_base.specs.Literals.{Literals}
-use Rattle.lit_base.specs.Ends.{IsNextEnd, NoEndAfter, NoEndUpTo}
+use Rattle.lit_base.specs.Ends.{IsNextEnd, IsPassed, NoEndAfter, NoEndUpTo}
 use Rattle.lit_base.specs.Occurrences.{IsFirstEnding, Occurs}
 use Rattle.flow_scan.specs.Tails.{HasBounds, carry_of, last_bytes}
 
@@ -90,6 +90,18 @@ pub found_in_front : (l : Literals) (text front : List ℕ) (last from : ℕ) (f
     → MatchOption found (NoEndUpTo l text from last) (λ hit. IsNextEnd l text from hit.0)
 found_in_front l text front last from None inside is none = none_of_front l text last from inside (subst (λ t. NoEndAfter l t from) is none)
 found_in_front l text front last from (Some hit) inside is next = next_of_front l text last from hit.0 (subst (λ t. IsNextEnd l t from hit.0) is next)
+
+-- a search that has come to a place of the front has come there in the text
+pub passed_in_front : (l : Literals) (text front : List ℕ) (last from at : ℕ) → front ≡ take last text → IsPassed l front from at → IsPassed l text from at
+passed_in_front l text front last from at is passed =
+    let rest = drop last text in
+    let whole : front ++ rest ≡ text = ap (λ t. t ++ rest) is ∙ take-append-drop last text in
+    record {
+      after = passed.after;
+      within = omega (arith, passed.within, length-append front rest, ap length whole);
+      none = λ end after within here.
+          passed.none end after within (here.0, occurs_in_front l front rest here.0 end (omega (arith, within, passed.within)) (subst (λ t. Occurs l t here.0 end) (sym whole) here.1));
+    }
 
 -- and the first literal that ends there is the same one
 pub first_in_front : (l : Literals) (text front : List ℕ) (last e place : ℕ) → front ≡ take last text → IsFirstEnding l front 0 e place → IsFirstEnding l text 0 e place

@@ -1,7 +1,6 @@
 -- The hits at a place of a text at which some literal ends.
-use Rattle.std.specs.Prelude.{◌≡◌, ℕ, ◌↔◌, ◌<◌, ◌≤◌, List, length, ◌++◌, Contains}
+use Rattle.std.specs.Prelude.{◌≡◌, ℕ, ◌↔◌, List, ◌++◌, Contains}
 use Rattle.std.specs.List.Sorted.{IsStrictlySortedBy}
-use Rattle.lit_base.specs.Ends.{NoEndUpTo}
 use Rattle.lit_base.specs.Literals.{Literals}
 use Rattle.lit_base.specs.Occurrences.{Occurs, hit_cmp}
 
@@ -19,9 +18,3 @@ pub record GainsHitsAt (l : Literals) (text : List ℕ) (end at : ℕ) (old new 
 -- a list of hits has gained some, at its end
 abbrev pub Extends : List (ℕ × ℕ) → List (ℕ × ℕ) → Type 0
 Extends old new = (more : List (ℕ × ℕ)) × (new ≡ old ++ more)
-
--- a search has come to a place of the text, and up to it no literal ends
-pub record IsPassed (l : Literals) (text : List ℕ) (from last : ℕ) : Type 0 where
-  pub after : from < last
-  pub within : last ≤ length text
-  pub none : NoEndUpTo l text from last

@@ -1,36 +1,77 @@
 //! The places of a text at which literals end, one after the other.
-ghost use Rattle.std.specs.Prelude.{◌≡◌, ◌≤◌, IfErr, IfOk, IfSome, MatchOption, length};
+ghost use Rattle.std.specs.Prelude.{◌≡◌, ◌<◌, ◌≤◌, IfErr, IfOk, IfSome, MatchOption, length};
 ghost use Rattle.lit_base.specs.Occurrences.{IsFirstEnding};
 ghost use Rattle.nib_mask.specs.Candidates.{CoversBy};
 ghost use Rattle.lane_filter.specs.Sieves.{Passes};
-ghost use Rattle.lit_base.specs.Ends.{IsNextEnd, NoEndAfter, NoEndUpTo};
-ghost use Rattle.flow_scan.specs.Ends.{IsPassed};
+ghost use Rattle.lit_base.specs.Ends.{IsNextEnd, IsPassed, NoEndAfter};
 
 use lane_filter::Candidates;
 use lit_base::LitList;
 
-/// So many candidates behind one tell how close together they are.
+/// So many candidates in a row tell how close together they are.
 const CROWD: usize = 4;
 
-/// A candidate costs about as much as so many of the list's looks at the text.
-const LOOKS: usize = 4;
+/// A candidate at which nothing ends costs about as much as so many of the list's looks at the text:
+/// measured, five to eight.
+const LOOKS: usize = 5;
 
-/// So many bytes behind a crowd are searched by the list before the sieve is tried again.
-const WINDOW: usize = 4096;
+/// A mark at which nothing ends counts as so many. It costs up to three times as much where marks
+/// crowd, but there the list gives up by this count as well, and nothing got quicker by a higher one.
+const LOOKS_OF_MARK: usize = 8;
 
-/// Candidates at which nothing ends crowd up to this one.
+/// So many bytes behind a crowd are searched by the list before the sieve is tried again. To tell a
+/// crowd takes about a thirtieth of the time that they do.
+const WINDOW: usize = 16384;
+
+/// The list rests for so many bytes where it gave up, and twice as many each further time, up to the
+/// longest rest. Giving up takes about a tenth of the time that the sieve does for the shortest.
+const SHORTEST_REST: usize = 4096;
+
+const LONGEST_REST: usize = 65536;
+
+/// Where the list is tried again on a text on which it gave up.
+#[derive(Clone, Copy)]
+pub(crate) struct Pace {
+    resume: usize,
+    rest: usize,
+}
+
+impl Pace {
+    /// The list may be tried at once.
+    pub(crate) fn new() -> Pace {
+        Pace {
+            resume: 0,
+            rest: SHORTEST_REST,
+        }
+    }
+
+    /// The list gave up at a place, and rests behind it.
+    fn rest_behind(&mut self, place: usize) {
+        self.resume = place.saturating_add(self.rest);
+        self.rest = self.rest.saturating_mul(2).min(LONGEST_REST);
+    }
+
+    /// The list suited the text.
+    fn recover(&mut self) {
+        self.rest = SHORTEST_REST;
+    }
+}
+
+/// Candidates at which nothing ends crowd up to this one: the last of them stand in so many bytes.
 #[derive(Clone, Copy)]
 struct Crowd {
     last: usize,
+    bytes: usize,
 }
 
 /// The first place behind the last candidate handed out at which some literal ends, with the first
 /// of these literals. The candidates are those of the text, by a sieve for the literals; where they
-/// crowd, the list goes on by itself for a while. It takes no memory.
+/// crowd, the list goes on by itself for a while, as long as that is cheaper. It takes no memory.
 pub(crate) fn next_ending(
     list: &LitList,
     text: &[u8],
     candidates: &mut Candidates,
+    pace: &mut Pace,
 ) -> Option<(usize, usize)>
     requires covers { CoversBy list.now (Passes candidates.old.sieve) }
     requires text { candidates.old.text ≡ text.now }
@@ -43,25 +84,25 @@ pub(crate) fn next_ending(
     ensures reached { IfSome result (λ found. candidates.new.from ≡ found.0) }
 {
     'crowds: loop {
-        match next_sieved(list, text, candidates) {
+        match next_sieved(list, text, candidates, pace.resume) {
             Ok(found) => return found,
-            Err(crowd) => {
-                let last = text.len().min(crowd.last.saturating_add(WINDOW));
-                if let Some((end, first)) = next_up_to(list, text, crowd.last, last) {
+            Err(crowd) => match next_by_list(list, text, crowd, pace) {
+                Ok((end, first)) => {
                     candidates.skip_to(end);
                     return Some((end, first));
                 }
-                candidates.skip_to(last);
-            }
+                Err(last) => candidates.skip_to(last),
+            },
         }
     }
 }
 
-/// What `next_ending` says, by the candidates alone, unless they crowd.
+/// What `next_ending` says, by the candidates alone, unless they crowd behind a place.
 fn next_sieved(
     list: &LitList,
     text: &[u8],
     candidates: &mut Candidates,
+    resume: usize,
 ) -> Result<Option<(usize, usize)>, Crowd>
     requires covers { CoversBy list.now (Passes candidates.old.sieve) }
     requires text { candidates.old.text ≡ text.now }
@@ -73,42 +114,78 @@ fn next_sieved(
     ensures first { IfOk result (λ hit. IfSome hit (λ found. IsFirstEnding list.now text.now 0 found.0 found.1)) }
     ensures reached { IfOk result (λ hit. IfSome hit (λ found. candidates.new.from ≡ found.0)) }
     ensures crowd { IfErr result (λ crowd. IsPassed list.now text.now candidates.old.from crowd.last) }
+    ensures further { IfErr result (λ crowd. candidates.old.from < crowd.last) }
 {
-    let mut rejected = 0;
     let mut start = 0;
+    let mut left = CROWD;
     while let Some(end) = candidates.next_end() {
         if let Some(first) = list.next_ending(text, end, 0) {
             return Ok(Some((end, first)));
         }
-        if rejected == CROWD {
-            if are_close(list, end.saturating_sub(start)) {
-                return Err(Crowd { last: end });
+        if left == 0 {
+            let bytes = end.saturating_sub(start);
+            if resume <= end && are_close(list, bytes) {
+                return Err(Crowd { last: end, bytes });
             }
-            rejected = 0;
-        }
-        if rejected == 0 {
             start = end;
+            left = CROWD;
         }
-        rejected += 1;
+        left -= 1;
     }
     Ok(None)
 }
 
-/// Whether candidates at which nothing ends, `CROWD` of them in so many bytes, stand so close together
-/// that the list finds the next end sooner by itself: it looks at every eighth place where each
-/// literal has eleven bytes or more, and at each place where one has fewer than five.
+/// Whether candidates at which nothing ends, `CROWD` of them in so many bytes, cost more than the
+/// list's looks at these bytes.
 fn are_close(list: &LitList, bytes: usize) -> bool {
-    !list.is_empty() && bytes < CROWD * LOOKS * (list.shortest().clamp(4, 11) - 3)
+    bytes < CROWD * LOOKS * stride_of(list)
 }
 
-/// What the list finds by itself behind a place of the text, up to another one.
-fn next_up_to(list: &LitList, text: &[u8], from: usize, last: usize) -> Option<(usize, usize)>
-    requires { last ≤ length text.now }
-    ensures next { MatchOption result
-        (NoEndUpTo list.now text.now from last)
-        (λ found. IsNextEnd list.now text.now from found.0) }
-    ensures first { IfSome result (λ found. IsFirstEnding list.now text.now 0 found.0 found.1) }
+/// The list looks at each so-manyth place: every eighth where each literal has eleven bytes or more,
+/// and each place where one has fewer than five.
+fn stride_of(list: &LitList) -> usize
+    ensures some { 0 < result }
+    ensures short { result ≤ 8 }
 {
+    if list.is_empty() {
+        return 1;
+    }
+    list.shortest().clamp(4, 11) - 3
+}
+
+/// What the list finds by itself behind a crowd, or a place up to which nothing ends: there it gave
+/// up, or the sieve is to be tried again.
+fn next_by_list(
+    list: &LitList,
+    text: &[u8],
+    crowd: Crowd,
+    pace: &mut Pace,
+) -> Result<(usize, usize), usize>
+    requires { crowd.last ≤ length text.now }
+    ensures next { IfOk result (λ found. IsNextEnd list.now text.now crowd.last found.0) }
+    ensures first { IfOk result (λ found. IsFirstEnding list.now text.now 0 found.0 found.1) }
+    ensures passed { IfErr result (IsPassed list.now text.now crowd.last) }
+{
+    let last = text.len().min(crowd.last.saturating_add(WINDOW));
     let (front, _) = text.split_at(last);
-    list.next_end(front, from)
+    match list.next_end_unless_dear(front, crowd.last, spacing(list, crowd.bytes)) {
+        Ok(Some(found)) => Ok(found),
+        Ok(None) => {
+            pace.recover();
+            Err(last)
+        }
+        Err(stop) => {
+            pace.rest_behind(stop.at);
+            Err(stop.at)
+        }
+    }
+}
+
+/// How many bytes of the text pay for a mark, where the candidates of a crowd stand in so many: what
+/// the candidates cost more than the list's looks at these bytes may be spent on marks.
+fn spacing(list: &LitList, bytes: usize) -> usize {
+    let spared = (CROWD * LOOKS)
+        .saturating_sub(bytes / stride_of(list))
+        .max(1);
+    bytes.saturating_mul(LOOKS_OF_MARK) / spared
 }

@@ -1,8 +1,9 @@
 -- The next place at which a literal ends, seen from a place before the one that a search has come to.
-use Rattle.std.proofs.Common.{◌≡◌, ℕ, ◌+◌, ◌-◌, ◌<◌, ◌≤◌, List, Option, Some, None, MatchOption, inl, inr, subst, arith}
+use Rattle.std.proofs.Common.{◌≡◌, ℕ, ◌+◌, ◌-◌, ◌<◌, ◌≤◌, List, Option, Some, None, MatchOption, Result, Ok, Err, IfOk, IfErr, inl, inr, subst, arith}
 use Rattle.std.proofs.lemmas.Bool.{cases_lt}
-use Rattle.lit_base.specs.Ends.{HasEnd, IsNextEnd, NoEndAfter, NoEndUpTo}
+use Rattle.lit_base.specs.Ends.{HasEnd, IsNextEnd, IsPassed, NoEndAfter, NoEndUpTo}
 use Rattle.lit_base.specs.Literals.{Literals}
+use Rattle.lit_base.specs.declared.toll.GaveUp.{GaveUp}
 
 module _ (l : Literals) (text : List ℕ) (from seen : ℕ) (none : NoEndUpTo l text from seen) where
   -- nor then further on, if not behind the second one
@@ -25,6 +26,20 @@ module _ (l : Literals) (text : List ℕ) (from seen : ℕ) (none : NoEndUpTo l 
   pub found_further : (found : Option (ℕ × ℕ)) → from ≤ seen → MatchOption found (NoEndAfter l text seen) (λ hit. IsNextEnd l text seen hit.0) → MatchOption found (NoEndAfter l text from) (λ hit. IsNextEnd l text from hit.0)
   found_further None ahead ends = none_further ends
   found_further (Some hit) ahead next = next_further hit.0 ahead next
+
+  -- the same where a search may give up
+  pub told_further : (told : Result (Option (ℕ × ℕ)) GaveUp) → from ≤ seen
+      → IfOk told (λ found. MatchOption found (NoEndAfter l text seen) (λ hit. IsNextEnd l text seen hit.0)) → IfOk told (λ found. MatchOption found (NoEndAfter l text from) (λ hit. IsNextEnd l text from hit.0))
+  told_further (Ok found) ahead next = found_further found ahead next
+  told_further (Err stop) ahead next = tt
+
+  pub stopped_further : (told : Result (Option (ℕ × ℕ)) GaveUp) → from ≤ seen → IfErr told (λ stop. IsPassed l text seen stop.at) → IfErr told (λ stop. IsPassed l text from stop.at)
+  stopped_further (Ok found) ahead next = tt
+  stopped_further (Err stop) ahead next = record {
+    after = omega (arith, next.after);
+    within = next.within;
+    none = none_joined stop.at next.none;
+  }
 
   -- so many places further
   pub passed : (count : ℕ) → ((back : ℕ) → back < count → ¬ HasEnd l text (seen + 1 + back)) → NoEndUpTo l text from (seen + count)

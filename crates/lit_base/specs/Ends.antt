@@ -21,3 +21,9 @@ pub record IsNextEnd (l : Literals) (text : List ℕ) (from end : ℕ) : Type 0 
   pub within : end ≤ length text
   pub here : HasEnd l text end
   pub first : (other : ℕ) → from < other → other < end → ¬ HasEnd l text other
+
+-- a search has come from one place of a text to another, and up to it no literal ends
+pub record IsPassed (l : Literals) (text : List ℕ) (from last : ℕ) : Type 0 where
+  pub after : from ≤ last
+  pub within : last ≤ length text
+  pub none : NoEndUpTo l text from last

@@ -20,6 +20,7 @@ mod suffix_chains;
 mod suffix_class;
 mod suffix_filter;
 mod suffix_key;
+mod toll;
 mod transfer;
 
 pub use costs::{Ends, assign_cost, cost, cut_cost, is_assignment, is_cut, weight};
@@ -37,4 +38,5 @@ pub use normal_form::normal_form_law;
 pub use occurrences::hits_law;
 pub use raw_list::RawList;
 pub use std_device::{FileOrInput, FromRead, ToWrite};
+pub use toll::GaveUp;
 pub use transfer::{ReadError, read_to_end, write_all};

@@ -2,7 +2,7 @@ ghost use Rattle.std.specs.Prelude.{◌≡◌, ℕ, ◌+◌, max, ◌<◌, ◌�
 ghost use Rattle.std.specs.List.{AllZip};
 ghost use Rattle.std.specs.List.Sorted.{IsNonDecreasing};
 ghost use Rattle.lit_base.specs.Chains.{IsClassOf, Reaches};
-ghost use Rattle.lit_base.specs.Ends.{HasEnd, IsNextEnd, NoEndAfter};
+ghost use Rattle.lit_base.specs.Ends.{HasEnd, IsNextEnd, IsPassed, NoEndAfter};
 ghost use Rattle.lit_base.specs.Folding.{folded_text};
 ghost use Rattle.lit_base.specs.Literals.{lengths, IsNormal};
 ghost use Rattle.lit_base.specs.Occurrences.{IsFirstEnding, NoneEnds, Occurs};
@@ -19,8 +19,9 @@ use crate::normal_form::{distinct, has_null, in_order, places};
 use crate::raw_list::RawList;
 use crate::suffix_chains::SuffixChains;
 use crate::suffix_class::SuffixClass;
-use crate::suffix_filter::{SuffixFilter, is_marked};
+use crate::suffix_filter::SuffixFilter;
 use crate::suffix_key::suffix_key;
+use crate::toll::{GaveUp, Toll};
 use std::alloc::Global;
 use std::marker::Model;
 
@@ -155,43 +156,79 @@ impl LitList {
             (λ found. IsNextEnd self.now text.now from found.0) }
         ensures first { IfSome result (λ found. IsFirstEnding self.now text.now 0 found.0 found.1) }
     {
+        match self.next_end_unless_dear(text, from, 0) {
+            Ok(found) => found,
+            Err(_) => None,
+        }
+    }
+
+    /// What `next_end` says, unless it meets many marks at which nothing ends, more than one in
+    /// `spacing` bytes: then it gives up. Where `spacing` is 0 it does not.
+    ///
+    /// A mark costs as much as many looks at the text, so it tells a caller who has another way of
+    /// searching that this one does not suit the text.
+    pub fn next_end_unless_dear(
+        &self,
+        text: &[u8],
+        from: usize,
+        spacing: usize,
+    ) -> Result<Option<(usize, usize)>, GaveUp>
+        ensures next { IfOk result (λ hit. MatchOption hit
+            (NoEndAfter self.now text.now from)
+            (λ found. IsNextEnd self.now text.now from found.0)) }
+        ensures first { IfOk result (λ hit. IfSome hit (λ found. IsFirstEnding self.now text.now 0 found.0 found.1)) }
+        ensures passed { IfErr result (λ stop. IsPassed self.now text.now from stop.at) }
+        ensures patient { IfErr result (λ _. 0 < spacing) }
+    {
         if from >= text.len() {
-            return None;
+            return Ok(None);
         }
         if from >= 7 {
-            return self.next_by_strides(text, from);
+            return self.next_by_strides(text, from, spacing);
         }
         // Before the first seven ends stand fewer than eight bytes, so each is looked at.
         if let Some(found) = self.first_marked(text, from, 7 - from, u8::MAX) {
-            return Some(found);
+            return Ok(Some(found));
         }
         if text.len() <= 7 {
-            return None;
+            return Ok(None);
         }
-        self.next_by_strides(text, 7)
+        self.next_by_strides(text, 7, spacing)
     }
 
-    /// What `next_end` says, behind at least seven bytes: of as many ends as a stride has places, the
-    /// bytes before the first have the marks of all.
-    fn next_by_strides(&self, text: &[u8], from: usize) -> Option<(usize, usize)>
+    /// What `next_end_unless_dear` says, behind at least seven bytes: of as many ends as a stride has
+    /// places, the bytes before the first have the marks of all.
+    #[inline(never)]
+    fn next_by_strides(
+        &self,
+        text: &[u8],
+        from: usize,
+        spacing: usize,
+    ) -> Result<Option<(usize, usize)>, GaveUp>
         requires seven { 7 ≤ from }
         requires inside { from < length text.now }
-        ensures next { MatchOption result
+        ensures next { IfOk result (λ hit. MatchOption hit
             (NoEndAfter self.now text.now from)
-            (λ found. IsNextEnd self.now text.now from found.0) }
-        ensures first { IfSome result (λ found. IsFirstEnding self.now text.now 0 found.0 found.1) }
+            (λ found. IsNextEnd self.now text.now from found.0)) }
+        ensures first { IfOk result (λ hit. IfSome hit (λ found. IsFirstEnding self.now text.now 0 found.0 found.1)) }
+        ensures passed { IfErr result (λ stop. IsPassed self.now text.now from stop.at) }
+        ensures patient { IfErr result (λ _. 0 < spacing) }
     {
         let stride = self.filter.stride;
+        let mut toll = Toll::new(spacing, from);
         let mut seen = from;
         'strides: loop {
             let marks = self.filter.marks_before(text, seen + 1);
             if marks != 0 {
+                if toll.is_too_high(seen) {
+                    return Err(GaveUp { at: seen });
+                }
                 if let Some(found) = self.first_marked(text, seen, stride, marks) {
-                    return Some(found);
+                    return Ok(Some(found));
                 }
             }
             if text.len() - seen <= stride {
-                return None;
+                return Ok(None);
             }
             seen += stride;
         }
@@ -215,13 +252,21 @@ impl LitList {
             (λ found. IsNextEnd self.now text.now seen found.0) }
         ensures first { IfSome result (λ found. IsFirstEnding self.now text.now 0 found.0 found.1) }
     {
-        for back in 0..count {
-            if is_marked(marks, back) && back < text.len() - seen {
-                let end = seen + 1 + back;
-                if let Some(first) = self.next_ending(text, end, 0) {
-                    return Some((end, first));
-                }
+        let room = count.min(text.len() - seen);
+        let mut back = 0;
+        let mut rest = marks;
+        while rest != 0 {
+            let unmarked = rest.trailing_zeros() as usize;
+            back += unmarked;
+            if back >= room {
+                return None;
             }
+            let end = seen + 1 + back;
+            if let Some(first) = self.next_ending(text, end, 0) {
+                return Some((end, first));
+            }
+            back += 1;
+            rest = rest >> unmarked >> 1;
         }
         None
     }

@@ -129,7 +129,7 @@ fn mark(marks: &mut Vec<u8>, number: usize, back: usize)
 
 /// Whether a byte of marks has one so far back.
 #[inline(always)]
-pub(crate) fn is_marked(marks: u8, back: usize) -> bool
+fn is_marked(marks: u8, back: usize) -> bool
     requires { back < 8 }
     ensures { IsTrue result ↔ (bit_at marks back ≡ 1) }
 {

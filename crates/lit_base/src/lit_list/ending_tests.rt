@@ -207,6 +207,33 @@ fn finds_the_next_end_at_each_stride(rt: HostRuntime) -> Result<(), Fail> {
 }
 
 #[test]
+fn gives_up_where_marks_crowd(rt: HostRuntime) -> Result<(), Fail> {
+    let alloc = rt.alloc();
+    let mut raw = RawList::new(alloc);
+    raw.push(b"abcdefghijk")?;
+    let (list, _) = LitList::normal(alloc, &raw, Fold::No)?;
+    let mut crowded = Vec::new(alloc);
+    let mut quiet = Vec::new(alloc);
+    for _ in 0..100 {
+        crowded.extend_from_slice(b"abcdefghij-")?;
+        quiet.extend_from_slice(b"abc-def-hij-")?;
+    }
+    assert!(rt;
+        list.next_end_unless_dear(crowded.as_slice(), 0, 100)
+            .is_err()
+    );
+    assert_eq!(rt;
+        list.next_end_unless_dear(crowded.as_slice(), 0, 0),
+        Ok(None)
+    );
+    assert_eq!(rt;
+        list.next_end_unless_dear(quiet.as_slice(), 0, 100),
+        Ok(None)
+    );
+    Ok(())
+}
+
+#[test]
 fn finds_literals_that_end_in_one_another(rt: HostRuntime) -> Result<(), Fail> {
     let alloc = rt.alloc();
     let mut raw = RawList::new(alloc);

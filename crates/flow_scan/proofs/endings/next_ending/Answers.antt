@@ -1,5 +1,5 @@
 -- The list goes on behind each crowd.
-use Rattle.std.proofs.Common.{◌≡◌, ℕ, ◌≤◌, ◌∙◌, sym, subst, arith}
+use Rattle.std.proofs.Common.{◌≤◌, ◌∙◌, sym, subst, arith}
 use Rattle.lit_base.specs.Ends.{NoEndUpTo}
 use Rattle.lit_base.proofs.EndLemmas.{found_further, next_further, none_joined}
 use Rattle.flow_scan.proofs.endings.next_ending.Goals as goal
@@ -21,10 +21,10 @@ passed c = none_joined c.args.list.now c.args.text.now c.args.candidates.now.fro
 crowd_ahead : (c : In-Err) → c.args.candidates.now.from ≤ c.in-Err.crowd.last
 crowd_ahead c = omega (arith, c.in-Err.ensures.crowd.after, c.crowds.invariant.ahead)
 
-pub returns-in-Some-clause-next : goal.returns-in-Some-clause-next
-returns-in-Some-clause-next c =
-    let at = (goal.at.returns-in-Some-clause-next c).In-Err in
-    next_further c.args.list.now c.args.text.now c.args.candidates.now.from c.in-Err.crowd.last (passed at) c.in-Some.end (crowd_ahead at) c.in-Some.ensures.next
+pub returns-in-Ok-next_by_list-clause-next : goal.returns-in-Ok-next_by_list-clause-next
+returns-in-Ok-next_by_list-clause-next c =
+    let at = (goal.at.returns-in-Ok-next_by_list-clause-next c).In-Err in
+    next_further c.args.list.now c.args.text.now c.args.candidates.now.from c.in-Err.crowd.last (passed at) c.in-Ok-next_by_list.end (crowd_ahead at) c.in-Ok-next_by_list.ensures.next
 
 pub crowds-preserved : goal.crowds-preserved
 crowds-preserved c =
@@ -33,10 +33,11 @@ crowds-preserved c =
     let l = c.args.list.now in
     let text = c.args.text.now in
     let from = c.args.candidates.now.from in
-    let further : NoEndUpTo l text from c.min-last.result = none_joined l text from c.in-Err.crowd.last (passed at) c.min-last.result c.in_default.ensures.next in
+    let reached = c.skip_to-in-Err-next_by_list.ensures in
+    let further : NoEndUpTo l text from c.in-Err-next_by_list.last = none_joined l text from c.in-Err.crowd.last (passed at) c.in-Err-next_by_list.last c.in-Err-next_by_list.ensures.passed.none in
     record {
-      sieve = c.skip_to-in-Err.ensures.sieve ∙ c.next_sieved.ensures.sieve ∙ before.sieve;
-      text = c.skip_to-in-Err.ensures.text ∙ c.next_sieved.ensures.text ∙ before.text;
-      ahead = omega (arith, c.skip_to-in-Err.ensures.from, crowd_ahead at, c.in-Err.ensures.crowd.within, c.min-last.ensures, c.saturating_add.ensures);
-      none = subst (NoEndUpTo l text from) (sym c.skip_to-in-Err.ensures.from) further;
+      sieve = reached.sieve ∙ c.next_sieved.ensures.sieve ∙ before.sieve;
+      text = reached.text ∙ c.next_sieved.ensures.text ∙ before.text;
+      ahead = omega (arith, reached.from, crowd_ahead at, c.in-Err-next_by_list.ensures.passed.after);
+      none = subst (NoEndUpTo l text from) (sym reached.from) further;
     }

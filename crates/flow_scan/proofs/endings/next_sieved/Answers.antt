@@ -7,7 +7,7 @@ use Rattle.lane_filter.specs.Ends.{IsFirstAfter, NoneWithin}
 use Rattle.lane_filter.specs.Sieves.{Passes}
 use Rattle.flow_scan.proofs.Steps.{all_bytes, none_before}
 use Rattle.flow_scan.proofs.endings.next_sieved.Goals as goal
-use Rattle.flow_scan.proofs.endings.next_sieved.Goals.{In_default-next_ending, then-rejected-eq-CROWD+else-are_close, else-rejected-eq-CROWD}
+use Rattle.flow_scan.proofs.endings.next_sieved.Goals.{In_default-next_ending}
 
 pub returns-in-Some-next_ending-clause-next : goal.returns-in-Some-next_ending-clause-next
 returns-in-Some-next_ending-clause-next c =
@@ -50,10 +50,6 @@ loop-end-preserved c =
     record {
       sieve = c.next_end.ensures.sieve ∙ before.sieve;
       text = c.next_end.ensures.text ∙ before.text;
-      counted = elim c.if-rejected-eq-CROWD.branch [
-        | then-rejected-eq-CROWD+else-are_close w ↦ omega (arith, w.rejected-is)
-        | else-rejected-eq-CROWD w ↦ omega (arith, w.rejected-is, w.if-rejected-eq-CROWD.false, before.counted)
-      ];
       ahead = omega (arith, reached, end_ahead at);
       none = subst (NoEndUpTo c.args.list.now c.args.text.now c.args.candidates.now.from) (sym reached) (none_to_end at);
     }

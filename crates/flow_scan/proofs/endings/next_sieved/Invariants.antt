@@ -1,6 +1,5 @@
 use Rattle.std.proofs.Common.{◌≡◌, ℕ, ◌-◌, ◌<◌, ◌≤◌, length}
 use Rattle.lit_base.specs.Ends.{HasEnd}
-use Rattle.flow_scan.specs.declared.endings.TheConstants.{CROWD}
 use Rattle.flow_scan.proofs.endings.next_sieved.Given as goal
 
 -- no literal ends at the places passed
@@ -8,7 +7,6 @@ abbrev pub invariant-loop-end : goal.invariant-loop-end
 invariant-loop-end l = record {
   sieve : l.candidates.sieve ≡ l.fn.candidates.sieve;
   text : l.candidates.text ≡ l.text;
-  counted : l.rejected ≤ CROWD;
   ahead : l.fn.candidates.from ≤ l.candidates.from;
   none : (other : ℕ) → l.fn.candidates.from < other → other ≤ l.candidates.from → ¬ HasEnd l.list l.text other;
 }

@@ -1,36 +1,62 @@
--- Where a place is passed over, no mark, the text's end or the literals themselves say that none ends there.
-use Rattle.std.proofs.Common.{ℕ, ◌+◌, ◌<◌, ◌≤◌, arith, below_more}
+-- Up to the lowest mark that is left, and behind the text, no literal ends.
+use Rattle.std.proofs.Common.{◌≡◌, ◌+◌, ◌-◌, ap, sym, ◌∙◌, subst, arith, w8}
+use Rattle.std.specs.Int.{bit_at}
+use Rattle.std.proofs.lemmas.Nat.Bits.{bit_at-trailing_zeros, bit_at-zero}
 use Rattle.lit_base.specs.Ends.{HasEnd}
-use Rattle.lit_base.proofs.EndLemmas.{passed}
+use Rattle.lit_base.proofs.MarkLemmas.{marked_behind, marked_first}
 use Rattle.lit_base.proofs.lit_list.LitList.first_marked.Goals as goal
-use Rattle.lit_base.proofs.lit_list.LitList.first_marked.Goals.{then-is_marked+then-back-text+in_default, else-is_marked, else-is_marked-via-then-is_marked+else-back-text, else-is_marked-via-else-is_marked}
 
-pub loop-back-preserved : goal.loop-back-preserved
-loop-back-preserved c =
-    let l = c.args.self.now in
-    let text = c.args.text.now in
-    let back = c.loop-back.back in
-    let here : ¬ HasEnd l text (c.args.seen + 1 + back) = elim c.if-is_marked.branch [
-      | then-is_marked+then-back-text+in_default w ↦ λ there. w.in_default.ensures.first there.0 (omega arith) there.1
-      | else-is_marked w ↦ elim w.else-is_marked.branch [
-        | else-is_marked-via-then-is_marked+else-back-text v ↦ λ there. absurd (omega (arith, there.1.ends, v.if-back-text.false))
-        | else-is_marked-via-else-is_marked v ↦ λ there. let no = v.if-is_marked.false in let yes = c.is_marked.ensures.1 (c.requires.marked back (omega (arith, c.loop-back-test.true)) there) in (cc)
-      ]
-    ] in
-    below_more _ _ c.loop-back.invariant here
+pub loop-rest-init : goal.loop-rest-init
+loop-rest-init c = record {
+  near = omega arith;
+  marked = λ other near here.
+      let whole : other - 0 ≡ other = omega arith in
+      (omega arith, ap (bit_at c.args.marks) whole ∙ c.requires.marked other near here);
+}
+
+pub overflow_add-back : goal.overflow_add-back
+overflow_add-back c =
+    let lowest = bit_at-trailing_zeros w8 c.loop-rest.rest (omega (arith, c.loop-rest-test.true)) c.loop-rest.auto.rest-fits.fits in
+    omega (arith, lowest.0, c.loop-rest.invariant.near, c.requires.few)
+
+pub returns-then-back-room-clause-next : goal.returns-then-back-room-clause-next
+returns-then-back-room-clause-next c = λ other near here.
+    let lowest = bit_at-trailing_zeros w8 c.loop-rest.rest (omega (arith, c.loop-rest-test.true)) c.loop-rest.auto.rest-fits.fits in
+    let before = c.loop-rest.invariant in
+    let first = marked_first c.args.self.now c.args.text.now c.args.seen c.args.count c.loop-rest.back c.loop-rest.rest before.marked _ lowest.2 other near here in
+    absurd (omega (arith, first, near, here.1.ends, c.if-back-room.true, c.min-room.ensures))
 
 pub returns-in-Some-clause-next : goal.returns-in-Some-clause-next
 returns-in-Some-clause-next c =
     let l = c.args.self.now in
     let text = c.args.text.now in
+    let seen = c.args.seen in
+    let lowest = bit_at-trailing_zeros w8 c.loop-rest.rest (omega (arith, c.loop-rest-test.true)) c.loop-rest.auto.rest-fits.fits in
+    let before = c.loop-rest.invariant in
     let occurs = c.in-Some.ensures.first.occurs in
-    let earlier = passed l text c.args.seen c.args.seen (λ (other : ℕ) (after : c.args.seen < other) (within : other ≤ c.args.seen) (there : HasEnd l text other). absurd (omega arith)) c.loop-back.back c.loop-back.invariant in
     record {
       after = omega arith;
       within = occurs.ends;
       here = (c.in-Some.first, occurs);
-      first = λ other after before. earlier other after (omega (arith, before));
+      first = λ other after sooner there.
+          let place : seen + 1 + (other - (seen + 1)) ≡ other = omega (arith, after) in
+          let first = marked_first l text seen c.args.count c.loop-rest.back c.loop-rest.rest before.marked _ lowest.2 (other - (seen + 1))
+          (omega (arith, after, sooner, c.if-back-room.false, c.min-room.ensures)) (subst (HasEnd l text) (sym place) there) in
+          absurd (omega (arith, first, after, sooner));
+    }
+
+pub loop-rest-preserved : goal.loop-rest-preserved
+loop-rest-preserved c =
+    let l = c.args.self.now in
+    let text = c.args.text.now in
+    let lowest = bit_at-trailing_zeros w8 c.loop-rest.rest (omega (arith, c.loop-rest-test.true)) c.loop-rest.auto.rest-fits.fits in
+    let before = c.loop-rest.invariant in
+    record {
+      near = omega (arith, c.if-back-room.false, c.min-room.ensures);
+      marked = marked_behind l text c.args.seen c.args.count c.loop-rest.back c.loop-rest.rest before.marked _ lowest.2 (λ there. c.in_default.ensures.first there.0 (omega arith) there.1);
     }
 
 pub returns-clause-next : goal.returns-clause-next
-returns-clause-next c = λ back near. c.loop-back.invariant back (omega (arith, near, c.loop-back-test.false))
+returns-clause-next c = λ other near here.
+    let left = c.loop-rest.invariant.marked other near here in
+    absurd (omega (arith, sym (ap (λ m. bit_at m (other - c.loop-rest.back)) c.loop-rest-test.false) ∙ left.1, bit_at-zero (other - c.loop-rest.back)))

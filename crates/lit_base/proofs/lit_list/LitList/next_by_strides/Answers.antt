@@ -8,7 +8,7 @@ use Rattle.lit_base.specs.Ends.{NoEndUpTo}
 use Rattle.lit_base.proofs.MarkLemmas.{marked_ahead, none_unmarked}
 use Rattle.lit_base.proofs.SuffixLemmas.{are_bytes}
 use Rattle.lit_base.proofs.lit_list.LitList.next_by_strides.Goals as goal
-use Rattle.lit_base.proofs.lit_list.LitList.next_by_strides.Goals.{After-marks_before-marks, Joined-marks-ne0, then-marks-ne0+in_default, else-marks-ne0}
+use Rattle.lit_base.proofs.lit_list.LitList.next_by_strides.Goals.{After-marks_before-marks, Joined-marks-ne0, then-marks-ne0+else-is_too_high+in_default, else-marks-ne0}
 
 -- an end within the stride is marked
 covered : (c : After-marks_before-marks) → (back : ℕ) → back < c.self.inside.filter.stride → HasEnd c.args.self.now c.args.text.now (c.strides.seen + 1 + back) → bit_at c.marks_before-marks.result back ≡ 1
@@ -33,13 +33,17 @@ none_ahead c =
     let seen = c.strides.seen in
     let stride = c.self.inside.filter.stride in
     let quiet : (back : ℕ) → back < stride → ¬ HasEnd l text (seen + 1 + back) = elim c.if-marks-ne0.branch [
-      | then-marks-ne0+in_default w ↦ w.in_default.ensures.next
+      | then-marks-ne0+else-is_too_high+in_default w ↦ w.in_default.ensures.next
       | else-marks-ne0 w ↦ none_unmarked l text seen stride c.marks_before-marks.result w.if-marks-ne0.false (covered (goal.at.Joined-marks-ne0 c).After-marks_before-marks)
     ] in
     passed l text c.args.from seen c.strides.invariant.none stride quiet
 
 pub strides-preserved : goal.strides-preserved
 strides-preserved c = record {
+  spacing = elim c.if-marks-ne0.branch [
+    | then-marks-ne0+else-is_too_high+in_default w ↦ ap (λ t. t.spacing) w.toll-is ∙ w.is_too_high.ensures.spacing ∙ c.strides.invariant.spacing
+    | else-marks-ne0 w ↦ ap (λ t. t.spacing) w.toll-is ∙ c.strides.invariant.spacing
+  ];
   ahead = omega (arith, c.strides.invariant.ahead);
   inside = omega (arith, c.if-text-seen.false);
   none = none_ahead (goal.at.strides-preserved c).Joined-marks-ne0;

@@ -1,10 +1,11 @@
-use Rattle.std.proofs.Common.{ℕ, ◌-◌, ◌<◌, ◌≤◌, length}
+use Rattle.std.proofs.Common.{◌≡◌, ℕ, ◌-◌, ◌<◌, ◌≤◌, length}
 use Rattle.lit_base.specs.Ends.{HasEnd}
 use Rattle.lit_base.proofs.lit_list.LitList.next_by_strides.Given as goal
 
 -- no literal ends at the places passed
 abbrev pub invariant-strides : goal.invariant-strides
 invariant-strides l = record {
+  spacing : l.toll.spacing ≡ l.spacing;
   ahead : l.from ≤ l.seen;
   inside : l.seen < length l.text;
   none : (other : ℕ) → l.from < other → other ≤ l.seen → ¬ HasEnd l.self l.text other;

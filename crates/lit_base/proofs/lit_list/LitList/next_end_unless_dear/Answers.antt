@@ -2,9 +2,9 @@
 use Rattle.std.proofs.Common.{◌≡◌, ℕ, ◌+◌, ◌-◌, ◌<◌, ◌≤◌, subst, arith}
 use Rattle.std.proofs.lemmas.Nat.Bits.{bit_at_ones}
 use Rattle.lit_base.specs.Ends.{HasEnd, NoEndUpTo}
-use Rattle.lit_base.proofs.EndLemmas.{found_further, passed}
-use Rattle.lit_base.proofs.lit_list.LitList.next_end.Goals as goal
-use Rattle.lit_base.proofs.lit_list.LitList.next_end.Goals.{In_default}
+use Rattle.lit_base.proofs.EndLemmas.{passed, stopped_further, told_further}
+use Rattle.lit_base.proofs.lit_list.LitList.next_end_unless_dear.Goals as goal
+use Rattle.lit_base.proofs.lit_list.LitList.next_end_unless_dear.Goals.{In_default}
 
 pub first_marked-requires-clause-marked : goal.first_marked-requires-clause-marked
 first_marked-requires-clause-marked c = λ back near here. bit_at_ones 8 back (omega (arith, near))
@@ -25,4 +25,8 @@ returns-then-text-le7-clause-next c = λ end after here.
 
 pub returns-clause-next : goal.returns-clause-next
 returns-clause-next c =
-    found_further c.args.self.now c.args.text.now c.args.from 7 (none_first (goal.at.returns-clause-next c).In_default) c.next_by_strides-2.result (omega (arith, c.if-from-ge7.false)) c.next_by_strides-2.ensures.next
+    told_further c.args.self.now c.args.text.now c.args.from 7 (none_first (goal.at.returns-clause-next c).In_default) c.next_by_strides-2.result (omega (arith, c.if-from-ge7.false)) c.next_by_strides-2.ensures.next
+
+pub returns-clause-passed : goal.returns-clause-passed
+returns-clause-passed c =
+    stopped_further c.args.self.now c.args.text.now c.args.from 7 (none_first (goal.at.returns-clause-passed c).In_default) c.next_by_strides-2.result (omega (arith, c.if-from-ge7.false)) c.next_by_strides-2.ensures.passed
