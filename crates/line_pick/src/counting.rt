@@ -1,15 +1,17 @@
 //! How many newlines a text has.
-ghost use Rattle.std.specs.Prelude.{◌≡◌, ◌==◌, ◌+◌, ◌-◌, ◌<◌, ◌≤◌, count_by, drop, length, map, slice_range, take};
-ghost use Rattle.std.specs.Simd.Lanes.{mask_l, sum_l};
+ghost use Rattle.std.specs.Prelude.{◌≡◌, ◌==◌, ◌+◌, ◌-◌, ◌*◌, ◌<◌, ◌≤◌, ℕ, count_by, drop, length, map, slice_range, take};
+ghost use Rattle.std.specs.Simd.Lanes.{Each1, mask_l, sum_l};
 
 use std::simd::prelude::*;
 
 /// So many bytes are compared at once.
 const LANES: usize = 64;
 
-/// Three times as many are counted lane by lane, and then together: a lane's byte has room for no
-/// more. With the bits of each 64 counted for themselves, counting took 1.6 times as long.
-const WIDE: usize = 192;
+/// So many bytes are counted by one step in lanes: a shorter one took longer at each length.
+const WIDE: usize = 256;
+
+/// So many steps are counted lane by lane, and then together: a lane's byte has room for no more.
+const STEPS: usize = 63;
 
 /// How many newlines the text has.
 pub(crate) fn count_newlines(text: &[u8]) -> usize
@@ -26,7 +28,7 @@ pub(crate) fn count_newlines(text: &[u8]) -> usize
     count + count_last(text, text.len() - at)
 }
 
-/// How many newlines stand before a place, fewer than 192 bytes before the end, and the place.
+/// How many newlines stand before a place, fewer than 256 bytes before the end, and the place.
 fn count_wide(text: &[u8]) -> (usize, usize)
     ensures count { result.0 ≡ count_by (λ b. b == 10) (take result.1 text.now) }
     ensures few { result.0 ≤ result.1 }
@@ -35,46 +37,55 @@ fn count_wide(text: &[u8]) -> (usize, usize)
     let mut count = 0;
     let mut at = 0;
     while text.len() - at >= WIDE {
-        count += count_in_three(text, at);
-        at += WIDE;
+        let steps = ((text.len() - at) / WIDE).min(STEPS);
+        count += sum_of(newlines_in_lanes(text, at, steps));
+        at += steps * WIDE;
     }
     (count, at)
 }
 
-/// How many of the 192 bytes from a place on are newlines.
+/// How many newlines there are in so many steps of 256 bytes from a place on: lane by lane, each 64
+/// bytes lying over the last.
 #[inline(always)]
-fn count_in_three(text: &[u8], at: usize) -> usize
-    requires { at + 192 ≤ length text.now }
-    ensures count { count_by (λ b. b == 10) (take at text.now) + result ≡ count_by (λ b. b == 10) (take (at + 192) text.now) }
-    ensures few { result ≤ 192 }
+fn newlines_in_lanes(text: &[u8], start: usize, steps: usize) -> u8x64
+    requires few { steps ≤ 63 }
+    requires within { start + 256 * steps ≤ length text.now }
+    ensures { count_by (λ b. b == 10) (take start text.now) + sum_l result
+        ≡ count_by (λ b. b == 10) (take (start + 256 * steps) text.now) }
 {
-    let first = newlines(load(text, at));
-    let second = newlines(load(text, at + LANES));
-    let third = newlines(load(text, at + 2 * LANES));
-    sum_of_three(first, second, third)
+    let mut lanes = u8x64::splat(0);
+    let mut done = 0;
+    while done < steps {
+        let at = start + done * WIDE;
+        lanes = add_newlines(lanes, load(text, at));
+        lanes = add_newlines(lanes, load(text, at + LANES));
+        lanes = add_newlines(lanes, load(text, at + 2 * LANES));
+        lanes = add_newlines(lanes, load(text, at + 3 * LANES));
+        done += 1;
+    }
+    lanes
 }
 
-/// 1 in each lane that is a newline, and 0 in the others.
+/// The lanes, with 1 more in each where the byte is a newline.
 #[inline(always)]
-fn newlines(bytes: u8x64) -> u8x64
-    ensures sum { sum_l result ≡ count_by (λ b. b == 10) bytes }
-    ensures few { sum_l result ≤ 64 }
+fn add_newlines(lanes: u8x64, bytes: u8x64) -> u8x64
+    requires { Each1 (λ lane. lane < 255) lanes }
+    ensures sum { sum_l result ≡ sum_l lanes + count_by (λ b. b == 10) bytes }
+    ensures most { (most : ℕ) → Each1 (λ lane. lane ≤ most) lanes
+        → Each1 (λ lane. lane ≤ most + 1) result }
 {
-    bytes
+    let newlines = bytes
         .simd_eq(u8x64::splat(b'\n'))
-        .select(u8x64::splat(1), u8x64::splat(0))
+        .select(u8x64::splat(1), u8x64::splat(0));
+    lanes.strict_add(newlines)
 }
 
-/// The sum of all lanes.
+/// The sum of all lanes, for which 16 bits are enough.
 #[inline(always)]
-fn sum_of_three(first: u8x64, second: u8x64, third: u8x64) -> usize
-    requires { sum_l first + sum_l second + sum_l third < 256 }
-    ensures { result ≡ sum_l first + sum_l second + sum_l third }
+fn sum_of(lanes: u8x64) -> usize
+    ensures { result ≡ sum_l lanes }
 {
-    first
-        .strict_add(second)
-        .strict_add(third)
-        .strict_reduce_sum() as usize
+    lanes.cast::<u16>().strict_reduce_sum() as usize
 }
 
 /// How many of the 64 bytes from a place on are newlines.
