@@ -2,23 +2,23 @@
 use Rattle.std.proofs.Common.{◌≡◌, ◌≤◌, ℕ, Bool, ◌+◌, ◌*◌, ap, eqb, count_by, take, arith, subst}
 use Rattle.std.specs.Simd.Lanes.{Each1}
 use Rattle.line_pick.proofs.Counts.{count_by-four, room-most}
-use Rattle.line_pick.proofs.counting.newlines_in_lanes.Goals as goal
+use Rattle.line_pick.proofs.counting.newlines_in_stretch.Goals as goal
 
 pub add_newlines-lanes-requires-in-loop-done : goal.add_newlines-lanes-requires-in-loop-done
 add_newlines-lanes-requires-in-loop-done c =
     let most = 4 * c.loop-done.done in
-    room-most (most + 1) c.add_newlines-lanes.result (omega (arith, c.requires.few)) (c.add_newlines-lanes.ensures.most most c.loop-done.invariant.most)
+    room-most (most + 1) c.add_newlines-lanes.result (omega arith) (c.add_newlines-lanes.ensures.most most c.loop-done.invariant.most)
 
 pub add_newlines-lanes-requires-in-loop-done-2 : goal.add_newlines-lanes-requires-in-loop-done-2
 add_newlines-lanes-requires-in-loop-done-2 c =
     let most = 4 * c.loop-done.done in
-    room-most (most + 1 + 1) c.add_newlines-lanes-in-loop-done.result (omega (arith, c.requires.few))
+    room-most (most + 1 + 1) c.add_newlines-lanes-in-loop-done.result (omega arith)
     (c.add_newlines-lanes-in-loop-done.ensures.most (most + 1) (c.add_newlines-lanes.ensures.most most c.loop-done.invariant.most))
 
 pub add_newlines-lanes-requires-in-loop-done-3 : goal.add_newlines-lanes-requires-in-loop-done-3
 add_newlines-lanes-requires-in-loop-done-3 c =
     let most = 4 * c.loop-done.done in
-    room-most (most + 1 + 1 + 1) c.add_newlines-lanes-in-loop-done-2.result (omega (arith, c.requires.few))
+    room-most (most + 1 + 1 + 1) c.add_newlines-lanes-in-loop-done-2.result (omega arith)
     (c.add_newlines-lanes-in-loop-done-2.ensures.most (most + 1 + 1) (c.add_newlines-lanes-in-loop-done.ensures.most (most + 1) (c.add_newlines-lanes.ensures.most most c.loop-done.invariant.most)))
 
 pub loop-done-preserved : goal.loop-done-preserved
