@@ -6,6 +6,7 @@ ghost use Rattle.line_pick.specs.Cutting.{IsFirstLine, IsLastCut};
 use memchr::{memchr, memrchr};
 
 /// The text before the first newline, and the text behind it, if there is a newline.
+#[inline(always)]
 pub(crate) fn split_line(text: &[u8]) -> Option<(&[u8], &[u8])>
     ensures { MatchOption result
         (IsOnePiece text.now)
