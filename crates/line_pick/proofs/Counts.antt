@@ -1,10 +1,12 @@
 -- Counts of a text in parts.
-use Rattle.std.proofs.Common.{◌≡◌, ℕ, zero, suc, ◌+◌, ◌-◌, ◌*◌, ◌/◌, ◌^◌, ◌<◌, ◌≤◌, Bool, true, false, cond, List, [], ◌∷◌, length, map, replicate, take, drop, count_by, eqb, Fits, w8, refl, sym, ap, ◌∙◌, arith}
+use Rattle.std.proofs.Common.{◌≡◌, ℕ, zero, suc, ◌+◌, ◌-◌, ◌*◌, ◌/◌, ◌^◌, ◌<◌, ◌≤◌, Bool, true, false, cond, List, [], ◌∷◌, length, map, replicate, take, drop, count_by, eqb, inl, inr, not, Fits, w8, refl, sym, ap, ◌∙◌, arith}
+use Rattle.std.specs.List.{prefix_len}
 use Rattle.std.specs.Int.RustNames.{count_ones}
 use Rattle.std.specs.Simd.Lanes.{Each1, Each2, mask_l, sel_l, sum_l, top, zip2}
-use Rattle.std.proofs.Math.Nat.{div-one, zero-div}
+use Rattle.std.proofs.Math.Nat.{div-one, eq-zero-or-pos, zero-div}
+use Rattle.std.specs.Int.Count.{count_trailing_zeros, trailing_of_zero}
 use Rattle.std.proofs.lemmas.Nat.{shr-shr}
-use Rattle.std.proofs.lemmas.Simd.{Each1-weaker, Each1-zip2, Each2-of, bytes_below, length-sel_l, length-zip2, ones-mask_l, sum-zip2, sum_bound, tops_compared, zip2_splat}
+use Rattle.std.proofs.lemmas.Simd.{Each1-weaker, Each1-zip2, Each2-of, bytes_below, leading_from_mask_l, length-sel_l, length-zip2, trailing_mask_l, ones-mask_l, sum-zip2, sum_bound, tops_compared, zip2_splat}
 use Rattle.std.proofs.lemmas.List.{drop-drop, drop-map, drop-take, length-drop, length-map, take-take, take_all}
 use Rattle.std.proofs.lemmas.List.Sums.{sum_by-cons, sum_by-take-drop}
 
@@ -121,3 +123,11 @@ count_by-four p text at a b c d first second third fourth =
       ap (λ n. count_by p (take n text)) three,
       ap (λ n. count_by p (take n text)) four,
     )
+
+-- the zeros below the lowest bit that is set
+pub ctz-lead : (p : ℕ → Bool) (xs : List ℕ) → length xs ≡ 64 → count_trailing_zeros 64 (mask_l (map p xs)) ≡ prefix_len (λ x. not (p x)) xs
+ctz-lead p xs e =
+    elim (eq-zero-or-pos (mask_l (map p xs))) [
+      | inl none ↦ ap (count_trailing_zeros 64) none ∙ trailing_of_zero 64 ∙ sym e ∙ sym (leading_from_mask_l p xs none)
+      | inr some ↦ trailing_mask_l p 64 xs (omega (arith, e)) some
+    ]

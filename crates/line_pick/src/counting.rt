@@ -1,11 +1,12 @@
 //! How many newlines a text has.
 ghost use Rattle.std.specs.Prelude.{◌≡◌, ◌==◌, ◌+◌, ◌-◌, ◌*◌, ◌<◌, ◌≤◌, ℕ, count_by, drop, length, map, slice_range, take};
 ghost use Rattle.std.specs.Simd.Lanes.{Each1, mask_l, sum_l};
+ghost use Rattle.lit_base.specs.Lines.{IsOnePiece};
 
 use std::simd::prelude::*;
 
 /// So many bytes are compared at once.
-const LANES: usize = 64;
+pub(crate) const LANES: usize = 64;
 
 /// So many are compared by one step of a stretch.
 const WIDE: usize = 256;
@@ -117,6 +118,15 @@ fn count_last(text: &[u8], left: usize) -> usize
     let bits = newline_bits(load(text, text.len() - LANES));
     // The lanes before them are shifted out, in two steps: all 64 may be.
     (bits >> (LANES - 1 - left) >> 1).count_ones() as usize
+}
+
+/// How many bytes stand before the first newline of a text, or 64 where its first 64 bytes are none.
+#[inline(always)]
+pub(crate) fn first_newline(text: &[u8]) -> usize
+    requires { 64 ≤ length text.now }
+    ensures { IsOnePiece (take result text.now) }
+{
+    newline_bits(load(text, 0)).trailing_zeros() as usize
 }
 
 /// The 64 bytes from a place on.
