@@ -125,9 +125,13 @@ count_by-four p text at a b c d first second third fourth =
     )
 
 -- the zeros below the lowest bit that is set
-pub ctz-lead : (p : ℕ → Bool) (xs : List ℕ) → length xs ≡ 64 → count_trailing_zeros 64 (mask_l (map p xs)) ≡ prefix_len (λ x. not (p x)) xs
+ctz-lead : (p : ℕ → Bool) (xs : List ℕ) → length xs ≡ 64 → count_trailing_zeros 64 (mask_l (map p xs)) ≡ prefix_len (λ x. not (p x)) xs
 ctz-lead p xs e =
     elim (eq-zero-or-pos (mask_l (map p xs))) [
       | inl none ↦ ap (count_trailing_zeros 64) none ∙ trailing_of_zero 64 ∙ sym e ∙ sym (leading_from_mask_l p xs none)
       | inr some ↦ trailing_mask_l p 64 xs (omega (arith, e)) some
     ]
+
+-- the same of the newlines in the first 64 bytes
+pub first-lead : (text : List ℕ) {lanes : List ℕ} {bits : ℕ} → bits ≡ mask_l (map (λ b. eqb b 10) lanes) → length lanes ≡ 64 → lanes ≡ take 64 text → count_trailing_zeros 64 bits ≡ prefix_len (λ b. not (eqb b 10)) (take 64 text)
+first-lead text {lanes} mask e is = ap (count_trailing_zeros 64) mask ∙ ctz-lead (λ b. eqb b 10) lanes e ∙ ap (prefix_len (λ b. not (eqb b 10))) is

@@ -2,7 +2,7 @@
 use Rattle.std.proofs.Common.{◌≡◌, ◌≢◌, ℕ, ◌+◌, ◌<◌, ◌≤◌, true, not, eqb, min, List, [], ◌∷◌, ◌++◌, length, take, drop, get_or, None, Some, sym, ap, ◌∙◌, subst, arith, take-append-drop, append-nil, append_assoc, eq-eqb}
 use Rattle.std.specs.List.{prefix_len}
 use Rattle.std.proofs.lemmas.Bool.{eqb-false, eqb-true}
-use Rattle.std.proofs.lemmas.Simd.{run_in_chunk_fails}
+use Rattle.std.proofs.lemmas.Simd.{run_in_chunk_fails, run_in_chunk_stops}
 use Rattle.std.proofs.lemmas.List.{get_or-take, get_or-drop, drop_more, take_more, get_or_default, take_min, length-append, length-take, length-drop}
 use Rattle.std.proofs.lemmas.List.Elements.{All-append}
 use Rattle.memchr.specs.Find.{IsFirstByte, IsLastByte, is_byte}
@@ -106,6 +106,11 @@ pub lead-one : (text : List ℕ) (r : ℕ) → 64 ≤ length text → r ≡ pref
 lead-one text r long is k d inside e =
     let below : k < r = omega (arith, length-take r text, inside) in
     eqb-false (get_or text k d) 10 (run_in_chunk_fails (λ b. eqb b 10) text 0 64 r d (omega arith) is k (omega arith) (omega arith)) (sym (get_or-take r text k d below) ∙ e)
+
+pub lead-stops : (text : List ℕ) (r : ℕ) → 64 ≤ length text → r ≡ prefix_len (λ b. not (eqb b 10)) (take 64 text) → r < 64 → get_or text r 0 ≡ 10
+lead-stops text r long is few =
+    let here : 0 + r ≡ r = omega arith in
+    subst (λ k. get_or text k 0 ≡ 10) here (eqb-true _ _ (run_in_chunk_stops (λ b. eqb b 10) text 0 64 r 0 (omega arith) is few))
 
 -- its lines and its open rest
 pub ended_lines-cut : {text block rest : List ℕ} → IsLastCut text block rest → ended_lines text ≡ ended_lines block

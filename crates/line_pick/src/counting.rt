@@ -1,5 +1,5 @@
 //! How many newlines a text has.
-ghost use Rattle.std.specs.Prelude.{◌≡◌, ◌==◌, ◌+◌, ◌-◌, ◌*◌, ◌<◌, ◌≤◌, ℕ, count_by, drop, length, map, slice_range, take};
+ghost use Rattle.std.specs.Prelude.{◌≡◌, ◌==◌, ◌+◌, ◌-◌, ◌*◌, ◌<◌, ◌≤◌, ℕ, count_by, drop, length, map, slice_index, slice_range, take};
 ghost use Rattle.std.specs.Simd.Lanes.{Each1, mask_l, sum_l};
 ghost use Rattle.lit_base.specs.Lines.{IsOnePiece};
 
@@ -124,7 +124,8 @@ fn count_last(text: &[u8], left: usize) -> usize
 #[inline(always)]
 pub(crate) fn first_newline(text: &[u8]) -> usize
     requires { 64 ≤ length text.now }
-    ensures { IsOnePiece (take result text.now) }
+    ensures apart { IsOnePiece (take result text.now) }
+    ensures found { result < 64 → slice_index text.now result ≡ 10 }
 {
     newline_bits(load(text, 0)).trailing_zeros() as usize
 }

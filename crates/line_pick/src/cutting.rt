@@ -18,6 +18,23 @@ pub(crate) fn split_line(text: &[u8]) -> Option<(&[u8], &[u8])>
     Some((line, &behind[1..]))
 }
 
+/// The same where the newline is near: for some bytes one look takes less time than a search.
+#[inline(always)]
+pub(crate) fn split_near_line(text: &[u8]) -> Option<(&[u8], &[u8])>
+    ensures { MatchOption result
+        (IsOnePiece text.now)
+        (λ parts. IsFirstLine text.now parts.0.now parts.1.now) }
+{
+    if text.len() >= LANES {
+        let end = first_newline(text);
+        if end < LANES {
+            let (line, behind) = text.split_at(end);
+            return Some((line, &behind[1..]));
+        }
+    }
+    split_line(text)
+}
+
 /// The text up to its last newline, with it, and the text behind it.
 pub(crate) fn split_ended(text: &[u8]) -> (&[u8], &[u8])
     ensures { IsLastCut text.now result.0.now result.1.now }
