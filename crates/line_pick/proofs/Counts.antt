@@ -1,11 +1,13 @@
 -- Counts of a text in parts.
-use Rattle.std.proofs.Common.{◌≡◌, ℕ, zero, suc, ◌+◌, ◌-◌, ◌*◌, ◌/◌, ◌^◌, ◌<◌, ◌≤◌, Bool, true, false, cond, List, [], ◌∷◌, length, map, replicate, take, drop, count_by, eqb, w8, refl, sym, ap, ◌∙◌, arith}
+use Rattle.std.proofs.Common.{◌≡◌, ℕ, zero, suc, ◌+◌, ◌-◌, ◌*◌, ◌/◌, ◌^◌, ◌<◌, ◌≤◌, Bool, true, false, cond, List, [], ◌∷◌, length, map, replicate, take, drop, count_by, eqb, inl, inr, not, Fits, w8, refl, sym, ap, ◌∙◌, arith}
+use Rattle.std.specs.List.{prefix_len}
 use Rattle.std.specs.Int.RustNames.{count_ones}
-use Rattle.std.specs.Simd.Lanes.{mask_l, sel_l, sum_l, top, zip2}
-use Rattle.std.proofs.Math.Nat.{div-one, zero-div}
+use Rattle.std.specs.Simd.Lanes.{Each1, Each2, mask_l, sel_l, sum_l, top, zip2}
+use Rattle.std.proofs.Math.Nat.{div-one, eq-zero-or-pos, zero-div}
+use Rattle.std.specs.Int.Count.{count_trailing_zeros, trailing_of_zero}
 use Rattle.std.proofs.lemmas.Nat.{shr-shr}
-use Rattle.std.proofs.lemmas.Simd.{length-zip2, ones-mask_l, sum-zip2, tops_compared, zip2_splat}
-use Rattle.std.proofs.lemmas.List.{drop-drop, drop-map, drop-take, length-drop, take-take, take_all}
+use Rattle.std.proofs.lemmas.Simd.{Each1-weaker, Each1-zip2, Each2-of, bytes_below, leading_from_mask_l, length-sel_l, length-zip2, trailing_mask_l, ones-mask_l, sum-zip2, sum_bound, tops_compared, zip2_splat}
+use Rattle.std.proofs.lemmas.List.{drop-drop, drop-map, drop-take, length-drop, length-map, take-take, take_all}
 use Rattle.std.proofs.lemmas.List.Sums.{sum_by-cons, sum_by-take-drop}
 
 -- up to a place, and from it on
@@ -55,20 +57,81 @@ sum-select p (x ∷ xs) zero e = absurd (omega (arith, e))
 sum-select p (x ∷ xs) (suc n) e = ap (λ k. cond (p x) 1 0 + k) (sum-select p xs n (omega (arith, e))) ∙ sym (sum_by-cons (λ y. cond (p y) 1 0) x xs)
 
 -- the lanes that are newlines
-pub sum-compared : (xs : List ℕ) → length xs ≡ 64 → sum_l (sel_l (map (top 7) (zip2 (λ a b. cond (eqb a b) 255 0) xs (replicate 64 10))) (replicate 64 1) (replicate 64 0)) ≡ count_by (λ b. eqb b 10) xs
+sum-compared : (xs : List ℕ) → length xs ≡ 64 → sum_l (sel_l (map (top 7) (zip2 (λ a b. cond (eqb a b) 255 0) xs (replicate 64 10))) (replicate 64 1) (replicate 64 0)) ≡ count_by (λ b. eqb b 10) xs
 sum-compared xs e =
     ap (λ ms. sum_l (sel_l ms (replicate 64 1) (replicate 64 0))) (tops_compared w8 eqb xs (replicate 64 10) ∙ zip2_splat eqb xs 64 10 e) ∙ sum-select (λ b. eqb b 10) xs 64 e
 
--- three times 64 bytes more
-pub count_by-three : (p : ℕ → Bool) (text : List ℕ) (at a b c : ℕ) → a ≡ count_by p (take ((at + 64) - at) (drop at text)) → b ≡ count_by p (take (((at + 64) + 64) - (at + 64)) (drop (at + 64) text))
-    → c ≡ count_by p (take (((at + 128) + 64) - (at + 128)) (drop (at + 128) text)) → count_by p (take at text) + (a + b + c) ≡ count_by p (take (at + 192) text)
-count_by-three p text at a b c first second third =
+-- no lane is more than 1
+few-select : (ms : List Bool) (n : ℕ) → Each1 (λ lane. lane ≤ 1) (sel_l ms (replicate n 1) (replicate n 0))
+few-select [] n = tt
+few-select (m ∷ ms) zero = tt
+few-select (true ∷ ms) (suc n) = (omega arith, few-select ms n)
+few-select (false ∷ ms) (suc n) = (omega arith, few-select ms n)
+
+-- 1 in each lane that is a newline
+abbrev pub marked : List ℕ → List ℕ
+marked xs = sel_l (map (top 7) (zip2 (λ a b. cond (eqb a b) 255 0) xs (replicate 64 10))) (replicate 64 1) (replicate 64 0)
+
+length-marked : (xs : List ℕ) → length xs ≡ 64 → length (marked xs) ≡ 64
+length-marked xs e =
+    let found = map (top 7) (zip2 (λ a b. cond (eqb a b) 255 0) xs (replicate 64 10)) in
+    let ones : List ℕ = replicate 64 1 in
+    let zeros : List ℕ = replicate 64 0 in
+    let size : length found ≡ 64 = length-map (zip2 (λ a b. cond (eqb a b) 255 0) xs (replicate 64 10)) (top 7) ∙ length-zip2 (λ a b. cond (eqb a b) 255 0) xs (replicate 64 10) e ∙ e in
+    length-sel_l found ones zeros size size ∙ size
+
+few-marked : (xs : List ℕ) → Each1 (λ lane. lane ≤ 1) (marked xs)
+few-marked xs = few-select (map (top 7) (zip2 (λ a b. cond (eqb a b) 255 0) xs (replicate 64 10))) 64
+
+-- they are added to lanes that have room
+pub marked_fit : (lanes xs : List ℕ) → Each1 (λ lane. lane < 255) lanes → Each2 (λ a b. Fits w8 (a + b)) lanes (marked xs)
+marked_fit lanes xs room = Each2-of (λ lane. lane < 255) (λ lane. lane ≤ 1) (λ a b. Fits w8 (a + b)) (λ a b lt one. record { fits = omega arith }) lanes (marked xs) room (few-marked xs)
+
+pub sum-marked : (lanes xs : List ℕ) → length lanes ≡ 64 → length xs ≡ 64 → sum_l (zip2 (λ a b. a + b) lanes (marked xs)) ≡ sum_l lanes + count_by (λ b. eqb b 10) xs
+sum-marked lanes xs e size = sum-zip2 lanes (marked xs) (e ∙ sym (length-marked xs size)) ∙ ap (λ n. sum_l lanes + n) (sum-compared xs size)
+
+pub most-marked : (lanes xs : List ℕ) (most : ℕ) → Each1 (λ lane. lane ≤ most) lanes → Each1 (λ lane. lane ≤ most + 1) (zip2 (λ a b. a + b) lanes (marked xs))
+most-marked lanes xs most le =
+    Each1-zip2 (λ a b. a + b) (λ lane. lane ≤ most + 1) lanes (marked xs) (Each2-of (λ lane. lane ≤ most) (λ lane. lane ≤ 1) (λ a b. a + b ≤ most + 1) (λ a b x y. omega arith) lanes (marked xs) le (few-marked xs))
+
+-- lanes that are at most so many have room
+pub room-most : (most : ℕ) (lanes : List ℕ) → most < 255 → Each1 (λ lane. lane ≤ most) lanes → Each1 (λ lane. lane < 255) lanes
+room-most most lanes few = Each1-weaker (λ lane. lane ≤ most) (λ lane. lane < 255) (λ a le. omega arith) lanes
+
+-- 64 bytes together hold less than 16 bits do
+pub sum-bytes : (xs : List ℕ) → length xs ≡ 64 → Each1 (Fits w8) xs → sum_l xs ≤ 16320
+sum-bytes xs e fit = omega (arith, sum_bound 255 xs (bytes_below xs fit), ap (λ n. 255 * n) e)
+
+-- four times 64 bytes more
+pub count_by-four : (p : ℕ → Bool) (text : List ℕ) (at a b c d : ℕ) → a ≡ count_by p (take ((at + 64) - at) (drop at text)) → b ≡ count_by p (take (((at + 64) + 64) - (at + 64)) (drop (at + 64) text))
+    → c ≡ count_by p (take (((at + 128) + 64) - (at + 128)) (drop (at + 128) text)) → d ≡ count_by p (take (((at + 192) + 64) - (at + 192)) (drop (at + 192) text)) → count_by p (take at text) + (a + b + c + d) ≡ count_by p (take (at + 256) text)
+count_by-four p text at a b c d first second third fourth =
     let two : (at + 64) + 64 ≡ at + 128 = omega arith in
     let three : (at + 128) + 64 ≡ at + 192 = omega arith in
-    omega (arith, first, second, third, count_by-more p text at 64, count_by-more p text (at + 64) 64, count_by-more p text (at + 128) 64, ap (λ n. count_by p (take n text)) two, ap (λ n. count_by p (take n text)) three)
+    let four : (at + 192) + 64 ≡ at + 256 = omega arith in
+    omega (
+      arith,
+      first,
+      second,
+      third,
+      fourth,
+      count_by-more p text at 64,
+      count_by-more p text (at + 64) 64,
+      count_by-more p text (at + 128) 64,
+      count_by-more p text (at + 192) 64,
+      ap (λ n. count_by p (take n text)) two,
+      ap (λ n. count_by p (take n text)) three,
+      ap (λ n. count_by p (take n text)) four,
+    )
 
--- the sums of three vectors, added lane by lane
-pub sum-three : (xs ys zs : List ℕ) → length xs ≡ 64 → length ys ≡ 64 → length zs ≡ 64 → sum_l (zip2 (λ a b. a + b) (zip2 (λ a b. a + b) xs ys) zs) ≡ sum_l xs + sum_l ys + sum_l zs
-sum-three xs ys zs ex ey ez =
-    let both = zip2 (λ a b. a + b) xs ys in
-    omega (arith, sum-zip2 xs ys (ex ∙ sym ey), sum-zip2 both zs (length-zip2 (λ a b. a + b) xs ys (ex ∙ sym ey) ∙ ex ∙ sym ez))
+-- the zeros below the lowest bit that is set
+ctz-lead : (p : ℕ → Bool) (xs : List ℕ) → length xs ≡ 64 → count_trailing_zeros 64 (mask_l (map p xs)) ≡ prefix_len (λ x. not (p x)) xs
+ctz-lead p xs e =
+    elim (eq-zero-or-pos (mask_l (map p xs))) [
+      | inl none ↦ ap (count_trailing_zeros 64) none ∙ trailing_of_zero 64 ∙ sym e ∙ sym (leading_from_mask_l p xs none)
+      | inr some ↦ trailing_mask_l p 64 xs (omega (arith, e)) some
+    ]
+
+-- the same of the newlines in the first 64 bytes
+pub first-lead : (text : List ℕ) {lanes : List ℕ} {bits : ℕ} → bits ≡ mask_l (map (λ b. eqb b 10) lanes) → length lanes ≡ 64 → lanes ≡ take 64 text → count_trailing_zeros 64 bits ≡ prefix_len (λ b. not (eqb b 10)) (take 64 text)
+first-lead text {lanes} mask e is = ap (count_trailing_zeros 64) mask ∙ ctz-lead (λ b. eqb b 10) lanes e ∙ ap (prefix_len (λ b. not (eqb b 10))) is

@@ -1,7 +1,9 @@
 -- Where newlines stand: a text is cut at its first newline, and behind its last one.
-use Rattle.std.proofs.Common.{◌≡◌, ◌≢◌, ℕ, ◌+◌, ◌<◌, true, eqb, List, [], ◌∷◌, ◌++◌, length, take, drop, get_or, None, Some, sym, ap, ◌∙◌, subst, arith, take-append-drop, append-nil, append_assoc, eq-eqb}
-use Rattle.std.proofs.lemmas.Bool.{eqb-true}
-use Rattle.std.proofs.lemmas.List.{get_or-take, get_or-drop, drop_more, take_more, get_or_default, length-append, length-take, length-drop}
+use Rattle.std.proofs.Common.{◌≡◌, ◌≢◌, ℕ, ◌+◌, ◌<◌, ◌≤◌, true, not, eqb, min, List, [], ◌∷◌, ◌++◌, length, take, drop, get_or, None, Some, sym, ap, ◌∙◌, subst, arith, take-append-drop, append-nil, append_assoc, eq-eqb}
+use Rattle.std.specs.List.{prefix_len}
+use Rattle.std.proofs.lemmas.Bool.{eqb-false, eqb-true}
+use Rattle.std.proofs.lemmas.Simd.{run_in_chunk_fails, run_in_chunk_stops}
+use Rattle.std.proofs.lemmas.List.{get_or-take, get_or-drop, drop_more, take_more, get_or_default, take_min, length-append, length-take, length-drop}
 use Rattle.std.proofs.lemmas.List.Elements.{All-append}
 use Rattle.memchr.specs.Find.{IsFirstByte, IsLastByte, is_byte}
 use Rattle.lit_base.specs.Lines.{IsOnePiece, ended_lines, open_rest}
@@ -78,6 +80,37 @@ last-cut-none text block rest h front back = record {
   closed = ap open_rest front ∙ open_rest-nil;
   one = subst IsOnePiece (sym back) (none_last text h);
 }
+
+pub last-cut-one : (text block rest : List ℕ) → IsOnePiece text → block ≡ [] → rest ≡ text → IsLastCut text block rest
+last-cut-one text block rest one front back = record {
+  whole = ap (λ b. b ++ text) (sym front) ∙ ap (λ r. block ++ r) (sym back);
+  closed = ap open_rest front ∙ open_rest-nil;
+  one = subst IsOnePiece (sym back) one;
+}
+
+-- a front of a text is as much of it as its length says
+pub front-whole : (text front : List ℕ) (n : ℕ) → front ≡ take n text → front ≡ take (length front) text
+front-whole text front n is =
+    let size : length front ≡ min n (length text) = ap length is ∙ length-take n text in
+    is ∙ sym (take_min n text) ∙ ap (λ k. take k text) (sym size)
+
+-- what is shorter than a text without newlines has none
+pub one-shorter : (text : List ℕ) (m n : ℕ) → m ≤ n → IsOnePiece (take n text) → IsOnePiece (take m text)
+one-shorter text m n le one k d inside e =
+    let below : k < m = omega (arith, length-take m text, inside) in
+    let room : k < length (take n text) = omega (arith, length-take m text, length-take n text, inside) in
+    one k d room (get_or-take n text k d (omega arith) ∙ sym (get_or-take m text k d below) ∙ e)
+
+-- the bytes before the first newline of a load
+pub lead-one : (text : List ℕ) (r : ℕ) → 64 ≤ length text → r ≡ prefix_len (λ b. not (eqb b 10)) (take 64 text) → IsOnePiece (take r text)
+lead-one text r long is k d inside e =
+    let below : k < r = omega (arith, length-take r text, inside) in
+    eqb-false (get_or text k d) 10 (run_in_chunk_fails (λ b. eqb b 10) text 0 64 r d (omega arith) is k (omega arith) (omega arith)) (sym (get_or-take r text k d below) ∙ e)
+
+pub lead-stops : (text : List ℕ) (r : ℕ) → 64 ≤ length text → r ≡ prefix_len (λ b. not (eqb b 10)) (take 64 text) → r < 64 → get_or text r 0 ≡ 10
+lead-stops text r long is few =
+    let here : 0 + r ≡ r = omega arith in
+    subst (λ k. get_or text k 0 ≡ 10) here (eqb-true _ _ (run_in_chunk_stops (λ b. eqb b 10) text 0 64 r 0 (omega arith) is few))
 
 -- its lines and its open rest
 pub ended_lines-cut : {text block rest : List ℕ} → IsLastCut text block rest → ended_lines text ≡ ended_lines block

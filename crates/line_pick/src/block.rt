@@ -74,6 +74,7 @@ fn lend_hits<S: Sink>(
 }
 
 /// Lends all lines of the text if they are selected, and else counts them.
+#[inline(always)]
 fn lend_all<S: Sink>(selected: bool, text: &[u8], before: u64, sink: &mut S) -> Result<u64, Halt>
     requires { before + length text.now < 2 ^ 64 }
     ensures lent { Lent S.takes sink.old

@@ -1,15 +1,21 @@
 //! How many newlines a text has.
-ghost use Rattle.std.specs.Prelude.{◌≡◌, ◌==◌, ◌+◌, ◌-◌, ◌<◌, ◌≤◌, count_by, drop, length, map, slice_range, take};
-ghost use Rattle.std.specs.Simd.Lanes.{mask_l, sum_l};
+ghost use Rattle.std.specs.Prelude.{◌≡◌, ◌==◌, ◌+◌, ◌-◌, ◌*◌, ◌<◌, ◌≤◌, ℕ, count_by, drop, length, map, slice_index, slice_range, take};
+ghost use Rattle.std.specs.Simd.Lanes.{Each1, mask_l, sum_l};
+ghost use Rattle.lit_base.specs.Lines.{IsOnePiece};
 
 use std::simd::prelude::*;
 
 /// So many bytes are compared at once.
-const LANES: usize = 64;
+pub(crate) const LANES: usize = 64;
 
-/// Three times as many are counted lane by lane, and then together: a lane's byte has room for no
-/// more. With the bits of each 64 counted for themselves, counting took 1.6 times as long.
-const WIDE: usize = 192;
+/// So many are compared by one step of a stretch.
+const WIDE: usize = 256;
+
+/// A stretch has so many steps: a lane's byte has room for no more.
+const STEPS: usize = 63;
+
+/// The bytes of a stretch.
+const STRETCH: usize = WIDE * STEPS;
 
 /// How many newlines the text has.
 pub(crate) fn count_newlines(text: &[u8]) -> usize
@@ -18,73 +24,87 @@ pub(crate) fn count_newlines(text: &[u8]) -> usize
     if text.len() < LANES {
         return count_one_by_one(text);
     }
-    let (mut count, mut at) = count_wide(text);
-    while text.len() - at >= LANES {
-        count += count_in_lanes(text, at);
-        at += LANES;
-    }
-    count + count_last(text, text.len() - at)
+    let (count, start) = count_stretches(text);
+    let (lanes, end) = newlines_behind(text, start);
+    count + sum_of(lanes) + count_last(text, text.len() - end)
 }
 
-/// How many newlines stand before a place, fewer than 192 bytes before the end, and the place.
-fn count_wide(text: &[u8]) -> (usize, usize)
+/// How many newlines stand before a place, less than a stretch before the end, and the place.
+fn count_stretches(text: &[u8]) -> (usize, usize)
     ensures count { result.0 ≡ count_by (λ b. b == 10) (take result.1 text.now) }
-    ensures few { result.0 ≤ result.1 }
     ensures within { result.1 ≤ length text.now }
+    ensures rest { length text.now < result.1 + 16128 }
 {
     let mut count = 0;
     let mut at = 0;
-    while text.len() - at >= WIDE {
-        count += count_in_three(text, at);
-        at += WIDE;
+    while text.len() - at >= STRETCH {
+        count += sum_of(newlines_in_stretch(text, at));
+        at += STRETCH;
     }
     (count, at)
 }
 
-/// How many of the 192 bytes from a place on are newlines.
+/// How many newlines the stretch from a place on has: lane by lane, each 64 bytes lying over the last.
 #[inline(always)]
-fn count_in_three(text: &[u8], at: usize) -> usize
-    requires { at + 192 ≤ length text.now }
-    ensures count { count_by (λ b. b == 10) (take at text.now) + result ≡ count_by (λ b. b == 10) (take (at + 192) text.now) }
-    ensures few { result ≤ 192 }
+fn newlines_in_stretch(text: &[u8], start: usize) -> u8x64
+    requires { start + 16128 ≤ length text.now }
+    ensures { count_by (λ b. b == 10) (take start text.now) + sum_l result
+        ≡ count_by (λ b. b == 10) (take (start + 16128) text.now) }
 {
-    let first = newlines(load(text, at));
-    let second = newlines(load(text, at + LANES));
-    let third = newlines(load(text, at + 2 * LANES));
-    sum_of_three(first, second, third)
+    let mut lanes = u8x64::splat(0);
+    let mut done = 0;
+    while done < STEPS {
+        let at = start + done * WIDE;
+        lanes = add_newlines(lanes, load(text, at));
+        lanes = add_newlines(lanes, load(text, at + LANES));
+        lanes = add_newlines(lanes, load(text, at + 2 * LANES));
+        lanes = add_newlines(lanes, load(text, at + 3 * LANES));
+        done += 1;
+    }
+    lanes
 }
 
-/// 1 in each lane that is a newline, and 0 in the others.
+/// The same from a place on that is less than a stretch before the end, and where counting ended:
+/// fewer than 64 bytes before the end. Wider steps, with a loop for what they left, took 1.2 times as
+/// long for the few lines between two hits: where a loop ends there is not foreseen.
 #[inline(always)]
-fn newlines(bytes: u8x64) -> u8x64
-    ensures sum { sum_l result ≡ count_by (λ b. b == 10) bytes }
-    ensures few { sum_l result ≤ 64 }
+fn newlines_behind(text: &[u8], start: usize) -> (u8x64, usize)
+    requires within { start ≤ length text.now }
+    requires rest { length text.now < start + 16128 }
+    ensures count { count_by (λ b. b == 10) (take start text.now) + sum_l result.0
+        ≡ count_by (λ b. b == 10) (take result.1 text.now) }
+    ensures within { result.1 ≤ length text.now }
+    ensures last { length text.now < result.1 + 64 }
 {
-    bytes
+    let mut lanes = u8x64::splat(0);
+    let mut at = start;
+    while text.len() - at >= LANES {
+        lanes = add_newlines(lanes, load(text, at));
+        at += LANES;
+    }
+    (lanes, at)
+}
+
+/// The lanes, with 1 more in each where the byte is a newline.
+#[inline(always)]
+fn add_newlines(lanes: u8x64, bytes: u8x64) -> u8x64
+    requires { Each1 (λ lane. lane < 255) lanes }
+    ensures sum { sum_l result ≡ sum_l lanes + count_by (λ b. b == 10) bytes }
+    ensures most { (most : ℕ) → Each1 (λ lane. lane ≤ most) lanes
+        → Each1 (λ lane. lane ≤ most + 1) result }
+{
+    let newlines = bytes
         .simd_eq(u8x64::splat(b'\n'))
-        .select(u8x64::splat(1), u8x64::splat(0))
+        .select(u8x64::splat(1), u8x64::splat(0));
+    lanes.strict_add(newlines)
 }
 
-/// The sum of all lanes.
+/// The sum of all lanes, for which 16 bits are enough.
 #[inline(always)]
-fn sum_of_three(first: u8x64, second: u8x64, third: u8x64) -> usize
-    requires { sum_l first + sum_l second + sum_l third < 256 }
-    ensures { result ≡ sum_l first + sum_l second + sum_l third }
+fn sum_of(lanes: u8x64) -> usize
+    ensures { result ≡ sum_l lanes }
 {
-    first
-        .strict_add(second)
-        .strict_add(third)
-        .strict_reduce_sum() as usize
-}
-
-/// How many of the 64 bytes from a place on are newlines.
-#[inline(always)]
-fn count_in_lanes(text: &[u8], at: usize) -> usize
-    requires { at + 64 ≤ length text.now }
-    ensures count { result ≡ count_by (λ b. b == 10) (slice_range text.now at (at + 64)) }
-    ensures few { result ≤ 64 }
-{
-    newline_bits(load(text, at)).count_ones() as usize
+    lanes.cast::<u16>().strict_reduce_sum() as usize
 }
 
 /// How many of the last bytes, fewer than 64, are newlines. They are compared as part of the last 64:
@@ -98,6 +118,16 @@ fn count_last(text: &[u8], left: usize) -> usize
     let bits = newline_bits(load(text, text.len() - LANES));
     // The lanes before them are shifted out, in two steps: all 64 may be.
     (bits >> (LANES - 1 - left) >> 1).count_ones() as usize
+}
+
+/// How many bytes stand before the first newline of a text, or 64 where its first 64 bytes are none.
+#[inline(always)]
+pub(crate) fn first_newline(text: &[u8]) -> usize
+    requires { 64 ≤ length text.now }
+    ensures apart { IsOnePiece (take result text.now) }
+    ensures found { result < 64 → slice_index text.now result ≡ 10 }
+{
+    newline_bits(load(text, 0)).trailing_zeros() as usize
 }
 
 /// The 64 bytes from a place on.

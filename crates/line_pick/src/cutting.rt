@@ -1,11 +1,13 @@
 //! Where a text is cut into lines.
-ghost use Rattle.std.specs.Prelude.{MatchOption};
+ghost use Rattle.std.specs.Prelude.{◌≡◌, MatchOption, length, take};
 ghost use Rattle.lit_base.specs.Lines.{IsOnePiece};
 ghost use Rattle.line_pick.specs.Cutting.{IsFirstLine, IsLastCut};
 
+use crate::counting::{LANES, first_newline};
 use memchr::{memchr, memrchr};
 
 /// The text before the first newline, and the text behind it, if there is a newline.
+#[inline(always)]
 pub(crate) fn split_line(text: &[u8]) -> Option<(&[u8], &[u8])>
     ensures { MatchOption result
         (IsOnePiece text.now)
@@ -16,6 +18,23 @@ pub(crate) fn split_line(text: &[u8]) -> Option<(&[u8], &[u8])>
     Some((line, &behind[1..]))
 }
 
+/// The same where the newline is near: for some bytes one look takes less time than a search.
+#[inline(always)]
+pub(crate) fn split_near_line(text: &[u8]) -> Option<(&[u8], &[u8])>
+    ensures { MatchOption result
+        (IsOnePiece text.now)
+        (λ parts. IsFirstLine text.now parts.0.now parts.1.now) }
+{
+    if text.len() >= LANES {
+        let end = first_newline(text);
+        if end < LANES {
+            let (line, behind) = text.split_at(end);
+            return Some((line, &behind[1..]));
+        }
+    }
+    split_line(text)
+}
+
 /// The text up to its last newline, with it, and the text behind it.
 pub(crate) fn split_ended(text: &[u8]) -> (&[u8], &[u8])
     ensures { IsLastCut text.now result.0.now result.1.now }
@@ -24,4 +43,17 @@ pub(crate) fn split_ended(text: &[u8]) -> (&[u8], &[u8])
         Some(at) => text.split_at(at + 1),
         None => text.split_at(0),
     }
+}
+
+/// The same of the front of a text. Where hits are close, no newline stands in it, and one look at the
+/// text shows that: for some bytes a search from the end takes longer.
+#[inline(always)]
+pub(crate) fn split_front<'t>(front: &'t [u8], text: &[u8]) -> (&'t [u8], &'t [u8])
+    requires { front.now ≡ take (length front.now) text.now }
+    ensures { IsLastCut front.now result.0.now result.1.now }
+{
+    if text.len() >= LANES && front.len() <= first_newline(text) {
+        return front.split_at(0);
+    }
+    split_ended(front)
 }

@@ -3,7 +3,7 @@ ghost use Rattle.std.specs.Prelude.{◌≡◌, [], All, MatchOption};
 ghost use Rattle.lit_base.specs.Lines.{IsOnePiece, open_rest};
 ghost use Rattle.line_pick.specs.Hits.{AllMiss, IsFirstHit};
 
-use crate::cutting::{split_ended, split_line};
+use crate::cutting::{split_front, split_near_line};
 use flow_scan::{Compiled, next_end};
 
 /// A line that holds a literal, with the text round it.
@@ -28,8 +28,8 @@ pub(crate) fn first_hit<'t>(compiled: &Compiled, text: &'t [u8]) -> Option<Hit<'
     compiled.list().normal_law();
     let end = next_end(compiled, text, 0)?;
     let (front, tail) = text.split_at(end - 1);
-    let (missed, head) = split_ended(front);
-    let (ending, behind) = split_line(tail)?;
+    let (missed, head) = split_front(front, text);
+    let (ending, behind) = split_near_line(tail)?;
     let (_, rest) = text.split_at(missed.len());
     let (line, _) = rest.split_at(head.len() + ending.len());
     Some(Hit {

@@ -51,6 +51,7 @@ pub(crate) fn lend_selected<S: Sink>(
 }
 
 /// Lends the line if it is selected, under the number that follows.
+#[inline(always)]
 pub(crate) fn lend_if<S: Sink>(
     selected: bool,
     line: &[u8],

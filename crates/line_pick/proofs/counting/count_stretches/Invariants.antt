@@ -1,11 +1,10 @@
 -- The newlines before a place are counted.
 use Rattle.std.proofs.Common.{◌≡◌, ◌≤◌, ◌-◌, eqb, count_by, length, take}
-use Rattle.line_pick.proofs.counting.count_newlines.Given as goal
+use Rattle.line_pick.proofs.counting.count_stretches.Given as goal
 
 abbrev pub invariant-loop-at : goal.invariant-loop-at
 invariant-loop-at l = record {
   within : l.at ≤ length l.text;
-  few : l.count ≤ l.at;
   count : l.count ≡ count_by (λ b. eqb b 10) (take l.at l.text);
 }
 
