@@ -25,8 +25,10 @@ pub struct Block<'a> {
     pub name: &'a str,
     pub count: u64,
     pub text: Vec<u8>,
-    /// Someone may wait for its lines, as they come.
-    pub is_awaited: bool,
+    /// The input is standard input, whose lines may be waited for.
+    pub is_standard: bool,
+    /// A piece of the input has come.
+    pub has_come: bool,
 }
 
 impl<'a> Block<'a> {
@@ -41,12 +43,12 @@ impl<'a> Block<'a> {
             name: "",
             count: 0,
             text: Vec::new(alloc),
-            is_awaited: false,
+            is_standard: false,
+            has_come: false,
         }
     }
 
-    /// Begins the block of the next input, which has this name, behind what is held. Standard input
-    /// may come slowly.
+    /// Begins the block of the next input, which has this name, behind what is held.
     pub fn begin(&mut self, options: &'a GrepOptions, name: &'a str)
         ensures options { self.new.options.now ≡ options.now }
         ensures name { self.new.name.now ≡ name.now }
@@ -56,7 +58,8 @@ impl<'a> Block<'a> {
         self.options = options;
         self.name = name;
         self.count = 0;
-        self.is_awaited = name == STANDARD_NAME;
+        self.is_standard = name == STANDARD_NAME;
+        self.has_come = false;
     }
 
     /// Takes what stands behind the last line.
@@ -93,23 +96,27 @@ impl<'a> Block<'a> {
         Ok(())
     }
 
-    /// Writes what it holds, where that is due behind a read of so many bytes: more of the input may
-    /// then be waited for, or read for long, or much is held.
+    /// Writes what it holds where that is due: behind a piece of so many bytes, or 0 before and behind
+    /// all pieces.
     pub fn pass_on<W: ByteOut>(&mut self, read: usize, out: &mut W) -> Result<(), Stop>
         ensures ok { OnOk result (Grows (output_of (W.written out.old) self.old) (output_of (W.written out.new) self.new) []) }
         ensures stopped { OnErr result (GrowsFront (output_of (W.written out.old) self.old) (W.written out.new) []) }
         ensures same { IsSameBlock self.old self.new }
         ensures flag { W.has_failed out.new ≡ (W.has_failed out.old || is_write_fault result) }
     {
-        if self.is_due(read) {
+        let is_due = self.is_due(read);
+        self.has_come = read > 0;
+        if is_due {
             return self.write(out);
         }
         Ok(())
     }
 
-    // Whether what it holds is to be written.
+    // Whether what it holds is to be written. The one piece of a small file waits for others; where an
+    // input comes in more pieces, the next one may be long in coming.
     fn is_due(&self, read: usize) -> bool {
-        self.is_awaited || read > MOST_GATHERED || self.text.len() > MOST_GATHERED
+        let is_long = read > MOST_GATHERED || (self.has_come && read > 0);
+        is_long || self.is_standard || self.text.len() > MOST_GATHERED
     }
 }
 
