@@ -115,8 +115,8 @@ impl<'a> Block<'a> {
     // Whether what it holds is to be written. The one piece of a small file waits for others; where an
     // input comes in more pieces, the next one may be long in coming.
     fn is_due(&self, read: usize) -> bool {
-        let is_long = read > MOST_GATHERED || (self.has_come && read > 0);
-        is_long || self.is_standard || self.text.len() > MOST_GATHERED
+        let is_later = self.has_come && read > 0;
+        is_later || self.is_standard || self.text.len() > MOST_GATHERED
     }
 }
 
