@@ -4,6 +4,7 @@
 import os
 import re
 import select
+import socket
 import subprocess
 import sys
 import tempfile
@@ -238,6 +239,42 @@ def streams():
             endless.kill()
 
 
+def at_once(program, shown):
+    """Whether the program shows that text next, and before it ends."""
+    got = b""
+    while len(got) < len(shown) and select.select([program.stdout], [], [], 30)[0]:
+        got += os.read(program.stdout.fileno(), 100) or b"the end"
+    return got == shown
+
+
+def gathered():
+    """What small files give is written together, in its place among messages, and not held where input is waited for."""
+    files = {f"{number:03}": b"cat\ndog\n" for number in range(100)}
+    with tempfile.TemporaryDirectory() as folder:
+        lay_out(folder, dict(files, f=b"cat\n", long=b"cat\n" * 20000))
+        pipes = {"cwd": folder, "stdin": subprocess.PIPE, "stdout": subprocess.PIPE}
+        near, far = socket.socketpair(socket.AF_UNIX, socket.SOCK_SEQPACKET)
+        status = run(["-l", "cat"] + sorted(files), cwd=folder, stdout=far)
+        whole = "".join(name + "\n" for name in sorted(files)).encode()
+        yield "100 small files in one write", (near.recv(1 << 20), *status), (whole, 0, None, b"")
+        near.close(), far.close()
+        mixed = subprocess.run([LITGREP, "cat", "f", "none", "000"], cwd=folder, stdout=subprocess.PIPE, stderr=subprocess.STDOUT, timeout=60)
+        yield "messages in their place", mixed.stdout, b"f:cat\nlitgrep: none: cannot be read\n000:cat\n"
+        with subprocess.Popen([LITGREP, "cat", "f", "-", "000"], **pipes) as program:
+            yield "a file before standard input", at_once(program, b"f:cat\n"), True
+            program.stdin.close()
+            yield "a file behind it", (program.stdout.read(), program.wait(30)), (b"000:cat\n", 0)
+        os.mkfifo(os.path.join(folder, "pipe"))
+        with subprocess.Popen([LITGREP, "cat", "pipe"], **pipes) as program, open(os.path.join(folder, "pipe"), "wb", 0) as pipe:
+            pipe.write(b"cat\n")
+            select.select([program.stdout], [], [], 1)
+            pipe.write(b"2 cat\n")
+            yield "a named pipe before its end", at_once(program, b"cat\n2 cat\n"), True
+            pipe.write(b"3 cat\n")
+            yield "and its next line", at_once(program, b"3 cat\n"), True
+        yield "lines of a long file", run(["cat", "f", "long"], cwd=folder), (0, b"f:cat\n" + b"long:cat\n" * 20000, b"")
+
+
 def plans():
     """Each row of litplan's table, in a folder with its files, and a full device."""
     for files, words, stdin, stdout, stderr, status in PLANS:
@@ -299,7 +336,7 @@ def refused_growths():
 
 def main():
     passed = failed = 0
-    for part in (greps, options, edges, streams, plans, refused_growths):
+    for part in (greps, options, edges, streams, gathered, plans, refused_growths):
         for name, got, want in part():
             if got == want:
                 passed += 1

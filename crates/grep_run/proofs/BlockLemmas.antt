@@ -128,11 +128,10 @@ lent-stop o name (LastOne last other) same named = record {
 }
 
 -- and it holds what it held
-pub lent-stop-text : (o : GrepOptions) (name : List ℕ) {old new : Block} {lines : List (ℕ × List ℕ)} → Lent TakesLine old lines (Ok Stop) new → old.options.now ≡ o → old.name.now ≡ name → old.text.items ≡ [] → new.text.items ≡ []
-lent-stop-text o name (OneMore first others) same named none =
+pub lent-stop-text : (o : GrepOptions) (name : List ℕ) {old new : Block} {lines : List (ℕ × List ℕ)} → Lent TakesLine old lines (Ok Stop) new → old.options.now ≡ o → old.name.now ≡ name → new.text.items ≡ old.text.items ++ nothing
+lent-stop-text o name (OneMore first others) same named =
     let then = lent-stop o name others (first.options ∙ same) (first.name ∙ named) in
     let wrong : More ≡ Stop = first.next ∙ ap next_of same ∙ then.stop in (cc)
-lent-stop-text o name {old} (LastOne {number = number} {line = line} last other) same named none =
+lent-stop-text o name {old} (LastOne {number = number} {line = line} last other) same named =
     adds-same o name number line Stop last same named
     ∙ ap (λ t. old.text.items ++ t) (none-wanted o.quiet o.list o.count (written_line o name (number, line)) (wants-none o.quiet o.list (sym (last.next ∙ ap next_of same))))
-    ∙ append-nil old.text.items ∙ none

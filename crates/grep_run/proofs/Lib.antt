@@ -1,4 +1,5 @@
 pub mod FrontLemmas
+pub mod OutputLemmas
 pub mod ToldLemmas
 pub mod GatherLemmas
 pub mod RefusalLemmas

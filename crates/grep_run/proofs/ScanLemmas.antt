@@ -8,7 +8,6 @@ use Rattle.std.proofs.lemmas.List.Sums.{count_by-le-length, length-filter}
 use Rattle.std.specs.List.{enumerate_from}
 use Rattle.std.specs.Prelude.{nat_lt}
 use Rattle.std.specs.Io.KnownBytes.{Appends}
-use Rattle.std.proofs.KnownBytes.{Appends-nil, Appends-trans}
 use Rattle.lit_base.specs.Devices.{Coming, EndsHere, Ending, Faulty, MayFail, ReadGives, Told}
 use Rattle.lit_base.specs.Devices as Devices
 use Rattle.lit_base.specs.declared.device.Failed.{Failed}
@@ -31,14 +30,16 @@ use Rattle.grep_run.specs.declared.scanning.End.TheVariants.{Clean, Fault}
 use Rattle.grep_run.specs.Blocks.{block_in, block_of, has_any, is_trouble, lines_of, message_in}
 use Rattle.grep_run.specs.declared.scanning.Found.{Found}
 use Rattle.grep_run.specs.Messages.{unreadable}
-use Rattle.grep_run.specs.Fronts.{AppendsFront, Leaves}
+use Rattle.grep_run.specs.Fronts.{AppendsFront}
 use Rattle.grep_run.specs.Growing.{IsSameBlock, TakesLine, added_line, ending_of}
 use Rattle.grep_run.specs.Scanning.{FeedsPiece, tested_by, HasFed, HasRead, HasTaken, IsHalted, StandsBehind, ended_in, is_fault}
 use Rattle.grep_run.specs.declared.scanning.End.{End}
-use Rattle.grep_run.specs.Searching.{IsCut, IsScanned}
+use Rattle.grep_run.specs.Outputs.{Grows, GrowsFront, Output, output_of}
+use Rattle.grep_run.specs.Searching.{IsCut, IsScanned, IsSearched}
 use Rattle.grep_run.specs.Sources.{Content, IsShort, coming_of}
 use Rattle.grep_run.proofs.BlockLemmas.{HasMore, any-behind, block-parts, ending-any, lent-more, lent-stop, lent-stop-text, wants-none}
-use Rattle.grep_run.proofs.FrontLemmas.{AppendsFront-all, AppendsFront-behind, AppendsFront-none}
+use Rattle.grep_run.proofs.FrontLemmas.{AppendsFront-none}
+use Rattle.grep_run.proofs.OutputLemmas.{Grows-held, Grows-kept, Grows-trans, GrowsFront-behind, GrowsFront-grown, GrowsFront-more}
 
 -- the selected lines of a text and of what follows it
 module _ (test : List ℕ → Bool) (text more : List ℕ) (p : Picking) (f : HasFed test text p) where
@@ -70,34 +71,37 @@ fed-more test text piece p new f e = subst (HasFed test (text ++ piece)) (sym e)
   state = f.state;
 })
 
--- more lines were taken, which are written
-taken-more : (o : GrepOptions) (name : List ℕ) (before_lines more all : List (ℕ × List ℕ)) (old mid new : Block) (before now after : Option (List ℕ)) → HasTaken o name before_lines old before now
-    → HasMore o name more old mid → all ≡ before_lines ++ more → Appends now after mid.text.items → new.text.items ≡ [] → IsSameBlock mid new → HasTaken o name all new before after
-taken-more o name before_lines more all old mid new before now after t m e written empty same =
-    let held : mid.text.items ≡ flat_map (added_line o name) more = m.text ∙ ap (λ x. x ++ flat_map (added_line o name) more) t.text in
-    record {
-      options = same.options ∙ m.options;
-      called = same.name ∙ m.called;
-      count = same.count ∙ m.count (length before_lines) t.count ∙ ap (λ n. min n (2 ^ 64 - 1)) (sym (length-append before_lines more)) ∙ ap (λ ls. min (length ls) (2 ^ 64 - 1)) (sym e);
-      text = empty;
-      written = subst (Appends before after) (sym (flat_map-append (added_line o name) before_lines more) ∙ ap (flat_map (added_line o name)) (sym e))
-          (Appends-trans before now after (flat_map (added_line o name) before_lines) (flat_map (added_line o name) more) t.written (subst (Appends now after) held written));
-      unwanted = λ stop. e ∙ ap (λ ls. ls ++ more) (t.unwanted stop) ∙ m.unwanted stop;
-    }
+-- more lines were taken, which are held
+grown-more : (o : GrepOptions) (name : List ℕ) (before_lines more all : List (ℕ × List ℕ)) (old mid : Block) (before : Output) (now : Option (List ℕ)) → HasTaken o name before_lines old before now
+    → HasMore o name more old mid → all ≡ before_lines ++ more → Grows before (output_of now mid) (flat_map (added_line o name) all)
+grown-more o name before_lines more all old mid before now t m e =
+    subst (Grows before (output_of now mid)) (sym (flat_map-append (added_line o name) before_lines more) ∙ ap (flat_map (added_line o name)) (sym e))
+    (Grows-trans before (output_of now old) (output_of now mid) (flat_map (added_line o name) before_lines) (flat_map (added_line o name) more) t.grown (Grows-held now old mid (flat_map (added_line o name) more) m.text))
+
+-- and then are passed on
+taken-more : (o : GrepOptions) (name : List ℕ) (before_lines more all : List (ℕ × List ℕ)) (old mid new : Block) (before : Output) (now after : Option (List ℕ)) → HasTaken o name before_lines old before now
+    → HasMore o name more old mid → all ≡ before_lines ++ more → Grows (output_of now mid) (output_of after new) [] → IsSameBlock mid new → HasTaken o name all new before after
+taken-more o name before_lines more all old mid new before now after t m e passed same = record {
+  options = same.options ∙ m.options;
+  called = same.name ∙ m.called;
+  count = same.count ∙ m.count (length before_lines) t.count ∙ ap (λ n. min n (2 ^ 64 - 1)) (sym (length-append before_lines more)) ∙ ap (λ ls. min (length ls) (2 ^ 64 - 1)) (sym e);
+  grown = Grows-kept before (output_of now mid) (output_of after new) (flat_map (added_line o name) all) (grown-more o name before_lines more all old mid before now t m e) passed;
+  unwanted = λ stop. e ∙ ap (λ ls. ls ++ more) (t.unwanted stop) ∙ m.unwanted stop;
+}
 
 -- a lending that stopped lent its lines
 lent-stopped : {s t : Block} {lines : List (ℕ × List ℕ)} → Lends TakesLine s lines (Ok Stop) t → Lent TakesLine s lines (Ok Stop) t
 lent-stopped (Whole h) = h
 
-module _ {o : GrepOptions} {test : List ℕ → Bool} {name text : List ℕ} (piece : List ℕ) {p : Picking} (new_p : Picking) {b : Block} (mid : Block) {before : Option (List ℕ)} (now : Option (List ℕ))
+module _ {o : GrepOptions} {test : List ℕ → Bool} {name text : List ℕ} (piece : List ℕ) {p : Picking} (new_p : Picking) {b : Block} (mid : Block) {before : Output} (now : Option (List ℕ))
     (s : StandsBehind o test name text p b before now) where
-  -- a piece whose lines are all taken and written
-  pub fed-on : (new : Block) (after : Option (List ℕ)) → Feeds TakesLine p piece b (Ok More) new_p mid → Appends now after mid.text.items → new.text.items ≡ [] → IsSameBlock mid new
+  -- a piece whose lines are all taken and passed on
+  pub fed-on : (new : Block) (after : Option (List ℕ)) → Feeds TakesLine p piece b (Ok More) new_p mid → Grows (output_of now mid) (output_of after new) [] → IsSameBlock mid new
       → StandsBehind o test name (text ++ piece) new_p new before after
-  fed-on new after f written empty same = record {
+  fed-on new after f passed same = record {
     fed = fed-more test text piece p new_p s.fed (f.more refl);
     taken = taken-more o name (ended_in test text) (picked p (ended_lines (p.held ++ piece))) (ended_in test (text ++ piece)) b mid new before now after s.taken
-        (lent-more o name (Lent-from_Lends f.lent) s.taken.options s.taken.called) (ended-more test text piece p s.fed) written empty same;
+        (lent-more o name (Lent-from_Lends f.lent) s.taken.options s.taken.called) (ended-more test text piece p s.fed) passed same;
   }
 
   -- all that lines of both add
@@ -105,25 +109,26 @@ module _ {o : GrepOptions} {test : List ℕ → Bool} {name text : List ℕ} (pi
   all-added = ap (flat_map (added_line o name)) (ended-more test text piece p s.fed) ∙ flat_map-append (added_line o name) (ended_in test text) (picked p (ended_lines (p.held ++ piece)))
 
   -- where their writing is cut, a front of all is written
-  pub fed-cut : (after : Option (List ℕ)) → Feeds TakesLine p piece b (Ok More) new_p mid → AppendsFront now after mid.text.items
-      → AppendsFront before after (flat_map (added_line o name) (ended_in test (text ++ piece)))
+  pub fed-cut : (after : Option (List ℕ)) → Feeds TakesLine p piece b (Ok More) new_p mid → GrowsFront (output_of now mid) after []
+      → GrowsFront before after (flat_map (added_line o name) (ended_in test (text ++ piece)))
   fed-cut after f cut =
+      let all = flat_map (added_line o name) (ended_in test (text ++ piece)) in
       let m = lent-more o name (Lent-from_Lends f.lent) s.taken.options s.taken.called in
-      let more = flat_map (added_line o name) (picked p (ended_lines (p.held ++ piece))) in
-      let held : mid.text.items ≡ more = m.text ∙ ap (λ x. x ++ more) s.taken.text in
-      subst (AppendsFront before after) (ap (λ x. flat_map (added_line o name) (ended_in test text) ++ x) (append-nil mid.text.items ∙ held) ∙ sym all-added)
-      (AppendsFront-behind now after (flat_map (added_line o name) (ended_in test text)) [] s.taken.written cut)
+      let grown = grown-more o name (ended_in test text) (picked p (ended_lines (p.held ++ piece))) (ended_in test (text ++ piece)) b mid before now s.taken m (ended-more test text piece p s.fed) in
+      subst (GrowsFront before after) (append-nil all) (GrowsFront-behind before (output_of now mid) after all [] [] grown cut)
 
   -- where memory runs out, what was written is a front of all
-  pub fed-starved : AppendsFront before now (flat_map (added_line o name) (ended_in test (text ++ piece)))
-  fed-starved = record {
-    rest = flat_map (added_line o name) (picked p (ended_lines (p.held ++ piece)));
-    leaves = record { front = flat_map (added_line o name) (ended_in test text); parts = all-added; grown = s.taken.written };
-  }
+  pub fed-starved : GrowsFront before now (flat_map (added_line o name) (ended_in test (text ++ piece)))
+  fed-starved = subst (GrowsFront before now) (sym all-added)
+      (GrowsFront-more before now (flat_map (added_line o name) (ended_in test text)) (flat_map (added_line o name) (picked p (ended_lines (p.held ++ piece)))) (GrowsFront-grown before (output_of now b) (flat_map (added_line o name) (ended_in test text)) s.taken.grown))
 
   -- where no line is wanted any more, one was taken
   stopped-lines : Feeds TakesLine p piece b (Ok Stop) new_p mid → Lent TakesLine b (picked p (ended_lines (p.held ++ piece))) (Ok Stop) mid
   stopped-lines f = lent-stopped f.lent
+
+  -- which adds nothing
+  halted-grown : flat_map (added_line o name) (ended_in test text) ≡ [] → mid.text.items ≡ b.text.items ++ [] → Grows before (output_of now mid) []
+  halted-grown none same = Grows-kept before (output_of now b) (output_of now mid) [] (subst (Grows before (output_of now b)) none s.taken.grown) (Grows-held now b mid [] same)
 
   pub fed-halted : Feeds TakesLine p piece b (Ok Stop) new_p mid → IsHalted o name (ended_in test (text ++ piece)) mid before now
   fed-halted f =
@@ -135,8 +140,7 @@ module _ {o : GrepOptions} {test : List ℕ → Bool} {name text : List ℕ} (pi
         stop = h.stop;
         some = subst (λ ls. 0 < length ls) (sym (ended-more test text piece p s.fed)) (omega (arith, h.some, length-append (ended_in test text) (picked p (ended_lines (p.held ++ piece)))));
         count = h.count;
-        text = lent-stop-text o name (stopped-lines f) s.taken.options s.taken.called s.taken.text;
-        written = subst (Appends before now) (ap (flat_map (added_line o name)) none) s.taken.written;
+        grown = halted-grown (ap (flat_map (added_line o name)) none) (lent-stop-text o name (stopped-lines f) s.taken.options s.taken.called);
       }
 
   -- too many bytes
@@ -158,23 +162,23 @@ few-lines : (text : List ℕ) → length (lines text) ≤ length text + 1
 few-lines text = omega (arith, ap length (lines-ended_open text), length-append (ended_lines text) (last_line (open_rest text)), few-ended text, few-last (open_rest text))
 
 -- the block of a content, where all its lines have come and are written or held
-pub read-whole : (o : GrepOptions) (test : List ℕ → Bool) (name : List ℕ) (c : Content) (b : Block) (before out : Option (List ℕ)) (texts : List (List ℕ)) → lines_of c ≡ texts → length texts < 2 ^ 64 - 1
-    → b.options.now ≡ o → b.name.now ≡ name → b.count ≡ min (length (numbered test 0 texts)) (2 ^ 64 - 1) → Leaves before out (flat_map (added_line o name) (numbered test 0 texts)) b.text.items
+pub read-whole : (o : GrepOptions) (test : List ℕ → Bool) (name : List ℕ) (c : Content) (b : Block) (before : Output) (out : Option (List ℕ)) (texts : List (List ℕ)) → lines_of c ≡ texts → length texts < 2 ^ 64 - 1
+    → b.options.now ≡ o → b.name.now ≡ name → b.count ≡ min (length (numbered test 0 texts)) (2 ^ 64 - 1) → Grows before (output_of out b) (flat_map (added_line o name) (numbered test 0 texts))
     → (end : End) → is_fault end ≡ is_trouble o test (Some c) → HasRead o test name c end b before out
-read-whole o test name c b before out texts e few options named count leaves end error =
+read-whole o test name c b before out texts e few options named count grown end error =
     let exact : b.count ≡ length (numbered test 0 texts) = omega (arith, count, few-numbered test texts) in
     record {
       options = options;
       called = named;
       lines = flat_map (added_line o name) (numbered test 0 texts);
       whole = ap (λ n. flat_map (added_line o name) (numbered test 0 texts) ++ ending_of o name n) exact ∙ block-parts o name (numbered test 0 texts) ∙ ap (λ ls. block_of o name (numbered test 0 ls)) (sym e);
-      leaves = leaves;
+      grown = grown;
       any = ap (nat_lt 0) exact ∙ ap (λ ls. has_any (numbered test 0 ls)) (sym e);
       error = error;
     }
 
 -- the block of a content, where no line is wanted behind those that came
-pub read-halted : (o : GrepOptions) (test : List ℕ → Bool) (name : List ℕ) (c : Content) (b : Block) (before out : Option (List ℕ)) (came more : List (ℕ × List ℕ)) → numbered test 0 (lines_of c) ≡ came ++ more
+pub read-halted : (o : GrepOptions) (test : List ℕ → Bool) (name : List ℕ) (c : Content) (b : Block) (before : Output) (out : Option (List ℕ)) (came more : List (ℕ × List ℕ)) → numbered test 0 (lines_of c) ≡ came ++ more
     → IsHalted o name came b before out → HasRead o test name c Clean b before out
 read-halted o test name c b before out came more e h =
     let wanted : (o.quiet || o.list) ≡ true = wants-none o.quiet o.list h.stop in
@@ -185,35 +189,28 @@ read-halted o test name c b before out came more e h =
       called = h.called;
       lines = [];
       whole = ending-any o name b.count (numbered test 0 (lines_of c)) wanted both;
-      leaves = record { front = []; parts = sym h.text; grown = h.written };
+      grown = h.grown;
       any = both;
       error = sym (ap (λ w. c.is_faulty && not (w && has_any (numbered test 0 (lines_of c)))) wanted ∙ ap (λ a. c.is_faulty && not a) any ∙ and-false c.is_faulty);
     }
 
 -- what was written is a front of the block
-pub read-front : (o : GrepOptions) (test : List ℕ → Bool) (name : List ℕ) (c : Content) (before out : Option (List ℕ)) (came more : List (ℕ × List ℕ)) → numbered test 0 (lines_of c) ≡ came ++ more
-    → AppendsFront before out (flat_map (added_line o name) came) → AppendsFront before out (block_in o test name (Some c))
+pub read-front : (o : GrepOptions) (test : List ℕ → Bool) (name : List ℕ) (c : Content) (before : Output) (out : Option (List ℕ)) (came more : List (ℕ × List ℕ)) → numbered test 0 (lines_of c) ≡ came ++ more
+    → GrowsFront before out (flat_map (added_line o name) came) → GrowsFront before out (block_in o test name (Some c))
 read-front o test name c before out came more e p =
     let all = numbered test 0 (lines_of c) in
     let tail = flat_map (added_line o name) more ++ ending_of o name (length all) in
     let parts : block_of o name all ≡ flat_map (added_line o name) came ++ tail =
     sym (block-parts o name all) ∙ ap (λ ls. flat_map (added_line o name) ls ++ ending_of o name (length all)) e ∙ ap (λ t. t ++ ending_of o name (length all)) (flat_map-append (added_line o name) came more)
     ∙ append_assoc (flat_map (added_line o name) came) (flat_map (added_line o name) more) (ending_of o name (length all)) in
-    record {
-      rest = p.rest ++ tail;
-      leaves = record {
-        front = p.leaves.front;
-        parts = parts ∙ ap (λ t. t ++ tail) p.leaves.parts ∙ append_assoc p.leaves.front p.rest tail;
-        grown = p.leaves.grown;
-      };
-    }
+    subst (GrowsFront before out) (sym parts) (GrowsFront-more before out (flat_map (added_line o name) came) tail p)
 
 -- what is answered is known
 pub feeds-as : {p new_p : Picking} {b new_b : Block} {piece : List ℕ} {answer known : Next} → answer ≡ known → Feeds TakesLine p piece b (Ok answer) new_p new_b → Feeds TakesLine p piece b (Ok known) new_p new_b
 feeds-as {p} {new_p} {b} {new_b} {piece} e f = subst (λ n. Feeds TakesLine p piece b (Ok n) new_p new_b) e f
 
 -- the last line of a content was taken, or none stands there
-module _ {o : GrepOptions} {test : List ℕ → Bool} {name : List ℕ} (c : Content) {p : Picking} (new_p : Picking) {b : Block} (new : Block) {before now : Option (List ℕ)}
+module _ {o : GrepOptions} {test : List ℕ → Bool} {name : List ℕ} (c : Content) {p : Picking} (new_p : Picking) {b : Block} (new : Block) {before : Output} {now : Option (List ℕ)}
     (clean : c.is_faulty ≡ false) (short : IsShort c) (s : StandsBehind o test name c.text p b before now) where
   -- its lines
   clean-lines : lines_of c ≡ lines c.text
@@ -232,12 +229,7 @@ module _ {o : GrepOptions} {test : List ℕ → Bool} {name : List ℕ} (c : Con
       let all : numbered test 0 (lines c.text) ≡ ended_in test c.text ++ picked p (last_line p.held) = all-lines test c.text [] p s.fed in
       read-whole o test name c new before now (lines c.text) clean-lines (omega (arith, few-lines c.text)) m.options m.called
       (m.count (length (ended_in test c.text)) s.taken.count ∙ ap (λ n. min n (2 ^ 64 - 1)) (sym (length-append (ended_in test c.text) (picked p (last_line p.held)))) ∙ ap (λ ls. min (length ls) (2 ^ 64 - 1)) (sym all))
-      (record {
-        front = flat_map (added_line o name) (ended_in test c.text);
-        parts = ap (flat_map (added_line o name)) all ∙ flat_map-append (added_line o name) (ended_in test c.text) (picked p (last_line p.held))
-            ∙ ap (λ t. flat_map (added_line o name) (ended_in test c.text) ++ t) (sym (m.text ∙ ap (λ t. t ++ flat_map (added_line o name) (picked p (last_line p.held))) s.taken.text));
-        grown = s.taken.written;
-      }) Clean clean-error
+      (grown-more o name (ended_in test c.text) (picked p (last_line p.held)) (numbered test 0 (lines c.text)) b new before now s.taken m all) Clean clean-error
 
   pub ended-halted : Finishes TakesLine p b (Ok Stop) new_p new → HasRead o test name c Clean new before now
   ended-halted f =
@@ -249,16 +241,16 @@ module _ {o : GrepOptions} {test : List ℕ → Bool} {name : List ℕ} (c : Con
         stop = h.stop;
         some = omega (arith, h.some, length-append (ended_in test c.text) (picked p (last_line p.held)));
         count = h.count;
-        text = lent-stop-text o name f.lent s.taken.options s.taken.called s.taken.text;
-        written = subst (Appends before now) (ap (flat_map (added_line o name)) none) s.taken.written;
+        grown = Grows-kept before (output_of now b) (output_of now new) [] (subst (Grows before (output_of now b)) (ap (flat_map (added_line o name)) none) s.taken.grown)
+            (Grows-held now b new [] (lent-stop-text o name f.lent s.taken.options s.taken.called));
       })
 
-  pub ended-starved : AppendsFront before now (block_in o test name (Some c))
+  pub ended-starved : GrowsFront before now (block_in o test name (Some c))
   ended-starved = read-front o test name c before now (ended_in test c.text) (picked p (last_line p.held)) clean-numbered
-      (record { rest = []; leaves = record { front = flat_map (added_line o name) (ended_in test c.text); parts = sym (append-nil (flat_map (added_line o name) (ended_in test c.text))); grown = s.taken.written } })
+      (GrowsFront-grown before (output_of now b) (flat_map (added_line o name) (ended_in test c.text)) s.taken.grown)
 
 -- whether lines come to an end at the last one
-pub ended-any : {o : GrepOptions} {test : List ℕ → Bool} {name : List ℕ} (c : Content) {p : Picking} (new_p : Picking) {b : Block} (new : Block) {before now : Option (List ℕ)} (answer : Next)
+pub ended-any : {o : GrepOptions} {test : List ℕ → Bool} {name : List ℕ} (c : Content) {p : Picking} (new_p : Picking) {b : Block} (new : Block) {before : Output} {now : Option (List ℕ)} (answer : Next)
     → c.is_faulty ≡ false → IsShort c → StandsBehind o test name c.text p b before now → Finishes TakesLine p b (Ok answer) new_p new → HasRead o test name c Clean new before now
 ended-any c new_p new More clean short s f = ended-whole c new_p new clean short s f
 ended-any c new_p new Stop clean short s f = ended-halted c new_p new clean short s f
@@ -270,12 +262,12 @@ not-ended false true came none = ap (λ ls. not (has_any ls)) (none refl)
 not-ended false false came none = refl
 
 -- a content whose reading ended in a fault behind all its bytes
-pub read-fault : {o : GrepOptions} {test : List ℕ → Bool} {name : List ℕ} (c : Content) {p : Picking} {b : Block} {before now : Option (List ℕ)} → c.is_faulty ≡ true → IsShort c
+pub read-fault : {o : GrepOptions} {test : List ℕ → Bool} {name : List ℕ} (c : Content) {p : Picking} {b : Block} {before : Output} {now : Option (List ℕ)} → c.is_faulty ≡ true → IsShort c
     → StandsBehind o test name c.text p b before now → HasRead o test name c Fault b before now
 read-fault {o} {test} {name} c {p} {b} {before} {now} faulty short s =
     let lines-are : lines_of c ≡ ended_lines c.text = ap (λ f. cond f (ended_lines c.text) (lines c.text)) faulty in
     read-whole o test name c b before now (ended_lines c.text) lines-are (omega (arith, few-ended c.text)) s.taken.options s.taken.called s.taken.count
-    (record { front = flat_map (added_line o name) (ended_in test c.text); parts = sym (ap (λ t. flat_map (added_line o name) (ended_in test c.text) ++ t) s.taken.text ∙ append-nil (flat_map (added_line o name) (ended_in test c.text))); grown = s.taken.written })
+    s.taken.grown
     Fault (sym (ap (λ f. f && not ((o.quiet || o.list) && has_any (numbered test 0 (lines_of c)))) faulty ∙ ap (λ ls. not ((o.quiet || o.list) && has_any (numbered test 0 ls))) lines-are
     ∙ not-ended o.quiet o.list (ended_in test c.text) s.taken.unwanted))
 
@@ -288,7 +280,7 @@ told-at : {T : Type 0} (a b : Option T) (P : T → T → Type 0) (x : T) → Tol
 told-at a b P x t e = known-step b P x (subst (λ k. Told k b P) e t)
 
 -- the bytes so far of a content are dealt with, and these are left
-pub record ReadSoFar (o : GrepOptions) (test : List ℕ → Bool) (name : List ℕ) (c : Content) (coming : Option Coming) (p : Picking) (b : Block) (turn : ℕ) (before now : Option (List ℕ)) : Type 0 where
+pub record ReadSoFar (o : GrepOptions) (test : List ℕ → Bool) (name : List ℕ) (c : Content) (coming : Option Coming) (p : Picking) (b : Block) (turn : ℕ) (before : Output) (now : Option (List ℕ)) : Type 0 where
   pub done : List ℕ
   pub rest : List ℕ
   pub parts : c.text ≡ done ++ rest
@@ -323,7 +315,7 @@ clean-ending : (is_faulty : Bool) (text : List ℕ) → EndsHere (coming_of (rec
 clean-ending true text h = absurd (h.ending refl)
 clean-ending false text h = (refl, h.text)
 
-module _ {o : GrepOptions} {test : List ℕ → Bool} {name : List ℕ} {c : Content} {coming : Option Coming} {p : Picking} {b : Block} {turn : ℕ} {before now : Option (List ℕ)}
+module _ {o : GrepOptions} {test : List ℕ → Bool} {name : List ℕ} {c : Content} {coming : Option Coming} {p : Picking} {b : Block} {turn : ℕ} {before : Output} {now : Option (List ℕ)}
     (later : Option Coming) (buf : List ℕ) (r : ReadSoFar o test name c coming p b turn before now) where
   -- where nothing is left, all bytes are behind
   all-done : r.rest ≡ [] → StandsBehind o test name c.text p b before now
@@ -377,7 +369,7 @@ module _ {o : GrepOptions} {test : List ℕ → Bool} {name : List ℕ} {c : Con
 
   -- a piece that was cut
   pub so_far-cut : (count : ℕ) (after : Option (List ℕ)) → Told coming later (λ x y. ReadGives x y (Ok count) buf)
-      → AppendsFront before after (flat_map (added_line o name) (ended_in test (r.done ++ take count buf))) → AppendsFront before after (block_in o test name (Some c))
+      → GrowsFront before after (flat_map (added_line o name) (ended_in test (r.done ++ take count buf))) → GrowsFront before after (block_in o test name (Some c))
   so_far-cut count after t cut =
       let found = so_far-rest count t in
       let front = front-of-all (take count buf) found.0 found.1.0 in
@@ -410,61 +402,74 @@ fed-none test p tests held none_lines none_bytes state = record {
 }
 
 -- at first picker and block stand before the content
-pub begin-stands : {o : GrepOptions} {test : List ℕ → Bool} {name : List ℕ} {p : Picking} {b : Block} (out : Option (List ℕ)) → HasFed test [] p → b.options.now ≡ o → b.name.now ≡ name → b.count ≡ 0 → b.text.items ≡ []
-    → StandsBehind o test name [] p b out out
-begin-stands {o} {test} {name} {p} {b} out f options called count text =
+pub begin-stands : {o : GrepOptions} {test : List ℕ → Bool} {name : List ℕ} {p : Picking} {begun b : Block} (before : Output) (out : Option (List ℕ)) → HasFed test [] p
+    → begun.options.now ≡ o → begun.name.now ≡ name → begun.count ≡ 0 → IsSameBlock begun b → Grows before (output_of out b) [] → StandsBehind o test name [] p b before out
+begin-stands {o} {test} {name} {p} {begun} {b} before out f options called count same grown =
     let none : ended_in test [] ≡ [] = ap (numbered test 0) (ended_lines-none [] (All-nil (λ b. b ≢ 10))) in
     record {
       fed = f;
       taken = record {
-        options = options;
-        called = called;
-        count = count ∙ ap (λ ls. min (length ls) (2 ^ 64 - 1)) (sym none);
-        text = text;
-        written = subst (Appends out out) (sym (ap (flat_map (added_line o name)) none)) (Appends-nil out);
+        options = same.options ∙ options;
+        called = same.name ∙ called;
+        count = same.count ∙ count ∙ ap (λ ls. min (length ls) (2 ^ 64 - 1)) (sym none);
+        grown = subst (Grows before (output_of out b)) (sym (ap (flat_map (added_line o name)) none)) grown;
         unwanted = λ stop. none;
       };
     }
 
-module _ {o : GrepOptions} {test : List ℕ → Bool} {name : List ℕ} {c : Content} {end : End} {b : Block} {before now : Option (List ℕ)} (after : Option (List ℕ)) (h : HasRead o test name c end b before now) where
-  -- what the end of the block adds, by the options and the name of all
-  end-same : b.text.items ++ ending_of b.options.now b.name.now b.count ≡ b.text.items ++ ending_of o name b.count
-  end-same = ap (λ p. b.text.items ++ ending_of p b.name.now b.count) h.options ∙ ap (λ n. b.text.items ++ ending_of o n b.count) h.called
+-- what was held before an input is passed on
+pub passed : (old begun new : Block) (before now : Option (List ℕ)) → begun.text.items ≡ old.text.items → Grows (output_of before begun) (output_of now new) [] → Grows (output_of before old) (output_of now new) []
+passed old begun new before now same p = record { front = p.front; parts = ap (λ t. t ++ []) (sym same) ∙ p.parts; grown = p.grown }
+
+-- or a front of it
+pub passed-cut : (o : GrepOptions) (test : List ℕ → Bool) (name : List ℕ) (c : Content) (old begun : Block) (before now : Option (List ℕ)) → begun.text.items ≡ old.text.items → GrowsFront (output_of before begun) now []
+    → GrowsFront (output_of before old) now (block_in o test name (Some c))
+passed-cut o test name c old begun before now same p =
+    GrowsFront-more (output_of before old) now [] (block_in o test name (Some c)) (subst (λ t. AppendsFront before now (t ++ [])) same p)
+
+module _ {o : GrepOptions} {test : List ℕ → Bool} {name : List ℕ} {c : Content} {end : End} {b : Block} {before : Output} {now : Option (List ℕ)} (h : HasRead o test name c end b before now) where
+  -- the lines with the end of the block, by the options and the name of all
+  end-same : h.lines ++ ending_of b.options.now b.name.now b.count ≡ block_of o name (numbered test 0 (lines_of c))
+  end-same = ap (λ p. h.lines ++ ending_of p b.name.now b.count) h.options ∙ ap (λ n. h.lines ++ ending_of o n b.count) h.called ∙ h.whole
 
   -- the block that was read, with its end
-  pub finished-cut : AppendsFront now after (b.text.items ++ ending_of b.options.now b.name.now b.count) → AppendsFront before after (block_in o test name (Some c))
-  finished-cut cut =
-      let front = h.leaves.front in
-      let parts : front ++ (b.text.items ++ ending_of o name b.count) ≡ block_of o name (numbered test 0 (lines_of c)) =
-      sym (append_assoc front b.text.items (ending_of o name b.count)) ∙ ap (λ t. t ++ ending_of o name b.count) (sym h.leaves.parts) ∙ h.whole in
-      subst (AppendsFront before after) (ap (λ t. front ++ t) (append-nil (b.text.items ++ ending_of b.options.now b.name.now b.count) ∙ end-same) ∙ parts) (AppendsFront-behind now after front [] h.leaves.grown cut)
+  pub finished-cut : (after : Option (List ℕ)) → GrowsFront (output_of now b) after (ending_of b.options.now b.name.now b.count) → GrowsFront before after (block_in o test name (Some c))
+  finished-cut after cut =
+      let ending = ending_of b.options.now b.name.now b.count in
+      subst (GrowsFront before after) (ap (λ t. h.lines ++ t) (append-nil ending) ∙ end-same) (GrowsFront-behind before (output_of now b) after h.lines ending [] h.grown cut)
 
-  pub finished : (is_selected is_error : Bool) (count : ℕ) → Appends now after (b.text.items ++ ending_of b.options.now b.name.now b.count) → count ≡ b.count → is_selected ≡ nat_lt 0 count → is_error ≡ is_fault end
+  pub finished : (after : Output) (is_selected is_error : Bool) (count : ℕ) → Grows (output_of now b) after (ending_of b.options.now b.name.now b.count) → count ≡ b.count → is_selected ≡ nat_lt 0 count → is_error ≡ is_fault end
       → IsScanned o test name c (record { is_selected = is_selected; is_error = is_error }) before after
-  finished is_selected is_error count written same selected error =
-      let front = h.leaves.front in
-      let parts : front ++ (b.text.items ++ ending_of o name b.count) ≡ block_of o name (numbered test 0 (lines_of c)) =
-      sym (append_assoc front b.text.items (ending_of o name b.count)) ∙ ap (λ t. t ++ ending_of o name b.count) (sym h.leaves.parts) ∙ h.whole in
-      record {
-        output = subst (Appends before after) (ap (λ t. front ++ t) end-same ∙ parts) (Appends-trans before now after front (b.text.items ++ ending_of b.options.now b.name.now b.count) h.leaves.grown written);
-        selected = selected ∙ ap (nat_lt 0) same ∙ h.any;
-        error = error ∙ h.error;
-      }
+  finished after is_selected is_error count grown same selected error = record {
+    output = subst (Grows before after) end-same (Grows-trans before (output_of now b) after h.lines (ending_of b.options.now b.name.now b.count) h.grown grown);
+    selected = selected ∙ ap (nat_lt 0) same ∙ h.any;
+    error = error ∙ h.error;
+  }
 
 -- where the block was cut there is no message
-pub search-cut : (o : GrepOptions) (test : List ℕ → Bool) (name : List ℕ) (source : Option Content) (out_old out_new err : Option (List ℕ))
-    → AppendsFront out_old out_new (block_in o test name source) → IsCut o test name source out_old out_new err err
+pub search-cut : (o : GrepOptions) (test : List ℕ → Bool) (name : List ℕ) (source : Option Content) (out_old : Output) (out_new err : Option (List ℕ))
+    → GrowsFront out_old out_new (block_in o test name source) → IsCut o test name source out_old out_new err err
 search-cut o test name source out_old out_new err p = record { output = p; messages = AppendsFront-none err (message_in o test name source) }
 
 -- the message of an input that was scanned
-same-message : (o : GrepOptions) (test : List ℕ → Bool) (name : List ℕ) (c : Content) (found : Found) {out_old out_new : Option (List ℕ)} → IsScanned o test name c found out_old out_new
+same-message : (o : GrepOptions) (test : List ℕ → Bool) (name : List ℕ) (c : Content) (found : Found) {out_old out_new : Output} → IsScanned o test name c found out_old out_new
     → cond (found.is_error && not o.silent) (unreadable name) [] ≡ message_in o test name (Some c)
 same-message o test name c found p = ap (λ b. cond (b && not o.silent) (unreadable name) []) p.error
 
 -- a front of the message was written
-pub search-message-cut : (o : GrepOptions) (test : List ℕ → Bool) (name : List ℕ) (c : Content) (found : Found) (out_old out_new err_old err_new : Option (List ℕ)) → IsScanned o test name c found out_old out_new
-    → AppendsFront err_old err_new (cond (found.is_error && not o.silent) (unreadable name) []) → IsCut o test name (Some c) out_old out_new err_old err_new
-search-message-cut o test name c found out_old out_new err_old err_new p q = record {
-  output = AppendsFront-all out_old out_new _ p.output;
+pub search-message-cut : (o : GrepOptions) (test : List ℕ → Bool) (name : List ℕ) (c : Content) (found : Found) (out_old out_mid : Output) (out_new err_old err_new : Option (List ℕ)) → IsScanned o test name c found out_old out_mid
+    → GrowsFront out_mid out_new [] → AppendsFront err_old err_new (cond (found.is_error && not o.silent) (unreadable name) []) → IsCut o test name (Some c) out_old out_new err_old err_new
+search-message-cut o test name c found out_old out_mid out_new err_old err_new p cut q = record {
+  output = subst (GrowsFront out_old out_new) (append-nil (block_in o test name (Some c))) (GrowsFront-behind out_old out_mid out_new (block_in o test name (Some c)) [] [] p.output cut);
   messages = subst (AppendsFront err_old err_new) (same-message o test name c found p) q;
+}
+
+-- the message was written, if there is one
+pub search-message : (o : GrepOptions) (test : List ℕ → Bool) (name : List ℕ) (c : Content) (found : Found) (out_old out_mid out_new : Output) (err_old err_new : Option (List ℕ)) → IsScanned o test name c found out_old out_mid
+    → Grows out_mid out_new [] → Appends err_old err_new (cond (found.is_error && not o.silent) (unreadable name) []) → IsSearched o test name (Some c) found out_old out_new err_old err_new
+search-message o test name c found out_old out_mid out_new err_old err_new p grown q = record {
+  output = Grows-kept out_old out_mid out_new (block_in o test name (Some c)) p.output grown;
+  messages = subst (Appends err_old err_new) (same-message o test name c found p) q;
+  selected = p.selected;
+  error = p.error;
 }

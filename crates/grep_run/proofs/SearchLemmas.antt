@@ -12,18 +12,20 @@ use Rattle.grep_run.specs.Blocks.{block, block_in, has_selected, is_error, messa
 use Rattle.grep_run.specs.Fronts.{AppendsFront}
 use Rattle.grep_run.specs.Grep.{answer_to, asks, searched}
 use Rattle.grep_run.specs.Options.{ask_of}
-use Rattle.grep_run.specs.Running.{AsksFront, IsStopped}
-use Rattle.grep_run.specs.Searching.{AreSearched, IsCut, IsSearched}
+use Rattle.grep_run.specs.Outputs.{Grows, GrowsFront, Output}
+use Rattle.grep_run.specs.Running.{AsksFront}
+use Rattle.grep_run.specs.Searching.{AreCut, AreSearched, IsCut, IsSearched}
 use Rattle.grep_run.specs.Sources.{AreShort, Ask, Input, Sources, after, after_all, found, name_of, taken_by}
 use Rattle.grep_run.proofs.FrontLemmas.{AppendsFront-behind}
+use Rattle.grep_run.proofs.OutputLemmas.{Grows-nil, Grows-trans, GrowsFront-behind}
 use Rattle.lit_base.proofs.ToldLemmas.{Told-none, Told-then}
 use Rattle.grep_run.proofs.ToldLemmas.{after_all-one, short-after}
 
 -- the asks before those that are left are made, and their inputs searched
-pub record InputsSoFar (o : GrepOptions) (test : List ℕ → Bool) (all rest : List Ask) (s left : Sources) (is_selected has_error : Bool) (out_old out_new err_old err_new : Option (List ℕ)) : Type 0 where
+pub record InputsSoFar (o : GrepOptions) (test : List ℕ → Bool) (all rest : List Ask) (s left : Sources) (is_selected has_error : Bool) (out_old out_new : Output) (err_old err_new : Option (List ℕ)) : Type 0 where
   pub written : List ℕ
   pub output : flat_map (block o test) (searched o test (found all s)) ≡ written ++ flat_map (block o test) (searched o test (found rest left))
-  pub out_grown : Appends out_old out_new written
+  pub out_grown : Grows out_old out_new written
   pub told : List ℕ
   pub messages : flat_map (message o test) (searched o test (found all s)) ≡ told ++ flat_map (message o test) (searched o test (found rest left))
   pub err_grown : Appends err_old err_new told
@@ -35,12 +37,12 @@ pub record InputsSoFar (o : GrepOptions) (test : List ℕ → Bool) (all rest : 
   pub short : AreShort left
 
 -- at first none is
-pub InputsSoFar-none : (o : GrepOptions) (test : List ℕ → Bool) (all : List Ask) (s : Sources) (out err : Option (List ℕ)) → AreShort s
+pub InputsSoFar-none : (o : GrepOptions) (test : List ℕ → Bool) (all : List Ask) (s : Sources) (out : Output) (err : Option (List ℕ)) → AreShort s
     → InputsSoFar o test all all s s false false out out err err
 InputsSoFar-none o test all s out err short = record {
   written = [];
   output = refl;
-  out_grown = Appends-nil out;
+  out_grown = Grows-nil out;
   told = [];
   messages = refl;
   err_grown = Appends-nil err;
@@ -53,8 +55,8 @@ InputsSoFar-none o test all s out err short = record {
 }
 
 -- an input that is not the last
-pub InputsSoFar-more : {o : GrepOptions} {test : List ℕ → Bool} {all : List Ask} {s mid : Sources} {is_selected has_error : Bool} {out_old out_mid err_old err_mid : Option (List ℕ)}
-    (ask : Ask) (rest : List Ask) (left : Sources) (one : Found) (out_new err_new : Option (List ℕ))
+pub InputsSoFar-more : {o : GrepOptions} {test : List ℕ → Bool} {all : List Ask} {s mid : Sources} {is_selected has_error : Bool} {out_old out_mid : Output} {err_old err_mid : Option (List ℕ)}
+    (ask : Ask) (rest : List Ask) (left : Sources) (one : Found) (out_new : Output) (err_new : Option (List ℕ))
     → InputsSoFar o test all (ask ∷ rest) s mid is_selected has_error out_old out_mid err_old err_mid → left ≡ after ask mid
     → IsSearched o test (name_of ask) (taken_by ask mid) one out_mid out_new err_mid err_new → (o.quiet && one.is_selected) ≡ false
     → InputsSoFar o test all rest s left (is_selected || one.is_selected) (has_error || one.is_error) out_old out_new err_old err_new
@@ -69,7 +71,7 @@ InputsSoFar-more {o} {test} {all} {s} {mid} {is_selected} {has_error} {out_old} 
     record {
       written = p.written ++ block_here;
       output = p.output ∙ ap (λ is. p.written ++ flat_map (block o test) is) here ∙ sym (append_assoc p.written block_here (flat_map (block o test) behind)) ∙ ap (λ is. (p.written ++ block_here) ++ flat_map (block o test) is) there;
-      out_grown = Appends-trans out_old out_mid out_new p.written block_here p.out_grown q.output;
+      out_grown = Grows-trans out_old out_mid out_new p.written block_here p.out_grown q.output;
       told = p.told ++ message_here;
       messages = p.messages ∙ ap (λ is. p.told ++ flat_map (message o test) is) here ∙ sym (append_assoc p.told message_here (flat_map (message o test) behind)) ∙ ap (λ is. (p.told ++ message_here) ++ flat_map (message o test) is) there;
       err_grown = Appends-trans err_old err_mid err_new p.told message_here p.err_grown q.messages;
@@ -84,13 +86,13 @@ InputsSoFar-more {o} {test} {all} {s} {mid} {is_selected} {has_error} {out_old} 
     }
 
 -- where no input is left, all are searched
-pub InputsSoFar-all : {o : GrepOptions} {test : List ℕ → Bool} {all : List Ask} {s left : Sources} {out_old out_new err_old err_new : Option (List ℕ)} (what : Found)
+pub InputsSoFar-all : {o : GrepOptions} {test : List ℕ → Bool} {all : List Ask} {s left : Sources} {out_old out_new : Output} {err_old err_new : Option (List ℕ)} (what : Found)
     → InputsSoFar o test all [] s left what.is_selected what.is_error out_old out_new err_old err_new
     → (left ≡ after_all (asks (searched o test (found all s))) s) × AreSearched o (answer_to o test (searched o test (found all s))) what out_old out_new err_old err_new
 InputsSoFar-all {o} {test} {all} {s} {left} {out_old} {out_new} {err_old} {err_new} what p = (
   p.after ∙ ap (λ made. after_all made s) (sym (p.front ∙ append-nil p.made)),
   record {
-    output = subst (Appends out_old out_new) (sym (p.output ∙ append-nil p.written)) p.out_grown;
+    output = subst (Grows out_old out_new) (sym (p.output ∙ append-nil p.written)) p.out_grown;
     messages = subst (Appends err_old err_new) (sym (p.messages ∙ append-nil p.told)) p.err_grown;
     selected = sym (p.selected ∙ or-false what.is_selected);
     error = sym (p.error ∙ or-false what.is_error);
@@ -98,8 +100,8 @@ InputsSoFar-all {o} {test} {all} {s} {left} {out_old} {out_new} {err_old} {err_n
 )
 
 -- under -q a selected line makes its input the last
-pub InputsSoFar-last : {o : GrepOptions} {test : List ℕ → Bool} {all : List Ask} {s mid : Sources} {is_selected has_error : Bool} {out_old out_mid err_old err_mid : Option (List ℕ)}
-    (ask : Ask) (rest : List Ask) (left : Sources) (one what : Found) (out_new err_new : Option (List ℕ))
+pub InputsSoFar-last : {o : GrepOptions} {test : List ℕ → Bool} {all : List Ask} {s mid : Sources} {is_selected has_error : Bool} {out_old out_mid : Output} {err_old err_mid : Option (List ℕ)}
+    (ask : Ask) (rest : List Ask) (left : Sources) (one what : Found) (out_new : Output) (err_new : Option (List ℕ))
     → InputsSoFar o test all (ask ∷ rest) s mid is_selected has_error out_old out_mid err_old err_mid → left ≡ after ask mid
     → IsSearched o test (name_of ask) (taken_by ask mid) one out_mid out_new err_mid err_new → (o.quiet && one.is_selected) ≡ true
     → what.is_selected ≡ (is_selected || one.is_selected) → what.is_error ≡ (has_error || one.is_error)
@@ -113,8 +115,8 @@ InputsSoFar-last {o} {test} {all} {s} {mid} {is_selected} {has_error} {out_old} 
     let message_here : List ℕ = message_in o test (name_of ask) (taken_by ask mid) in (
       e ∙ ap (after ask) p.after ∙ sym (after_all-one p.made ask s) ∙ ap (λ made. after_all made s) (sym (p.front ∙ ap (λ is. p.made ++ asks is) here)),
       record {
-        output = subst (Appends out_old out_new) (sym (p.output ∙ ap (λ is. p.written ++ flat_map (block o test) is) here ∙ ap (λ t. p.written ++ t) (append-nil block_here)))
-            (Appends-trans out_old out_mid out_new p.written block_here p.out_grown q.output);
+        output = subst (Grows out_old out_new) (sym (p.output ∙ ap (λ is. p.written ++ flat_map (block o test) is) here ∙ ap (λ t. p.written ++ t) (append-nil block_here)))
+            (Grows-trans out_old out_mid out_new p.written block_here p.out_grown q.output);
         messages = subst (Appends err_old err_new) (sym (p.messages ∙ ap (λ is. p.told ++ flat_map (message o test) is) here ∙ ap (λ t. p.told ++ t) (append-nil message_here)))
             (Appends-trans err_old err_mid err_new p.told message_here p.err_grown q.messages);
         selected = selected ∙ ap (λ b. is_selected || b) (q.selected ∙ sym (or-false (has_selected test next))) ∙ sym (p.selected ∙ ap (λ is. is_selected || list_any (has_selected test) is) here);
@@ -123,11 +125,11 @@ InputsSoFar-last {o} {test} {all} {s} {mid} {is_selected} {has_error} {out_old} 
     )
 
 -- where it is cut, fronts of both texts are written
-pub InputsSoFar-cut : {o : GrepOptions} {test : List ℕ → Bool} {all : List Ask} {s mid : Sources} {is_selected has_error : Bool} {out_old out_mid err_old err_mid : Option (List ℕ)}
+pub InputsSoFar-cut : {o : GrepOptions} {test : List ℕ → Bool} {all : List Ask} {s mid : Sources} {is_selected has_error : Bool} {out_old out_mid : Output} {err_old err_mid : Option (List ℕ)}
     (ask : Ask) (rest : List Ask) (left : Sources) (out_new err_new : Option (List ℕ))
     → InputsSoFar o test all (ask ∷ rest) s mid is_selected has_error out_old out_mid err_old err_mid → left ≡ after ask mid
     → IsCut o test (name_of ask) (taken_by ask mid) out_mid out_new err_mid err_new
-    → AsksFront (asks (searched o test (found all s))) s left × IsStopped (answer_to o test (searched o test (found all s))) out_old out_new err_old err_new
+    → AsksFront (asks (searched o test (found all s))) s left × AreCut (answer_to o test (searched o test (found all s))) out_old out_new err_old err_new
 InputsSoFar-cut {o} {test} {all} {s} {mid} {is_selected} {has_error} {out_old} {out_mid} {err_old} {err_mid} ask rest left out_new err_new p e q =
     let next : Input = record { ask = ask; source = taken_by ask mid } in
     let more : List Input = cond (o.quiet && has_selected test next) [] (searched o test (found rest (after ask mid))) in (
@@ -138,7 +140,7 @@ InputsSoFar-cut {o} {test} {all} {s} {mid} {is_selected} {has_error} {out_old} {
         after = e ∙ ap (after ask) p.after ∙ sym (after_all-one p.made ask s);
       },
       record {
-        output = subst (AppendsFront out_old out_new) (sym p.output) (AppendsFront-behind out_mid out_new p.written (flat_map (block o test) more) p.out_grown q.output);
+        output = subst (GrowsFront out_old out_new) (sym p.output) (GrowsFront-behind out_old out_mid out_new p.written (block_in o test (name_of ask) (taken_by ask mid)) (flat_map (block o test) more) p.out_grown q.output);
         messages = subst (AppendsFront err_old err_new) (sym p.messages) (AppendsFront-behind err_mid err_new p.told (flat_map (message o test) more) p.err_grown q.messages);
       },
     )
@@ -152,7 +154,7 @@ operands-at operands items place operand text e inside there same =
     ∙ ap (λ n. ask_of n ∷ map ask_of (map string_bytes (drop (place + 1) operands))) (sym (same ∙ ap string_bytes at))
 
 module _ (o : GrepOptions) (test : List ℕ → Bool) (known mid left : Option Sources) (all here rest : List Ask) (ask : Ask) (so : Found)
-    (out_old out_mid out_new err_old err_mid err_new : Option (List ℕ)) (e : here ≡ ask ∷ rest)
+    (out_old out_mid out_new : Output) (err_old err_mid err_new : Option (List ℕ)) (e : here ≡ ask ∷ rest)
     (before : Told known mid (λ s m. AreShort s → InputsSoFar o test all here s m so.is_selected so.is_error out_old out_mid err_old err_mid)) where
   -- the state before the next ask
   so_far : (s m : Sources) → InputsSoFar o test all here s m so.is_selected so.is_error out_old out_mid err_old err_mid → InputsSoFar o test all (ask ∷ rest) s m so.is_selected so.is_error out_old out_mid err_old err_mid
@@ -179,15 +181,15 @@ module _ (o : GrepOptions) (test : List ℕ → Bool) (known mid left : Option S
       InputsSoFar-last ask rest l one what out_new err_new now taken.0 taken.1 ends selected error)
 
   -- it stops
-  pub inputs-cut : Told mid left (λ m l. AreShort m → (l ≡ after ask m) × IsCut o test (name_of ask) (taken_by ask m) out_mid out_new err_mid err_new)
-      → Told known left (λ s l. AreShort s → AsksFront (asks (searched o test (found all s))) s l × IsStopped (answer_to o test (searched o test (found all s))) out_old out_new err_old err_new)
+  pub inputs-cut : Told mid left (λ m l. AreShort m → (l ≡ after ask m) × IsCut o test (name_of ask) (taken_by ask m) out_mid out_new.written err_mid err_new)
+      → Told known left (λ s l. AreShort s → AsksFront (asks (searched o test (found all s))) s l × AreCut (answer_to o test (searched o test (found all s))) out_old out_new.written err_old err_new)
   inputs-cut step =
-      Told-then known mid left _ _ (λ s l. AreShort s → AsksFront (asks (searched o test (found all s))) s l × IsStopped (answer_to o test (searched o test (found all s))) out_old out_new err_old err_new) before step (λ s m l p q short.
+      Told-then known mid left _ _ (λ s l. AreShort s → AsksFront (asks (searched o test (found all s))) s l × AreCut (answer_to o test (searched o test (found all s))) out_old out_new.written err_old err_new) before step (λ s m l p q short.
       let now = so_far s m (p short) in
       let taken = q now.short in
-      InputsSoFar-cut ask rest l out_new err_new now taken.0 taken.1)
+      InputsSoFar-cut ask rest l out_new.written err_new now taken.0 taken.1)
 
 -- at first no input is searched
-pub inputs-none : (o : GrepOptions) (test : List ℕ → Bool) (known : Option Sources) (all : List Ask) (out err : Option (List ℕ))
+pub inputs-none : (o : GrepOptions) (test : List ℕ → Bool) (known : Option Sources) (all : List Ask) (out : Output) (err : Option (List ℕ))
     → Told known known (λ s l. AreShort s → InputsSoFar o test all all s l false false out out err err)
 inputs-none o test known all out err = Told-none known (λ s l. AreShort s → InputsSoFar o test all all s l false false out out err err) (λ s short. InputsSoFar-none o test all s out err short)

@@ -5,6 +5,7 @@ pub mod Grep
 pub mod Growing
 pub mod Messages
 pub mod Options
+pub mod Outputs
 pub mod Patterns
 pub mod Running
 pub mod Scanning

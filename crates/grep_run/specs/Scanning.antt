@@ -1,6 +1,5 @@
 -- Scanning one input: where the picker and the block stand behind the bytes so far.
 use Rattle.std.specs.Prelude.{◌≡◌, ℕ, ◌+◌, ◌-◌, ◌^◌, ◌<◌, ◌≤◌, Bool, true, false, List, [], ◌++◌, flat_map, length, min, nat_lt, Option, None, Some, Result, Ok, Err}
-use Rattle.std.specs.Io.KnownBytes.{Appends}
 use Rattle.lit_base.specs.Lines.{ended_lines, open_rest}
 use Rattle.line_pick.specs.Lending.{numbered}
 use Rattle.line_pick.specs.Matching.{selects as picks_of}
@@ -14,8 +13,8 @@ use Rattle.grep_run.specs.declared.scanning.End.{End}
 use Rattle.grep_run.specs.declared.scanning.End.TheVariants.{Clean, Fault}
 use Rattle.grep_run.specs.declared.status.Stop.{Stop as Halt}
 use Rattle.grep_run.specs.Blocks.{block_in, block_of, has_any, is_trouble, lines_of}
-use Rattle.grep_run.specs.Fronts.{AppendsFront, Leaves}
 use Rattle.grep_run.specs.Growing.{added_line, ending_of, next_of}
+use Rattle.grep_run.specs.Outputs.{Grows, GrowsFront, Output, output_of}
 use Rattle.grep_run.specs.Sources.{Content}
 
 -- the test for a selected line, by what stands for the patterns
@@ -38,36 +37,34 @@ pub record HasFed (test : List ℕ → Bool) (text : List ℕ) (p : Picking) : T
   pub bytes : p.bytes ≡ length text
   pub state : p.state ≡ Running
 
--- the block has taken these lines and they are written; where none is wanted behind the first, there was none
-pub record HasTaken (o : GrepOptions) (name : List ℕ) (selected : List (ℕ × List ℕ)) (b : Block) (out_old out_new : Option (List ℕ)) : Type 0 where
+-- the block has taken these lines, and they are written or held; where none is wanted behind the first, there was none
+pub record HasTaken (o : GrepOptions) (name : List ℕ) (selected : List (ℕ × List ℕ)) (b : Block) (before : Output) (out : Option (List ℕ)) : Type 0 where
   pub options : b.options.now ≡ o
   pub called : b.name.now ≡ name
   pub count : b.count ≡ min (length selected) (2 ^ 64 - 1)
-  pub text : b.text.items ≡ []
-  pub written : Appends out_old out_new (flat_map (added_line o name) selected)
+  pub grown : Grows before (output_of out b) (flat_map (added_line o name) selected)
   pub unwanted : next_of o ≡ Stop → selected ≡ []
 
 -- the block has taken a line, and none is wanted any more
-pub record IsHalted (o : GrepOptions) (name : List ℕ) (selected : List (ℕ × List ℕ)) (b : Block) (out_old out_new : Option (List ℕ)) : Type 0 where
+pub record IsHalted (o : GrepOptions) (name : List ℕ) (selected : List (ℕ × List ℕ)) (b : Block) (before : Output) (out : Option (List ℕ)) : Type 0 where
   pub options : b.options.now ≡ o
   pub called : b.name.now ≡ name
   pub stop : next_of o ≡ Stop
   pub some : 0 < length selected
   pub count : 0 < b.count
-  pub text : b.text.items ≡ []
-  pub written : Appends out_old out_new []
+  pub grown : Grows before (output_of out b) []
 
 -- picker and block stand behind the text
-pub record StandsBehind (o : GrepOptions) (test : List ℕ → Bool) (name text : List ℕ) (p : Picking) (b : Block) (out_old out_new : Option (List ℕ)) : Type 0 where
+pub record StandsBehind (o : GrepOptions) (test : List ℕ → Bool) (name text : List ℕ) (p : Picking) (b : Block) (before : Output) (out : Option (List ℕ)) : Type 0 where
   pub fed : HasFed test text p
-  pub taken : HasTaken o name (ended_in test text) b out_old out_new
+  pub taken : HasTaken o name (ended_in test text) b before out
 
 -- a piece was fed behind a text: picker and block stand behind both; no line is wanted any more; there are too many bytes; or it was cut
-abbrev pub FeedsPiece : GrepOptions → (List ℕ → Bool) → List ℕ → List ℕ → List ℕ → Result (Option End) Halt → Picking → Block → Option (List ℕ) → Option (List ℕ) → Type 0
-FeedsPiece o test name text piece (Ok None) p b out_old out_new = StandsBehind o test name (text ++ piece) p b out_old out_new
-FeedsPiece o test name text piece (Ok (Some Clean)) p b out_old out_new = IsHalted o name (ended_in test (text ++ piece)) b out_old out_new
-FeedsPiece o test name text piece (Ok (Some Fault)) p b out_old out_new = 2 ^ 64 ≤ length text + length piece
-FeedsPiece o test name text piece (Err stop) p b out_old out_new = AppendsFront out_old out_new (flat_map (added_line o name) (ended_in test (text ++ piece)))
+abbrev pub FeedsPiece : GrepOptions → (List ℕ → Bool) → List ℕ → List ℕ → List ℕ → Result (Option End) Halt → Picking → Block → Output → Option (List ℕ) → Type 0
+FeedsPiece o test name text piece (Ok None) p b before out = StandsBehind o test name (text ++ piece) p b before out
+FeedsPiece o test name text piece (Ok (Some Clean)) p b before out = IsHalted o name (ended_in test (text ++ piece)) b before out
+FeedsPiece o test name text piece (Ok (Some Fault)) p b before out = 2 ^ 64 ≤ length text + length piece
+FeedsPiece o test name text piece (Err stop) p b before out = GrowsFront before out (flat_map (added_line o name) (ended_in test (text ++ piece)))
 
 -- whether reading ended in a fault
 abbrev pub is_fault : End → Bool
@@ -75,15 +72,15 @@ is_fault Clean = false
 is_fault Fault = true
 
 -- all lines of a content came that are wanted: what is written and held is the block, but for its end
-pub record HasRead (o : GrepOptions) (test : List ℕ → Bool) (name : List ℕ) (c : Content) (end : End) (b : Block) (out_old out_new : Option (List ℕ)) : Type 0 where
+pub record HasRead (o : GrepOptions) (test : List ℕ → Bool) (name : List ℕ) (c : Content) (end : End) (b : Block) (before : Output) (out : Option (List ℕ)) : Type 0 where
   pub options : b.options.now ≡ o
   pub called : b.name.now ≡ name
   pub lines : List ℕ
   pub whole : lines ++ ending_of o name b.count ≡ block_of o name (numbered test 0 (lines_of c))
-  pub leaves : Leaves out_old out_new lines b.text.items
+  pub grown : Grows before (output_of out b) lines
   pub any : nat_lt 0 b.count ≡ has_any (numbered test 0 (lines_of c))
   pub error : is_fault end ≡ is_trouble o test (Some c)
 
-abbrev pub ReadsLines : GrepOptions → (List ℕ → Bool) → List ℕ → Content → Result End Halt → Block → Option (List ℕ) → Option (List ℕ) → Type 0
-ReadsLines o test name c (Ok end) b out_old out_new = HasRead o test name c end b out_old out_new
-ReadsLines o test name c (Err stop) b out_old out_new = AppendsFront out_old out_new (block_in o test name (Some c))
+abbrev pub ReadsLines : GrepOptions → (List ℕ → Bool) → List ℕ → Content → Result End Halt → Block → Output → Option (List ℕ) → Type 0
+ReadsLines o test name c (Ok end) b before out = HasRead o test name c end b before out
+ReadsLines o test name c (Err stop) b before out = GrowsFront before out (block_in o test name (Some c))

@@ -7,7 +7,7 @@ ghost use Rattle.grep_run.specs.Sources.{OpensAs, after, name_of, taken_by};
 use lit_base::ByteIn;
 
 /// What standard input is called in messages and prefixes.
-const STANDARD_NAME: &str = "(standard input)";
+pub const STANDARD_NAME: &str = "(standard input)";
 
 /// A name that cannot be opened. Why is not told: the message names the file alone.
 #[derive(Clone, Copy, Debug, PartialEq, Eq)]

@@ -1,8 +1,8 @@
 //! One input searched, from its first byte to its end, its fault, or the last line that is wanted.
-ghost use Rattle.std.specs.Prelude.{◌≡◌, ℕ, ◌<◌, ◌++◌, ◌||◌, Bool, List, [], OnErr, OnOk, Option, Some, false, length};
-ghost use Rattle.std.specs.Io.KnownBytes.{Appends};
-ghost use Rattle.grep_run.specs.Fronts.{AppendsFront, is_write_fault};
+ghost use Rattle.std.specs.Prelude.{◌≡◌, ℕ, ◌<◌, ◌||◌, Bool, List, [], OnErr, OnOk, Option, Some, false, length};
+ghost use Rattle.grep_run.specs.Fronts.{is_write_fault};
 ghost use Rattle.grep_run.specs.Growing.{ending_of};
+ghost use Rattle.grep_run.specs.Outputs.{Grows, GrowsFront, Output, output_of};
 ghost use Rattle.grep_run.specs.Searching.{Scans};
 ghost use Rattle.grep_run.specs.Scanning.{FeedsPiece, HasFed, ReadsLines, StandsBehind, is_fault, test_of};
 ghost use Rattle.grep_run.specs.declared.options.GrepOptions.{GrepOptions};
@@ -42,8 +42,8 @@ pub enum End {
     Fault,
 }
 
-/// Searches one input, which messages and prefixes call by this name: its block goes to `out`.
-/// It is read by pieces of at most that many bytes.
+/// Searches one input, which messages and prefixes call by this name: its block goes to `out`, but
+/// for what the block still holds. It is read by pieces of at most that many bytes.
 pub fn scan_input<'a, I: ByteIn, W: ByteOut>(
     request: &Request<'a>,
     name: &'a str,
@@ -55,10 +55,11 @@ pub fn scan_input<'a, I: ByteIn, W: ByteOut>(
     requires { 0 < length piece.old }
     ensures answer { (c : Content) → I.coming input.old ≡ Some (coming_of c) → IsShort c
         → Scans request.now.options.now (test_of request.now.options.now request.now.needles.now) name.now c result
-        (W.written out.old) (W.written out.new) }
+        (output_of (W.written out.old) block.old) (output_of (W.written out.new) block.new) }
     ensures flag { W.has_failed out.new ≡ (W.has_failed out.old || is_write_fault result) }
 {
     block.begin(request.options, name);
+    block.pass_on(0, out)?;
     let mut picker = picker_for(request);
     let end = read_lines(&mut picker, input, block, piece, out)?;
     finish_block(block, out)?;
@@ -95,20 +96,21 @@ fn picker_for<'a>(request: &Request<'a>) -> Picker<'a>
     )
 }
 
-// Writes what the block holds, and its end.
+// Takes the end of the block, and writes what it holds where that is due.
 fn finish_block<W: ByteOut>(block: &mut Block<'_>, out: &mut W) -> Result<(), Stop>
-    ensures ok { OnOk result (Appends (W.written out.old) (W.written out.new)
-        (block.old.text.items ++ ending_of block.old.options.now block.old.name.now block.old.count)) }
-    ensures stopped { OnErr result (AppendsFront (W.written out.old) (W.written out.new)
-        (block.old.text.items ++ ending_of block.old.options.now block.old.name.now block.old.count)) }
+    ensures ok { OnOk result (Grows (output_of (W.written out.old) block.old) (output_of (W.written out.new) block.new)
+        (ending_of block.old.options.now block.old.name.now block.old.count)) }
+    ensures stopped { OnErr result (GrowsFront (output_of (W.written out.old) block.old) (W.written out.new)
+        (ending_of block.old.options.now block.old.name.now block.old.count)) }
     ensures count { OnOk result (block.new.count ≡ block.old.count) }
     ensures flag { W.has_failed out.new ≡ (W.has_failed out.old || is_write_fault result) }
 {
     block.finish()?;
-    block.write(out)
+    block.pass_on(0, out)
 }
 
-// Reads the lines of an input into the block, as far as they are wanted, and writes them piece by piece.
+// Reads the lines of an input into the block, as far as they are wanted, and writes them piece by piece
+// where that is due.
 fn read_lines<'a, I: ByteIn, W: ByteOut>(
     picker: &mut Picker<'a>,
     input: &mut I,
@@ -117,10 +119,10 @@ fn read_lines<'a, I: ByteIn, W: ByteOut>(
     out: &mut W,
 ) -> Result<End, Stop>
     requires { 0 < length piece.old }
-    ensures answer { (o : GrepOptions) (test : List ℕ → Bool) (name : List ℕ) (c : Content)
-        → StandsBehind o test name [] picker.old block.old (W.written out.old) (W.written out.old)
+    ensures answer { (o : GrepOptions) (test : List ℕ → Bool) (name : List ℕ) (c : Content) (before : Output)
+        → StandsBehind o test name [] picker.old block.old before (W.written out.old)
         → I.coming input.old ≡ Some (coming_of c) → IsShort c
-        → ReadsLines o test name c result block.new (W.written out.old) (W.written out.new) }
+        → ReadsLines o test name c result block.new before (W.written out.new) }
     ensures flag { W.has_failed out.new ≡ (W.has_failed out.old || is_write_fault result) }
 {
     for _turn in 0..MAX_TURNS {
@@ -136,21 +138,22 @@ fn read_lines<'a, I: ByteIn, W: ByteOut>(
     Ok(End::Fault)
 }
 
-// Takes the next piece of an input, and writes the lines that it ends. `Some` where it is the last one.
+// Takes the next piece of an input, and writes the lines that it ends, where that is due. `Some` where
+// it is the last one.
 fn feed<'a, W: ByteOut>(
     picker: &mut Picker<'a>,
     piece: &[u8],
     block: &mut Block<'a>,
     out: &mut W,
 ) -> Result<Option<End>, Stop>
-    ensures answer { (o : GrepOptions) (test : List ℕ → Bool) (name text : List ℕ) (before : Option (List ℕ))
+    ensures answer { (o : GrepOptions) (test : List ℕ → Bool) (name text : List ℕ) (before : Output)
         → StandsBehind o test name text picker.old block.old before (W.written out.old)
         → FeedsPiece o test name text piece.now result picker.new block.new before (W.written out.new) }
     ensures flag { W.has_failed out.new ≡ (W.has_failed out.old || is_write_fault result) }
 {
     match picker.feed(piece, block) {
         Ok(Next::More) => {
-            block.write(out)?;
+            block.pass_on(piece.len(), out)?;
             Ok(None)
         }
         Ok(Next::Stop) => Ok(Some(End::Clean)),
@@ -161,7 +164,7 @@ fn feed<'a, W: ByteOut>(
 
 // Takes the last line of an input, if no newline ends it.
 fn end_lines<'a>(picker: &mut Picker<'a>, block: &mut Block<'a>) -> Result<End, Stop>
-    ensures answer { (o : GrepOptions) (test : List ℕ → Bool) (name : List ℕ) (c : Content) (before out : Option (List ℕ))
+    ensures answer { (o : GrepOptions) (test : List ℕ → Bool) (name : List ℕ) (c : Content) (before : Output) (out : Option (List ℕ))
         → c.is_faulty ≡ false → IsShort c → StandsBehind o test name c.text picker.old block.old before out
         → ReadsLines o test name c result block.new before out }
     ensures flag { is_write_fault result ≡ false }

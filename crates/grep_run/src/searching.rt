@@ -6,6 +6,7 @@ ghost use Rattle.grep_run.specs.Fronts.{AppendsFront, is_write_fault};
 ghost use Rattle.grep_run.specs.Grep.{searched};
 ghost use Rattle.grep_run.specs.Messages.{unreadable};
 ghost use Rattle.grep_run.specs.Options.{ask_of, searched_of};
+ghost use Rattle.grep_run.specs.Outputs.{Grows, GrowsFront, output_of, whole};
 ghost use Rattle.grep_run.specs.Scanning.{test_of};
 ghost use Rattle.grep_run.specs.Searching.{Searches, SearchesAll};
 ghost use Rattle.grep_run.specs.Sources.{AreShort, Content, IsShort, after, coming_of, found, name_of, taken_by};
@@ -44,24 +45,39 @@ pub fn search_all<O: Opener, W: ByteOut, E: ByteOut>(
         → SearchesAll request.now.options.now (test_of request.now.options.now request.now.needles.now)
         (searched request.now.options.now (test_of request.now.options.now request.now.needles.now)
         (found (searched_of request.now.options.now) s)) s left result
-        (W.written out.old) (W.written out.new) (E.written err.old) (E.written err.new)) }
+        (whole (W.written out.old)) (whole (W.written out.new)) (E.written err.old) (E.written err.new)) }
     ensures flag { (W.has_failed out.new || E.has_failed err.new)
         ≡ (W.has_failed out.old || E.has_failed err.old || is_write_fault result) }
 {
     let mut piece = vec![in request.alloc; 0u8; read_size(request.options)]?;
     let mut block = Block::new(request.alloc, request.options);
+    let found = search_inputs(request, opener, &mut block, piece.as_mut_slice(), out, err)?;
+    block.write(out)?;
+    Ok(found)
+}
+
+// The same, but for what the block holds at the end.
+fn search_inputs<'a, O: Opener, W: ByteOut, E: ByteOut>(
+    request: &Request<'a>,
+    opener: &mut O,
+    block: &mut Block<'a>,
+    piece: &mut [u8],
+    out: &mut W,
+    err: &mut E,
+) -> Result<Found, Stop>
+    requires { 0 < length piece.old }
+    ensures answer { Told (O.sources opener.old) (O.sources opener.new) (λ s left. AreShort s
+        → SearchesAll request.now.options.now (test_of request.now.options.now request.now.needles.now)
+        (searched request.now.options.now (test_of request.now.options.now request.now.needles.now)
+        (found (searched_of request.now.options.now) s)) s left result
+        (output_of (W.written out.old) block.old) (output_of (W.written out.new) block.new) (E.written err.old) (E.written err.new)) }
+    ensures flag { (W.has_failed out.new || E.has_failed err.new)
+        ≡ (W.has_failed out.old || E.has_failed err.old || is_write_fault result) }
+{
     if request.options.operands.as_slice().is_empty() {
-        return search_operand(
-            request,
-            "-",
-            opener,
-            &mut block,
-            piece.as_mut_slice(),
-            out,
-            err,
-        );
+        return search_operand(request, "-", opener, block, piece, out, err);
     }
-    search_operands(request, opener, &mut block, piece.as_mut_slice(), out, err)
+    search_operands(request, opener, block, piece, out, err)
 }
 
 // How many bytes are read at once: fewer where long names are shown, so that what is held stays small
@@ -98,7 +114,7 @@ fn search_operands<'a, O: Opener, W: ByteOut, E: ByteOut>(
         → SearchesAll request.now.options.now (test_of request.now.options.now request.now.needles.now)
         (searched request.now.options.now (test_of request.now.options.now request.now.needles.now)
         (found (map ask_of (map string_bytes request.now.options.now.operands.items)) s)) s left result
-        (W.written out.old) (W.written out.new) (E.written err.old) (E.written err.new)) }
+        (output_of (W.written out.old) block.old) (output_of (W.written out.new) block.new) (E.written err.old) (E.written err.new)) }
     ensures flag { (W.has_failed out.new || E.has_failed err.new)
         ≡ (W.has_failed out.old || E.has_failed err.old || is_write_fault result) }
 {
@@ -142,44 +158,58 @@ fn search_operand<'a, O: Opener, W: ByteOut, E: ByteOut>(
         → (left ≡ after (ask_of operand.now) s)
         × Searches request.now.options.now (test_of request.now.options.now request.now.needles.now)
         (name_of (ask_of operand.now)) (taken_by (ask_of operand.now) s) result
-        (W.written out.old) (W.written out.new) (E.written err.old) (E.written err.new)) }
+        (output_of (W.written out.old) block.old) (output_of (W.written out.new) block.new) (E.written err.old) (E.written err.new)) }
     ensures flag { (W.has_failed out.new || E.has_failed err.new)
         ≡ (W.has_failed out.old || E.has_failed err.old || is_write_fault result) }
 {
     let name = shown_name(operand);
     match open_operand(opener, operand) {
         Ok(mut input) => search_input(request, name, &mut input, block, piece, out, err),
-        Err(_) => pass_over(request, name, err),
+        Err(_) => pass_over(request, name, block, out, err),
     }
 }
 
 // Says that an input cannot be opened.
-fn pass_over<E: ByteOut>(request: &Request<'_>, name: &str, err: &mut E) -> Result<Found, Stop>
-    ensures answer { (test : List ℕ → Bool) (out : Option (List ℕ))
-        → Searches request.now.options.now test name.now None result out out (E.written err.old) (E.written err.new) }
-    ensures flag { E.has_failed err.new ≡ (E.has_failed err.old || is_write_fault result) }
+fn pass_over<W: ByteOut, E: ByteOut>(
+    request: &Request<'_>,
+    name: &str,
+    block: &mut Block<'_>,
+    out: &mut W,
+    err: &mut E,
+) -> Result<Found, Stop>
+    ensures answer { (test : List ℕ → Bool) → Searches request.now.options.now test name.now None result
+        (output_of (W.written out.old) block.old) (output_of (W.written out.new) block.new) (E.written err.old) (E.written err.new) }
+    ensures flag { (W.has_failed out.new || E.has_failed err.new)
+        ≡ (W.has_failed out.old || E.has_failed err.old || is_write_fault result) }
 {
-    report(request, name, true, err)?;
+    report(request, name, true, block, out, err)?;
     Ok(Found {
         is_selected: false,
         is_error: true,
     })
 }
 
-// Says of an error that an input cannot be opened or read, unless -s drops it.
-fn report<E: ByteOut>(
+// Says of an error that an input cannot be opened or read, unless -s drops it. What the block holds is
+// written before, so that it comes before the message where both go to one place.
+fn report<W: ByteOut, E: ByteOut>(
     request: &Request<'_>,
     name: &str,
     is_error: bool,
+    block: &mut Block<'_>,
+    out: &mut W,
     err: &mut E,
 ) -> Result<(), Stop>
+    ensures output { OnOk result (Grows (output_of (W.written out.old) block.old) (output_of (W.written out.new) block.new) []) }
+    ensures cut { OnErr result (GrowsFront (output_of (W.written out.old) block.old) (W.written out.new) []) }
     ensures ok { OnOk result (Appends (E.written err.old) (E.written err.new)
         (if is_error && not request.now.options.now.silent then unreadable name.now else [])) }
     ensures stopped { OnErr result (AppendsFront (E.written err.old) (E.written err.new)
         (if is_error && not request.now.options.now.silent then unreadable name.now else [])) }
-    ensures flag { E.has_failed err.new ≡ (E.has_failed err.old || is_write_fault result) }
+    ensures flag { (W.has_failed out.new || E.has_failed err.new)
+        ≡ (W.has_failed out.old || E.has_failed err.old || is_write_fault result) }
 {
     if is_error && !request.options.silent {
+        block.write(out)?;
         return say_unreadable(request.alloc, name, err);
     }
     Ok(())
@@ -198,11 +228,11 @@ fn search_input<'a, I: ByteIn, W: ByteOut, E: ByteOut>(
     requires { 0 < length piece.old }
     ensures answer { (c : Content) → I.coming input.old ≡ Some (coming_of c) → IsShort c
         → Searches request.now.options.now (test_of request.now.options.now request.now.needles.now) name.now (Some c) result
-        (W.written out.old) (W.written out.new) (E.written err.old) (E.written err.new) }
+        (output_of (W.written out.old) block.old) (output_of (W.written out.new) block.new) (E.written err.old) (E.written err.new) }
     ensures flag { (W.has_failed out.new || E.has_failed err.new)
         ≡ (W.has_failed out.old || E.has_failed err.old || is_write_fault result) }
 {
     let found = scan_input(request, name, input, block, piece, out)?;
-    report(request, name, found.is_error, err)?;
+    report(request, name, found.is_error, block, out, err)?;
     Ok(found)
 }

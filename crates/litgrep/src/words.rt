@@ -45,8 +45,16 @@ fn unreadable(alloc: Global, error: &io::Error) -> Fault {
 /// `Usage` where clap gives no matches, help included, with clap's text, and where no pattern is
 /// given; `OutOfMemory` where a growth was refused.
 pub fn options(alloc: Global, words: &[String]) -> Result<GrepOptions, Fault> {
-    let words = kept(alloc, words)?;
-    match command(alloc)?.try_get_matches_from(words.as_slice()) {
+    if !words.iter().any(begins_with_equals) {
+        return matched(alloc, words);
+    }
+    let kept = kept(alloc, words)?;
+    matched(alloc, kept.as_slice())
+}
+
+// The options that the words ask for, as clap reads them.
+fn matched(alloc: Global, words: &[String]) -> Result<GrepOptions, Fault> {
+    match command(alloc)?.try_get_matches_from(words) {
         Ok(matches) => options_of(alloc, &matches),
         Err(error) => Err(refusal(alloc, &error)),
     }
@@ -83,7 +91,7 @@ fn kept(alloc: Global, words: &[String]) -> Result<Vec<String>, AllocError> {
     for word in words {
         are_operands = are_operands || word.as_str() == "--";
         let copy = match argument_with_equals(word.as_str()) {
-            Some((option, rest)) if !are_operands => format!(in alloc; "{option}=={rest}")?,
+            Some((letters, rest)) if !are_operands => format!(in alloc; "-{letters}=={rest}")?,
             _ => String::from_str(alloc, word.as_str())?,
         };
         kept.push(copy)?;
@@ -91,16 +99,21 @@ fn kept(alloc: Global, words: &[String]) -> Result<Vec<String>, AllocError> {
     Ok(kept)
 }
 
-// The parts round the `=` that begins the argument of -e or -f in its word, flags before it included.
+// Whether a `=` begins the argument of -e or -f in its word.
+fn begins_with_equals(word: &String) -> bool {
+    argument_with_equals(word.as_str()).is_some()
+}
+
+// The letters before the `=` that begins the argument of -e or -f in its word, flags before it included,
+// and what is behind it. Most words are files: these are not searched for it.
 fn argument_with_equals(word: &str) -> Option<(&str, &str)> {
-    let (option, rest) = word.split_once('=')?;
-    let letters = option.strip_prefix('-')?;
+    let (letters, rest) = word.strip_prefix('-')?.split_once('=')?;
     let flags = letters.strip_suffix('e').or(letters.strip_suffix('f'))?;
     let is_long = flags.starts_with('-');
     if is_long || flags.contains('e') || flags.contains('f') {
         return None;
     }
-    Some((option, rest))
+    Some((letters, rest))
 }
 
 // The text that clap has for the words, or want of memory.

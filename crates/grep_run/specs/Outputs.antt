@@ -1,0 +1,25 @@
+-- What is written and, behind it, what is held to be written.
+use Rattle.std.specs.Prelude.{ℕ, List, [], ◌++◌, Option}
+use Rattle.grep_run.specs.declared.block.Block.{Block}
+use Rattle.grep_run.specs.Fronts.{AppendsFront, Leaves}
+
+-- the bytes that a writer has, and those that stand behind them
+pub record Output : Type 0 where
+  pub written : Option (List ℕ)
+  pub held : List ℕ
+
+-- a block holds its text
+abbrev pub output_of : Option (List ℕ) → Block → Output
+output_of written b = record { written = written; held = b.text.items }
+
+-- nothing is held
+abbrev pub whole : Option (List ℕ) → Output
+whole written = record { written = written; held = [] }
+
+-- an output grew by the text: of what was held, and the text behind it, all is written but what is held now
+abbrev pub Grows : Output → Output → List ℕ → Type 0
+Grows old new text = Leaves old.written new.written (old.held ++ text) new.held
+
+-- a front of both is written
+abbrev pub GrowsFront : Output → Option (List ℕ) → List ℕ → Type 0
+GrowsFront old new text = AppendsFront old.written new (old.held ++ text)
