@@ -2,7 +2,6 @@
 use Rattle.std.proofs.Common.{◌≡◌, ℕ, List, [], ◌++◌, Option, sym, ap, ◌∙◌, subst, append_assoc, append-nil}
 use Rattle.std.specs.Io.KnownBytes.{Appends}
 use Rattle.std.proofs.KnownBytes.{Appends-nil, Appends-trans}
-use Rattle.grep_run.specs.Fronts.{AppendsFront}
 use Rattle.grep_run.specs.Outputs.{Grows, GrowsFront, Output, output_of, whole}
 use Rattle.grep_run.specs.declared.block.Block.{Block}
 use Rattle.grep_run.proofs.FrontLemmas.{AppendsFront-none}
@@ -14,10 +13,6 @@ Grows-nil a = record { front = []; parts = append-nil a.held; grown = Appends-ni
 -- a text that a block takes is held
 pub Grows-held : (written : Option (List ℕ)) (old new : Block) (text : List ℕ) → new.text.items ≡ old.text.items ++ text → Grows (output_of written old) (output_of written new) text
 Grows-held written old new text e = record { front = []; parts = sym e; grown = Appends-nil written }
-
--- all that was held is written
-pub Grows-written : (a b : Option (List ℕ)) (old new : Block) → Appends a b old.text.items → new.text.items ≡ [] → Grows (output_of a old) (output_of b new) []
-Grows-written a b old new p none = record { front = old.text.items; parts = ap (λ t. old.text.items ++ t) (sym none); grown = p }
 
 -- one text behind another
 pub Grows-trans : (a b c : Output) (s t : List ℕ) → Grows a b s → Grows b c t → Grows a c (s ++ t)
@@ -38,10 +33,6 @@ GrowsFront-none a text = AppendsFront-none a.written (a.held ++ text)
 -- what is written of an output that grew is a front
 pub GrowsFront-grown : (a b : Output) (text : List ℕ) → Grows a b text → GrowsFront a b.written text
 GrowsFront-grown a b text p = record { rest = b.held; leaves = p }
-
--- a front of what was held is written
-pub GrowsFront-held : (a : Output) (b : Option (List ℕ)) → AppendsFront a.written b a.held → GrowsFront a b []
-GrowsFront-held a b p = subst (AppendsFront a.written b) (sym (append-nil a.held)) p
 
 -- a front of a part behind what came is a front of all, whatever follows
 pub GrowsFront-behind : (a b : Output) (c : Option (List ℕ)) (came part more : List ℕ) → Grows a b came → GrowsFront b c part → GrowsFront a c (came ++ (part ++ more))
