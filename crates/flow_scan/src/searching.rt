@@ -1,7 +1,7 @@
 //! Where literals end in a text, and the hits there.
-ghost use Rattle.std.specs.Prelude.{◌≡◌, ◌+◌, ◌-◌, ◌^◌, ◌<◌, ◌≤◌, IsOk, MatchOption, OnOk, length};
+ghost use Rattle.std.specs.Prelude.{◌≡◌, ℕ, ◌+◌, ◌-◌, ◌^◌, ◌<◌, ◌≤◌, IsOk, MatchOption, OnOk, List, length};
 ghost use Rattle.lit_base.specs.Occurrences.{IsFirstEnding};
-ghost use Rattle.lit_base.specs.Ends.{IsNextEnd, NoEndAfter};
+ghost use Rattle.lit_base.specs.Ends.{IsNextEnd, NoEndAfter, NoEndUpTo};
 ghost use Rattle.flow_scan.specs.Ends.{Extends, GainsHitsAt};
 ghost use Rattle.flow_scan.specs.Tails.{GainsHitsBehind};
 
@@ -19,14 +19,28 @@ pub fn next_end(compiled: &Compiled, text: &[u8], from: usize) -> Option<usize>
         (NoEndAfter compiled.now.literals text.now from)
         (IsNextEnd compiled.now.literals text.now from) }
 {
-    if from >= text.len() {
+    let list = compiled.list();
+    let start = skip_short_ends(list, from);
+    if start >= text.len() {
         return None;
     }
-    let mut candidates = Candidates::new(compiled.sieve(), text, from);
-    match next_ending(compiled.list(), text, &mut candidates, &mut Pace::new()) {
+    let mut candidates = Candidates::new(compiled.sieve(), text, start);
+    match next_ending(list, text, &mut candidates, &mut Pace::new()) {
         Some((end, _)) => Some(end),
         None => None,
     }
+}
+
+/// A place from `from` on up to which no literal can end, as each is longer. A search that begins
+/// there need not look at places so near to a text's start one by one.
+fn skip_short_ends(list: &LitList, from: usize) -> usize
+    ensures ahead { from ≤ result }
+    ensures none { (text : List ℕ) → NoEndUpTo list.now text from result }
+{
+    if list.is_empty() {
+        return from;
+    }
+    from.max(list.shortest().saturating_sub(1))
 }
 
 /// Adds the hits that end in the text behind `from`, where this place counts as `at`. Memory is

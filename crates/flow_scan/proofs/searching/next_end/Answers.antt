@@ -1,8 +1,25 @@
--- The walk is one over this text, behind this place.
+-- The walk is one over this text, behind a place up to which nothing ends.
+use Rattle.std.proofs.Common.{arith}
+use Rattle.lit_base.proofs.EndLemmas.{next_further, none_further}
 use Rattle.flow_scan.proofs.searching.next_end.Goals as goal
 
 pub next_ending-requires-clause-covers : goal.next_ending-requires-clause-covers
-next_ending-requires-clause-covers c = rw (c.list.ensures, c.new-candidates.ensures.sieve) c.sieve.ensures
+next_ending-requires-clause-covers c = rw (c.list-list.ensures, c.new-candidates.ensures.sieve) c.sieve.ensures
+
+pub returns-then-start-text : goal.returns-then-start-text
+returns-then-start-text c end after here =
+    let none = rw c.list-list.ensures at (c.skip_short_ends-start.ensures.none c.args.text.now) in
+    let ends = here.1.ends in
+    none end after (omega (arith, ends, c.if-start-text.true)) here
 
 pub returns-in-None : goal.returns-in-None
-returns-in-None c = rw (c.list.ensures, c.new-candidates.ensures.from) at c.in-None.ensures.next
+returns-in-None c =
+    let none = rw c.list-list.ensures at (c.skip_short_ends-start.ensures.none c.args.text.now) in
+    none_further c.args.compiled.now.literals c.args.text.now c.args.from c.skip_short_ends-start.result none
+    (rw (c.list-list.ensures, c.new-candidates.ensures.from) at c.in-None.ensures.next)
+
+pub returns-in-Some : goal.returns-in-Some
+returns-in-Some c =
+    let none = rw c.list-list.ensures at (c.skip_short_ends-start.ensures.none c.args.text.now) in
+    next_further c.args.compiled.now.literals c.args.text.now c.args.from c.skip_short_ends-start.result none _ c.skip_short_ends-start.ensures.ahead
+    (rw (c.list-list.ensures, c.new-candidates.ensures.from) at c.in-Some.ensures.next)
