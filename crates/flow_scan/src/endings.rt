@@ -6,7 +6,7 @@ ghost use Rattle.lane_filter.specs.Sieves.{Passes};
 ghost use Rattle.lit_base.specs.Ends.{IsNextEnd, IsPassed, NoEndAfter};
 
 use lane_filter::Candidates;
-use lit_base::LitList;
+use lit_base::{LitList, stride_for};
 
 /// So many candidates in a row tell how close together they are.
 const CROWD: usize = 4;
@@ -23,37 +23,38 @@ const LOOKS_OF_MARK: usize = 8;
 /// crowd takes about a thirtieth of the time that they do.
 const WINDOW: usize = 16384;
 
-/// The list rests for so many bytes where it gave up, and twice as many each further time, up to the
-/// longest rest. Giving up takes about a tenth of the time that the sieve does for the shortest.
-const SHORTEST_REST: usize = 4096;
+/// Where the list gave up it is not tried for so many bytes, and for twice as many each further time,
+/// up to the longest delay. Giving up takes about a tenth of the time that the sieve does for the
+/// shortest.
+const SHORTEST_DELAY: usize = 4096;
 
-const LONGEST_REST: usize = 65536;
+const LONGEST_DELAY: usize = 65536;
 
-/// Where the list is tried again on a text on which it gave up.
+/// Where the list is tried again on a text on which it gave up: exponential backoff, in bytes.
 #[derive(Clone, Copy)]
-pub(crate) struct Pace {
-    resume: usize,
-    rest: usize,
+pub(crate) struct Backoff {
+    retry_at: usize,
+    delay: usize,
 }
 
-impl Pace {
+impl Backoff {
     /// The list may be tried at once.
-    pub(crate) fn new() -> Pace {
-        Pace {
-            resume: 0,
-            rest: SHORTEST_REST,
+    pub(crate) fn new() -> Backoff {
+        Backoff {
+            retry_at: 0,
+            delay: SHORTEST_DELAY,
         }
     }
 
-    /// The list gave up at a place, and rests behind it.
-    fn rest_behind(&mut self, place: usize) {
-        self.resume = place.saturating_add(self.rest);
-        self.rest = self.rest.saturating_mul(2).min(LONGEST_REST);
+    /// The list gave up at a place, and waits behind it.
+    fn wait_behind(&mut self, place: usize) {
+        self.retry_at = place.saturating_add(self.delay);
+        self.delay = self.delay.saturating_mul(2).min(LONGEST_DELAY);
     }
 
     /// The list suited the text.
-    fn recover(&mut self) {
-        self.rest = SHORTEST_REST;
+    fn reset(&mut self) {
+        self.delay = SHORTEST_DELAY;
     }
 }
 
@@ -71,7 +72,7 @@ pub(crate) fn next_ending(
     list: &LitList,
     text: &[u8],
     candidates: &mut Candidates,
-    pace: &mut Pace,
+    backoff: &mut Backoff,
 ) -> Option<(usize, usize)>
     requires covers { CoversBy list.now (Passes candidates.old.sieve) }
     requires text { candidates.old.text ≡ text.now }
@@ -84,9 +85,9 @@ pub(crate) fn next_ending(
     ensures reached { IfSome result (λ found. candidates.new.from ≡ found.0) }
 {
     'crowds: loop {
-        match next_sieved(list, text, candidates, pace.resume) {
+        match next_sieved(list, text, candidates, backoff.retry_at) {
             Ok(found) => return found,
-            Err(crowd) => match next_by_list(list, text, crowd, pace) {
+            Err(crowd) => match next_by_list(list, text, crowd, backoff) {
                 Ok((end, first)) => {
                     candidates.skip_to(end);
                     return Some((end, first));
@@ -102,7 +103,7 @@ fn next_sieved(
     list: &LitList,
     text: &[u8],
     candidates: &mut Candidates,
-    resume: usize,
+    retry_at: usize,
 ) -> Result<Option<(usize, usize)>, Crowd>
     requires covers { CoversBy list.now (Passes candidates.old.sieve) }
     requires text { candidates.old.text ≡ text.now }
@@ -124,7 +125,7 @@ fn next_sieved(
         }
         if left == 0 {
             let bytes = end.saturating_sub(start);
-            if resume <= end && are_close(list, bytes) {
+            if retry_at <= end && are_close(list, bytes) {
                 return Err(Crowd { last: end, bytes });
             }
             start = end;
@@ -141,16 +142,15 @@ fn are_close(list: &LitList, bytes: usize) -> bool {
     bytes < CROWD * LOOKS * stride_of(list)
 }
 
-/// The list looks at each so-manyth place: every eighth where each literal has eleven bytes or more,
-/// and each place where one has fewer than five.
+/// The list looks at each so-manyth place, as its shortest literal says.
 fn stride_of(list: &LitList) -> usize
     ensures some { 0 < result }
     ensures short { result ≤ 8 }
 {
     if list.is_empty() {
-        return 1;
+        return stride_for(0);
     }
-    list.shortest().clamp(4, 11) - 3
+    stride_for(list.shortest())
 }
 
 /// What the list finds by itself behind a crowd, or a place up to which nothing ends: there it gave
@@ -159,7 +159,7 @@ fn next_by_list(
     list: &LitList,
     text: &[u8],
     crowd: Crowd,
-    pace: &mut Pace,
+    backoff: &mut Backoff,
 ) -> Result<(usize, usize), usize>
     requires { crowd.last ≤ length text.now }
     ensures next { IfOk result (λ found. IsNextEnd list.now text.now crowd.last found.0) }
@@ -168,14 +168,14 @@ fn next_by_list(
 {
     let last = text.len().min(crowd.last.saturating_add(WINDOW));
     let (front, _) = text.split_at(last);
-    match list.next_end_unless_dear(front, crowd.last, spacing(list, crowd.bytes)) {
+    match list.next_end_within_budget(front, crowd.last, bytes_per_mark(list, crowd.bytes)) {
         Ok(Some(found)) => Ok(found),
         Ok(None) => {
-            pace.recover();
+            backoff.reset();
             Err(last)
         }
         Err(stop) => {
-            pace.rest_behind(stop.at);
+            backoff.wait_behind(stop.at);
             Err(stop.at)
         }
     }
@@ -183,7 +183,7 @@ fn next_by_list(
 
 /// How many bytes of the text pay for a mark, where the candidates of a crowd stand in so many: what
 /// the candidates cost more than the list's looks at these bytes may be spent on marks.
-fn spacing(list: &LitList, bytes: usize) -> usize {
+fn bytes_per_mark(list: &LitList, bytes: usize) -> usize {
     let spared = (CROWD * LOOKS)
         .saturating_sub(bytes / stride_of(list))
         .max(1);

@@ -6,7 +6,7 @@ ghost use Rattle.flow_scan.specs.Ends.{Extends, GainsHitsAt};
 ghost use Rattle.flow_scan.specs.Tails.{GainsHitsBehind};
 
 use crate::compiled::Compiled;
-use crate::endings::{Pace, next_ending};
+use crate::endings::{Backoff, next_ending};
 use crate::hit::Hit;
 use lane_filter::Candidates;
 use lit_base::LitList;
@@ -25,7 +25,7 @@ pub fn next_end(compiled: &Compiled, text: &[u8], from: usize) -> Option<usize>
         return None;
     }
     let mut candidates = Candidates::new(compiled.sieve(), text, start);
-    match next_ending(list, text, &mut candidates, &mut Pace::new()) {
+    match next_ending(list, text, &mut candidates, &mut Backoff::new()) {
         Some((end, _)) => Some(end),
         None => None,
     }
@@ -60,8 +60,8 @@ pub(crate) fn add_hits(
 {
     let list = compiled.list();
     let mut candidates = Candidates::new(compiled.sieve(), text, from);
-    let mut pace = Pace::new();
-    while let Some((end, first)) = next_ending(list, text, &mut candidates, &mut pace) {
+    let mut backoff = Backoff::new();
+    while let Some((end, first)) = next_ending(list, text, &mut candidates, &mut backoff) {
         add_hits_at(list, text, end, first, at + (end - from) as u64, out)?;
     }
     Ok(())

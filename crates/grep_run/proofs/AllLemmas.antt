@@ -9,7 +9,7 @@ use Rattle.grep_run.specs.declared.scanning.Found.{Found}
 use Rattle.grep_run.specs.declared.status.Stop.{Stop}
 use Rattle.grep_run.specs.Grep.{answer_to, asks, searched}
 use Rattle.grep_run.specs.Options.{ask_of, asks_or_standard}
-use Rattle.grep_run.specs.Outputs.{Grows, GrowsFront, Output, output_of, whole}
+use Rattle.grep_run.specs.Outputs.{Grows, GrowsFront, Output, all_written, output_of}
 use Rattle.grep_run.specs.Searching.{AreCut, Searches, SearchesAll}
 use Rattle.grep_run.specs.Sources.{AreShort, Ask, Input, Sources, after, found, name_of, taken_by}
 use Rattle.grep_run.proofs.SearchLemmas.{InputsSoFar-all, InputsSoFar-cut, InputsSoFar-last, InputsSoFar-more, InputsSoFar-none}
@@ -58,17 +58,17 @@ map-some f xs e = omega (arith, is-positive (length xs) e, length-map xs f)
 
 -- where there is no memory to begin, nothing is asked for and nothing written
 pub search-none : (o : GrepOptions) (test : List ℕ → Bool) (all : List Ask) (known : Option Sources) (out err : Option (List ℕ))
-    → Told known known (λ s l. AreShort s → AsksFront (asks (searched o test (found all s))) s l × AreCut (answer_to o test (searched o test (found all s))) (whole out) out err err)
+    → Told known known (λ s l. AreShort s → AsksFront (asks (searched o test (found all s))) s l × AreCut (answer_to o test (searched o test (found all s))) (all_written out) out err err)
 search-none o test all known out err =
-    Told-none known (λ s l. AreShort s → AsksFront (asks (searched o test (found all s))) s l × AreCut (answer_to o test (searched o test (found all s))) (whole out) out err err) (λ s short. (
+    Told-none known (λ s l. AreShort s → AsksFront (asks (searched o test (found all s))) s l × AreCut (answer_to o test (searched o test (found all s))) (all_written out) out err err) (λ s short. (
       record { made = []; rest = asks (searched o test (found all s)); parts = refl; after = refl },
-      record { output = GrowsFront-none (whole out) (answer_to o test (searched o test (found all s))).output; messages = AppendsFront-none err (answer_to o test (searched o test (found all s))).messages },
+      record { output = GrowsFront-none (all_written out) (answer_to o test (searched o test (found all s))).output; messages = AppendsFront-none err (answer_to o test (searched o test (found all s))).messages },
     ))
 
 -- a block that holds nothing is where all begins
 pub search-begun : (o : GrepOptions) (test : List ℕ → Bool) (inputs : Sources → List Input) (known left : Option Sources) (r : Result Found Stop) (written : Option (List ℕ)) (b : Block) (out_new : Output) (err_old err_new : Option (List ℕ))
     → b.text.items ≡ [] → Told known left (λ s l. AreShort s → SearchesAll o test (inputs s) s l r (output_of written b) out_new err_old err_new)
-    → Told known left (λ s l. AreShort s → SearchesAll o test (inputs s) s l r (whole written) out_new err_old err_new)
+    → Told known left (λ s l. AreShort s → SearchesAll o test (inputs s) s l r (all_written written) out_new err_old err_new)
 search-begun o test inputs known left r written b out_new err_old err_new none p =
     subst (λ out. Told known left (λ s l. AreShort s → SearchesAll o test (inputs s) s l r out out_new err_old err_new)) (output-none written b none) p
 

@@ -25,11 +25,11 @@ use Rattle.grep_run.specs.Running.{Answers, AsksFront, Ends, IsStarved, IsStoppe
 use Rattle.grep_run.specs.Messages.{out_of_memory}
 use Rattle.grep_run.specs.Blocks.{selects}
 use Rattle.grep_run.specs.Scanning.{test_of}
-use Rattle.grep_run.specs.Outputs.{whole}
+use Rattle.grep_run.specs.Outputs.{all_written}
 use Rattle.grep_run.specs.Searching.{SearchesAll}
 use Rattle.grep_run.specs.Sources.{AreShort, Ask, Sources, after_all, found}
 use Rattle.grep_run.proofs.FrontLemmas.{AppendsFront-none}
-use Rattle.grep_run.proofs.OutputLemmas.{Grows-whole}
+use Rattle.grep_run.proofs.OutputLemmas.{Grows-all_written}
 use Rattle.lit_base.proofs.ToldLemmas.{Told-then, Told-weaker}
 use Rattle.grep_run.proofs.ToldLemmas.{after_all-append, short-after_all}
 
@@ -57,18 +57,18 @@ module _ (o : GrepOptions) (s mid left : Sources) (needles : Needles) (had : Has
   behind made e = e ∙ ap (after_all made) had.after ∙ sym (after_all-append (asks (files_asked o s)) made s)
 
   searched-whole : (what : Found) (status : Status) {out_old out_new err_old err_new : Option (List ℕ)} → status ≡ status_where o.quiet what.is_selected what.is_error
-      → SearchesAll o (test_of o needles) (searched o (test_of o needles) (found (searched_of o) mid)) mid left (Ok what) (whole out_old) (whole out_new) err_old err_new → Answers o s left (Ok status) out_old out_new err_old err_new
+      → SearchesAll o (test_of o needles) (searched o (test_of o needles) (found (searched_of o) mid)) mid left (Ok what) (all_written out_old) (all_written out_new) err_old err_new → Answers o s left (Ok status) out_old out_new err_old err_new
   searched-whole what status {out_old} {out_new} {err_old} {err_new} e p = (
     behind _ p.0 ∙ ap (λ made. after_all made s) same-asks,
     record {
-      output = subst (λ a. Appends out_old out_new a.output) same-answer (Grows-whole out_old out_new _ p.1.output);
+      output = subst (λ a. Appends out_old out_new a.output) same-answer (Grows-all_written out_old out_new _ p.1.output);
       messages = subst (λ a. Appends err_old err_new a.messages) same-answer p.1.messages;
       answer = e ∙ ap (λ b. status_where o.quiet b what.is_error) (p.1.selected ∙ ap (λ a. a.has_selected) same-answer) ∙ ap (λ b. status_where o.quiet (grep o s).has_selected b) (p.1.error ∙ ap (λ a. a.has_error) same-answer);
     },
   )
 
   searched-cut : (stop stop' : Stop) {out_old out_new err_old err_new : Option (List ℕ)}
-      → SearchesAll o (test_of o needles) (searched o (test_of o needles) (found (searched_of o) mid)) mid left (Err stop) (whole out_old) (whole out_new) err_old err_new → Answers o s left (Err stop') out_old out_new err_old err_new
+      → SearchesAll o (test_of o needles) (searched o (test_of o needles) (found (searched_of o) mid)) mid left (Err stop) (all_written out_old) (all_written out_new) err_old err_new → Answers o s left (Err stop') out_old out_new err_old err_new
   searched-cut stop stop' {out_old} {out_new} {err_old} {err_new} p = (
     record {
       made = asks (files_asked o s) ++ p.0.made;
@@ -82,7 +82,7 @@ module _ (o : GrepOptions) (s mid left : Sources) (needles : Needles) (had : Has
 -- the run where its inputs were searched
 pub answers-searched : (o : GrepOptions) (known mid left : Option Sources) (needles : Needles) (what : Found) (status : Status) (out_old out_new err_old err_new : Option (List ℕ))
     → status ≡ status_where o.quiet what.is_selected what.is_error → Told known mid (λ s m. AreShort s → HasPatterns o s m needles)
-    → Told mid left (λ m l. AreShort m → SearchesAll o (test_of o needles) (searched o (test_of o needles) (found (searched_of o) m)) m l (Ok what) (whole out_old) (whole out_new) err_old err_new)
+    → Told mid left (λ m l. AreShort m → SearchesAll o (test_of o needles) (searched o (test_of o needles) (found (searched_of o) m)) m l (Ok what) (all_written out_old) (all_written out_new) err_old err_new)
     → Told known left (λ s l. AreShort s → Answers o s l (Ok status) out_old out_new err_old err_new)
 answers-searched o known mid left needles what status out_old out_new err_old err_new e p q =
     Told-then known mid left _ _ (λ s l. AreShort s → Answers o s l (Ok status) out_old out_new err_old err_new) p q (λ s m l had all short.
@@ -91,7 +91,7 @@ answers-searched o known mid left needles what status out_old out_new err_old er
 
 pub answers-cut : (o : GrepOptions) (known mid left : Option Sources) (needles : Needles) (stop stop' : Stop) (out_old out_new err_old err_new : Option (List ℕ))
     → Told known mid (λ s m. AreShort s → HasPatterns o s m needles)
-    → Told mid left (λ m l. AreShort m → SearchesAll o (test_of o needles) (searched o (test_of o needles) (found (searched_of o) m)) m l (Err stop) (whole out_old) (whole out_new) err_old err_new)
+    → Told mid left (λ m l. AreShort m → SearchesAll o (test_of o needles) (searched o (test_of o needles) (found (searched_of o) m)) m l (Err stop) (all_written out_old) (all_written out_new) err_old err_new)
     → Told known left (λ s l. AreShort s → Answers o s l (Err stop') out_old out_new err_old err_new)
 answers-cut o known mid left needles stop stop' out_old out_new err_old err_new p q =
     Told-then known mid left _ _ (λ s l. AreShort s → Answers o s l (Err stop') out_old out_new err_old err_new) p q (λ s m l had all short.

@@ -2,7 +2,7 @@
 use Rattle.std.proofs.Common.{◌≡◌, ℕ, List, [], ◌++◌, Option, sym, ap, ◌∙◌, subst, append_assoc, append-nil}
 use Rattle.std.specs.Io.KnownBytes.{Appends}
 use Rattle.std.proofs.KnownBytes.{Appends-nil, Appends-trans}
-use Rattle.grep_run.specs.Outputs.{Grows, GrowsFront, Output, output_of, whole}
+use Rattle.grep_run.specs.Outputs.{Grows, GrowsFront, Output, all_written, output_of}
 use Rattle.grep_run.specs.declared.block.Block.{Block}
 use Rattle.grep_run.proofs.FrontLemmas.{AppendsFront-none}
 
@@ -55,13 +55,13 @@ pub GrowsFront-more : (a : Output) (c : Option (List ℕ)) (part more : List ℕ
 GrowsFront-more a c part more q = GrowsFront-behind a a c [] part more (Grows-nil a) q
 
 -- an output that holds nothing at first and at last grew by what was written
-pub Grows-whole : (a b : Option (List ℕ)) (text : List ℕ) → Grows (whole a) (whole b) text → Appends a b text
-Grows-whole a b text p = subst (Appends a b) (sym (p.parts ∙ append-nil p.front)) p.grown
+pub Grows-all_written : (a b : Option (List ℕ)) (text : List ℕ) → Grows (all_written a) (all_written b) text → Appends a b text
+Grows-all_written a b text p = subst (Appends a b) (sym (p.parts ∙ append-nil p.front)) p.grown
 
 -- a block that holds nothing
-pub output-none : (written : Option (List ℕ)) (b : Block) → b.text.items ≡ [] → output_of written b ≡ whole written
+pub output-none : (written : Option (List ℕ)) (b : Block) → b.text.items ≡ [] → output_of written b ≡ all_written written
 output-none written b none = ap (λ (held : List ℕ). let same : Output = record { written = written; held = held } in same) none
 
 -- what was held at last is written
-pub Grows-ended : (a b : Option (List ℕ)) (old new : Block) → Grows (output_of a old) (output_of b new) [] → new.text.items ≡ [] → Grows (output_of a old) (whole b) []
+pub Grows-ended : (a b : Option (List ℕ)) (old new : Block) → Grows (output_of a old) (output_of b new) [] → new.text.items ≡ [] → Grows (output_of a old) (all_written b) []
 Grows-ended a b old new p none = subst (λ o. Grows (output_of a old) o []) (output-none b new none) p

@@ -1,8 +1,9 @@
 //! The block of one input: what is written of its selected lines.
-ghost use Rattle.std.specs.Prelude.{◌≡◌, ◌++◌, ◌∷◌, ◌||◌, [], OnErr, OnOk, codes, decimal};
+ghost use Rattle.std.specs.Prelude.{◌≡◌, ◌++◌, ◌∷◌, ◌||◌, ◌<◌, ◌↔◌, [], IsOk, IsTrue, OnErr, OnOk, codes, decimal, false};
 ghost use Rattle.grep_run.specs.Blocks.{prefix_of, written_line};
 ghost use Rattle.grep_run.specs.Fronts.{is_write_fault};
-ghost use Rattle.grep_run.specs.Outputs.{Grows, GrowsFront, output_of};
+ghost use Rattle.grep_run.specs.Outputs.{Grows, GrowsFront, IsDue, output_of};
+ghost use Rattle.grep_run.specs.declared.opener.TheConstants.{STANDARD_NAME};
 
 use crate::message::write_whole;
 use crate::opener::STANDARD_NAME;
@@ -54,6 +55,8 @@ impl<'a> Block<'a> {
         ensures name { self.new.name.now ≡ name.now }
         ensures count { self.new.count ≡ 0 }
         ensures text { self.new.text.items ≡ self.old.text.items }
+        ensures standard { IsTrue self.new.is_standard ↔ (name.now ≡ STANDARD_NAME) }
+        ensures come { self.new.has_come ≡ false }
     {
         self.options = options;
         self.name = name;
@@ -97,9 +100,12 @@ impl<'a> Block<'a> {
     }
 
     /// Writes what it holds where that is due: behind a piece of so many bytes, or 0 before and behind
-    /// all pieces.
-    pub fn pass_on<W: ByteOut>(&mut self, read: usize, out: &mut W) -> Result<(), Stop>
+    /// all pieces. Else it holds it further.
+    pub fn write_if_due<W: ByteOut>(&mut self, read: usize, out: &mut W) -> Result<(), Stop>
         ensures ok { OnOk result (Grows (output_of (W.written out.old) self.old) (output_of (W.written out.new) self.new) []) }
+        ensures due { OnOk result (IsDue self.old read → self.new.text.items ≡ []) }
+        ensures kept { ¬ IsDue self.old read → IsOk result × (self.new.text.items ≡ self.old.text.items) }
+        ensures come { IsTrue self.new.has_come ↔ 0 < read }
         ensures stopped { OnErr result (GrowsFront (output_of (W.written out.old) self.old) (W.written out.new) []) }
         ensures same { IsSameBlock self.old self.new }
         ensures flag { W.has_failed out.new ≡ (W.has_failed out.old || is_write_fault result) }
@@ -114,7 +120,9 @@ impl<'a> Block<'a> {
 
     // Whether what it holds is to be written. The one piece of a small file waits for others; where an
     // input comes in more pieces, the next one may be long in coming.
-    fn is_due(&self, read: usize) -> bool {
+    fn is_due(&self, read: usize) -> bool
+        ensures { IsTrue result ↔ IsDue self.now read }
+    {
         let is_later = self.has_come && read > 0;
         is_later || self.is_standard || self.text.len() > MOST_GATHERED
     }

@@ -59,7 +59,7 @@ pub fn scan_input<'a, I: ByteIn, W: ByteOut>(
     ensures flag { W.has_failed out.new ≡ (W.has_failed out.old || is_write_fault result) }
 {
     block.begin(request.options, name);
-    block.pass_on(0, out)?;
+    block.write_if_due(0, out)?;
     let mut picker = picker_for(request);
     let end = read_lines(&mut picker, input, block, piece, out)?;
     finish_block(block, out)?;
@@ -106,7 +106,7 @@ fn finish_block<W: ByteOut>(block: &mut Block<'_>, out: &mut W) -> Result<(), St
     ensures flag { W.has_failed out.new ≡ (W.has_failed out.old || is_write_fault result) }
 {
     block.finish()?;
-    block.pass_on(0, out)
+    block.write_if_due(0, out)
 }
 
 // Reads the lines of an input into the block, as far as they are wanted, and writes them piece by piece
@@ -153,7 +153,7 @@ fn feed<'a, W: ByteOut>(
 {
     match picker.feed(piece, block) {
         Ok(Next::More) => {
-            block.pass_on(piece.len(), out)?;
+            block.write_if_due(piece.len(), out)?;
             Ok(None)
         }
         Ok(Next::Stop) => Ok(Some(End::Clean)),

@@ -6,7 +6,7 @@ ghost use Rattle.grep_run.specs.Fronts.{AppendsFront, is_write_fault};
 ghost use Rattle.grep_run.specs.Grep.{searched};
 ghost use Rattle.grep_run.specs.Messages.{unreadable};
 ghost use Rattle.grep_run.specs.Options.{ask_of, searched_of};
-ghost use Rattle.grep_run.specs.Outputs.{Grows, GrowsFront, output_of, whole};
+ghost use Rattle.grep_run.specs.Outputs.{Grows, GrowsFront, all_written, output_of};
 ghost use Rattle.grep_run.specs.Scanning.{test_of};
 ghost use Rattle.grep_run.specs.Searching.{Searches, SearchesAll};
 ghost use Rattle.grep_run.specs.Sources.{AreShort, Content, IsShort, after, coming_of, found, name_of, taken_by};
@@ -45,7 +45,7 @@ pub fn search_all<O: Opener, W: ByteOut, E: ByteOut>(
         → SearchesAll request.now.options.now (test_of request.now.options.now request.now.needles.now)
         (searched request.now.options.now (test_of request.now.options.now request.now.needles.now)
         (found (searched_of request.now.options.now) s)) s left result
-        (whole (W.written out.old)) (whole (W.written out.new)) (E.written err.old) (E.written err.new)) }
+        (all_written (W.written out.old)) (all_written (W.written out.new)) (E.written err.old) (E.written err.new)) }
     ensures flag { (W.has_failed out.new || E.has_failed err.new)
         ≡ (W.has_failed out.old || E.has_failed err.old || is_write_fault result) }
 {

@@ -2,6 +2,7 @@
 ghost use Rattle.std.specs.Prelude.{◌≡◌, ◌==◌, ◌+◌, ◌-◌, ◌*◌, ◌<◌, ◌≤◌, ℕ, count_by, drop, length, map, slice_index, slice_range, take};
 ghost use Rattle.std.specs.Simd.Lanes.{Each1, mask_l, sum_l};
 ghost use Rattle.lit_base.specs.Lines.{IsOnePiece};
+ghost use Rattle.line_pick.specs.declared.counting.TheConstants.{LANES, STRETCH};
 
 use std::simd::prelude::*;
 
@@ -33,7 +34,7 @@ pub(crate) fn count_newlines(text: &[u8]) -> usize
 fn count_stretches(text: &[u8]) -> (usize, usize)
     ensures count { result.0 ≡ count_by (λ b. b == 10) (take result.1 text.now) }
     ensures within { result.1 ≤ length text.now }
-    ensures rest { length text.now < result.1 + 16128 }
+    ensures rest { length text.now < result.1 + STRETCH }
 {
     let mut count = 0;
     let mut at = 0;
@@ -47,9 +48,9 @@ fn count_stretches(text: &[u8]) -> (usize, usize)
 /// How many newlines the stretch from a place on has: lane by lane, each 64 bytes lying over the last.
 #[inline(always)]
 fn newlines_in_stretch(text: &[u8], start: usize) -> u8x64
-    requires { start + 16128 ≤ length text.now }
+    requires { start + STRETCH ≤ length text.now }
     ensures { count_by (λ b. b == 10) (take start text.now) + sum_l result
-        ≡ count_by (λ b. b == 10) (take (start + 16128) text.now) }
+        ≡ count_by (λ b. b == 10) (take (start + STRETCH) text.now) }
 {
     let mut lanes = u8x64::splat(0);
     let mut done = 0;
@@ -70,11 +71,11 @@ fn newlines_in_stretch(text: &[u8], start: usize) -> u8x64
 #[inline(always)]
 fn newlines_behind(text: &[u8], start: usize) -> (u8x64, usize)
     requires within { start ≤ length text.now }
-    requires rest { length text.now < start + 16128 }
+    requires rest { length text.now < start + STRETCH }
     ensures count { count_by (λ b. b == 10) (take start text.now) + sum_l result.0
         ≡ count_by (λ b. b == 10) (take result.1 text.now) }
     ensures within { result.1 ≤ length text.now }
-    ensures last { length text.now < result.1 + 64 }
+    ensures last { length text.now < result.1 + LANES }
 {
     let mut lanes = u8x64::splat(0);
     let mut at = start;

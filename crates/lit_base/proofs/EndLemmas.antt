@@ -1,9 +1,10 @@
 -- The next place at which a literal ends, seen from a place before the one that a search has come to.
-use Rattle.std.proofs.Common.{◌≡◌, ℕ, ◌+◌, ◌-◌, ◌<◌, ◌≤◌, List, Option, Some, None, MatchOption, Result, Ok, Err, IfOk, IfErr, inl, inr, subst, arith}
+use Rattle.std.proofs.Common.{◌≡◌, ℕ, suc, ◌+◌, ◌-◌, ◌*◌, ◌<◌, ◌≤◌, List, Option, Some, None, MatchOption, Result, Ok, Err, IfOk, IfErr, inl, inr, subst, arith}
 use Rattle.std.proofs.lemmas.Bool.{cases_lt}
+use Rattle.std.proofs.Math.Nat.{mul-le-mul_left, mul-suc}
 use Rattle.lit_base.specs.Ends.{HasEnd, IsNextEnd, IsPassed, NoEndAfter, NoEndUpTo}
 use Rattle.lit_base.specs.Literals.{Literals}
-use Rattle.lit_base.specs.declared.toll.GaveUp.{GaveUp}
+use Rattle.lit_base.specs.declared.mark_budget.GaveUp.{GaveUp}
 
 module _ (l : Literals) (text : List ℕ) (from seen : ℕ) (none : NoEndUpTo l text from seen) where
   -- nor then further on, if not behind the second one
@@ -49,3 +50,11 @@ module _ (l : Literals) (text : List ℕ) (from seen : ℕ) (none : NoEndUpTo l 
         quiet (other - (seen + 1)) (omega arith) (subst (HasEnd l text) there here)
     | inr sooner ↦ none other after sooner here
   ]
+
+-- what is paid with one more mark is within a price for each place passed, once a place is passed
+pub paid_further : (paid more price from seen stride : ℕ) → 0 < stride → from ≤ seen
+    → paid ≤ from + price * (seen - from) → more ≤ paid + price → more ≤ from + price * (seen + stride - from)
+paid_further paid more price from seen stride some ahead before after =
+    let here : price * suc (seen - from) ≤ price * (seen + stride - from) = mul-le-mul_left price (omega (arith, some, ahead)) in
+    let next : price * suc (seen - from) ≡ price * (seen - from) + price = mul-suc price (seen - from) in
+    omega (arith, here, next, before, after)

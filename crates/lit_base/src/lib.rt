@@ -11,6 +11,7 @@ mod limits;
 mod lines;
 mod lit_list;
 mod literal;
+mod mark_budget;
 mod normal_form;
 mod occurrences;
 mod patterns;
@@ -20,7 +21,6 @@ mod suffix_chains;
 mod suffix_class;
 mod suffix_filter;
 mod suffix_key;
-mod toll;
 mod transfer;
 
 pub use costs::{Ends, assign_cost, cost, cut_cost, is_assignment, is_cut, weight};
@@ -34,9 +34,10 @@ pub use limits::{
 };
 pub use lines::{Lines, ended_law, lines_law, matching_law};
 pub use lit_list::{LitList, Normal};
+pub use mark_budget::GaveUp;
 pub use normal_form::normal_form_law;
 pub use occurrences::hits_law;
 pub use raw_list::RawList;
 pub use std_device::{FileOrInput, FromRead, ToWrite};
-pub use toll::GaveUp;
+pub use suffix_filter::stride_for;
 pub use transfer::{ReadError, read_to_end, write_all};

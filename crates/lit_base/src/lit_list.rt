@@ -11,17 +11,18 @@ ghost use Rattle.lit_base.specs.Suffixes.{suffix_key};
 ghost use Rattle.std.specs.Int.{bit_at};
 ghost use Rattle.lit_base.specs.declared.fault.Fault.TheVariants.{OutOfMemory, TooManyLiterals};
 ghost use Rattle.lit_base.specs.declared.limits.TheConstants.{MAX_LITERALS};
+ghost use Rattle.lit_base.specs.declared.mark_budget.TheConstants.{FREE_MARKS};
 
 use crate::fault::Fault;
 use crate::fold::{Fold, fold_byte};
 use crate::literal::Literal;
+use crate::mark_budget::{GaveUp, MarkBudget};
 use crate::normal_form::{distinct, has_null, in_order, places};
 use crate::raw_list::RawList;
 use crate::suffix_chains::SuffixChains;
 use crate::suffix_class::SuffixClass;
 use crate::suffix_filter::SuffixFilter;
 use crate::suffix_key::suffix_key;
-use crate::toll::{GaveUp, Toll};
 use std::alloc::Global;
 use std::marker::Model;
 
@@ -156,35 +157,37 @@ impl LitList {
             (λ found. IsNextEnd self.now text.now from found.0) }
         ensures first { IfSome result (λ found. IsFirstEnding self.now text.now 0 found.0 found.1) }
     {
-        match self.next_end_unless_dear(text, from, 0) {
+        match self.next_end_within_budget(text, from, 0) {
             Ok(found) => found,
             Err(_) => None,
         }
     }
 
     /// What `next_end` says, unless it meets many marks at which nothing ends, more than one in
-    /// `spacing` bytes: then it gives up. Where `spacing` is 0 it does not.
+    /// `bytes_per_mark` bytes and a few more: then it gives up, at least four places further on.
+    /// Where `bytes_per_mark` is 0 it does not.
     ///
     /// A mark costs as much as many looks at the text, so it tells a caller who has another way of
     /// searching that this one does not suit the text.
-    pub fn next_end_unless_dear(
+    pub fn next_end_within_budget(
         &self,
         text: &[u8],
         from: usize,
-        spacing: usize,
+        bytes_per_mark: usize,
     ) -> Result<Option<(usize, usize)>, GaveUp>
         ensures next { IfOk result (λ hit. MatchOption hit
             (NoEndAfter self.now text.now from)
             (λ found. IsNextEnd self.now text.now from found.0)) }
         ensures first { IfOk result (λ hit. IfSome hit (λ found. IsFirstEnding self.now text.now 0 found.0 found.1)) }
         ensures passed { IfErr result (λ stop. IsPassed self.now text.now from stop.at) }
-        ensures patient { IfErr result (λ _. 0 < spacing) }
+        ensures patient { IfErr result (λ _. 0 < bytes_per_mark) }
+        ensures tried { IfErr result (λ stop. from + FREE_MARKS ≤ stop.at) }
     {
         if from >= text.len() {
             return Ok(None);
         }
         if from >= 7 {
-            return self.next_by_strides(text, from, spacing);
+            return self.next_by_strides(text, from, bytes_per_mark);
         }
         // Before the first seven ends stand fewer than eight bytes, so each is looked at.
         if let Some(found) = self.first_marked(text, from, 7 - from, u8::MAX) {
@@ -193,17 +196,17 @@ impl LitList {
         if text.len() <= 7 {
             return Ok(None);
         }
-        self.next_by_strides(text, 7, spacing)
+        self.next_by_strides(text, 7, bytes_per_mark)
     }
 
-    /// What `next_end_unless_dear` says, behind at least seven bytes: of as many ends as a stride has
+    /// What `next_end_within_budget` says, behind at least seven bytes: of as many ends as a stride has
     /// places, the bytes before the first have the marks of all.
     #[inline(never)]
     fn next_by_strides(
         &self,
         text: &[u8],
         from: usize,
-        spacing: usize,
+        bytes_per_mark: usize,
     ) -> Result<Option<(usize, usize)>, GaveUp>
         requires seven { 7 ≤ from }
         requires inside { from < length text.now }
@@ -212,15 +215,16 @@ impl LitList {
             (λ found. IsNextEnd self.now text.now from found.0)) }
         ensures first { IfOk result (λ hit. IfSome hit (λ found. IsFirstEnding self.now text.now 0 found.0 found.1)) }
         ensures passed { IfErr result (λ stop. IsPassed self.now text.now from stop.at) }
-        ensures patient { IfErr result (λ _. 0 < spacing) }
+        ensures patient { IfErr result (λ _. 0 < bytes_per_mark) }
+        ensures tried { IfErr result (λ stop. from + FREE_MARKS ≤ stop.at) }
     {
         let stride = self.filter.stride;
-        let mut toll = Toll::new(spacing, from);
+        let mut budget = MarkBudget::new(bytes_per_mark, from);
         let mut seen = from;
         'strides: loop {
             let marks = self.filter.marks_before(text, seen + 1);
             if marks != 0 {
-                if toll.is_too_high(seen) {
+                if budget.is_spent_at(seen) {
                     return Err(GaveUp { at: seen });
                 }
                 if let Some(found) = self.first_marked(text, seen, stride, marks) {

@@ -1,5 +1,5 @@
 //! Marks for the hashes of the bytes shortly before each literal's end.
-ghost use Rattle.std.specs.Prelude.{◌≡◌, ◌≢◌, ℕ, ◌+◌, ◌^◌, ◌<◌, ◌≤◌, ◌↔◌, All, length, vec_len, slice_index, slice_index_or, slice_range, ◌-◌, IfOk, IsTrue, []};
+ghost use Rattle.std.specs.Prelude.{◌≡◌, ◌≢◌, ℕ, ◌+◌, ◌^◌, ◌<◌, ◌≤◌, ◌↔◌, All, length, vec_len, slice_index, slice_index_or, slice_range, ◌-◌, max, min, IfOk, IsTrue, []};
 ghost use Rattle.lit_base.specs.Marks.{IsFilterOf, IsMarked, IsMarkedFor};
 ghost use Rattle.lit_base.specs.Suffixes.{hash_of, spelled, suffix_key};
 ghost use Rattle.std.specs.Int.{bit_at};
@@ -76,12 +76,13 @@ impl SuffixFilter {
     }
 }
 
-/// The longest stride of up to eight that leaves four bytes of so many to tell places by.
-fn stride_for(shortest: usize) -> usize
-    requires { 0 < shortest }
+/// A search by strides looks at each so-manyth place of a text, where the shortest literal has so
+/// many bytes: the longest stride of up to eight that leaves four bytes of it to tell places by.
+pub fn stride_for(shortest: usize) -> usize
+    ensures value { result ≡ max 1 (min 8 (shortest - 3)) }
     ensures some { 0 < result }
     ensures short { result ≤ 8 }
-    ensures within { result ≤ shortest }
+    ensures within { 0 < shortest → result ≤ shortest }
 {
     shortest.saturating_sub(3).clamp(1, 8)
 }

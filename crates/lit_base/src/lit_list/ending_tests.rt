@@ -219,15 +219,15 @@ fn gives_up_where_marks_crowd(rt: HostRuntime) -> Result<(), Fail> {
         quiet.extend_from_slice(b"abc-def-hij-")?;
     }
     assert!(rt;
-        list.next_end_unless_dear(crowded.as_slice(), 0, 100)
+        list.next_end_within_budget(crowded.as_slice(), 0, 100)
             .is_err()
     );
     assert_eq!(rt;
-        list.next_end_unless_dear(crowded.as_slice(), 0, 0),
+        list.next_end_within_budget(crowded.as_slice(), 0, 0),
         Ok(None)
     );
     assert_eq!(rt;
-        list.next_end_unless_dear(quiet.as_slice(), 0, 100),
+        list.next_end_within_budget(quiet.as_slice(), 0, 100),
         Ok(None)
     );
     Ok(())

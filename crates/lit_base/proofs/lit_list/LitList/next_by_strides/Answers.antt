@@ -3,12 +3,12 @@ use Rattle.std.proofs.Common.{◌≡◌, ℕ, ◌+◌, ◌<◌, ap, ◌∙◌, s
 use Rattle.std.specs.Int.{bit_at}
 use Rattle.lit_base.specs.Ends.{HasEnd}
 use Rattle.lit_base.specs.Marks.{IsFilterOf}
-use Rattle.lit_base.proofs.EndLemmas.{next_further, passed}
+use Rattle.lit_base.proofs.EndLemmas.{next_further, paid_further, passed}
 use Rattle.lit_base.specs.Ends.{NoEndUpTo}
 use Rattle.lit_base.proofs.MarkLemmas.{marked_ahead, none_unmarked}
 use Rattle.lit_base.proofs.SuffixLemmas.{are_bytes}
 use Rattle.lit_base.proofs.lit_list.LitList.next_by_strides.Goals as goal
-use Rattle.lit_base.proofs.lit_list.LitList.next_by_strides.Goals.{After-marks_before-marks, Joined-marks-ne0, then-marks-ne0+else-is_too_high+in_default, else-marks-ne0}
+use Rattle.lit_base.proofs.lit_list.LitList.next_by_strides.Goals.{After-marks_before-marks, Joined-marks-ne0, then-marks-ne0+else-is_spent_at+in_default, else-marks-ne0}
 
 -- an end within the stride is marked
 covered : (c : After-marks_before-marks) → (back : ℕ) → back < c.self.inside.filter.stride → HasEnd c.args.self.now c.args.text.now (c.strides.seen + 1 + back) → bit_at c.marks_before-marks.result back ≡ 1
@@ -33,16 +33,27 @@ none_ahead c =
     let seen = c.strides.seen in
     let stride = c.self.inside.filter.stride in
     let quiet : (back : ℕ) → back < stride → ¬ HasEnd l text (seen + 1 + back) = elim c.if-marks-ne0.branch [
-      | then-marks-ne0+else-is_too_high+in_default w ↦ w.in_default.ensures.next
+      | then-marks-ne0+else-is_spent_at+in_default w ↦ w.in_default.ensures.next
       | else-marks-ne0 w ↦ none_unmarked l text seen stride c.marks_before-marks.result w.if-marks-ne0.false (covered (goal.at.Joined-marks-ne0 c).After-marks_before-marks)
     ] in
     passed l text c.args.from seen c.strides.invariant.none stride quiet
 
+-- a stride is one place or more
+some_stride : (c : Joined-marks-ne0) → 0 < c.self.inside.filter.stride
+some_stride c =
+    let filter = c.self.inside.filter in
+    let is : IsFilterOf c.args.self.now filter = subst (λ l. IsFilterOf l filter) c.self.view_is c.self.invariant.2 in
+    is.step
+
 pub strides-preserved : goal.strides-preserved
 strides-preserved c = record {
-  spacing = elim c.if-marks-ne0.branch [
-    | then-marks-ne0+else-is_too_high+in_default w ↦ ap (λ t. t.spacing) w.toll-is ∙ w.is_too_high.ensures.spacing ∙ c.strides.invariant.spacing
-    | else-marks-ne0 w ↦ ap (λ t. t.spacing) w.toll-is ∙ c.strides.invariant.spacing
+  price = elim c.if-marks-ne0.branch [
+    | then-marks-ne0+else-is_spent_at+in_default w ↦ ap (λ t. t.bytes_per_mark) w.budget-is ∙ w.is_spent_at.ensures.price ∙ c.strides.invariant.price
+    | else-marks-ne0 w ↦ ap (λ t. t.bytes_per_mark) w.budget-is ∙ c.strides.invariant.price
+  ];
+  paid = elim c.if-marks-ne0.branch [
+    | then-marks-ne0+else-is_spent_at+in_default w ↦ paid_further c.strides.budget.paid_up_to _ c.args.bytes_per_mark c.args.from c.strides.seen c.self.inside.filter.stride (some_stride (goal.at.strides-preserved c).Joined-marks-ne0) c.strides.invariant.ahead c.strides.invariant.paid (omega (arith, ap (λ t. t.paid_up_to) w.budget-is, w.is_spent_at.ensures.paid, c.strides.invariant.price))
+    | else-marks-ne0 w ↦ paid_further c.strides.budget.paid_up_to _ c.args.bytes_per_mark c.args.from c.strides.seen c.self.inside.filter.stride (some_stride (goal.at.strides-preserved c).Joined-marks-ne0) c.strides.invariant.ahead c.strides.invariant.paid (omega (arith, ap (λ t. t.paid_up_to) w.budget-is))
   ];
   ahead = omega (arith, c.strides.invariant.ahead);
   inside = omega (arith, c.if-text-seen.false);
@@ -50,10 +61,7 @@ strides-preserved c = record {
 }
 
 pub strides-smaller : goal.strides-smaller
-strides-smaller c =
-    let filter = c.self.inside.filter in
-    let is : IsFilterOf c.args.self.now filter = subst (λ l. IsFilterOf l filter) c.self.view_is c.self.invariant.2 in
-    omega (arith, is.step, c.if-text-seen.false)
+strides-smaller c = omega (arith, some_stride (goal.at.strides-smaller c).Joined-marks-ne0, c.if-text-seen.false)
 
 pub returns-then-text-seen-clause-next : goal.returns-then-text-seen-clause-next
 returns-then-text-seen-clause-next c = λ end after here.

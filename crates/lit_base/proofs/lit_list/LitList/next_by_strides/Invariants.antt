@@ -1,11 +1,12 @@
-use Rattle.std.proofs.Common.{◌≡◌, ℕ, ◌-◌, ◌<◌, ◌≤◌, length}
+use Rattle.std.proofs.Common.{◌≡◌, ℕ, ◌+◌, ◌-◌, ◌*◌, ◌<◌, ◌≤◌, length}
 use Rattle.lit_base.specs.Ends.{HasEnd}
 use Rattle.lit_base.proofs.lit_list.LitList.next_by_strides.Given as goal
 
--- no literal ends at the places passed
+-- no literal ends at the places passed, and each of them paid for at most one mark
 abbrev pub invariant-strides : goal.invariant-strides
 invariant-strides l = record {
-  spacing : l.toll.spacing ≡ l.spacing;
+  price : l.budget.bytes_per_mark ≡ l.bytes_per_mark;
+  paid : l.budget.paid_up_to ≤ l.from + l.bytes_per_mark * (l.seen - l.from);
   ahead : l.from ≤ l.seen;
   inside : l.seen < length l.text;
   none : (other : ℕ) → l.from < other → other ≤ l.seen → ¬ HasEnd l.self l.text other;

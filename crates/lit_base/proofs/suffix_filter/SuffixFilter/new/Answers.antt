@@ -9,7 +9,7 @@ mark_literal-requires-clause-long c =
     let inside : c.loop-place.place < length c.args.literals.now = omega (arith, c.loop-place-test.true) in
     let here : c.as_slice.result.now ≡ get_or c.args.literals.now c.loop-place.place [] =
     c.as_slice.ensures ∙ get_or_read c.args.literals.now c.loop-place.place c.index-literals-place.result inside c.index-literals-place.is [] in
-    omega (arith, ap length here, c.common_length-shortest.ensures.shared c.loop-place.place inside, c.min-width.ensures, c.stride_for-stride.ensures.within)
+    omega (arith, ap length here, c.common_length-shortest.ensures.shared c.loop-place.place inside, c.min-width.ensures, c.stride_for-stride.ensures.within c.common_length-shortest.ensures.some)
 
 pub loop-place-preserved : goal.loop-place-preserved
 loop-place-preserved c =
@@ -27,13 +27,13 @@ loop-place-preserved c =
 
 pub returns : goal.returns
 returns c = record {
-  some = omega (arith, c.stride_for-stride.ensures.within, c.min-width.ensures);
+  some = omega (arith, c.stride_for-stride.ensures.within c.common_length-shortest.ensures.some, c.min-width.ensures);
   narrow = omega (arith, c.min-width.ensures);
   step = c.stride_for-stride.ensures.some;
   short = c.stride_for-stride.ensures.short;
   mask = c.last_bits.ensures;
   case = c.case_bits.ensures;
   room = omega (arith, c.loop-place.invariant.len);
-  wide = λ place inside. omega (arith, c.common_length-shortest.ensures.shared place inside, c.min-width.ensures, c.stride_for-stride.ensures.within);
+  wide = λ place inside. omega (arith, c.common_length-shortest.ensures.shared place inside, c.min-width.ensures, c.stride_for-stride.ensures.within c.common_length-shortest.ensures.some);
   marked = λ place inside. c.loop-place.invariant.marked place (omega (arith, inside, c.loop-place-test.false));
 }

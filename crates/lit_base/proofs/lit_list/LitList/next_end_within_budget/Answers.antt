@@ -3,8 +3,8 @@ use Rattle.std.proofs.Common.{◌≡◌, ℕ, ◌+◌, ◌-◌, ◌<◌, ◌≤�
 use Rattle.std.proofs.lemmas.Nat.Bits.{bit_at_ones}
 use Rattle.lit_base.specs.Ends.{HasEnd, NoEndUpTo}
 use Rattle.lit_base.proofs.EndLemmas.{passed, stopped_further, told_further}
-use Rattle.lit_base.proofs.lit_list.LitList.next_end_unless_dear.Goals as goal
-use Rattle.lit_base.proofs.lit_list.LitList.next_end_unless_dear.Goals.{In_default}
+use Rattle.lit_base.proofs.lit_list.LitList.next_end_within_budget.Goals as goal
+use Rattle.lit_base.proofs.lit_list.LitList.next_end_within_budget.Goals.{In_default}
 
 pub first_marked-requires-clause-marked : goal.first_marked-requires-clause-marked
 first_marked-requires-clause-marked c = λ back near here. bit_at_ones 8 back (omega (arith, near))
