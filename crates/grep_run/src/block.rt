@@ -55,7 +55,7 @@ impl<'a> Block<'a> {
         ensures name { self.new.name.now ≡ name.now }
         ensures count { self.new.count ≡ 0 }
         ensures text { self.new.text.items ≡ self.old.text.items }
-        ensures standard { IsTrue self.new.is_standard ↔ (name.now ≡ STANDARD_NAME) }
+        ensures standard { IsTrue self.new.is_standard ↔ (name.now ≡ STANDARD_NAME.now) }
         ensures come { self.new.has_come ≡ false }
     {
         self.options = options;
@@ -90,6 +90,7 @@ impl<'a> Block<'a> {
     pub fn write<W: ByteOut>(&mut self, out: &mut W) -> Result<(), Stop>
         ensures ok { OnOk result (Grows (output_of (W.written out.old) self.old) (output_of (W.written out.new) self.new) []) }
         ensures empty { OnOk result (self.new.text.items ≡ []) }
+        ensures come { self.new.has_come ≡ self.old.has_come }
         ensures stopped { OnErr result (GrowsFront (output_of (W.written out.old) self.old) (W.written out.new) []) }
         ensures same { IsSameBlock self.old self.new }
         ensures flag { W.has_failed out.new ≡ (W.has_failed out.old || is_write_fault result) }
