@@ -52,9 +52,9 @@ module _ (l : Literals) (text : List ℕ) (from seen : ℕ) (none : NoEndUpTo l 
   ]
 
 -- what is paid with one more mark is within a price for each place passed, once a place is passed
-pub paid_further : (paid more price from seen stride : ℕ) → 0 < stride → from ≤ seen
-    → paid ≤ from + price * (seen - from) → more ≤ paid + price → more ≤ from + price * (seen + stride - from)
-paid_further paid more price from seen stride some ahead before after =
-    let here : price * suc (seen - from) ≤ price * (seen + stride - from) = mul-le-mul_left price (omega (arith, some, ahead)) in
-    let next : price * suc (seen - from) ≡ price * (seen - from) + price = mul-suc price (seen - from) in
-    omega (arith, here, next, before, after)
+pub paid_further : (paid more price from seen next : ℕ) → from ≤ seen → seen < next
+    → paid ≤ from + price * (seen - from) → more ≤ paid + price → more ≤ from + price * (next - from)
+paid_further paid more price from seen next ahead further before after =
+    let here : price * suc (seen - from) ≤ price * (next - from) = mul-le-mul_left price (omega (arith, ahead, further)) in
+    let one : price * suc (seen - from) ≡ price * (seen - from) + price = mul-suc price (seen - from) in
+    omega (arith, here, one, before, after)

@@ -3,6 +3,7 @@ use Rattle.std.proofs.Common.{◌≡◌, ℕ, suc, ◌+◌, ◌-◌, ◌++◌, r
 use Rattle.std.specs.Int.{bit_at, w8}
 use Rattle.std.specs.Int.RustNames.{bit_and, bit_or}
 use Rattle.std.specs.List.{slice_range}
+use Rattle.std.specs.Prelude.{slice_index}
 use Rattle.std.proofs.lemmas.Bool.{cases_eq, cases_lt}
 use Rattle.std.proofs.lemmas.Nat.Bits.{bit_at_set_same, bit_at_set_other, bit_at-suc, bit_at-zero}
 use Rattle.std.proofs.lemmas.Option.{slice_get_within}
@@ -61,6 +62,13 @@ marked_ahead l filter text seen is bytes room back near here = marked-occurs l f
 -- without a mark none ends there
 pub none_unmarked : (l : Literals) (text : List ℕ) (seen stride marks : ℕ) → marks ≡ 0 → ((back : ℕ) → back < stride → HasEnd l text (seen + 1 + back) → bit_at marks back ≡ 1) → (back : ℕ) → back < stride → ¬ HasEnd l text (seen + 1 + back)
 none_unmarked l text seen stride marks none covers back near here = absurd (omega (arith, sym (ap (λ m. bit_at m back) none) ∙ covers back near here, bit_at-zero back))
+
+-- and where the bytes before the first place of a stride have no mark, none ends within it
+pub quiet_ahead : (l : Literals) (filter : SuffixFilter) (text : List ℕ) (seen marks : ℕ) → IsFilterOf l filter → AreBytes text → 7 ≤ seen
+    → marks ≡ slice_index filter.marks.items (hash_of FILTER_BITS (bit_or (bit_and (spelled (slice_range text (seen + 1 - 8) (seen + 1))) filter.mask) filter.case_bits)) → marks ≡ 0
+    → (back : ℕ) → back < filter.stride → ¬ HasEnd l text (seen + 1 + back)
+quiet_ahead l filter text seen marks is bytes room read none =
+    none_unmarked l text seen filter.stride marks none (λ back near here. ap (λ m. bit_at m back) read ∙ marked_ahead l filter text seen is bytes room back near here)
 
 -- the bits above one of them
 shifted_bit : (n by i : ℕ) → bit_at (n / 2 ^ by / 2) i ≡ bit_at n (by + 1 + i)

@@ -3,7 +3,7 @@ use Rattle.std.proofs.Common.{◌≡◌, ℕ, ◌+◌, ◌<◌, ap, ◌∙◌, s
 use Rattle.std.specs.Int.{bit_at}
 use Rattle.lit_base.specs.Ends.{HasEnd}
 use Rattle.lit_base.specs.Marks.{IsFilterOf}
-use Rattle.lit_base.proofs.EndLemmas.{next_further, paid_further, passed}
+use Rattle.lit_base.proofs.EndLemmas.{next_further, none_joined, paid_further, passed}
 use Rattle.lit_base.specs.Ends.{NoEndUpTo}
 use Rattle.lit_base.proofs.MarkLemmas.{marked_ahead, none_unmarked}
 use Rattle.lit_base.proofs.SuffixLemmas.{are_bytes}
@@ -11,32 +11,36 @@ use Rattle.lit_base.proofs.lit_list.LitList.next_by_strides.Goals as goal
 use Rattle.lit_base.proofs.lit_list.LitList.next_by_strides.Goals.{After-marks_before-marks, Joined-marks-ne0, then-marks-ne0+else-is_spent_at+in_default, else-marks-ne0}
 
 -- an end within the stride is marked
-covered : (c : After-marks_before-marks) → (back : ℕ) → back < c.self.inside.filter.stride → HasEnd c.args.self.now c.args.text.now (c.strides.seen + 1 + back) → bit_at c.marks_before-marks.result back ≡ 1
+covered : (c : After-marks_before-marks) → (back : ℕ) → back < c.self.inside.filter.stride → HasEnd c.args.self.now c.args.text.now (c.skip_unmarked-seen.result + 1 + back) → bit_at c.marks_before-marks.result back ≡ 1
 covered c back near here =
     let filter = c.self.inside.filter in
     let is : IsFilterOf c.args.self.now filter = subst (λ l. IsFilterOf l filter) c.self.view_is c.self.invariant.2 in
     ap (λ m. bit_at m back) c.marks_before-marks.ensures
-    ∙ marked_ahead c.args.self.now filter c.args.text.now c.strides.seen is (are_bytes c.args.text.now c.type_inv.text) (omega (arith, c.requires.seven, c.strides.invariant.ahead)) back near here
+    ∙ marked_ahead c.args.self.now filter c.args.text.now c.skip_unmarked-seen.result is (are_bytes c.args.text.now c.type_inv.text) (omega (arith, c.requires.seven, c.strides.invariant.ahead, c.skip_unmarked-seen.ensures.ahead)) back near here
+
+-- nor is there one up to the stride
+none_skipped : (c : After-marks_before-marks) → NoEndUpTo c.args.self.now c.args.text.now c.args.from c.skip_unmarked-seen.result
+none_skipped c = none_joined c.args.self.now c.args.text.now c.args.from c.strides.seen c.strides.invariant.none c.skip_unmarked-seen.result c.skip_unmarked-seen.ensures.none
 
 pub first_marked-requires-clause-marked : goal.first_marked-requires-clause-marked
 first_marked-requires-clause-marked c = covered (goal.at.first_marked-requires-clause-marked c).After-marks_before-marks
 
 pub returns-in-Some-clause-next : goal.returns-in-Some-clause-next
 returns-in-Some-clause-next c =
-    next_further c.args.self.now c.args.text.now c.args.from c.strides.seen c.strides.invariant.none c.in-Some.found.0 c.strides.invariant.ahead c.in-Some.ensures.next
+    next_further c.args.self.now c.args.text.now c.args.from c.skip_unmarked-seen.result (none_skipped (goal.at.returns-in-Some-clause-next c).After-marks_before-marks) c.in-Some.found.0 (omega (arith, c.strides.invariant.ahead, c.skip_unmarked-seen.ensures.ahead)) c.in-Some.ensures.next
 
 -- and where none was found, none is there
-none_ahead : (c : Joined-marks-ne0) → NoEndUpTo c.args.self.now c.args.text.now c.args.from (c.strides.seen + c.self.inside.filter.stride)
+none_ahead : (c : Joined-marks-ne0) → NoEndUpTo c.args.self.now c.args.text.now c.args.from (c.skip_unmarked-seen.result + c.self.inside.filter.stride)
 none_ahead c =
     let l = c.args.self.now in
     let text = c.args.text.now in
-    let seen = c.strides.seen in
+    let seen = c.skip_unmarked-seen.result in
     let stride = c.self.inside.filter.stride in
     let quiet : (back : ℕ) → back < stride → ¬ HasEnd l text (seen + 1 + back) = elim c.if-marks-ne0.branch [
       | then-marks-ne0+else-is_spent_at+in_default w ↦ w.in_default.ensures.next
       | else-marks-ne0 w ↦ none_unmarked l text seen stride c.marks_before-marks.result w.if-marks-ne0.false (covered (goal.at.Joined-marks-ne0 c).After-marks_before-marks)
     ] in
-    passed l text c.args.from seen c.strides.invariant.none stride quiet
+    passed l text c.args.from seen (none_skipped (goal.at.Joined-marks-ne0 c).After-marks_before-marks) stride quiet
 
 -- a stride is one place or more
 some_stride : (c : Joined-marks-ne0) → 0 < c.self.inside.filter.stride
@@ -52,17 +56,24 @@ strides-preserved c = record {
     | else-marks-ne0 w ↦ ap (λ t. t.bytes_per_mark) w.budget-is ∙ c.strides.invariant.price
   ];
   paid = elim c.if-marks-ne0.branch [
-    | then-marks-ne0+else-is_spent_at+in_default w ↦ paid_further c.strides.budget.paid_up_to _ c.args.bytes_per_mark c.args.from c.strides.seen c.self.inside.filter.stride (some_stride (goal.at.strides-preserved c).Joined-marks-ne0) c.strides.invariant.ahead c.strides.invariant.paid (omega (arith, ap (λ t. t.paid_up_to) w.budget-is, w.is_spent_at.ensures.paid, c.strides.invariant.price))
-    | else-marks-ne0 w ↦ paid_further c.strides.budget.paid_up_to _ c.args.bytes_per_mark c.args.from c.strides.seen c.self.inside.filter.stride (some_stride (goal.at.strides-preserved c).Joined-marks-ne0) c.strides.invariant.ahead c.strides.invariant.paid (omega (arith, ap (λ t. t.paid_up_to) w.budget-is))
+    | then-marks-ne0+else-is_spent_at+in_default w ↦ paid_further c.strides.budget.paid_up_to _ c.args.bytes_per_mark c.args.from c.strides.seen (c.skip_unmarked-seen.result + c.self.inside.filter.stride) c.strides.invariant.ahead (omega (arith, c.skip_unmarked-seen.ensures.ahead, some_stride (goal.at.strides-preserved c).Joined-marks-ne0)) c.strides.invariant.paid (omega (arith, ap (λ t. t.paid_up_to) w.budget-is, w.is_spent_at.ensures.paid, c.strides.invariant.price))
+    | else-marks-ne0 w ↦ paid_further c.strides.budget.paid_up_to _ c.args.bytes_per_mark c.args.from c.strides.seen (c.skip_unmarked-seen.result + c.self.inside.filter.stride) c.strides.invariant.ahead (omega (arith, c.skip_unmarked-seen.ensures.ahead, some_stride (goal.at.strides-preserved c).Joined-marks-ne0)) c.strides.invariant.paid (omega (arith, ap (λ t. t.paid_up_to) w.budget-is))
   ];
-  ahead = omega (arith, c.strides.invariant.ahead);
+  ahead = omega (arith, c.strides.invariant.ahead, c.skip_unmarked-seen.ensures.ahead);
   inside = omega (arith, c.if-text-seen.false);
   none = none_ahead (goal.at.strides-preserved c).Joined-marks-ne0;
 }
 
 pub strides-smaller : goal.strides-smaller
-strides-smaller c = omega (arith, some_stride (goal.at.strides-smaller c).Joined-marks-ne0, c.if-text-seen.false)
+strides-smaller c = omega (arith, c.skip_unmarked-seen.ensures.ahead, some_stride (goal.at.strides-smaller c).Joined-marks-ne0, c.if-text-seen.false)
 
 pub returns-then-text-seen-clause-next : goal.returns-then-text-seen-clause-next
 returns-then-text-seen-clause-next c = λ end after here.
     none_ahead (goal.at.returns-then-text-seen-clause-next c).Joined-marks-ne0 end after (omega (arith, here.1.ends, c.if-text-seen.true)) here
+
+pub returns-then-is_spent_at-clause-passed : goal.returns-then-is_spent_at-clause-passed
+returns-then-is_spent_at-clause-passed c = record {
+  after = omega (arith, c.strides.invariant.ahead, c.skip_unmarked-seen.ensures.ahead);
+  within = omega (arith, c.skip_unmarked-seen.ensures.inside);
+  none = none_skipped (goal.at.returns-then-is_spent_at-clause-passed c).After-marks_before-marks;
+}
