@@ -69,6 +69,9 @@ GREPS = [
     ({}, ["-ea=b"], b"a=b\nab\n", b"a=b\n", b"", 0),
     ({}, ["--", "-e=a"], b"-e=a\n-e==a\n", b"-e=a\n", b"", 0),
     ({}, ["-e", "a", "-e", "b"], b"a\nb\nc\n", b"a\nb\n", b"", 0),
+    ({}, ["-e", "-n", "-ne", "--"], b"a\n-n\n--\n", b"2:-n\n3:--\n", b"", 0),
+    ({"-p": b"cat\n"}, ["-f", "-p", "-e", "-=", "--", "-"], b"cat\n-=\nb\n", b"cat\n-=\n", b"", 0),
+    ({}, ["--", "-e", "-"], b"a-e\nb\n", b"a-e\n", b"", 0),
     # pattern files
     ({"empty": b""}, ["-f", "empty"], b"a\n", b"", b"", 1),
     ({"empty": b""}, ["-v", "-f", "empty"], b"a\n", b"a\n", b"", 0),

@@ -70,6 +70,7 @@ impl<'a> Block<'a> {
         ensures text { OnOk result (self.new.text.items
             ≡ self.old.text.items ++ ending_of self.old.options.now self.old.name.now self.old.count) }
         ensures same { IsSameBlock self.old self.new }
+        ensures come { self.new.has_come ≡ self.old.has_come }
     {
         if self.options.quiet {
             return Ok(());

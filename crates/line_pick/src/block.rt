@@ -1,4 +1,4 @@
-//! How the lines of a block are lent: those alone that are lent are split.
+//! How the lines of a block are lent: without -x those alone that are lent are split.
 ghost use Rattle.std.specs.Prelude.{◌≡◌, ◌≢◌, ◌≤◌, ◌<◌, ◌+◌, ◌^◌, ◌∷◌, [], All, IfOk, false, length};
 ghost use Rattle.std.specs.Option.{option_copied};
 ghost use Rattle.lit_base.specs.Lines.{IsOnePiece, ended_lines, open_rest};

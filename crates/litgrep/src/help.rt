@@ -28,8 +28,8 @@ Options:
 
 A line matches if it contains a pattern, byte by byte; a null pattern matches
 every line, with -x every empty one. -e and -f may be repeated and mixed, and
-all their patterns count. A pattern that begins with - goes behind -- or into
-a pattern file. Of -c, -l and -q, -q goes before -l, and -l before -c.
+all their patterns count; a LIST may begin with -. Of -c, -l and -q, -q goes
+before -l, and -l before -c.
 
 Limits: 4096 patterns of at most 4095 bytes each and 1048576 in all; 1024
 different literals; 1052672 bytes in one LIST or pattern file. What is beyond

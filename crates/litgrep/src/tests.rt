@@ -33,6 +33,24 @@ fn reads_the_words(rt: HostRuntime) -> Result<(), Fail> {
 }
 
 #[test]
+fn takes_any_word_for_the_argument_of_an_option(rt: HostRuntime) -> Result<(), Fail> {
+    let alloc = rt.alloc();
+    let words = words(
+        alloc,
+        &[
+            "-e", "-n", "-ie", "--", "-e", "-", "-e", "-=x", "-f", "-e", "-f", "g", "-e-f", "-v",
+            "--", "-e", "-=",
+        ],
+    )?;
+    let options = options(alloc, words.as_slice())?;
+    assert!(rt; are(&options.lists, &["-n", "--", "-", "-=x", "-f"]));
+    assert!(rt; are(&options.files, &["-e", "g"]));
+    assert!(rt; are(&options.operands, &["-e", "-="]));
+    assert!(rt; options.invert && matches!(options.fold, Fold::Ascii) && !options.number);
+    Ok(())
+}
+
+#[test]
 fn takes_the_first_operand_for_a_list(rt: HostRuntime) -> Result<(), Fail> {
     let alloc = rt.alloc();
     let words = words(alloc, &["-xclqs", "", "-"])?;

@@ -1,4 +1,6 @@
 //! The words of the command line, read with clap.
+ghost use Rattle.std.specs.Prelude.{◌<◌, length};
+
 use crate::fault::Fault;
 use crate::help::HELP;
 use crate::options::options_of;
@@ -45,11 +47,11 @@ fn unreadable(alloc: Global, error: &io::Error) -> Fault {
 /// `Usage` where clap gives no matches, help included, with clap's text, and where no pattern is
 /// given; `OutOfMemory` where a growth was refused.
 pub fn options(alloc: Global, words: &[String]) -> Result<GrepOptions, Fault> {
-    if !words.iter().any(begins_with_equals) {
+    if !any_is_respelled(words) {
         return matched(alloc, words);
     }
-    let kept = kept(alloc, words)?;
-    matched(alloc, kept.as_slice())
+    let spelled = spelled_words(alloc, words)?;
+    matched(alloc, spelled.as_slice())
 }
 
 // The options that the words ask for, as clap reads them.
@@ -83,37 +85,82 @@ fn command<'a>(alloc: Global) -> Result<Command<'a>, AllocError> {
     command.arg(lists)?.arg(files)?.arg(operands)
 }
 
-// Copies of the words. Clap drops `=` where it begins the argument of an option that stands in the
-// same word: there it gets another one, so that the argument is kept as it is.
-fn kept(alloc: Global, words: &[String]) -> Result<Vec<String>, AllocError> {
-    let mut kept = Vec::with_capacity(alloc, words.len())?;
+/// How clap is told a word, so that it takes the argument of -e or -f as POSIX has it.
+#[derive(Clone, Copy)]
+enum Spelling<'a> {
+    /// As it stands.
+    Same,
+    /// `=` begins the argument in this word. Clap drops one, so it gets two.
+    TwoEquals { letters: &'a str, rest: &'a str },
+    /// The argument is the next word, though it begins with `-`: the two are one word.
+    Joined { argument: &'a str },
+}
+
+// Whether clap would take one of the words otherwise than POSIX does.
+fn any_is_respelled(words: &[String]) -> bool {
+    for place in 0..words.len() {
+        if !matches!(spelling_of(words, place), Spelling::Same) {
+            return true;
+        }
+    }
+    false
+}
+
+// Copies of the words as clap is told them: behind `--` as they stand.
+fn spelled_words(alloc: Global, words: &[String]) -> Result<Vec<String>, AllocError> {
+    let mut spelled = Vec::with_capacity(alloc, words.len())?;
     let mut are_operands = false;
-    for word in words {
-        are_operands = are_operands || word.as_str() == "--";
-        let copy = match argument_with_equals(word.as_str()) {
-            Some((letters, rest)) if !are_operands => format!(in alloc; "-{letters}=={rest}")?,
-            _ => String::from_str(alloc, word.as_str())?,
+    let mut is_taken = false;
+    for place in 0..words.len() {
+        let word = words[place].as_str();
+        if is_taken {
+            is_taken = false;
+            continue;
+        }
+        are_operands = are_operands || word == "--";
+        let copy = match spelling_of(words, place) {
+            Spelling::TwoEquals { letters, rest } if !are_operands => {
+                format!(in alloc; "-{letters}=={rest}")?
+            }
+            Spelling::Joined { argument } if !are_operands => {
+                is_taken = true;
+                format!(in alloc; "{word}{argument}")?
+            }
+            _ => String::from_str(alloc, word)?,
         };
-        kept.push(copy)?;
+        spelled.push(copy)?;
     }
-    Ok(kept)
+    Ok(spelled)
 }
 
-// Whether a `=` begins the argument of -e or -f in its word.
-fn begins_with_equals(word: &String) -> bool {
-    argument_with_equals(word.as_str()).is_some()
+// How clap is told the word at a place. Most words are files: these are not looked at further.
+fn spelling_of(words: &[String], place: usize) -> Spelling<'_>
+    requires { place < length words.now }
+{
+    let Some(letters) = words[place].as_str().strip_prefix('-') else {
+        return Spelling::Same;
+    };
+    if let Some((letters, rest)) = letters.split_once('=') {
+        if takes_argument(letters) {
+            return Spelling::TwoEquals { letters, rest };
+        }
+    }
+    match words.get(place + 1) {
+        Some(next) if next.as_str().starts_with('-') && takes_argument(letters) => {
+            Spelling::Joined {
+                argument: next.as_str(),
+            }
+        }
+        _ => Spelling::Same,
+    }
 }
 
-// The letters before the `=` that begins the argument of -e or -f in its word, flags before it included,
-// and what is behind it. Most words are files: these are not searched for it.
-fn argument_with_equals(word: &str) -> Option<(&str, &str)> {
-    let (letters, rest) = word.strip_prefix('-')?.split_once('=')?;
-    let flags = letters.strip_suffix('e').or(letters.strip_suffix('f'))?;
-    let is_long = flags.starts_with('-');
-    if is_long || flags.contains('e') || flags.contains('f') {
-        return None;
+// Whether the letters of a word are flags and, at its end, an -e or -f that has no argument yet.
+fn takes_argument(letters: &str) -> bool {
+    match letters.strip_suffix('e').or(letters.strip_suffix('f')) {
+        Some(flags) => { !(flags.starts_with('-') || flags.contains('e') || flags.contains('f')) }
+        None => false,
     }
-    Some((letters, rest))
 }
 
 // The text that clap has for the words, or want of memory.
