@@ -120,8 +120,8 @@ impl<'a> Block<'a> {
         Ok(())
     }
 
-    // Whether what it holds is to be written. The one piece of a small file waits for others; where an
-    // input comes in more pieces, the next one may be long in coming.
+    /// Whether what it holds is to be written. The one piece of a small file waits for others; where an
+    /// input comes in more pieces, the next one may be long in coming.
     fn is_due(&self, read: usize) -> bool
         ensures { IsTrue result ↔ IsDue self.now read }
     {
@@ -147,7 +147,7 @@ impl<'a> Sink for Block<'a> {
     }
 }
 
-// Appends a line as it is shown.
+/// Appends a line as it is shown.
 fn push_line(
     options: &GrepOptions,
     name: &str,
@@ -166,7 +166,7 @@ fn push_line(
     Ok(())
 }
 
-// Appends the number of lines.
+/// Appends the number of lines.
 fn push_count(
     options: &GrepOptions,
     name: &str,
@@ -179,7 +179,7 @@ fn push_count(
     push_number(count, b'\n', text)
 }
 
-// Appends the name, as a line.
+/// Appends the name, as a line.
 fn push_name(name: &str, text: &mut Vec<u8>) -> Result<(), AllocError>
     ensures { OnOk result (text.new.items ≡ text.old.items ++ (name.now ++ codes "\n")) }
 {
@@ -188,7 +188,7 @@ fn push_name(name: &str, text: &mut Vec<u8>) -> Result<(), AllocError>
     Ok(())
 }
 
-// Appends the prefix: the name where there is more than one operand.
+/// Appends the prefix: the name where there is more than one operand.
 fn push_prefix(options: &GrepOptions, name: &str, text: &mut Vec<u8>) -> Result<(), AllocError>
     ensures { OnOk result (text.new.items ≡ text.old.items ++ prefix_of options.now name.now) }
 {
@@ -199,7 +199,7 @@ fn push_prefix(options: &GrepOptions, name: &str, text: &mut Vec<u8>) -> Result<
     Ok(())
 }
 
-// Appends a number, and the byte that ends it.
+/// Appends a number, and the byte that ends it.
 fn push_number(number: u64, end: u8, text: &mut Vec<u8>) -> Result<(), AllocError>
     ensures { OnOk result (text.new.items ≡ text.old.items ++ (decimal number ++ end ∷ [])) }
 {

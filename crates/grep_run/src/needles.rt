@@ -37,7 +37,7 @@ impl Needles {
     }
 }
 
-// The plan of the literals, if there are some.
+/// The plan of the literals, if there are some.
 fn planned(alloc: Global, list: LitList) -> Result<Option<Compiled>, Fault>
     ensures literals { IfOk result (λ plan. literals_of plan ≡ list.texts) }
     ensures fold { IfOk result (λ plan. IfSome plan (λ p. p.literals.folding ≡ list.folding)) }

@@ -47,8 +47,8 @@ pub fn gathered<'a, O: Opener>(
     Ok(Needles::new(alloc, &patterns, options.fold)?)
 }
 
-// The patterns of all pattern lists, in order. A list that `RawList::add_text_list` refuses is refused
-// here too, the first one with its refusal, unless memory ran out before.
+/// The patterns of all pattern lists, in order. A list that `RawList::add_text_list` refuses is refused
+/// here too, the first one with its refusal, unless memory ran out before.
 fn listed(alloc: Global, lists: &[String]) -> Result<RawList, Fault>
     ensures ok { IfOk result (λ patterns. patterns ≡ patterns_in (map string_bytes lists.now)) }
     ensures refusal { RefusesAs (lists_refusal [] (map string_bytes lists.now)) result }
@@ -61,7 +61,7 @@ fn listed(alloc: Global, lists: &[String]) -> Result<RawList, Fault>
     Ok(patterns)
 }
 
-// Adds the patterns of these files, in order.
+/// Adds the patterns of these files, in order.
 fn add_files<'a, O: Opener>(
     alloc: Global,
     files: &'a [String],
@@ -78,7 +78,7 @@ fn add_files<'a, O: Opener>(
     Ok(())
 }
 
-// Opens a pattern file, reads it, and adds its patterns.
+/// Opens a pattern file, reads it, and adds its patterns.
 fn add_file<'a, O: Opener>(
     alloc: Global,
     name: &'a str,
@@ -95,8 +95,8 @@ fn add_file<'a, O: Opener>(
     }
 }
 
-// Adds the patterns of a pattern file that is open, which is read to its end before, unless it has more
-// bytes than a pattern file may have.
+/// Adds the patterns of a pattern file that is open, which is read to its end before, unless it has more
+/// bytes than a pattern file may have.
 fn add_content<'a, I: ByteIn>(
     alloc: Global,
     name: &'a str,

@@ -78,7 +78,7 @@ pub fn answer<O: Opener, W: ByteOut, E: ByteOut>(
     }
 }
 
-// Says why there are no patterns.
+/// Says why there are no patterns.
 fn refuse<E: ByteOut>(alloc: Global, why: NoPatterns<'_>, err: &mut E) -> Result<Status, Stop>
     ensures status { IfOk result (λ status. status ≡ Status.Trouble) }
     ensures told { Refuses why.entry result (E.written err.old) (E.written err.new) }
@@ -88,7 +88,7 @@ fn refuse<E: ByteOut>(alloc: Global, why: NoPatterns<'_>, err: &mut E) -> Result
     Ok(Status::Trouble)
 }
 
-// The message on that, unless it is want of memory.
+/// The message on that, unless it is want of memory.
 fn say<E: ByteOut>(alloc: Global, why: NoPatterns<'_>, err: &mut E) -> Result<(), Stop>
     ensures told { Refuses why.entry result (E.written err.old) (E.written err.new) }
     ensures flag { E.has_failed err.new ≡ (E.has_failed err.old || is_write_fault result) }
@@ -99,7 +99,7 @@ fn say<E: ByteOut>(alloc: Global, why: NoPatterns<'_>, err: &mut E) -> Result<()
     }
 }
 
-// The message on a refusal of the patterns, unless it is want of memory.
+/// The message on a refusal of the patterns, unless it is want of memory.
 fn say_fault<E: ByteOut>(alloc: Global, fault: Fault, err: &mut E) -> Result<(), Stop>
     ensures other { OnOk result (fault ≢ Fault.OutOfMemory) }
     ensures ok { OnOk result (Appends (E.written err.old) (E.written err.new) (patterns_refused fault)) }
@@ -113,7 +113,7 @@ fn say_fault<E: ByteOut>(alloc: Global, fault: Fault, err: &mut E) -> Result<(),
     }
 }
 
-// The status where all inputs were searched.
+/// The status where all inputs were searched.
 fn status_of(quiet: bool, found: Found) -> Status
     ensures { result ≡ status_where quiet found.is_selected found.is_error }
 {

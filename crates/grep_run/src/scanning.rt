@@ -69,7 +69,7 @@ pub fn scan_input<'a, I: ByteIn, W: ByteOut>(
     })
 }
 
-// Whether reading ended in a fault.
+/// Whether reading ended in a fault.
 fn is_fault(end: End) -> bool
     ensures { result ≡ is_fault end }
 {
@@ -79,7 +79,7 @@ fn is_fault(end: End) -> bool
     }
 }
 
-// A picker before any text.
+/// A picker before any text.
 fn picker_for<'a>(request: &Request<'a>) -> Picker<'a>
     ensures { HasFed (test_of request.now.options.now request.now.needles.now) [] result }
 {
@@ -96,7 +96,7 @@ fn picker_for<'a>(request: &Request<'a>) -> Picker<'a>
     )
 }
 
-// Takes the end of the block, and writes what it holds where that is due.
+/// Takes the end of the block, and writes what it holds where that is due.
 fn finish_block<W: ByteOut>(block: &mut Block<'_>, out: &mut W) -> Result<(), Stop>
     ensures ok { OnOk result (Grows (output_of (W.written out.old) block.old) (output_of (W.written out.new) block.new)
         (ending_of block.old.options.now block.old.name.now block.old.count)) }
@@ -109,8 +109,8 @@ fn finish_block<W: ByteOut>(block: &mut Block<'_>, out: &mut W) -> Result<(), St
     block.write_if_due(0, out)
 }
 
-// Reads the lines of an input into the block, as far as they are wanted, and writes them piece by piece
-// where that is due.
+/// Reads the lines of an input into the block, as far as they are wanted, and writes them piece by piece
+/// where that is due.
 fn read_lines<'a, I: ByteIn, W: ByteOut>(
     picker: &mut Picker<'a>,
     input: &mut I,
@@ -138,8 +138,8 @@ fn read_lines<'a, I: ByteIn, W: ByteOut>(
     Ok(End::Fault)
 }
 
-// Takes the next piece of an input, and writes the lines that it ends, where that is due. `Some` where
-// it is the last one.
+/// Takes the next piece of an input, and writes the lines that it ends, where that is due. `Some` where
+/// it is the last one.
 fn feed<'a, W: ByteOut>(
     picker: &mut Picker<'a>,
     piece: &[u8],
@@ -162,7 +162,7 @@ fn feed<'a, W: ByteOut>(
     }
 }
 
-// Takes the last line of an input, if no newline ends it.
+/// Takes the last line of an input, if no newline ends it.
 fn end_lines<'a>(picker: &mut Picker<'a>, block: &mut Block<'a>) -> Result<End, Stop>
     ensures answer { (o : GrepOptions) (test : List ℕ → Bool) (name : List ℕ) (c : Content) (before : Output) (out : Option (List ℕ))
         → c.is_faulty ≡ false → IsShort c → StandsBehind o test name c.text picker.old block.old before out

@@ -56,7 +56,7 @@ pub fn search_all<O: Opener, W: ByteOut, E: ByteOut>(
     Ok(found)
 }
 
-// The same, but for what the block holds at the end.
+/// The same, but for what the block holds at the end.
 fn search_inputs<'a, O: Opener, W: ByteOut, E: ByteOut>(
     request: &Request<'a>,
     opener: &mut O,
@@ -80,8 +80,8 @@ fn search_inputs<'a, O: Opener, W: ByteOut, E: ByteOut>(
     search_operands(request, opener, block, piece, out, err)
 }
 
-// How many bytes are read at once: fewer where long names are shown, so that what is held stays small
-// also where all lines are empty.
+/// How many bytes are read at once: fewer where long names are shown, so that what is held stays small
+/// also where all lines are empty.
 fn read_size(options: &GrepOptions) -> usize
     ensures { 0 < result }
 {
@@ -89,7 +89,7 @@ fn read_size(options: &GrepOptions) -> usize
     (MOST_HELD / line).clamp(LEAST_READ_SIZE, READ_SIZE)
 }
 
-// How long the longest name is that lines are shown behind.
+/// How long the longest name is that lines are shown behind.
 fn longest_name(options: &GrepOptions) -> usize {
     let mut longest = 0;
     if options.operands.len() > 1 {
@@ -100,7 +100,7 @@ fn longest_name(options: &GrepOptions) -> usize {
     longest
 }
 
-// The same, where there are operands.
+/// The same, where there are operands.
 fn search_operands<'a, O: Opener, W: ByteOut, E: ByteOut>(
     request: &Request<'a>,
     opener: &mut O,
@@ -132,7 +132,7 @@ fn search_operands<'a, O: Opener, W: ByteOut, E: ByteOut>(
     Ok(all)
 }
 
-// What was found in the inputs before, and in one more.
+/// What was found in the inputs before, and in one more.
 fn with(all: Found, one: Found) -> Found
     ensures selected { result.is_selected ≡ (all.is_selected || one.is_selected) }
     ensures error { result.is_error ≡ (all.is_error || one.is_error) }
@@ -143,7 +143,7 @@ fn with(all: Found, one: Found) -> Found
     }
 }
 
-// Opens the input of an operand, and searches it.
+/// Opens the input of an operand, and searches it.
 fn search_operand<'a, O: Opener, W: ByteOut, E: ByteOut>(
     request: &Request<'a>,
     operand: &'a str,
@@ -169,7 +169,7 @@ fn search_operand<'a, O: Opener, W: ByteOut, E: ByteOut>(
     }
 }
 
-// Says that an input cannot be opened.
+/// Says that an input cannot be opened.
 fn pass_over<W: ByteOut, E: ByteOut>(
     request: &Request<'_>,
     name: &str,
@@ -189,8 +189,8 @@ fn pass_over<W: ByteOut, E: ByteOut>(
     })
 }
 
-// Says of an error that an input cannot be opened or read, unless -s drops it. What the block holds is
-// written before, so that it comes before the message where both go to one place.
+/// Says of an error that an input cannot be opened or read, unless -s drops it. What the block holds is
+/// written before, so that it comes before the message where both go to one place.
 fn report<W: ByteOut, E: ByteOut>(
     request: &Request<'_>,
     name: &str,
@@ -215,7 +215,7 @@ fn report<W: ByteOut, E: ByteOut>(
     Ok(())
 }
 
-// Searches one input, which messages and prefixes call by this name.
+/// Searches one input, which messages and prefixes call by this name.
 fn search_input<'a, I: ByteIn, W: ByteOut, E: ByteOut>(
     request: &Request<'a>,
     name: &'a str,

@@ -299,7 +299,7 @@ fn stops_at_each_write_that_fails(rt: HostRuntime) -> Result<(), Fail> {
     Ok(())
 }
 
-// Whether the row's output, messages and status come.
+/// Whether the row's output, messages and status come.
 fn comes(alloc: Global, row: Row) -> Result<bool, AllocError> {
     let options = options_of(alloc, row)?;
     let mut opener = opener_of(alloc, row)?;
@@ -353,7 +353,7 @@ fn opener_of(alloc: Global, row: Row) -> Result<LentOpener<'static>, AllocError>
     Ok(LentOpener::new(named, standard))
 }
 
-// The bytes, which a fault follows where they end in `!`.
+/// The bytes, which a fault follows where they end in `!`.
 fn lent(text: &'static str) -> Lent<'static> {
     match text.strip_suffix('!') {
         Some(bytes) => Lent::faulty(bytes.as_bytes()),

@@ -30,7 +30,7 @@ pub fn options_of(alloc: Global, matches: &ArgMatches<'_>) -> Result<GrepOptions
     Ok(told(alloc, matches, leading, files)?)
 }
 
-// The options of these pattern lists and these files to search, with all else that the matches tell.
+/// The options of these pattern lists and these files to search, with all else that the matches tell.
 fn told(
     alloc: Global,
     matches: &ArgMatches<'_>,
@@ -54,7 +54,7 @@ fn told(
     })
 }
 
-// What is answered where no pattern is given.
+/// What is answered where no pattern is given.
 fn no_pattern(alloc: Global) -> Fault
     ensures { IsNoPattern result }
 {
@@ -80,14 +80,14 @@ fn fold_of(matches: &ArgMatches<'_>) -> Fold
     }
 }
 
-// The texts given for an argument, of all its uses.
+/// The texts given for an argument, of all its uses.
 fn values<'m, 'a>(matches: &'m ArgMatches<'a>, id: &str) -> &'m [&'a str]
     ensures { texts result.now ≡ texts_of matches.now id.now }
 {
     matches.get_strs(id).unwrap_or_default()
 }
 
-// Copies of the words.
+/// Copies of the words.
 fn strings(alloc: Global, words: &[&str]) -> Result<Vec<String>, AllocError>
     ensures { IfOk result (λ copies. map string_bytes copies.items ≡ texts words.now) }
 {

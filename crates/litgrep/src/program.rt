@@ -45,7 +45,7 @@ fn serve_words<R: Files + AllocGlobal, S: Read + Copy + Drop, W: ByteOut, E: Byt
     }
 }
 
-// Says what is wrong with the words. Where that cannot be written, the status alone tells it.
+/// Says what is wrong with the words. Where that cannot be written, the status alone tells it.
 fn refuse<E: ByteOut>(fault: &Fault, err: &mut E) -> Status
     ensures { result ≡ Status.Trouble }
 {

@@ -114,7 +114,7 @@ fn reads_on_after_a_signal(rt: HostRuntime) -> Result<(), Fail> {
     Ok(())
 }
 
-// Whether these are the texts.
+/// Whether these are the texts.
 fn are(strings: &[String], texts: &[&str]) -> bool {
     strings.len() == texts.len()
         && strings
@@ -131,7 +131,7 @@ fn words(alloc: Global, texts: &[&str]) -> Result<Vec<String>, AllocError> {
     Ok(words)
 }
 
-// The text of the fault that the words get.
+/// The text of the fault that the words get.
 fn usage_of(rt: &(impl Abort + AllocGlobal), texts: &[&str]) -> Result<String, Fail> {
     let words = words(rt.alloc(), texts)?;
     match options(rt.alloc(), words.as_slice()) {

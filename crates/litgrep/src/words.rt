@@ -34,7 +34,7 @@ pub fn words<R: Env + AllocGlobal>(rt: &R) -> Result<Vec<String>, Fault> {
     }
 }
 
-// Why the words cannot be read.
+/// Why the words cannot be read.
 fn unreadable(alloc: Global, error: &io::Error) -> Fault {
     if error.kind() == io::ErrorKind::OutOfMemory {
         return Fault::OutOfMemory;
@@ -54,7 +54,7 @@ pub fn options(alloc: Global, words: &[String]) -> Result<GrepOptions, Fault> {
     matched(alloc, spelled.as_slice())
 }
 
-// The options that the words ask for, as clap reads them.
+/// The options that the words ask for, as clap reads them.
 fn matched(alloc: Global, words: &[String]) -> Result<GrepOptions, Fault> {
     match command(alloc)?.try_get_matches_from(words) {
         Ok(matches) => options_of(alloc, &matches),
@@ -62,7 +62,7 @@ fn matched(alloc: Global, words: &[String]) -> Result<GrepOptions, Fault> {
     }
 }
 
-// What litgrep takes.
+/// What litgrep takes.
 fn command<'a>(alloc: Global) -> Result<Command<'a>, AllocError> {
     let mut command = Command::new(alloc, "litgrep")
         .no_binary_name(true)
@@ -96,7 +96,7 @@ enum Spelling<'a> {
     Joined { argument: &'a str },
 }
 
-// Whether clap would take one of the words otherwise than POSIX does.
+/// Whether clap would take one of the words otherwise than POSIX does.
 fn any_is_respelled(words: &[String]) -> bool {
     for place in 0..words.len() {
         if !matches!(spelling_of(words, place), Spelling::Same) {
@@ -106,7 +106,7 @@ fn any_is_respelled(words: &[String]) -> bool {
     false
 }
 
-// Copies of the words as clap is told them: behind `--` as they stand.
+/// Copies of the words as clap is told them: behind `--` as they stand.
 fn spelled_words(alloc: Global, words: &[String]) -> Result<Vec<String>, AllocError> {
     let mut spelled = Vec::with_capacity(alloc, words.len())?;
     let mut are_operands = false;
@@ -133,7 +133,7 @@ fn spelled_words(alloc: Global, words: &[String]) -> Result<Vec<String>, AllocEr
     Ok(spelled)
 }
 
-// How clap is told the word at a place. Most words are files: these are not looked at further.
+/// How clap is told the word at a place. Most words are files: these are not looked at further.
 fn spelling_of(words: &[String], place: usize) -> Spelling<'_>
     requires { place < length words.now }
 {
@@ -155,7 +155,7 @@ fn spelling_of(words: &[String], place: usize) -> Spelling<'_>
     }
 }
 
-// Whether the letters of a word are flags and, at its end, an -e or -f that has no argument yet.
+/// Whether the letters of a word are flags and, at its end, an -e or -f that has no argument yet.
 fn takes_argument(letters: &str) -> bool {
     match letters.strip_suffix('e').or(letters.strip_suffix('f')) {
         Some(flags) => { !(flags.starts_with('-') || flags.contains('e') || flags.contains('f')) }
@@ -163,7 +163,7 @@ fn takes_argument(letters: &str) -> bool {
     }
 }
 
-// The text that clap has for the words, or want of memory.
+/// The text that clap has for the words, or want of memory.
 fn refusal(alloc: Global, error: &Error) -> Fault {
     if error.kind() == ErrorKind::OutOfMemory {
         return Fault::OutOfMemory;
@@ -171,7 +171,7 @@ fn refusal(alloc: Global, error: &Error) -> Fault {
     usage(error.to_string(alloc))
 }
 
-// The fault with this text, if there was memory for it.
+/// The fault with this text, if there was memory for it.
 fn usage(text: Result<String, AllocError>) -> Fault {
     match text {
         Ok(text) => Fault::Usage { text },

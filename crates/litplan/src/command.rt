@@ -74,7 +74,7 @@ fn served<F: Files, W: ByteOut, E: ByteOut>(
     }
 }
 
-// Writes the certificate of the file's patterns.
+/// Writes the certificate of the file's patterns.
 fn planned<'a, F: Files, W: ByteOut>(
     alloc: Global,
     fold: Fold,
@@ -94,7 +94,7 @@ fn planned<'a, F: Files, W: ByteOut>(
     }
 }
 
-// Says whether the certificate holds for the file's patterns.
+/// Says whether the certificate holds for the file's patterns.
 fn checked<'a, F: Files, W: ByteOut>(
     alloc: Global,
     fold: Fold,
@@ -127,7 +127,7 @@ fn not_certified(alloc: Global, reason: Reason) -> Result<String, AllocError> {
     format!(in alloc; "not certified: {reason}\n")
 }
 
-// Writes the answer, if there was memory for it.
+/// Writes the answer, if there was memory for it.
 fn told<'a, W: ByteOut>(
     answer: Result<String, AllocError>,
     status: u8,
@@ -144,7 +144,7 @@ fn told<'a, W: ByteOut>(
     }
 }
 
-// The normal form of a file's patterns.
+/// The normal form of a file's patterns.
 fn list_of<'a, F: Files>(
     alloc: Global,
     fold: Fold,
@@ -162,7 +162,7 @@ fn list_of<'a, F: Files>(
     }
 }
 
-// The bytes of a file of patterns. `-` is standard input.
+/// The bytes of a file of patterns. `-` is standard input.
 fn text_of<'a, F: Files>(
     alloc: Global,
     file: &'a str,
@@ -177,7 +177,7 @@ fn text_of<'a, F: Files>(
     }
 }
 
-// The bytes of an input, unless they are more than a pattern file may have.
+/// The bytes of an input, unless they are more than a pattern file may have.
 fn whole<'a, I: ByteIn>(
     alloc: Global,
     file: &'a str,

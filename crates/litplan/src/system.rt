@@ -33,7 +33,7 @@ pub fn serve<R: Env + AllocGlobal, F: Files, W: ByteOut, E: ByteOut>(
     }
 }
 
-// The words after the program's name.
+/// The words after the program's name.
 fn words<R: Env + AllocGlobal>(rt: &R) -> io::Result<Vec<String>> {
     let words = std::env::args(rt)?;
     Ok(words.skip(1).collect(rt.alloc())?)

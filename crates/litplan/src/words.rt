@@ -42,7 +42,7 @@ pub fn requested(alloc: Global, words: &[String]) -> Result<Request, NoRequest> 
     }
 }
 
-// The request that clap's matches tell.
+/// The request that clap's matches tell.
 fn request_of(alloc: Global, matches: &ArgMatches<'_>) -> Result<Request, NoRequest> {
     match matches.subcommand() {
         Some(("plan", found)) => Ok(Request::Plan {
@@ -66,12 +66,12 @@ fn fold_of(matches: &ArgMatches<'_>) -> Fold {
     }
 }
 
-// The value of an argument, which clap requires.
+/// The value of an argument, which clap requires.
 fn value(alloc: Global, matches: &ArgMatches<'_>, id: &str) -> Result<String, AllocError> {
     String::from_str(alloc, matches.get_str(id).unwrap_or_default())
 }
 
-// What litplan takes.
+/// What litplan takes.
 fn litplan<'a>(alloc: Global) -> Result<Command<'a>, AllocError> {
     Command::new(alloc, "litplan")
         .about("Plans how literals are grouped, and certifies that no grouping is cheaper")
@@ -132,7 +132,7 @@ Example: plan a file, and check the plan
   litplan plan words > words.cert
   litplan check words words.cert";
 
-// The text that clap has for the words, or want of memory.
+/// The text that clap has for the words, or want of memory.
 fn refusal(alloc: Global, error: &Error) -> NoRequest {
     if error.kind() == ErrorKind::OutOfMemory {
         return NoRequest::OutOfMemory;
@@ -140,7 +140,7 @@ fn refusal(alloc: Global, error: &Error) -> NoRequest {
     usage(error.to_string(alloc))
 }
 
-// The refusal with this text, if there was memory for it.
+/// The refusal with this text, if there was memory for it.
 fn usage(text: Result<String, AllocError>) -> NoRequest {
     match text {
         Ok(text) => NoRequest::Usage { text },

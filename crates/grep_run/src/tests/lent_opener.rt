@@ -42,7 +42,7 @@ impl<'a> Lent<'a> {
         }
     }
 
-    // A device that gives them.
+    /// A device that gives them.
     fn opened(self) -> CutIn<'a>
         ensures coming { ⟦<CutIn<'a> as ByteIn>⟧.coming result ≡ Some (coming_of self.entry) }
         ensures fresh { ⟦<CutIn<'a> as ByteIn>⟧.has_failed result ≡ false }
@@ -95,7 +95,7 @@ impl<'a> Opener for LentOpener<'a> {
     }
 }
 
-// Takes what stands first under the name.
+/// Takes what stands first under the name.
 fn take_first<'a>(named: &mut Vec<(&'a str, Option<Lent<'a>>)>, name: &str) -> Option<Lent<'a>>
     ensures value { result ≡ source_of name.now (map (λ e. (e.0.now, e.1)) named.old.items) }
     ensures rest { map (λ e. (e.0.now, e.1)) named.new.items ≡ without_first name.now (map (λ e. (e.0.now, e.1)) named.old.items) }
