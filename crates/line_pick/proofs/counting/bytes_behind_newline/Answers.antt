@@ -1,5 +1,5 @@
 -- The lanes above the highest bit that is set are no newlines, and that lane is one.
-use Rattle.line_pick.proofs.LastNewline.{last-apart, last-few, last-found}
+use Rattle.line_pick.proofs.LastNewline.{last-apart, last-found}
 use Rattle.line_pick.proofs.counting.bytes_behind_newline.Goals as goal
 
 pub returns-clause-apart : goal.returns-clause-apart

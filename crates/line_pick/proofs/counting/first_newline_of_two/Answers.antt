@@ -1,6 +1,5 @@
 -- Where the first half has no newline, the text goes on without one in the second.
-use Rattle.std.proofs.Common.{◌≡◌, ◌+◌, ◌∙◌, ap, sym, subst, take, drop, arith}
-use Rattle.lit_base.specs.Lines.{IsOnePiece}
+use Rattle.std.proofs.Common.{arith}
 use Rattle.line_pick.proofs.Newlines.{one-further}
 use Rattle.line_pick.proofs.counting.first_newline_of_two.Goals as goal
 
