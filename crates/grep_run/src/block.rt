@@ -147,7 +147,8 @@ impl<'a> Sink for Block<'a> {
     }
 }
 
-/// Appends a line as it is shown.
+/// Appends a line as it is shown. It is a call of its own, so that a line that is only counted needs none.
+#[inline(never)]
 fn push_line(
     options: &GrepOptions,
     name: &str,

@@ -2,6 +2,7 @@ pub mod Blocks
 pub mod Counts
 pub mod Crossing
 pub mod HitLemmas
+pub mod LastNewline
 pub mod LentLemmas
 pub mod Literals
 pub mod Newlines

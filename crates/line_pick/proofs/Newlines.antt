@@ -1,6 +1,7 @@
 -- Where newlines stand: a text is cut at its first newline, and behind its last one.
-use Rattle.std.proofs.Common.{◌≡◌, ◌≢◌, ℕ, ◌+◌, ◌<◌, ◌≤◌, true, not, eqb, min, List, [], ◌∷◌, ◌++◌, length, take, drop, get_or, None, Some, sym, ap, ◌∙◌, subst, arith, take-append-drop, append-nil, append_assoc, eq-eqb}
+use Rattle.std.proofs.Common.{◌≡◌, ◌≢◌, ℕ, ◌+◌, ◌-◌, ◌<◌, ◌≤◌, true, not, eqb, min, List, [], ◌∷◌, ◌++◌, length, take, drop, get_or, None, Some, sym, ap, ◌∙◌, subst, arith, take-append-drop, append-nil, append_assoc, eq-eqb}
 use Rattle.std.specs.List.{prefix_len}
+use Rattle.std.proofs.Math.Seq.{take-add}
 use Rattle.std.proofs.lemmas.Bool.{eqb-false, eqb-true}
 use Rattle.std.proofs.lemmas.Simd.{run_in_chunk_fails, run_in_chunk_stops}
 use Rattle.std.proofs.lemmas.List.{get_or-take, get_or-drop, drop_more, take_more, get_or_default, take_min, length-append, length-take, length-drop}
@@ -73,6 +74,18 @@ last-cut text block rest at h front back = record {
   one = subst IsOnePiece (sym back) (behind-one text at h);
 }
 
+-- the same by the number of bytes behind it
+pub last-cut-behind : (text block rest : List ℕ) (behind : ℕ) → behind < length text → IsOnePiece (drop (length text - behind) text) → get_or text (length text - behind - 1) 0 ≡ 10
+    → block ≡ take (length text - behind) text → rest ≡ drop (length text - behind) text → IsLastCut text block rest
+last-cut-behind text block rest behind few one newline front back =
+    let at = length text - behind - 1 in
+    let cut : length text - behind ≡ at + 1 = omega (arith, few) in
+    record {
+      whole = sym (take-append-drop (length text - behind) text) ∙ ap (λ b. b ++ drop (length text - behind) text) (sym front) ∙ ap (λ r. block ++ r) (sym back);
+      closed = ap open_rest (front ∙ ap (λ n. take n text) cut ∙ take_more text at 0 (omega (arith, few)) ∙ ap (λ b. take at text ++ b ∷ []) newline) ∙ open_rest-closed (take at text);
+      one = subst IsOnePiece (sym back) one;
+    }
+
 -- and one without a newline
 pub last-cut-none : (text block rest : List ℕ) → IsLastByte (is_byte 10) text None → block ≡ [] → rest ≡ text → IsLastCut text block rest
 last-cut-none text block rest h front back = record {
@@ -131,3 +144,9 @@ first-held held {text} {line} {rest} one cut = record {
 
 pub open_rest-first : {text line rest : List ℕ} → IsFirstLine text line rest → open_rest text ≡ open_rest rest
 open_rest-first {text} {line} {rest} cut = ap open_rest cut.whole ∙ open_rest-newline line rest cut.one
+
+-- two stretches without newlines, one behind the other
+pub one-further : (text rest : List ℕ) (near far : ℕ) → 64 ≤ near → rest ≡ drop 64 text → IsOnePiece (take near text) → IsOnePiece (take far rest) → IsOnePiece (take (64 + far) text)
+one-further text rest near far low is first second =
+    let joined : take 64 text ++ take far rest ≡ take (64 + far) text = ap (λ r. take 64 text ++ take far r) is ∙ sym (take-add 64 far text) in
+    subst IsOnePiece joined (one-append (take 64 text) (take far rest) (one-shorter text 64 near low first) second)

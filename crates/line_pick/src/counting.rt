@@ -125,10 +125,36 @@ fn count_last(text: &[u8], left: usize) -> usize
 #[inline(always)]
 pub(crate) fn first_newline(text: &[u8]) -> usize
     requires { 64 ≤ length text.now }
+    ensures few { result ≤ 64 }
     ensures apart { IsOnePiece (take result text.now) }
     ensures found { result < 64 → slice_index text.now result ≡ 10 }
 {
     newline_bits(load(text, 0)).trailing_zeros() as usize
+}
+
+/// The same of the first 128 bytes, by one look at both halves: which of them has the newline is not
+/// foreseen, where lines are about as long as one.
+#[inline(always)]
+pub(crate) fn first_newline_of_two(text: &[u8]) -> usize
+    requires { 128 ≤ length text.now }
+    ensures apart { IsOnePiece (take result text.now) }
+    ensures found { result < 128 → slice_index text.now result ≡ 10 }
+{
+    let (_, second) = text.split_at(LANES);
+    let near = first_newline(text);
+    let far = LANES + first_newline(second);
+    if near < LANES { near } else { far }
+}
+
+/// How many bytes stand behind the last newline of a text, or 64 where its last 64 bytes are none.
+#[inline(always)]
+pub(crate) fn bytes_behind_newline(text: &[u8]) -> usize
+    requires long { 64 ≤ length text.now }
+    ensures few { result ≤ 64 }
+    ensures apart { IsOnePiece (drop (length text.now - result) text.now) }
+    ensures found { result < 64 → slice_index text.now (length text.now - result - 1) ≡ 10 }
+{
+    newline_bits(load(text, text.len() - LANES)).leading_zeros() as usize
 }
 
 /// The 64 bytes from a place on.

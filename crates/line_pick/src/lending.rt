@@ -71,6 +71,7 @@ pub(crate) fn lend_if<S: Sink>(
 }
 
 /// Lends the line under its number.
+#[inline(always)]
 fn lend<S: Sink>(line: &[u8], number: u64, sink: &mut S) -> Result<(), Halt>
     ensures taken { S.takes sink.old number line.now (answer_of result) sink.new }
     ensures faults { result ≢ Err (Halt.Failed Fault.StreamTooLong) }

