@@ -1,7 +1,8 @@
 -- What look-ups in the wide tables give the places of a text.
-use Rattle.std.proofs.Common.{◌≡◌, ◌≢◌, ◌↔◌, ℕ, ◌+◌, ◌-◌, ◌/◌, ◌%◌, ◌<◌, ◌≤◌, ◌++◌, List, length, get_or, sym, ap, ◌∙◌, arith, bit_and, length-append, ⊎_elim}
+use Rattle.std.proofs.Common.{inl, inr, bit_or, ◌≡◌, ◌≢◌, ◌↔◌, ℕ, ◌+◌, ◌-◌, ◌/◌, ◌%◌, ◌<◌, ◌≤◌, ◌++◌, List, length, get_or, sym, ap, ◌∙◌, arith, bit_and, length-append, ⊎_elim}
 use Rattle.std.specs.Int.{bit_at}
 use Rattle.std.proofs.lemmas.Bool.{cases_lt}
+use Rattle.std.proofs.lemmas.Nat.Bits.{bit_at-zero, bit_at_or, same_from_bits}
 use Rattle.std.proofs.lemmas.List.{get_or_past, get_or_append_left, get_or-append_right}
 use Rattle.nib_mask.specs.declared.masks.Masks.{Masks}
 use Rattle.nib_mask.specs.Tables.{value_at, table_value}
@@ -31,6 +32,30 @@ told_by_lanes front back f mask p q bits k =
     (λ set. (l, λ none. (bits k).0 set (same ∙ none)), λ h. (bits k).1 (λ none. h.1 (sym same ∙ none))))
     (λ high. (λ set. absurd ((bits k).0 set (past high)), λ h. absurd (omega (arith, h.0))))
     (cases_lt k 64)
+
+-- where two numbers have no bit together, each has none
+or_none : (a b : ℕ) → bit_or a b ≡ 0 → (a ≡ 0) × (b ≡ 0)
+or_none a b none =
+    let bit : (i : ℕ) → bit_at (bit_or a b) i ≡ 0 = λ i. ap (λ n. bit_at n i) none ∙ bit_at-zero i in (
+      same_from_bits a 0 (λ i. omega (arith, bit_at_or a b i, bit i, bit_at-zero i)),
+      same_from_bits b 0 (λ i. omega (arith, bit_at_or a b i, bit i, bit_at-zero i)),
+    )
+
+-- where no lane of both vectors joined is set, the mask without bits tells of the 64 places
+pub none_told : (front back joined : List ℕ) (f : ℕ → ℕ) → HasLanes front f → HasLanes back (λ k. f (32 + k))
+    → HasLanes joined (λ k. bit_or (get_or front k 0) (get_or back k 0)) → ((k : ℕ) → k < 32 → ¬ (get_or joined k 0 ≢ 0))
+    → (k : ℕ) → (bit_at 0 k ≡ 1) ↔ ((k < 64) × (f k ≢ 0))
+none_told front back joined f p q h none k = (
+  λ s. absurd (omega (arith, s, bit_at-zero k)),
+  λ (l, some).
+      elim (cases_lt k 32) [
+        | inl low ↦ absurd (none k low (λ zero. some (sym (p.each k low) ∙ (or_none _ _ (sym (h.each k low) ∙ zero)).0)))
+        | inr high ↦
+            let low : k - 32 < 32 = omega arith in
+            let place : 32 + (k - 32) ≡ k = omega arith in
+            absurd (none (k - 32) low (λ zero. some (ap f (sym place) ∙ sym (q.each (k - 32) low) ∙ (or_none _ _ (sym (h.each (k - 32) low) ∙ zero)).1)))
+      ],
+)
 
 -- what the two tables of a position give the lanes
 pub lanes_by_entries : {low high v : List ℕ} (bytes of_low of_high : List ℕ) → HasLanes low (λ k. get_or of_low (get_or bytes k 0 % 16) 0)
