@@ -1,5 +1,5 @@
 //! Inputs searched one after another: their blocks, their messages, and what was found.
-ghost use Rattle.std.specs.Prelude.{◌≡◌, ℕ, ◌<◌, ◌||◌, ◌&&◌, Bool, List, [], None, OnErr, OnOk, Option, Some, if◌then◌else◌, length, map, not, string_bytes};
+ghost use Rattle.std.specs.Prelude.{◌≡◌, ℕ, ◌<◌, ◌≤◌, ◌||◌, ◌&&◌, Bool, List, [], None, OnErr, OnOk, Option, Some, if◌then◌else◌, length, map, not, string_bytes};
 ghost use Rattle.std.specs.Io.KnownBytes.{Appends};
 ghost use Rattle.lit_base.specs.Devices.{Told};
 ghost use Rattle.grep_run.specs.Fronts.{AppendsFront, is_write_fault};
@@ -9,6 +9,7 @@ ghost use Rattle.grep_run.specs.Options.{ask_of, searched_of};
 ghost use Rattle.grep_run.specs.Outputs.{Grows, GrowsFront, all_written, output_of};
 ghost use Rattle.grep_run.specs.Scanning.{test_of};
 ghost use Rattle.grep_run.specs.Searching.{Searches, SearchesAll};
+ghost use Rattle.grep_run.specs.declared.searching.TheConstants.{LEAST_READ_SIZE, READ_SIZE};
 ghost use Rattle.grep_run.specs.Sources.{AreShort, Content, IsShort, after, coming_of, found, name_of, taken_by};
 
 use crate::block::Block;
@@ -83,7 +84,8 @@ fn search_inputs<'a, O: Opener, W: ByteOut, E: ByteOut>(
 /// How many bytes are read at once: fewer where long names are shown, so that what is held stays small
 /// also where all lines are empty.
 fn read_size(options: &GrepOptions) -> usize
-    ensures { 0 < result }
+    ensures least { LEAST_READ_SIZE ≤ result }
+    ensures most { result ≤ READ_SIZE }
 {
     let line = longest_name(options).saturating_add(NUMBER_SIZE);
     (MOST_HELD / line).clamp(LEAST_READ_SIZE, READ_SIZE)
