@@ -1,0 +1,149 @@
+//! What no clause says: that there is a plan where there is memory, that each has a number of its own,
+//! that it is found by any thread, and that no other number is.
+use crate::PlanStore;
+use flow_scan::Compiled;
+use lit_base::{Ends, Fold, LitList, RawList, cost};
+use lit_cert::Certificate;
+use std::alloc::Global;
+use std::sync::Wait;
+use std::test::Fail;
+use std::thread::{Threads, map_indices};
+
+/// How many threads publish, and how many plans each.
+const THREADS: usize = 8;
+
+const PLANS: u8 = 64;
+
+#[test]
+fn finds_what_was_published(rt: HostRuntime) -> Result<(), Fail> {
+    let store = PlanStore::new(rt.alloc())?;
+    assert_eq!(rt; found(&store, 5), None);
+    let first = publish(&rt, rt.alloc(), &store, (b'c', b'a'));
+    let second = publish(&rt, rt.alloc(), &store, (b'd', b'o'));
+    assert_eq!(rt; first, Some(0));
+    assert_eq!(rt; second, Some(1));
+    assert_eq!(rt; found(&store, 0), Some((b'c', b'a')));
+    assert_eq!(rt; found(&store, 1), Some((b'd', b'o')));
+    assert_eq!(rt; found(&store, 2), None);
+    assert_eq!(rt; found(&store, u64::MAX), None);
+    Ok(())
+}
+
+#[test]
+fn finds_what_eight_threads_published(rt: HostRuntime) -> Result<(), Fail> {
+    let store = PlanStore::new(rt.alloc())?;
+    let told = publish_in_threads(&rt, rt.alloc(), &store)?;
+    assert_eq!(rt; found_count(&store, &told), THREADS * usize::from(PLANS));
+    assert_eq!(rt;
+        distinct_count(rt.alloc(), &told),
+        Some(THREADS * usize::from(PLANS))
+    );
+    Ok(())
+}
+
+/// The certificate of one literal of two bytes.
+fn certificate(alloc: Global) -> Option<Certificate> {
+    let cost = cost(1, 2);
+    let mut ends = Ends::new();
+    ends.try_push(1).ok()?;
+    let potentials = vec![in alloc; cost; 8].ok()?;
+    Some(Certificate {
+        ends,
+        cost,
+        potentials,
+    })
+}
+
+/// The plan of one literal of two bytes.
+fn plan_of(alloc: Global, literal: (u8, u8)) -> Option<Compiled> {
+    let mut raw = RawList::new(alloc);
+    raw.push(&[literal.0, literal.1]).ok()?;
+    let (list, _) = LitList::normal(alloc, &raw, Fold::No).ok()?;
+    Compiled::new(list, certificate(alloc)?).ok()
+}
+
+/// The number under which the plan of a literal was stored, if the ticket shows that plan.
+fn publish<R: Wait>(rt: &R, alloc: Global, store: &PlanStore, literal: (u8, u8)) -> Option<u64> {
+    let ticket = store.publish(rt, plan_of(alloc, literal)?).ok()?;
+    if literal_of(store.at(&ticket.again())) != Some(literal) {
+        return None;
+    }
+    Some(store.number(&ticket))
+}
+
+/// The literal of the plan with a number, if there is one.
+fn found(store: &PlanStore, number: u64) -> Option<(u8, u8)> {
+    let ticket = store.find(number)?;
+    literal_of(store.at(&ticket))
+}
+
+/// The literal of a plan that has one, of two bytes.
+fn literal_of(plan: &Compiled) -> Option<(u8, u8)> {
+    let list = plan.list();
+    if list.len() != 1 {
+        return None;
+    }
+    match list.get(0) {
+        [first, second] => Some((*first, *second)),
+        _ => None,
+    }
+}
+
+/// The numbers of the plans that a thread stores, each of its own number and the plan's.
+fn publish_all<R: Wait>(rt: &R, alloc: Global, store: &PlanStore, thread: usize) -> Vec<u64> {
+    let mut numbers = Vec::new(alloc);
+    let thread = u8::try_from(thread).unwrap_or(u8::MAX);
+    for plan in 0..PLANS {
+        let Some(number) = publish(rt, alloc, store, (thread, plan)) else {
+            return numbers;
+        };
+        let Ok(()) = numbers.push(number) else {
+            return numbers;
+        };
+    }
+    numbers
+}
+
+/// What each thread was told, all of them storing at the same time.
+fn publish_in_threads<R: Threads + Wait + Sync>(
+    rt: &R,
+    alloc: Global,
+    store: &PlanStore,
+) -> Result<Vec<Vec<u64>>, Fail> {
+    let told = map_indices(
+        rt,
+        alloc,
+        THREADS,
+        &|thread| publish_all(rt, alloc, store, thread),
+    )?;
+    Ok(told)
+}
+
+/// How many of a thread's numbers have its plans.
+fn found_of(store: &PlanStore, thread: usize, numbers: &[u64]) -> usize {
+    let thread = u8::try_from(thread).unwrap_or(u8::MAX);
+    (0..PLANS)
+        .zip(numbers.iter())
+        .filter(|(plan, number)| found(store, **number) == Some((thread, *plan)))
+        .count()
+}
+
+/// How many of the numbers told have the plans of whom they were told.
+fn found_count(store: &PlanStore, told: &[Vec<u64>]) -> usize {
+    let mut count = 0usize;
+    for (thread, numbers) in told.iter().enumerate() {
+        count = count.saturating_add(found_of(store, thread, numbers));
+    }
+    count
+}
+
+/// How many different numbers were told.
+fn distinct_count(alloc: Global, told: &[Vec<u64>]) -> Option<usize> {
+    let mut all: Vec<u64> = Vec::new(alloc);
+    for numbers in told {
+        all.extend_from_slice(numbers).ok()?;
+    }
+    all.sort().ok()?;
+    all.dedup();
+    Some(all.len())
+}
