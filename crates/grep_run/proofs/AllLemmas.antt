@@ -2,7 +2,7 @@
 use Rattle.std.proofs.Common.{◌≡◌, ℕ, ◌<◌, Bool, true, false, ◌&&◌, List, [], ◌∷◌, append-nil, map, length, Option, Result, Ok, Err, eqb, refl, subst, sym, arith}
 use Rattle.std.proofs.lemmas.List.{length-map}
 use Rattle.std.proofs.lemmas.Bool.Decides.{nat_tests}
-use Rattle.lit_base.specs.Devices.{Told}
+use Rattle.byte_io.specs.Devices.{Told}
 use Rattle.grep_run.specs.declared.block.Block.{Block}
 use Rattle.grep_run.specs.declared.options.GrepOptions.{GrepOptions}
 use Rattle.grep_run.specs.declared.scanning.Found.{Found}
@@ -13,7 +13,7 @@ use Rattle.grep_run.specs.Outputs.{Grows, GrowsFront, Output, all_written, outpu
 use Rattle.grep_run.specs.Searching.{AreCut, Searches, SearchesAll}
 use Rattle.grep_run.specs.Sources.{AreShort, Ask, Input, Sources, after, found, name_of, taken_by}
 use Rattle.grep_run.proofs.SearchLemmas.{InputsSoFar-all, InputsSoFar-cut, InputsSoFar-last, InputsSoFar-more, InputsSoFar-none}
-use Rattle.lit_base.proofs.ToldLemmas.{Told-none, Told-weaker}
+use Rattle.byte_io.proofs.ToldLemmas.{Told-none, Told-weaker}
 use Rattle.grep_run.specs.Running.{AsksFront}
 use Rattle.grep_run.proofs.FrontLemmas.{AppendsFront-all, AppendsFront-none}
 use Rattle.grep_run.proofs.OutputLemmas.{Grows-kept, GrowsFront-behind, GrowsFront-none, output-none}

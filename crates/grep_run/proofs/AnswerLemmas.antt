@@ -3,7 +3,7 @@ use Rattle.std.proofs.Common.{◌≡◌, ◌≢◌, ℕ, Bool, true, false, IfOk
 use Rattle.std.specs.Io.KnownBytes.{Appends}
 use Rattle.std.proofs.KnownBytes.{Appends-nil, Appends-trans}
 use Rattle.std.proofs.lemmas.Bool.{or_parts}
-use Rattle.lit_base.specs.Devices.{Told}
+use Rattle.byte_io.specs.Devices.{Told}
 use Rattle.lit_base.specs.declared.fault.Fault.{Fault}
 use Rattle.lit_base.specs.declared.fault.Fault.TheVariants.{OutOfMemory, TooManyPatterns, LiteralTooLong, TooManyLiterals, ListTooLarge}
 use Rattle.line_pick.proofs.Standing.{standing}
@@ -30,7 +30,7 @@ use Rattle.grep_run.specs.Searching.{SearchesAll}
 use Rattle.grep_run.specs.Sources.{AreShort, Ask, Sources, after_all, found}
 use Rattle.grep_run.proofs.FrontLemmas.{AppendsFront-none}
 use Rattle.grep_run.proofs.OutputLemmas.{Grows-all_written}
-use Rattle.lit_base.proofs.ToldLemmas.{Told-then, Told-weaker}
+use Rattle.byte_io.proofs.ToldLemmas.{Told-then, Told-weaker}
 use Rattle.grep_run.proofs.ToldLemmas.{after_all-append, short-after_all}
 
 -- tests that agree on each line are one

@@ -2,7 +2,7 @@
 use Rattle.std.proofs.Common.{◌≡◌, ◌≢◌, ℕ, ◌+◌, ◌<◌, true, cond, String, string_bytes, length, get_or, drop, List, [], ◌∷◌, ◌++◌, map, flat_map, Option, None, Some, is_some, refl, sym, ap, ◌∙◌, subst, append_assoc}
 use Rattle.std.specs.Option.{option_map}
 use Rattle.std.proofs.lemmas.List.{drop_more}
-use Rattle.lit_base.specs.Devices.{Told}
+use Rattle.byte_io.specs.Devices.{Told}
 use Rattle.lit_base.specs.declared.fault.Fault.{Fault}
 use Rattle.lit_base.specs.declared.fault.Fault.TheVariants.{OutOfMemory}
 use Rattle.line_pick.specs.Matching.{StandsFor}
@@ -16,7 +16,7 @@ use Rattle.grep_run.specs.Messages.{patterns_refused}
 use Rattle.grep_run.specs.Options.{asks_for, lists_of}
 use Rattle.grep_run.specs.Patterns.{content_message, files_asked, files_message, files_read, first_of, lists_refusal, literals_refusal, pattern_files, patterns_from, patterns_in}
 use Rattle.grep_run.specs.Sources.{AreShort, Ask, Input, Named, Sources, after_all, after_named, found, source_of}
-use Rattle.lit_base.proofs.ToldLemmas.{Told-then, Told-weaker}
+use Rattle.byte_io.proofs.ToldLemmas.{Told-then, Told-weaker}
 use Rattle.grep_run.proofs.ToldLemmas.{after_all-one, short-after}
 
 -- the patterns of files

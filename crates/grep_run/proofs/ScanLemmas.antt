@@ -8,9 +8,9 @@ use Rattle.std.proofs.lemmas.List.Sums.{count_by-le-length, length-filter}
 use Rattle.std.specs.List.{enumerate_from}
 use Rattle.std.specs.Prelude.{nat_lt}
 use Rattle.std.specs.Io.KnownBytes.{Appends}
-use Rattle.lit_base.specs.Devices.{Coming, EndsHere, Ending, Faulty, MayFail, ReadGives, Told}
-use Rattle.lit_base.specs.Devices as Devices
-use Rattle.lit_base.specs.declared.device.Failed.{Failed}
+use Rattle.byte_io.specs.Devices.{Coming, EndsHere, Ending, Faulty, MayFail, ReadGives, Told}
+use Rattle.byte_io.specs.Devices as Devices
+use Rattle.byte_io.specs.declared.device.Failed.{Failed}
 use Rattle.lit_base.specs.Lines.{ended_lines, last_line, lines, open_rest}
 use Rattle.lit_base.proofs.EndedLemmas.{ended_lines-append, ended_lines-none, lines-ended_open, open_rest-append}
 use Rattle.line_pick.proofs.Crossing.{length-ended_lines}

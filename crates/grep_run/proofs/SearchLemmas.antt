@@ -3,7 +3,7 @@ use Rattle.std.proofs.Common.{◌≡◌, ℕ, ◌+◌, ◌<◌, String, string_b
 use Rattle.std.specs.List.{list_any}
 use Rattle.std.proofs.Math.Bool.{or-false, or_assoc}
 use Rattle.std.proofs.lemmas.List.{drop_more}
-use Rattle.lit_base.specs.Devices.{Told}
+use Rattle.byte_io.specs.Devices.{Told}
 use Rattle.std.specs.Io.KnownBytes.{Appends}
 use Rattle.std.proofs.KnownBytes.{Appends-nil, Appends-trans}
 use Rattle.grep_run.specs.declared.options.GrepOptions.{GrepOptions}
@@ -18,7 +18,7 @@ use Rattle.grep_run.specs.Searching.{AreCut, AreSearched, IsCut, IsSearched}
 use Rattle.grep_run.specs.Sources.{AreShort, Ask, Input, Sources, after, after_all, found, name_of, taken_by}
 use Rattle.grep_run.proofs.FrontLemmas.{AppendsFront-behind}
 use Rattle.grep_run.proofs.OutputLemmas.{Grows-nil, Grows-trans, GrowsFront-behind}
-use Rattle.lit_base.proofs.ToldLemmas.{Told-none, Told-then}
+use Rattle.byte_io.proofs.ToldLemmas.{Told-none, Told-then}
 use Rattle.grep_run.proofs.ToldLemmas.{after_all-one, short-after}
 
 -- the asks before those that are left are made, and their inputs searched

@@ -2,7 +2,7 @@
 use Rattle.std.proofs.Common.{◌≡◌, ℕ, true, false, cond, List, [], ◌∷◌, ◌++◌, All, Option, None, Some, IfSome, Ok, Err, refl, lit<, arith}
 use Rattle.std.specs.Str.{bytes_eq}
 use Rattle.std.proofs.lemmas.List.Elements.{All-cons, All-tail}
-use Rattle.lit_base.specs.Devices.{Coming, Told}
+use Rattle.byte_io.specs.Devices.{Coming, Told}
 use Rattle.grep_run.specs.Sources.{AreShort, Ask, Content, IsShort, Named, OpensAs, Sources, Standard, after, after_all, after_first, coming_of, content_of, source_of, taken_by, without_first}
 use Rattle.grep_run.specs.declared.opener.Missing.{Missing}
 

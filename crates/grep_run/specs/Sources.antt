@@ -1,7 +1,7 @@
 -- What grep is given to read: what stands under each name, and what standard input holds, each time that it is asked for.
 use Rattle.std.specs.Prelude.{◌≡◌, ℕ, ◌^◌, ◌<◌, Bool, false, List, [], ◌∷◌, All, length, codes, if◌then◌else◌, Option, Some, None, IfSome, Result, IsErr, IsOkAnd}
 use Rattle.std.specs.Str.{bytes_eq}
-use Rattle.lit_base.specs.Devices.{Coming, Clean, Faulty}
+use Rattle.byte_io.specs.Devices.{Coming, Clean, Faulty}
 use Rattle.grep_run.specs.declared.opener.Missing.{Missing}
 
 -- a text, and whether a read fault follows it in place of a clean end

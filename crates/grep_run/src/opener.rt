@@ -1,6 +1,6 @@
 //! What grep's input comes from.
 ghost use Rattle.std.specs.Prelude.{◌≡◌, IfOk, IfSome, Option, Some, codes, false};
-ghost use Rattle.lit_base.specs.Devices.{Told};
+ghost use Rattle.byte_io.specs.Devices.{Told};
 ghost use Rattle.grep_run.specs.Options.{ask_of};
 ghost use Rattle.grep_run.specs.Sources.{OpensAs, after, name_of, taken_by};
 

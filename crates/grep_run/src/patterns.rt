@@ -1,6 +1,6 @@
 //! The patterns of a run.
 ghost use Rattle.std.specs.Prelude.{◌≡◌, [], All, IfOk, OnOk, Some, map, string_bytes};
-ghost use Rattle.lit_base.specs.Devices.{Told};
+ghost use Rattle.byte_io.specs.Devices.{Told};
 ghost use Rattle.lit_base.specs.Lines.{IsOnePiece};
 ghost use Rattle.grep_run.specs.Gathering.{TakesFile, TakesFiles, TakesPatterns};
 ghost use Rattle.grep_run.specs.Options.{asks_for};

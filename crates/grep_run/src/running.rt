@@ -1,7 +1,7 @@
 //! A run of grep.
 ghost use Rattle.std.specs.Prelude.{◌≡◌, ◌≢◌, ◌||◌, ◌&&◌, [], IfOk, OnErr, OnOk, if◌then◌else◌};
 ghost use Rattle.std.specs.Io.KnownBytes.{Appends};
-ghost use Rattle.lit_base.specs.Devices.{Told};
+ghost use Rattle.byte_io.specs.Devices.{Told};
 ghost use Rattle.grep_run.specs.Fronts.{AppendsFront, is_write_fault};
 ghost use Rattle.grep_run.specs.Gathering.{Refuses};
 ghost use Rattle.grep_run.specs.Grep.{status_where};

@@ -1,7 +1,7 @@
 //! Inputs searched one after another: their blocks, their messages, and what was found.
 ghost use Rattle.std.specs.Prelude.{◌≡◌, ℕ, ◌<◌, ◌≤◌, ◌||◌, ◌&&◌, Bool, List, [], None, OnErr, OnOk, Option, Some, if◌then◌else◌, length, map, not, string_bytes};
 ghost use Rattle.std.specs.Io.KnownBytes.{Appends};
-ghost use Rattle.lit_base.specs.Devices.{Told};
+ghost use Rattle.byte_io.specs.Devices.{Told};
 ghost use Rattle.grep_run.specs.Fronts.{AppendsFront, is_write_fault};
 ghost use Rattle.grep_run.specs.Grep.{searched};
 ghost use Rattle.grep_run.specs.Messages.{unreadable};

@@ -2,7 +2,6 @@ pub mod Assigned
 pub mod Buckets
 pub mod ChainLemmas
 pub mod Cuts
-pub mod DeviceLemmas
 pub mod EndLemmas
 pub mod EndedLemmas
 pub mod InsertLemmas
@@ -20,6 +19,4 @@ pub mod Runs
 pub mod SearchLemmas
 pub mod SortedLists
 pub mod SuffixLemmas
-pub mod ToldLemmas
-pub mod TransferLemmas
 pub mod Weights

@@ -1,9 +1,7 @@
 pub mod Assignments
 pub mod Chains
 pub mod Costs
-pub mod CutDevices
 pub mod Cuts
-pub mod Devices
 pub mod Ends
 pub mod Faults
 pub mod Folding
@@ -15,7 +13,5 @@ pub mod Occurrences
 pub mod Patterns
 pub mod Potentials
 pub mod RawLists
-pub mod Readers
 pub mod Selected
 pub mod Suffixes
-pub mod Transfers

@@ -1,9 +1,7 @@
-//! Lists of literals, folding, costs, and the devices that bytes come from and go to.
+//! Lists of literals, folding and costs, with the devices of `byte_io`.
 #![tactic(auto)]
 
 mod costs;
-mod cut_device;
-mod device;
 mod fault;
 mod fold;
 mod laws;
@@ -16,28 +14,24 @@ mod normal_form;
 mod occurrences;
 mod patterns;
 mod raw_list;
-mod std_device;
 mod suffix_chains;
 mod suffix_class;
 mod suffix_filter;
 mod suffix_key;
-mod transfer;
 
+pub use byte_io::{
+    ByteIn, ByteOut, CutIn, CutOut, Failed, FileOrInput, FromRead, MAX_TURNS, ReadError, ToWrite,
+    read_to_end, write_all,
+};
 pub use costs::{Ends, assign_cost, cost, cut_cost, is_assignment, is_cut, weight};
-pub use cut_device::{CutIn, CutOut};
-pub use device::{ByteIn, ByteOut, Failed};
 pub use fault::Fault;
 pub use fold::{Fold, fold_byte};
 pub use laws::{assignment_law, cut_law, least_law, run_cost_law};
-pub use limits::{
-    MAX_LIST_LEN, MAX_LITERAL_LEN, MAX_LITERALS, MAX_PATTERNS, MAX_TEXT_LEN, MAX_TURNS,
-};
+pub use limits::{MAX_LIST_LEN, MAX_LITERAL_LEN, MAX_LITERALS, MAX_PATTERNS, MAX_TEXT_LEN};
 pub use lines::{Lines, ended_law, lines_law, matching_law};
 pub use lit_list::{LitList, Normal};
 pub use mark_budget::GaveUp;
 pub use normal_form::normal_form_law;
 pub use occurrences::hits_law;
 pub use raw_list::RawList;
-pub use std_device::{FileOrInput, FromRead, ToWrite};
 pub use suffix_filter::stride_for;
-pub use transfer::{ReadError, read_to_end, write_all};

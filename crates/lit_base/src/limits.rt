@@ -1,5 +1,4 @@
-//! The limits of lists, which refuse by number what passes them and never cut it, and of loops over
-//! readers.
+//! The limits of lists, which refuse by number what passes them and never cut it.
 
 /// Raw patterns in a list, at most.
 pub const MAX_PATTERNS: usize = 4096;
@@ -15,6 +14,3 @@ pub const MAX_TEXT_LEN: usize = 1_052_672;
 
 /// Literals in a normal form, at most.
 pub const MAX_LITERALS: usize = 1024;
-
-/// Turns of a loop over a reader, at most. Then the reader counts as failed.
-pub const MAX_TURNS: u64 = 1 << 40;

@@ -4,8 +4,8 @@ use Rattle.std.specs.Option.{IfSome}
 use Rattle.std.specs.Result.{IfOk, IfErr}
 use Rattle.std.proofs.lemmas.List.{append_cancel_left, append-nil}
 use Rattle.std.proofs.lemmas.Result.{IfErr-at_err}
-use Rattle.lit_base.specs.Devices.{Coming, Clean, Gives, EndsHere, Told}
-use Rattle.lit_base.specs.Transfers.{ReadsInto, ReadsAll}
+use Rattle.byte_io.specs.Devices.{Coming, Clean, Gives, EndsHere, Told}
+use Rattle.byte_io.specs.Transfers.{ReadsInto, ReadsAll}
 use Rattle.lit_cert.specs.declared.fault.Fault.{Fault}
 use Rattle.lit_cert.specs.declared.fault.Fault.TheVariants.{OutOfMemory, BadCertText, ReadFault, WriteFault}
 use Rattle.lit_cert.specs.Certificates.{CertificateParts}

@@ -1,5 +1,5 @@
 ghost use Rattle.std.specs.Prelude.{◌≡◌, ◌≢◌, ℕ, ◌+◌, ◌^◌, ◌<◌, ◌≤◌, length, IsTrue, IfOk, IfErr, IfSome};
-ghost use Rattle.lit_base.specs.Devices.{Clean, EndsHere, Told};
+ghost use Rattle.byte_io.specs.Devices.{Clean, EndsHere, Told};
 ghost use Rattle.lit_cert.specs.Certificates.{CertificateParts};
 ghost use Rattle.lit_cert.specs.Faults.{IsReadersFault};
 ghost use Rattle.lit_cert.specs.Spelling.{HasText, spelling};

@@ -1,7 +1,7 @@
 ghost use Rattle.std.specs.Prelude.{◌≡◌, ◌≢◌, ◌+◌, ◌<◌, ◌++◌, ◌∷◌, map, codes, string_bytes, IsTrue, IfOk, IfErr, OnOk, OnErr};
 ghost use Rattle.std.specs.Fmt.{decimal};
 ghost use Rattle.std.specs.Io.KnownBytes.{Appends};
-ghost use Rattle.lit_base.specs.Transfers.{AppendsPrefix};
+ghost use Rattle.byte_io.specs.Transfers.{AppendsPrefix};
 ghost use Rattle.lit_cert.specs.Faults.{IsWritersFault};
 ghost use Rattle.lit_cert.specs.Spelling.{IsShaped, ends_words, line_text, row_words, spelling};
 

@@ -1,5 +1,5 @@
 -- A write that fails leaves a front of the text.
-use Rattle.lit_base.proofs.TransferLemmas.{OnErr-any}
+use Rattle.byte_io.proofs.TransferLemmas.{OnErr-any}
 use Rattle.grep_run.proofs.FrontLemmas.{AppendsFront-part}
 use Rattle.grep_run.proofs.message.write_whole.Goals as goal
 

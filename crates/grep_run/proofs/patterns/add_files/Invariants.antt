@@ -1,5 +1,5 @@
 use Rattle.std.proofs.Common.{All, map, string_bytes, drop}
-use Rattle.lit_base.specs.Devices.{Told}
+use Rattle.byte_io.specs.Devices.{Told}
 use Rattle.lit_base.specs.Lines.{IsOnePiece}
 use Rattle.grep_run.specs.Options.{asks_for}
 use Rattle.grep_run.specs.Sources.{AreShort}

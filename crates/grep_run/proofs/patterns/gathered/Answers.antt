@@ -1,6 +1,6 @@
 -- All lists and all files gave their patterns, and there are not too many literals.
 use Rattle.std.proofs.Common.{◌≡◌, ◌∙◌, [], None, ap, map, string_bytes, subst}
-use Rattle.lit_base.specs.Devices.{Told}
+use Rattle.byte_io.specs.Devices.{Told}
 use Rattle.grep_run.specs.Gathering.{TakesAllFiles}
 use Rattle.grep_run.specs.Options.{asks_for}
 use Rattle.grep_run.specs.Patterns.{lists_refusal, patterns_in}

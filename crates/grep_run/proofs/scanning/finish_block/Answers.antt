@@ -1,5 +1,5 @@
 -- Where there is no memory for the end, nothing is written.
-use Rattle.lit_base.proofs.TransferLemmas.{OnErr-any}
+use Rattle.byte_io.proofs.TransferLemmas.{OnErr-any}
 use Rattle.grep_run.proofs.FrontLemmas.{AppendsFront-none}
 use Rattle.grep_run.proofs.scanning.finish_block.Goals as goal
 

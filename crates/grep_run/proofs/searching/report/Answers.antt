@@ -1,5 +1,5 @@
 -- Where what is held cannot be written, no message is.
-use Rattle.lit_base.proofs.TransferLemmas.{OnErr-any}
+use Rattle.byte_io.proofs.TransferLemmas.{OnErr-any}
 use Rattle.grep_run.proofs.FrontLemmas.{AppendsFront-none}
 use Rattle.grep_run.proofs.searching.report.Goals as goal
 

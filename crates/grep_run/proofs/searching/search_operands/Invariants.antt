@@ -1,5 +1,5 @@
 use Rattle.std.proofs.Common.{◌≡◌, ◌<◌, ◌||◌, length, map, string_bytes, drop}
-use Rattle.lit_base.specs.Devices.{Told}
+use Rattle.byte_io.specs.Devices.{Told}
 use Rattle.grep_run.specs.Options.{ask_of}
 use Rattle.grep_run.specs.Outputs.{output_of}
 use Rattle.grep_run.specs.Scanning.{test_of}

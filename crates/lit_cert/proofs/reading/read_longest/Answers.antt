@@ -1,5 +1,5 @@
 use Rattle.std.proofs.Common.{◌+◌, ◌*◌, ◌<◌, length, ap, Result, Err, arith}
-use Rattle.lit_base.specs.declared.transfer.ReadError.{ReadError}
+use Rattle.byte_io.specs.declared.transfer.ReadError.{ReadError}
 use Rattle.lit_cert.proofs.Received.{found_long, bad_long}
 use Rattle.lit_cert.proofs.reading.read_longest.Goals as goal
 

@@ -1,0 +1,3 @@
+pub mod DeviceLemmas
+pub mod ToldLemmas
+pub mod TransferLemmas

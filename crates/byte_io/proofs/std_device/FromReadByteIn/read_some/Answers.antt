@@ -1,0 +1,6 @@
+-- What the reader's bytes became is what the device tells of them.
+use Rattle.byte_io.proofs.DeviceLemmas.{unsure-reads}
+use Rattle.byte_io.proofs.std_device.FromReadByteIn.read_some.Goals as goal
+
+pub returns-clause-bytes : goal.returns-clause-bytes
+returns-clause-bytes g c = unsure-reads _ _ c.read_counted-given.result _ c.read_counted-given.ensures.bytes

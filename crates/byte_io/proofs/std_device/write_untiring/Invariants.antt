@@ -1,0 +1,6 @@
+-- Tries that a signal interrupted put nothing into the writer.
+use Rattle.std.specs.Io.KnownBytes.{Keeps}
+use Rattle.byte_io.proofs.std_device.write_untiring.Given as goal
+
+abbrev pub invariant-loop : goal.invariant-loop
+invariant-loop g l = Keeps (g.W.Write.contents l.initial.writer) (g.W.Write.contents l.writer)

@@ -1,0 +1,4 @@
+pub mod CutDevices
+pub mod Devices
+pub mod Readers
+pub mod Transfers

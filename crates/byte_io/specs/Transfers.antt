@@ -1,0 +1,28 @@
+-- What moves between a device and a list of bytes in many calls.
+use Rattle.std.specs.Prelude.{◌≡◌, ◌≢◌, ℕ, ◌<◌, ◌≤◌, ◌++◌, List, length, take, Option}
+use Rattle.std.specs.Io.KnownBytes.{Appends}
+use Rattle.byte_io.specs.Devices.{Coming, Clean, Faulty, Gives, Told}
+
+-- known bytes grow by a front of the piece that is not all of it
+pub record AppendsPrefix (old new : Option (List ℕ)) (piece : List ℕ) : Type 0 where
+  pub count : ℕ
+  pub fewer : count < length piece
+  pub text : Appends old new (take count piece)
+
+-- a text grows by bytes that a reader gave, and the reader gave no others
+pub record ReadsInto (old new : Option Coming) (before after : List ℕ) : Type 0 where
+  pub bytes : List ℕ
+  pub text : after ≡ before ++ bytes
+  pub given : Told old new (λ x y. Gives x y bytes)
+
+-- all bytes to come were read, there are no more than the limit, and no fault follows them
+pub record ReadsAll (limit : ℕ) (before after : List ℕ) (c : Coming) : Type 0 where
+  pub text : after ≡ before ++ c.text
+  pub short : length c.text ≤ limit
+  pub ending : c.ending ≢ Faulty
+
+-- no clean end follows, and where a fault does, all bytes before it were read, and no more than the limit
+pub record FaultFollows (limit : ℕ) (before after : List ℕ) (c : Coming) : Type 0 where
+  pub ending : c.ending ≢ Clean
+  pub text : c.ending ≡ Faulty → after ≡ before ++ c.text
+  pub short : c.ending ≡ Faulty → length c.text ≤ limit

@@ -1,6 +1,0 @@
--- What the reader's bytes became is what the device tells of them.
-use Rattle.lit_base.proofs.DeviceLemmas.{unsure-reads}
-use Rattle.lit_base.proofs.std_device.FromReadByteIn.read_some.Goals as goal
-
-pub returns-clause-bytes : goal.returns-clause-bytes
-returns-clause-bytes g c = unsure-reads _ _ c.read_counted-given.result _ c.read_counted-given.ensures.bytes
