@@ -10,8 +10,9 @@ use Rattle.std.proofs.lemmas.List.{append-nil, append_assoc, length-take, take-a
 use Rattle.std.proofs.lemmas.List.Elements.{All-from_recursion, recursion_from_All, All-append, Contains-get_or, Contains-append_left, Contains-append_right, Contains-append_cases, Contains-push, Contains-push_cases}
 use Rattle.lit_base.specs.Literals.{Literals}
 use Rattle.lit_base.specs.Occurrences.{IsFirstEnding, NoneEnds, Occurs, hit_cmp}
-use Rattle.lit_base.specs.Ends.{HasEnd, NoEndAfter}
-use Rattle.flow_scan.specs.Ends.{AreHitsAt}
+use Rattle.lit_base.specs.Occurrences.{HasEnd}
+use Rattle.flow_scan.specs.NextEnds.{NoEndAfter}
+use Rattle.flow_scan.specs.HitsAt.{AreHitsAt}
 use Rattle.flow_scan.specs.Tails.{AreHitsBehind}
 use Rattle.flow_scan.proofs.Occurring.{occurs_in_front, occurs_of_front}
 

@@ -4,7 +4,7 @@ use Rattle.std.proofs.Math.Seq.{drop-append-add}
 use Rattle.std.proofs.lemmas.List.{length-append, length-drop, length-take, drop-append-le, take-append-le, append_assoc, take-append-drop}
 use Rattle.lit_base.specs.Folding.{folded_text}
 use Rattle.lit_base.specs.Literals.{Literals}
-use Rattle.lit_base.specs.Ends.{IsNextEnd, IsPassed, NoEndAfter, NoEndUpTo}
+use Rattle.flow_scan.specs.NextEnds.{IsNextEnd, IsPassed, NoEndAfter, NoEndUpTo}
 use Rattle.lit_base.specs.Occurrences.{IsFirstEnding, Occurs}
 use Rattle.flow_scan.specs.Tails.{HasBounds, carry_of, last_bytes}
 

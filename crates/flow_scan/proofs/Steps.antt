@@ -9,7 +9,7 @@ use Rattle.lit_base.specs.Literals.{Literals, lengths}
 use Rattle.nib_mask.specs.Candidates.{CoversBy}
 use Rattle.lane_filter.specs.Sieves.{Passes}
 use Rattle.lane_filter.specs.declared.sieve.Sieve.{Sieve}
-use Rattle.lit_base.specs.Ends.{HasEnd}
+use Rattle.lit_base.specs.Occurrences.{HasEnd}
 
 -- the bytes of a slice are bytes
 pub all_bytes : (text : List ℕ) → ((i : ℕ) → Fits w8 (get_or text i 0)) → All (λ b. b < 256) text

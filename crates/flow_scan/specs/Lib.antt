@@ -1,4 +1,5 @@
-pub mod Ends
+pub mod HitsAt
+pub mod NextEnds
 pub mod Plans
 pub mod Scanners
 pub mod Seams

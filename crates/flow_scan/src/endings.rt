@@ -3,32 +3,12 @@ ghost use Rattle.std.specs.Prelude.{◌≡◌, ◌<◌, ◌≤◌, IfErr, IfOk, 
 ghost use Rattle.lit_base.specs.Occurrences.{IsFirstEnding};
 ghost use Rattle.nib_mask.specs.Candidates.{CoversBy};
 ghost use Rattle.lane_filter.specs.Sieves.{Passes};
-ghost use Rattle.lit_base.specs.Ends.{IsNextEnd, IsPassed, NoEndAfter};
+ghost use Rattle.flow_scan.specs.NextEnds.{IsNextEnd, IsPassed, NoEndAfter};
 
+use crate::pace::{CROWD, LONGEST_DELAY, LOOKS, LOOKS_OF_MARK, SHORTEST_DELAY, WINDOW};
+use crate::strides::next_end_within_budget;
 use lane_filter::Candidates;
-use lit_base::{LitList, stride_for};
-
-/// So many candidates in a row tell how close together they are.
-const CROWD: usize = 4;
-
-/// A candidate at which nothing ends costs about as much as so many of the list's looks at the text:
-/// measured, five to eight.
-const LOOKS: usize = 5;
-
-/// A mark at which nothing ends counts as so many. It costs up to three times as much where marks
-/// crowd, but there the list gives up by this count as well, and nothing got quicker by a higher one.
-const LOOKS_OF_MARK: usize = 8;
-
-/// So many bytes behind a crowd are searched by the list before the sieve is tried again. To tell a
-/// crowd takes about a thirtieth of the time that they do.
-const WINDOW: usize = 16384;
-
-/// Where the list gave up it is not tried for so many bytes, and for twice as many each further time,
-/// up to the longest delay. Giving up takes about a tenth of the time that the sieve does for the
-/// shortest.
-const SHORTEST_DELAY: usize = 4096;
-
-const LONGEST_DELAY: usize = 65536;
+use lit_base::LitList;
 
 /// Where the list is tried again on a text on which it gave up: exponential backoff, in bytes.
 #[derive(Clone, Copy)]
@@ -139,18 +119,7 @@ fn next_sieved(
 /// Whether candidates at which nothing ends, `CROWD` of them in so many bytes, cost more than the
 /// list's looks at these bytes.
 fn are_close(list: &LitList, bytes: usize) -> bool {
-    bytes < CROWD * LOOKS * stride_of(list)
-}
-
-/// The list looks at each so-manyth place, as its shortest literal says.
-fn stride_of(list: &LitList) -> usize
-    ensures some { 0 < result }
-    ensures short { result ≤ 8 }
-{
-    if list.is_empty() {
-        return stride_for(0);
-    }
-    stride_for(list.shortest())
+    bytes < CROWD * LOOKS * list.stride()
 }
 
 /// What the list finds by itself behind a crowd, or a place up to which nothing ends: there it gave
@@ -168,7 +137,7 @@ fn next_by_list(
 {
     let last = text.len().min(crowd.last.saturating_add(WINDOW));
     let (front, _) = text.split_at(last);
-    match list.next_end_within_budget(front, crowd.last, bytes_per_mark(list, crowd.bytes)) {
+    match next_end_within_budget(list, front, crowd.last, bytes_per_mark(list, crowd.bytes)) {
         Ok(Some(found)) => Ok(found),
         Ok(None) => {
             backoff.reset();
@@ -184,8 +153,6 @@ fn next_by_list(
 /// How many bytes of the text pay for a mark, where the candidates of a crowd stand in so many: what
 /// the candidates cost more than the list's looks at these bytes may be spent on marks.
 fn bytes_per_mark(list: &LitList, bytes: usize) -> usize {
-    let spared = (CROWD * LOOKS)
-        .saturating_sub(bytes / stride_of(list))
-        .max(1);
+    let spared = (CROWD * LOOKS).saturating_sub(bytes / list.stride()).max(1);
     bytes.saturating_mul(LOOKS_OF_MARK) / spared
 }

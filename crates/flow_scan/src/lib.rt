@@ -7,10 +7,13 @@ mod compiled;
 mod endings;
 mod fault;
 mod hit;
+mod mark_budget;
+mod pace;
 mod scanner;
 mod scanning;
 mod seam;
 mod searching;
+mod strides;
 
 pub use compiled::{Compiled, least_law};
 pub use fault::Fault;

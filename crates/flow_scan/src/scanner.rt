@@ -1,8 +1,8 @@
 //! Scanning a stream that comes in pieces.
 ghost use Rattle.std.specs.Prelude.{◌≡◌, ◌↔◌, ◌+◌, ◌-◌, ◌^◌, ◌<◌, ◌≤◌, ◌⊎◌, ◌++◌, IfErr, IfOk, IsErrOf, IsOk, IsOkUnless, OnErr, OnOk, length, min, take};
 ghost use Rattle.flow_scan.specs.declared.fault.Fault.TheVariants.{OutOfMemory, StreamTooLong};
-ghost use Rattle.lit_base.specs.Ends.{NoEndAfter};
-ghost use Rattle.flow_scan.specs.Ends.{Extends};
+ghost use Rattle.flow_scan.specs.NextEnds.{NoEndAfter};
+ghost use Rattle.flow_scan.specs.HitsAt.{Extends};
 ghost use Rattle.flow_scan.specs.Scanners.{Scanning, fed, started};
 ghost use Rattle.flow_scan.specs.Tails.{GainsHits, carry_of};
 

@@ -12,7 +12,8 @@ use Rattle.lit_base.specs.Lines.{IsOnePiece, ended_lines, open_rest}
 use Rattle.lit_base.specs.Literals.{Literals, IsNormal}
 use Rattle.lit_base.specs.Selected.{Matches, matches}
 use Rattle.lit_base.proofs.MatchLemmas.{matching}
-use Rattle.lit_base.specs.Ends.{HasEnd, IsNextEnd, NoEndAfter}
+use Rattle.lit_base.specs.Occurrences.{HasEnd}
+use Rattle.flow_scan.specs.NextEnds.{IsNextEnd, NoEndAfter}
 use Rattle.line_pick.specs.Cutting.{IsFirstLine, IsLastCut}
 use Rattle.line_pick.specs.Hits.{AllMiss, IsFirstHit}
 use Rattle.line_pick.proofs.Crossing.{crossing, ended_lines-slices, ends_in_newline, middle_slice}

@@ -13,7 +13,8 @@ use Rattle.lit_base.specs.Literals.{Literals, IsNormal, lengths}
 use Rattle.lit_base.specs.Occurrences.{IsFirstEnding, NoneEnds, Occurs}
 use Rattle.lit_base.specs.Selected.{Matches, matches}
 use Rattle.lit_base.proofs.MatchLemmas.{matching}
-use Rattle.lit_base.specs.Ends.{HasEnd, IsNextEnd, NoEndAfter}
+use Rattle.lit_base.specs.Occurrences.{HasEnd}
+use Rattle.flow_scan.specs.NextEnds.{IsNextEnd, NoEndAfter}
 
 -- a text, folded, round a literal that ends in it
 pub record Parts (folding : Fold) (text t : List ℕ) (end : ℕ) : Type 0 where

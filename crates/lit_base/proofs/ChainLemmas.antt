@@ -7,7 +7,7 @@ use Rattle.lit_base.specs.Chains.{IsNextWith, IsClassOf, Reaches, hash_at}
 use Rattle.lit_base.specs.Literals.{Literals}
 use Rattle.lit_base.specs.Occurrences.{Occurs, NoneEnds, IsFirstEnding}
 use Rattle.lit_base.specs.Suffixes.{suffix_key, hash_of}
-use Rattle.lit_base.specs.declared.suffix_class.SuffixClass.{SuffixClass}
+use Rattle.lit_base.specs.declared.suffixes.class.SuffixClass.{SuffixClass}
 use Rattle.lit_base.proofs.SuffixLemmas.{AreBytes, key-occurs}
 
 module _ (l : Literals) (text : List ℕ) (end stop : ℕ) (class : SuffixClass) (chains : IsClassOf l class.start stop class) (bytes : AreBytes text) where

@@ -22,7 +22,7 @@ no_longer a b e = elim (cases_lt (length b) (length a)) [
 ]
 
 -- what stands at a place of the lengths is the length of the literal there
-length_at : (texts : List (List ℕ)) (i d : ℕ) → i < length texts → get_or (map length texts) i d ≡ length (get_or texts i [])
+pub length_at : (texts : List (List ℕ)) (i d : ℕ) → i < length texts → get_or (map length texts) i d ≡ length (get_or texts i [])
 length_at texts i d inside = get_or-map length texts i [] d inside
 
 -- the lengths never fall

@@ -2,7 +2,6 @@ pub mod Assigned
 pub mod Buckets
 pub mod ChainLemmas
 pub mod Cuts
-pub mod EndLemmas
 pub mod EndedLemmas
 pub mod InsertLemmas
 pub mod Least

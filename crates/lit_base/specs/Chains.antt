@@ -1,7 +1,7 @@
 -- Literals chained by the hash of their last bytes: of each class those as long as its width at least, in their order.
 use Rattle.std.specs.Prelude.{◌≡◌, ◌≢◌, ℕ, ◌+◌, ◌^◌, ◌<◌, ◌≤◌, List, [], length, slice_index, slice_index_or}
-use Rattle.lit_base.specs.declared.suffix_chains.SuffixChains.{SuffixChains}
-use Rattle.lit_base.specs.declared.suffix_class.SuffixClass.{SuffixClass}
+use Rattle.lit_base.specs.declared.suffixes.chains.SuffixChains.{SuffixChains}
+use Rattle.lit_base.specs.declared.suffixes.class.SuffixClass.{SuffixClass}
 use Rattle.lit_base.specs.Literals.{Literals}
 use Rattle.lit_base.specs.Occurrences.{Occurs}
 use Rattle.lit_base.specs.Suffixes.{suffix_key, hash_of}

@@ -2,7 +2,6 @@ pub mod Assignments
 pub mod Chains
 pub mod Costs
 pub mod Cuts
-pub mod Ends
 pub mod Faults
 pub mod Folding
 pub mod Lines
@@ -14,4 +13,5 @@ pub mod Patterns
 pub mod Potentials
 pub mod RawLists
 pub mod Selected
+pub mod Strides
 pub mod Suffixes

@@ -15,6 +15,10 @@ pub record Occurs (l : Literals) (text : List ℕ) (place end : ℕ) : Type 0 wh
   pub ends : end ≤ length text
   pub bytes : folded_text l.folding (slice_range text (end - length literal) end) ≡ literal
 
+-- some literal ends at a place of the text
+abbrev pub HasEnd : Literals → List ℕ → ℕ → Type 0
+HasEnd l text end = (place : ℕ) × Occurs l text place end
+
 -- none of the literals from a place of the list on ends at a place of the text
 abbrev pub NoneEnds : Literals → List ℕ → ℕ → ℕ → Type 0
 NoneEnds l text from end = (place : ℕ) → from ≤ place → ¬ Occurs l text place end

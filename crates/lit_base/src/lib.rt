@@ -4,20 +4,17 @@
 mod costs;
 mod fault;
 mod fold;
+mod folded_list;
 mod laws;
 mod limits;
 mod lines;
 mod lit_list;
 mod literal;
-mod mark_budget;
 mod normal_form;
 mod occurrences;
 mod patterns;
 mod raw_list;
-mod suffix_chains;
-mod suffix_class;
-mod suffix_filter;
-mod suffix_key;
+mod suffixes;
 
 pub use byte_io::{
     ByteIn, ByteOut, CutIn, CutOut, Failed, FileOrInput, FromRead, MAX_TURNS, ReadError, ToWrite,
@@ -30,8 +27,6 @@ pub use laws::{assignment_law, cut_law, least_law, run_cost_law};
 pub use limits::{MAX_LIST_LEN, MAX_LITERAL_LEN, MAX_LITERALS, MAX_PATTERNS, MAX_TEXT_LEN};
 pub use lines::{Lines, ended_law, lines_law, matching_law};
 pub use lit_list::{LitList, Normal};
-pub use mark_budget::GaveUp;
 pub use normal_form::normal_form_law;
 pub use occurrences::hits_law;
 pub use raw_list::RawList;
-pub use suffix_filter::stride_for;

@@ -1,52 +1,40 @@
-ghost use Rattle.std.specs.Prelude.{◌≡◌, ℕ, ◌+◌, max, ◌<◌, ◌≤◌, ◌-◌, ◌↔◌, ◌⊎◌, [], All, Contains, IfErr, IfOk, IfSome, IsTrue, MatchOption, length, slice_index_or, slice_index};
+//! Lists of literals in normal form.
+ghost use Rattle.std.specs.Prelude.{◌≡◌, ℕ, ◌+◌, ◌<◌, ◌≤◌, ◌-◌, ◌↔◌, ◌⊎◌, [], All, Contains, IfErr, IfOk, IfSome, IsTrue, MatchOption, length, slice_index_or, slice_index};
+ghost use Rattle.std.specs.Int.{bit_at};
 ghost use Rattle.std.specs.List.{AllZip};
 ghost use Rattle.std.specs.List.Sorted.{IsNonDecreasing};
-ghost use Rattle.lit_base.specs.Chains.{IsClassOf, Reaches};
-ghost use Rattle.lit_base.specs.Ends.{HasEnd, IsNextEnd, IsPassed, NoEndAfter, NoEndUpTo};
-ghost use Rattle.lit_base.specs.Folding.{folded_text};
 ghost use Rattle.lit_base.specs.Literals.{lengths, IsNormal};
-ghost use Rattle.lit_base.specs.Occurrences.{IsFirstEnding, NoneEnds, Occurs};
 ghost use Rattle.lit_base.specs.NormalForm.{IsNormalForm, IsPlaceOf, normal_form};
-ghost use Rattle.lit_base.specs.Suffixes.{suffix_key};
-ghost use Rattle.std.specs.Int.{bit_at};
+ghost use Rattle.lit_base.specs.Occurrences.{HasEnd, IsFirstEnding, NoneEnds};
+ghost use Rattle.lit_base.specs.Strides.{stride_of};
 ghost use Rattle.lit_base.specs.declared.fault.Fault.TheVariants.{OutOfMemory, TooManyLiterals};
 ghost use Rattle.lit_base.specs.declared.limits.TheConstants.{MAX_LITERALS};
-ghost use Rattle.lit_base.specs.declared.mark_budget.TheConstants.{FREE_MARKS};
 
 use crate::fault::Fault;
-use crate::fold::{Fold, fold_byte};
-use crate::literal::Literal;
-use crate::mark_budget::{GaveUp, MarkBudget};
+use crate::fold::Fold;
+use crate::folded_list::FoldedList;
 use crate::normal_form::{distinct, has_null, in_order, places};
 use crate::raw_list::RawList;
-use crate::suffix_chains::SuffixChains;
-use crate::suffix_class::SuffixClass;
-use crate::suffix_filter::SuffixFilter;
-use crate::suffix_key::suffix_key;
+use crate::suffixes::Suffixes;
 use std::alloc::Global;
 use std::marker::Model;
 
 /// Literals in normal form: nonempty, folded, each once, ordered by length and then by bytes.
 #[derive(Debug, Drop)]
 pub struct LitList {
-    folding: Fold,
-    literals: Vec<Literal>,
-    chains: SuffixChains,
-    filter: SuffixFilter,
+    literals: FoldedList,
+    suffixes: Suffixes,
 }
 
 impl Model for LitList {
-    ghost use Rattle.lit_base.specs.Chains.{AreChainsOf};
     ghost use Rattle.lit_base.specs.Literals.{Literals, IsNormal};
-    ghost use Rattle.lit_base.specs.Marks.{IsFilterOf};
+    ghost use Rattle.lit_base.specs.Marks.{AreSuffixesOf};
 
     ghost Value = { Literals };
 
-    ghost view = { λ l. record { folding = l.folding; texts = l.literals.items } };
+    ghost view = { λ l. l.literals };
 
-    ghost invariant = { λ l. IsNormal (record { folding = l.folding; texts = l.literals.items })
-        × AreChainsOf (record { folding = l.folding; texts = l.literals.items }) l.chains
-        × IsFilterOf (record { folding = l.folding; texts = l.literals.items }) l.filter };
+    ghost invariant = { λ l. IsNormal l.literals × AreSuffixesOf l.literals l.suffixes };
 }
 
 impl LitList {
@@ -65,13 +53,10 @@ impl LitList {
     {
         let literals = in_order(alloc, distinct(alloc, raw, fold)?)?;
         let place_of = places(alloc, raw, fold, literals.as_slice())?;
-        let chains = SuffixChains::new(alloc, fold, literals.as_slice())?;
-        let filter = SuffixFilter::new(alloc, fold, literals.as_slice())?;
+        let suffixes = Suffixes::new(alloc, fold, literals.as_slice())?;
         let list = LitList {
-            folding: fold,
-            literals,
-            chains,
-            filter,
+            literals: FoldedList::new(fold, literals),
+            suffixes,
         };
         let has_empty = has_null(raw);
         Ok((
@@ -96,14 +81,14 @@ impl LitList {
     pub fn is_empty(&self) -> bool
         ensures { IsTrue result ↔ (self.now.texts ≡ []) }
     {
-        self.literals.is_empty()
+        self.literals.len() == 0
     }
 
     /// The fold that the literals are compared under.
     pub fn fold(&self) -> Fold
         ensures { result ≡ self.now.folding }
     {
-        self.folding
+        self.literals.folding()
     }
 
     /// The length of the shortest literal, which is the first.
@@ -112,7 +97,7 @@ impl LitList {
         ensures first { result ≡ slice_index (lengths self.now) 0 }
         ensures least { All (λ len. result ≤ len) (lengths self.now) }
     {
-        self.literals[0].as_slice().len()
+        self.literals.get(0).len()
     }
 
     /// The length of the longest literal, which is the last.
@@ -121,7 +106,7 @@ impl LitList {
         ensures last { result ≡ slice_index (lengths self.now) (length self.now.texts - 1) }
         ensures greatest { All (λ len. len ≤ result) (lengths self.now) }
     {
-        self.literals[self.literals.len() - 1].as_slice().len()
+        self.literals.get(self.literals.len() - 1).len()
     }
 
     /// The law that the literals are in normal form.
@@ -143,13 +128,10 @@ impl LitList {
         if self.literals.len() == 1 {
             return self.only_ending(text, end, from);
         }
-        if from == 0 && self.filter.rules_out(text, end) {
-            return None;
-        }
-        self.next_in_chains(text, end, from)
+        self.suffixes.next_ending(&self.literals, text, end, from)
     }
 
-    /// What `next_ending` says of a list of one literal. It is compared at once: by marks and chains a
+    /// The only literal, if it is from place `from` on and ends at `end`. It is compared at once: by marks and chains a
     /// search for a literal that each seventh line has took 1.12 times as long.
     #[inline]
     fn only_ending(&self, text: &[u8], end: usize, from: usize) -> Option<usize>
@@ -159,272 +141,33 @@ impl LitList {
             (NoneEnds self.now text.now from end)
             (λ place. IsFirstEnding self.now text.now from end place) }
     {
-        if from == 0 && self.ends_at(0, text, end) {
+        if from == 0 && self.literals.ends_at(0, text, end) {
             Some(0)
         } else {
             None
         }
     }
 
-    /// The first place of the text behind `from` at which some literal ends, wherever it begins,
-    /// with the first literal that ends there, if there is one. It takes no memory.
-    ///
-    /// It looks at few places where each literal has more than four bytes, and suits lists of which
-    /// the ends are many.
-    pub fn next_end(&self, text: &[u8], from: usize) -> Option<(usize, usize)>
-        ensures next { MatchOption result
-            (NoEndAfter self.now text.now from)
-            (λ found. IsNextEnd self.now text.now from found.0) }
-        ensures first { IfSome result (λ found. IsFirstEnding self.now text.now 0 found.0 found.1) }
-    {
-        match self.next_end_within_budget(text, from, 0) {
-            Ok(found) => found,
-            Err(_) => None,
-        }
-    }
-
-    /// What `next_end` says, unless it meets many marks at which nothing ends, more than one in
-    /// `bytes_per_mark` bytes and a few more: then it gives up, at least four places further on.
-    /// Where `bytes_per_mark` is 0 it does not.
-    ///
-    /// A mark costs as much as many looks at the text, so it tells a caller who has another way of
-    /// searching that this one does not suit the text.
-    pub fn next_end_within_budget(
-        &self,
-        text: &[u8],
-        from: usize,
-        bytes_per_mark: usize,
-    ) -> Result<Option<(usize, usize)>, GaveUp>
-        ensures next { IfOk result (λ hit. MatchOption hit
-            (NoEndAfter self.now text.now from)
-            (λ found. IsNextEnd self.now text.now from found.0)) }
-        ensures first { IfOk result (λ hit. IfSome hit (λ found. IsFirstEnding self.now text.now 0 found.0 found.1)) }
-        ensures passed { IfErr result (λ stop. IsPassed self.now text.now from stop.at) }
-        ensures patient { IfErr result (λ _. 0 < bytes_per_mark) }
-        ensures tried { IfErr result (λ stop. from + FREE_MARKS ≤ stop.at) }
-    {
-        if from >= text.len() {
-            return Ok(None);
-        }
-        if from >= 7 {
-            return self.next_by_strides(text, from, bytes_per_mark);
-        }
-        // Before the first seven ends stand fewer than eight bytes, so each is looked at.
-        if let Some(found) = self.first_marked(text, from, 7 - from, u8::MAX) {
-            return Ok(Some(found));
-        }
-        if text.len() <= 7 {
-            return Ok(None);
-        }
-        self.next_by_strides(text, 7, bytes_per_mark)
-    }
-
-    /// What `next_end_within_budget` says, behind at least seven bytes: of as many ends as a stride has
-    /// places, the bytes before the first have the marks of all.
-    #[inline(never)]
-    fn next_by_strides(
-        &self,
-        text: &[u8],
-        from: usize,
-        bytes_per_mark: usize,
-    ) -> Result<Option<(usize, usize)>, GaveUp>
-        requires seven { 7 ≤ from }
-        requires inside { from < length text.now }
-        ensures next { IfOk result (λ hit. MatchOption hit
-            (NoEndAfter self.now text.now from)
-            (λ found. IsNextEnd self.now text.now from found.0)) }
-        ensures first { IfOk result (λ hit. IfSome hit (λ found. IsFirstEnding self.now text.now 0 found.0 found.1)) }
-        ensures passed { IfErr result (λ stop. IsPassed self.now text.now from stop.at) }
-        ensures patient { IfErr result (λ _. 0 < bytes_per_mark) }
-        ensures tried { IfErr result (λ stop. from + FREE_MARKS ≤ stop.at) }
-    {
-        let stride = self.filter.stride;
-        let mut budget = MarkBudget::new(bytes_per_mark, from);
-        let mut seen = from;
-        'strides: loop {
-            seen = self.skip_unmarked(text, seen);
-            let marks = self.filter.marks_before(text, seen + 1);
-            if marks != 0 {
-                if budget.is_spent_at(seen) {
-                    return Err(GaveUp { at: seen });
-                }
-                if let Some(found) = self.first_marked(text, seen, stride, marks) {
-                    return Ok(Some(found));
-                }
-            }
-            if text.len() - seen <= stride {
-                return Ok(None);
-            }
-            seen += stride;
-        }
-    }
-
-    /// A place from `from` on that strides come to, two at a time, up to which nothing ends: there is
-    /// a mark near it, or the end. Where marks are rare, two at a time take a fifth less time than one,
-    /// and half as long in a build for newer processors, where the loop for one came to lie badly.
-    #[inline(always)]
-    fn skip_unmarked(&self, text: &[u8], from: usize) -> usize
-        requires seven { 7 ≤ from }
-        requires inside { from < length text.now }
-        ensures ahead { from ≤ result }
-        ensures inside { result < length text.now }
-        ensures none { NoEndUpTo self.now text.now from result }
-    {
-        let stride = self.filter.stride;
-        let mut seen = from;
-        'strides: while text.len() - seen > 2 * stride {
-            let near = self.filter.marks_before(text, seen + 1);
-            let far = self.filter.marks_before(text, seen + stride + 1);
-            if near | far != 0 {
-                return seen;
-            }
-            seen += 2 * stride;
-        }
-        seen
-    }
-
-    /// Of so many places behind `seen`, the first at which some literal ends, if there is one. The
-    /// places where one ends are marked.
-    #[inline(never)]
-    fn first_marked(
-        &self,
-        text: &[u8],
-        seen: usize,
-        count: usize,
-        marks: u8,
-    ) -> Option<(usize, usize)>
-        requires few { count ≤ 8 }
-        requires inside { seen < length text.now }
-        requires marked { (back : ℕ) → back < count → HasEnd self.now text.now (seen + 1 + back) → bit_at marks back ≡ 1 }
-        ensures next { MatchOption result
-            ((back : ℕ) → back < count → ¬ HasEnd self.now text.now (seen + 1 + back))
-            (λ found. IsNextEnd self.now text.now seen found.0) }
-        ensures first { IfSome result (λ found. IsFirstEnding self.now text.now 0 found.0 found.1) }
-    {
-        let room = count.min(text.len() - seen);
-        let mut back = 0;
-        let mut rest = marks;
-        while rest != 0 {
-            let unmarked = rest.trailing_zeros() as usize;
-            back += unmarked;
-            if back >= room {
-                return None;
-            }
-            let end = seen + 1 + back;
-            if let Some(first) = self.next_ending(text, end, 0) {
-                return Some((end, first));
-            }
-            back += 1;
-            rest = rest >> unmarked >> 1;
-        }
-        None
-    }
-
-    #[inline(never)]
-    fn next_in_chains(&self, text: &[u8], end: usize, from: usize) -> Option<usize>
-        requires { end ≤ length text.now }
-        ensures { MatchOption result
-            (NoneEnds self.now text.now from end)
-            (λ place. IsFirstEnding self.now text.now from end place) }
-    {
-        let one = self.next_in(&self.chains.ones, text, end, from);
-        if one.is_some() {
-            return one;
-        }
-        let two = self.next_in(&self.chains.twos, text, end, from);
-        if two.is_some() {
-            return two;
-        }
-        let four = self.next_in(&self.chains.fours, text, end, from);
-        if four.is_some() {
-            return four;
-        }
-        self.next_in(&self.chains.eights, text, end, from)
-    }
-
-    /// The first literal of the class from place `from` on that ends at `end`, if there is one.
+    /// How far apart the places are at which a search has to look that looks at the marks there: the
+    /// longest stride of up to eight that leaves four bytes of the shortest literal.
     #[inline]
-    fn next_in(&self, class: &SuffixClass, text: &[u8], end: usize, from: usize) -> Option<usize>
-        requires class { IsClassOf self.now class.now.start (class.now.start + length class.now.keys.items) class.now }
-        requires whole { class.now.start + length class.now.keys.items ≤ length self.now.texts }
-        requires inside { end ≤ length text.now }
-        ensures first { MatchOption result
-            ((place : ℕ) → max from class.now.start ≤ place → place < class.now.start + length class.now.keys.items → ¬ Occurs self.now text.now place end)
-            (λ place. IsFirstEnding self.now text.now (max from class.now.start) end place) }
-        ensures within { IfSome result (λ place. place < class.now.start + length class.now.keys.items) }
+    pub fn stride(&self) -> usize
+        ensures value { result ≡ stride_of self.now }
+        ensures some { 0 < result }
+        ensures short { result ≤ 8 }
     {
-        let count = class.keys.len();
-        let least = from.saturating_sub(class.start);
-        if end < class.width || count <= least {
-            return None;
-        }
-        let key = suffix_key(self.folding, text, end, class.width);
-        let next = class.first_with(key, least);
-        if count <= next {
-            return None;
-        }
-        self.walk(class, text, end, key, least, next)
+        self.suffixes.marks.stride
     }
 
-    /// The first literal of the class from `least` on that ends at `end`, by the rest of a chain.
-    #[inline(never)]
-    fn walk(
-        &self,
-        class: &SuffixClass,
-        text: &[u8],
-        end: usize,
-        key: u64,
-        least: usize,
-        mut next: usize,
-    ) -> Option<usize>
-        requires class { IsClassOf self.now class.now.start (class.now.start + length class.now.keys.items) class.now }
-        requires whole { class.now.start + length class.now.keys.items ≤ length self.now.texts }
+    /// Marks of the places from `end` on, as many as a stride has, by the eight bytes before `end`:
+    /// bit `back` is set where a literal ends at `end + back`, and rarely elsewhere.
+    #[inline(always)]
+    pub fn marks_before(&self, text: &[u8], end: usize) -> u8
+        requires eight { 8 ≤ end }
         requires inside { end ≤ length text.now }
-        requires few { length self.now.texts ≤ MAX_LITERALS }
-        requires key { key ≡ suffix_key self.now.folding text.now end class.now.width }
-        requires reaches { Reaches self.now text.now end class.now least next }
-        ensures first { MatchOption result
-            ((place : ℕ) → class.now.start + least ≤ place → place < class.now.start + length class.now.keys.items → ¬ Occurs self.now text.now place end)
-            (λ place. IsFirstEnding self.now text.now (class.now.start + least) end place) }
-        ensures within { IfSome result (λ place. place < class.now.start + length class.now.keys.items) }
+        ensures marked { (back : ℕ) → back < stride_of self.now → HasEnd self.now text.now (end + back) → bit_at result back ≡ 1 }
     {
-        while next < class.keys.len() {
-            if least <= next && self.ends_with_key(class, text, end, key, next) {
-                return Some(class.start + next);
-            }
-            next = class.links[next] as usize;
-        }
-        None
-    }
-
-    /// Whether a literal of the class ends at `end`, before which the text has the key.
-    fn ends_with_key(
-        &self,
-        class: &SuffixClass,
-        text: &[u8],
-        end: usize,
-        key: u64,
-        next: usize,
-    ) -> bool
-        requires class { IsClassOf self.now class.now.start (class.now.start + length class.now.keys.items) class.now }
-        requires whole { class.now.start + length class.now.keys.items ≤ length self.now.texts }
-        requires inside { end ≤ length text.now }
-        requires few { length self.now.texts ≤ MAX_LITERALS }
-        requires key { key ≡ suffix_key self.now.folding text.now end class.now.width }
-        requires within { next < length class.now.keys.items }
-        ensures { IsTrue result ↔ Occurs self.now text.now (class.now.start + next) end }
-    {
-        class.keys[next] == key && self.ends_at(class.start + next, text, end)
-    }
-
-    /// Whether the literal at a place ends at `end` in the text.
-    fn ends_at(&self, place: usize, text: &[u8], end: usize) -> bool
-        requires within { place < length self.now.texts }
-        requires inside { end ≤ length text.now }
-        ensures { IsTrue result ↔ Occurs self.now text.now place end }
-    {
-        let literal = self.get(place);
-        literal.len() <= end && is_folded(self.folding, &text[end - literal.len()..end], literal)
+        self.suffixes.marks.marks_before(text, end)
     }
 
     /// The literal at a place.
@@ -434,29 +177,8 @@ impl LitList {
         ensures len { length result.now ≡ slice_index (lengths self.now) place }
         ensures nonempty { 0 < length result.now }
     {
-        self.literals[place].as_slice()
+        self.literals.get(place)
     }
-}
-
-/// Whether the text, folded, is the literal.
-fn is_folded(fold: Fold, text: &[u8], literal: &[u8]) -> bool
-    ensures { IsTrue result ↔ (folded_text fold text.now ≡ literal.now) }
-{
-    match fold {
-        Fold::No => text == literal,
-        Fold::Ascii => is_folded_by_bytes(Fold::Ascii, text, literal),
-    }
-}
-
-/// What `is_folded` says, byte by byte.
-fn is_folded_by_bytes(fold: Fold, text: &[u8], literal: &[u8]) -> bool
-    ensures { IsTrue result ↔ (folded_text fold text.now ≡ literal.now) }
-{
-    text.len() == literal.len()
-        && text
-            .iter()
-            .zip(literal.iter())
-            .all(|(byte, folded)| fold_byte(fold, *byte) == *folded)
 }
 
 /// How a raw list and its normal form go together.
@@ -468,7 +190,5 @@ pub struct Normal {
     pub place_of: Vec<Option<u16>>,
 }
 
-#[cfg(test)]
-mod ending_tests;
 #[cfg(test)]
 mod tests;

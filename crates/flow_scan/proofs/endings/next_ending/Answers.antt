@@ -1,7 +1,7 @@
 -- The list goes on behind each crowd.
 use Rattle.std.proofs.Common.{◌≤◌, ◌∙◌, sym, subst, arith}
-use Rattle.lit_base.specs.Ends.{NoEndUpTo}
-use Rattle.lit_base.proofs.EndLemmas.{found_further, next_further, none_joined}
+use Rattle.flow_scan.specs.NextEnds.{NoEndUpTo}
+use Rattle.flow_scan.proofs.EndLemmas.{found_further, next_further, none_joined}
 use Rattle.flow_scan.proofs.endings.next_ending.Goals as goal
 use Rattle.flow_scan.proofs.endings.next_ending.Goals.{In-Err}
 

@@ -1,5 +1,5 @@
 use Rattle.std.proofs.Common.{◌≡◌, ◌-◌, ◌≤◌, length}
-use Rattle.lit_base.specs.Ends.{NoEndUpTo}
+use Rattle.flow_scan.specs.NextEnds.{NoEndUpTo}
 use Rattle.flow_scan.proofs.endings.next_ending.Given as goal
 
 -- no literal ends at the places passed

@@ -1,5 +1,5 @@
 use Rattle.std.proofs.Common.{◌≡◌, ℕ, ◌-◌, ◌<◌, ◌≤◌, length}
-use Rattle.lit_base.specs.Ends.{HasEnd}
+use Rattle.lit_base.specs.Occurrences.{HasEnd}
 use Rattle.flow_scan.proofs.endings.next_sieved.Given as goal
 
 -- no literal ends at the places passed

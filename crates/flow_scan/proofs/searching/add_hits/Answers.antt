@@ -1,8 +1,8 @@
 -- One place after the other is gone to, until nothing ends behind it.
 use Rattle.std.proofs.Common.{◌≡◌, ℕ, ◌+◌, ◌-◌, List, [], ◌++◌, take, sym, ◌∙◌, subst, arith}
 use Rattle.std.proofs.lemmas.List.{append-nil, length-take}
-use Rattle.lit_base.specs.Ends.{IsNextEnd, NoEndAfter}
-use Rattle.flow_scan.specs.Ends.{GainsHitsAt}
+use Rattle.flow_scan.specs.NextEnds.{IsNextEnd, NoEndAfter}
+use Rattle.flow_scan.specs.HitsAt.{GainsHitsAt}
 use Rattle.flow_scan.specs.Tails.{AreHitsBehind}
 use Rattle.flow_scan.proofs.HitLists.{gained_both, hits_ended, hits_further, hits_none, none_past}
 use Rattle.flow_scan.proofs.searching.add_hits.Goals as goal

@@ -1,6 +1,6 @@
 -- The walk is one over this text, behind a place up to which nothing ends.
 use Rattle.std.proofs.Common.{arith}
-use Rattle.lit_base.proofs.EndLemmas.{next_further, none_further}
+use Rattle.flow_scan.proofs.EndLemmas.{next_further, none_further}
 use Rattle.flow_scan.proofs.searching.next_end.Goals as goal
 
 pub next_ending-requires-clause-covers : goal.next_ending-requires-clause-covers

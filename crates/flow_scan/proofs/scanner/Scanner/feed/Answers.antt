@@ -2,7 +2,7 @@
 use Rattle.std.proofs.Common.{◌≡◌, ℕ, ◌++◌, List, length, Bool, true, not, Result, IsOk, is_ok, sym, ap, ◌∙◌, subst}
 use Rattle.std.proofs.lemmas.Bool.{false≢true}
 use Rattle.lit_base.specs.Literals.{Literals}
-use Rattle.lit_base.specs.Ends.{NoEndAfter}
+use Rattle.flow_scan.specs.NextEnds.{NoEndAfter}
 use Rattle.flow_scan.specs.Scanners.{Scanning}
 use Rattle.flow_scan.specs.Seams.{Seaming}
 use Rattle.flow_scan.proofs.scanner.Scanner.feed.Goals as goal

@@ -9,9 +9,9 @@ use Rattle.lit_base.proofs.lit_list.LitList.longest.Goals as goal
 pub returns-clause-last : goal.returns-clause-last
 returns-clause-last c =
     let last = length c.args.self.now.texts - 1 in
-    let at : c.as_slice.result.now ≡ get_or c.args.self.now.texts last c.as_slice.result.now = grind (arith, common_steps) in
-    mapped_at length c.args.self.now.texts last c.as_slice.result.now (omega (arith, c.requires)) at
+    let at : c.get.result.now ≡ get_or c.args.self.now.texts last c.get.result.now = grind (arith, common_steps) in
+    mapped_at length c.args.self.now.texts last c.get.result.now (omega (arith, c.requires)) at
 
 pub returns-clause-greatest : goal.returns-clause-greatest
 returns-clause-greatest c =
-    last_greatest c.args.self.now (subst IsNormal c.self.view_is c.self.invariant.0) (length c.as_slice.result.now) (returns-clause-last c)
+    last_greatest c.args.self.now (subst IsNormal c.self.view_is c.self.invariant.0) (length c.get.result.now) (returns-clause-last c)

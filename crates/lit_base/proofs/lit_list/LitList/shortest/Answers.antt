@@ -8,9 +8,9 @@ use Rattle.lit_base.proofs.lit_list.LitList.shortest.Goals as goal
 
 pub returns-clause-first : goal.returns-clause-first
 returns-clause-first c =
-    let at : c.as_slice.result.now ≡ get_or c.args.self.now.texts 0 c.as_slice.result.now = grind (arith, common_steps) in
-    mapped_at length c.args.self.now.texts 0 c.as_slice.result.now c.requires at
+    let at : c.get.result.now ≡ get_or c.args.self.now.texts 0 c.get.result.now = grind (arith, common_steps) in
+    mapped_at length c.args.self.now.texts 0 c.get.result.now c.requires at
 
 pub returns-clause-least : goal.returns-clause-least
 returns-clause-least c =
-    first_least c.args.self.now (subst IsNormal c.self.view_is c.self.invariant.0) (length c.as_slice.result.now) (returns-clause-first c)
+    first_least c.args.self.now (subst IsNormal c.self.view_is c.self.invariant.0) (length c.get.result.now) (returns-clause-first c)

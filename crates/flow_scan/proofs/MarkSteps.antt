@@ -1,0 +1,41 @@
+-- Marks that a search by strides meets: which places they leave.
+use Rattle.std.proofs.Common.{◌≡◌, ℕ, suc, ◌+◌, ◌-◌, ◌/◌, ◌%◌, ◌^◌, ◌<◌, ◌≤◌, List, inl, inr, sym, ap, ◌∙◌, subst, arith, shr-shr}
+use Rattle.std.specs.Int.{bit_at}
+use Rattle.std.proofs.lemmas.Bool.{cases_lt}
+use Rattle.std.proofs.lemmas.Nat.Bits.{bit_at-suc, bit_at-zero}
+use Rattle.lit_base.specs.Literals.{Literals}
+use Rattle.lit_base.specs.Occurrences.{HasEnd}
+
+-- without a mark none ends there
+pub none_unmarked : (l : Literals) (text : List ℕ) (seen stride marks : ℕ) → marks ≡ 0 → ((back : ℕ) → back < stride → HasEnd l text (seen + 1 + back) → bit_at marks back ≡ 1) → (back : ℕ) → back < stride → ¬ HasEnd l text (seen + 1 + back)
+none_unmarked l text seen stride marks none covers back near here = absurd (omega (arith, sym (ap (λ m. bit_at m back) none) ∙ covers back near here, bit_at-zero back))
+
+-- the bits above one of them
+shifted_bit : (n by i : ℕ) → bit_at (n / 2 ^ by / 2) i ≡ bit_at n (by + 1 + i)
+shifted_bit n by i =
+    let sum : by + suc i ≡ by + 1 + i = omega arith in
+    sym (bit_at-suc (n / 2 ^ by) i) ∙ ap (λ x. x % 2) (shr-shr n by (suc i)) ∙ ap (bit_at n) sum
+
+-- a search has come to a mark: of the places that are left, those where a literal ends are marked
+module _ (l : Literals) (text : List ℕ) (seen count back rest : ℕ) (marked : (other : ℕ) → other < count → HasEnd l text (seen + 1 + other) → (back ≤ other) × (bit_at rest (other - back) ≡ 1))
+    (low : ℕ) (quiet : (i : ℕ) → i < low → bit_at rest i ≡ 0) where
+  -- before the lowest mark none ends
+  pub marked_first : (other : ℕ) → other < count → HasEnd l text (seen + 1 + other) → back + low ≤ other
+  marked_first other near here =
+      let at = marked other near here in
+      elim (cases_lt other (back + low)) [
+        | inl sooner ↦ absurd (omega (arith, at.1, quiet (other - back) (omega (arith, at.0, sooner))))
+        | inr later ↦ later
+      ]
+
+  -- if none ends there either, the marks above are left
+  pub marked_behind : ¬ HasEnd l text (seen + 1 + (back + low)) → (other : ℕ) → other < count → HasEnd l text (seen + 1 + other)
+      → (back + low + 1 ≤ other) × (bit_at (rest / 2 ^ low / 2) (other - (back + low + 1)) ≡ 1)
+  marked_behind none other near here =
+      let ahead = marked_first other near here in
+      let behind : back + low < other = elim (cases_lt (back + low) other) [
+        | inl later ↦ later
+        | inr same ↦ let there : other ≡ back + low = omega (arith, same, ahead) in absurd (none (subst (λ o. HasEnd l text (seen + 1 + o)) there here))
+      ] in
+      let place : low + 1 + (other - (back + low + 1)) ≡ other - back = omega (arith, behind) in
+      (omega (arith, behind), shifted_bit rest low (other - (back + low + 1)) ∙ ap (bit_at rest) place ∙ (marked other near here).1)

@@ -1,0 +1,29 @@
+//! The numbers that the search is tuned by, each with what was measured. None of them decides what is
+//! found, only how soon.
+
+/// So many candidates in a row tell how close together they are.
+pub(crate) const CROWD: usize = 4;
+
+/// A candidate at which nothing ends costs about as much as so many looks at the marks before a place:
+/// measured, five to eight.
+pub(crate) const LOOKS: usize = 5;
+
+/// A mark at which nothing ends counts as so many looks. It costs up to three times as much where marks
+/// crowd, but there the search by strides gives up by this count as well, and nothing got quicker by a
+/// higher one.
+pub(crate) const LOOKS_OF_MARK: usize = 8;
+
+/// So many bytes behind a crowd are searched by strides before the sieve is tried again. To tell a
+/// crowd takes about a thirtieth of the time that they do.
+pub(crate) const WINDOW: usize = 16384;
+
+/// Where the search by strides gave up it is not tried for so many bytes, and for twice as many each
+/// further time, up to the longest delay. Giving up takes about a tenth of the time that the sieve
+/// does for the shortest.
+pub(crate) const SHORTEST_DELAY: usize = 4096;
+
+/// The longest such delay.
+pub(crate) const LONGEST_DELAY: usize = 65536;
+
+/// So many marks more than the bytes passed pay for do not end a search by strides.
+pub(crate) const FREE_MARKS: usize = 4;

@@ -1,0 +1,19 @@
+-- One place after the other is marked.
+use Rattle.std.proofs.Common.{◌≡◌, ◌-◌, length, ap, ◌∙◌, subst, arith, below_more}
+use Rattle.lit_base.specs.Marks.{IsMarked}
+use Rattle.lit_base.specs.Suffixes.{hash_of, suffix_key}
+use Rattle.lit_base.specs.declared.suffixes.marks.TheConstants.{HASH_BITS}
+use Rattle.lit_base.proofs.suffixes.marks.mark_literal.Goals as goal
+
+pub loop-back-preserved : goal.loop-back-preserved
+loop-back-preserved c =
+    let hash : c.hash_of.result ≡ hash_of HASH_BITS (suffix_key c.args.fold c.args.literal.now (length c.args.literal.now - c.loop-back.back) c.args.width) =
+    c.hash_of.ensures.value ∙ ap (hash_of HASH_BITS) c.suffix_key-key.ensures in
+    record {
+      len = c.mark.ensures.len ∙ c.loop-back.invariant.len;
+      marked = below_more _ _ (λ back low. c.mark.ensures.kept _ back (c.loop-back.invariant.marked back low)) (subst (λ n. IsMarked c.mark.new.marks.items n c.loop-back.back) hash c.mark.ensures.marked);
+      kept = λ number back old. c.mark.ensures.kept number back (c.loop-back.invariant.kept number back old);
+    }
+
+pub mark-requires-clause-room : goal.mark-requires-clause-room
+mark-requires-clause-room c = omega (arith, c.hash_of.ensures.below, c.loop-back.invariant.len, c.requires.room)

@@ -1,0 +1,88 @@
+//! Folded literals, and whether one of them ends at a place of a text.
+ghost use Rattle.std.specs.Prelude.{◌≡◌, ◌<◌, ◌≤◌, ◌↔◌, IsTrue, length, slice_index_or};
+ghost use Rattle.lit_base.specs.Folding.{folded_text};
+ghost use Rattle.lit_base.specs.Occurrences.{Occurs};
+
+use crate::fold::{Fold, fold_byte};
+use crate::literal::Literal;
+use std::marker::Model;
+
+/// Literals, with the fold that they are compared under.
+#[derive(Debug, Drop)]
+pub(crate) struct FoldedList {
+    pub folding: Fold,
+    pub literals: Vec<Literal>,
+}
+
+impl Model for FoldedList {
+    ghost use Rattle.lit_base.specs.Literals.{Literals};
+
+    ghost Value = { Literals };
+
+    ghost view = { λ l. record { folding = l.folding; texts = l.literals.items } };
+}
+
+impl FoldedList {
+    /// These literals, under this fold.
+    pub fn new(folding: Fold, literals: Vec<Literal>) -> FoldedList
+        ensures { result ≡ record { folding = folding; texts = literals.items } }
+    {
+        FoldedList { folding, literals }
+    }
+
+    /// The fold.
+    #[inline]
+    pub fn folding(&self) -> Fold
+        ensures { result ≡ self.now.folding }
+    {
+        self.folding
+    }
+
+    /// How many literals there are.
+    #[inline]
+    pub fn len(&self) -> usize
+        ensures { result ≡ length self.now.texts }
+    {
+        self.literals.len()
+    }
+
+    /// The literal at a place.
+    #[inline]
+    pub fn get(&self, place: usize) -> &[u8]
+        requires { place < length self.now.texts }
+        ensures { result.now ≡ slice_index_or self.now.texts place result.now }
+    {
+        self.literals[place].as_slice()
+    }
+
+    /// Whether the literal at a place ends at `end` in the text.
+    pub fn ends_at(&self, place: usize, text: &[u8], end: usize) -> bool
+        requires within { place < length self.now.texts }
+        requires inside { end ≤ length text.now }
+        ensures { IsTrue result ↔ Occurs self.now text.now place end }
+    {
+        let literal = self.get(place);
+        literal.len() <= end && is_folded(self.folding, &text[end - literal.len()..end], literal)
+    }
+}
+
+/// Whether the text, folded, is the literal.
+fn is_folded(fold: Fold, text: &[u8], literal: &[u8]) -> bool
+    ensures { IsTrue result ↔ (folded_text fold text.now ≡ literal.now) }
+{
+    match fold {
+        Fold::No => text == literal,
+        Fold::Ascii => is_folded_by_bytes(Fold::Ascii, text, literal),
+    }
+}
+
+/// What `is_folded` tells, byte by byte.
+fn is_folded_by_bytes(fold: Fold, text: &[u8], literal: &[u8]) -> bool
+    ensures { IsTrue result ↔ (folded_text fold text.now ≡ literal.now) }
+{
+    text.len() == literal.len()
+        && text
+            .iter()
+            .zip(literal.iter())
+            .all(|(byte, folded)| fold_byte(fold, *byte) == *folded)
+}
