@@ -5,8 +5,8 @@
 
 use anyhow::{Result, bail, ensure};
 use flow_scan::{Compiled, Hit, Scanner, scan_all};
+use list_plan::compile;
 use lit_base::{Fold, LitList, RawList};
-use run_planner::plan;
 use std::alloc::Global;
 use std::rt::{Clock, Files};
 use std::time::Instant;
@@ -50,11 +50,7 @@ fn compiled_of(alloc: Global, file: &[u8]) -> Result<Compiled> {
     let mut raw = RawList::new(alloc);
     raw.add_file_bytes(file)?;
     let (list, _) = LitList::normal(alloc, &raw, Fold::No)?;
-    let certificate = plan(alloc, &list)?;
-    match Compiled::new(list, certificate) {
-        Ok(compiled) => Ok(compiled),
-        Err(_) => bail!("the plan is not certified"),
-    }
+    Ok(compile(alloc, list)?)
 }
 
 fn measure<R: Clock + Print + AllocGlobal>(

@@ -6,8 +6,8 @@ ghost use Rattle.grep_run.specs.Patterns.{RefusesAs, literals_refusal};
 
 use flow_scan::Compiled;
 use line_pick::standing_law;
+use list_plan::compile;
 use lit_base::{Fault, Fold, LitList, RawList};
-use run_planner::plan;
 use std::alloc::Global;
 
 /// What stands for patterns: the plan of their literals, where there are some, and whether one of them
@@ -46,11 +46,9 @@ fn planned(alloc: Global, list: LitList) -> Result<Option<Compiled>, Fault>
     if list.is_empty() {
         return Ok(None);
     }
-    match plan(alloc, &list) {
-        Ok(certificate) => match Compiled::new(list, certificate) {
-            Ok(compiled) => Ok(Some(compiled)),
-            Err(_) => unreachable!(),
-        },
+    match compile(alloc, list) {
+        Ok(compiled) => Ok(Some(compiled)),
+        // There are literals, so that only memory can be wanting.
         Err(_) => Err(Fault::OutOfMemory),
     }
 }

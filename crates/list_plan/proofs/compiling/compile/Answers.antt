@@ -1,0 +1,9 @@
+use Rattle.list_plan.specs.Planned.{IsPlanned}
+use Rattle.list_plan.proofs.compiling.compile.Goals as goal
+
+-- the plan is compiled as it was made
+pub returns-clause-planned : goal.returns-clause-planned
+returns-clause-planned c =
+    let made : IsPlanned c.args.list c.in_ok-certificate.certificate =
+    record { first = c.in_ok-certificate.ensures.first; cost = c.in_ok-certificate.ensures.cost; potentials = c.in_ok-certificate.ensures.potentials } in
+    rw c.in-Ok.ensures.ok made

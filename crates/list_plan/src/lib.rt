@@ -1,0 +1,9 @@
+//! From a list of literals to its compiled plan: planned, checked, and ready for a scanner.
+#![tactic(auto)]
+
+mod compiling;
+
+pub use compiling::compile;
+
+#[cfg(test)]
+mod tests;
