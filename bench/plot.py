@@ -1,10 +1,18 @@
-"""A plot of ratios as bars, written as SVG: how far ahead, on a scale of powers of two."""
+"""A plot of ratios as bars, written as SVG: how far ahead, on a scale of powers of two, and which side is the better one.
+
+    python3 bench/plot.py        draws the plots of the tables PROGRAMS.md and SCANNING.md again
+"""
 import math
+import os
 
 HEIGHT = 11          # of one bar
+TITLE, SIDES, SCALE, BARS = 16, 34, 50, 60
 LEFT, RIGHT = 270, 760
 LEAST, MOST = -3.0, 5.0
 AHEAD, BEHIND = ("#1b7f4b", "#7cc7a0"), ("#b3372b", "#e39a92")
+SUMMARY = ["log: one rare", "log: -n frequent", "log: -f 100 rare", "english: -i -f 1000 rare", "log: -x -f 1000",
+           "10,000 small files"]      # the rows that README shows
+HERE = os.path.dirname(os.path.abspath(__file__))
 
 
 def place(ratio):
@@ -29,14 +37,22 @@ def scale(bottom):
     lines = []
     for power in range(int(LEAST), int(MOST) + 1):
         x = place(2.0 ** power)
-        lines.append('<line x1="%.1f" y1="36" x2="%.1f" y2="%d" stroke="%s"/><text x="%.1f" y="32" text-anchor="middle">%s</text>' % (
-            x, x, bottom, "#666" if power == 0 else "#ddd", x, "%g" % 2.0 ** power))
+        lines.append('<line x1="%.1f" y1="%d" x2="%.1f" y2="%d" stroke="%s"/><text x="%.1f" y="%d" text-anchor="middle">%s</text>' % (
+            x, SCALE + 4, x, bottom, "#666" if power == 0 else "#ddd", x, SCALE, "%g" % 2.0 ** power))
     return lines
 
 
-def as_svg(title, names, rows):
+def sides(ours, others):
+    """Says on which side of 1 the better one stands."""
+    one = place(1.0)
+    text = '<text x="%.1f" y="%d" text-anchor="%s" fill="%s" font-weight="bold">%s</text>'
+    return [text % (one - 10, SIDES, "end", BEHIND[0], "&#8592; %s faster" % escaped(others)),
+            text % (one + 10, SIDES, "start", AHEAD[0], "%s faster &#8594;" % escaped(ours))]
+
+
+def as_svg(title, ours, others, names, rows):
     """The plot of rows, each a name and a ratio (or None) for each of one or two series."""
-    parts, y = [], 42
+    parts, y = sides(ours, others), BARS
     for name, ratios in rows:
         parts.append('<text x="%d" y="%d" text-anchor="end">%s</text>' % (LEFT - 8, y + HEIGHT * len(ratios) / 2 + 3, escaped(name)))
         for series, ratio in enumerate(ratios):
@@ -45,7 +61,45 @@ def as_svg(title, names, rows):
             y += HEIGHT
         y += 5
     legend = "" if len(names) < 2 else " (dark: %s, light: %s)" % tuple(escaped(n) for n in names[:2])
-    head = '<text x="%d" y="16">%s%s</text>' % (8, escaped(title), legend)
+    head = '<text x="%d" y="%d">%s%s</text>' % (8, TITLE, escaped(title), legend)
     return ('<svg xmlns="http://www.w3.org/2000/svg" width="%d" height="%d" font-family="sans-serif" font-size="10">'
             '<rect width="100%%" height="100%%" fill="white"/>%s%s%s</svg>\n' % (
                 RIGHT + 50, y + 10, head, "".join(scale(y)), "".join(parts)))
+
+
+def programs_plot(names, rows):
+    return as_svg("processor time of the best other grep / that of litgrep", "litgrep", "the best other grep", names, rows)
+
+
+def scanning_plot(names, rows):
+    return as_svg("GB/s of whole texts / those of Hyperscan's block mode", "ours", "Hyperscan", names, rows)
+
+
+def table_of(path):
+    """The heads and the rows of a file's one table."""
+    lines = [line for line in open(os.path.join(HERE, path)) if line.startswith("|")]
+    cells = [[cell.strip() for cell in line.strip().strip("|").split("|")] for line in lines]
+    return cells[0], cells[2:]
+
+
+def ratios_of(path, is_ratio):
+    """Each row's name, with the cells of the columns whose heads are ratios."""
+    heads, rows = table_of(path)
+    columns = [k for k, head in enumerate(heads) if is_ratio(head)]
+    return [(row[0], [float(row[k]) if row[k] else None for k in columns]) for row in rows]
+
+
+def main():
+    programs = ratios_of("PROGRAMS.md", lambda head: head.startswith("ahead"))
+    scanning = ratios_of("SCANNING.md", lambda head: head.endswith("/ Hyperscan block"))
+    levels = ["x86-64-v2", "x86-64-v3"]
+    with open(os.path.join(HERE, "programs.svg"), "w") as out:
+        out.write(programs_plot(levels, programs))
+    with open(os.path.join(HERE, "summary.svg"), "w") as out:
+        out.write(programs_plot(levels, [row for row in programs if row[0] in SUMMARY]))
+    with open(os.path.join(HERE, "scanning.svg"), "w") as out:
+        out.write(scanning_plot(levels, scanning))
+
+
+if __name__ == "__main__":
+    main()

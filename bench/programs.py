@@ -20,7 +20,7 @@ import sys
 import tempfile
 import time
 
-from plot import as_svg
+from plot import programs_plot
 
 HERE = os.path.dirname(os.path.abspath(__file__))
 MB = 1 << 20
@@ -288,8 +288,7 @@ def as_table(results, names, machine):
 
 def as_plot(results, names):
     ours = [name for name in names if name.startswith("litgrep")]
-    return as_svg("processor time of the best other grep / that of litgrep", ours,
-                  [(row.name, [ahead(found, name) for name in ours]) for row, found in results])
+    return programs_plot(ours, [(row.name, [ahead(found, name) for name in ours]) for row, found in results])
 
 
 def machine(size):

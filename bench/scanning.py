@@ -15,7 +15,7 @@ import subprocess
 import sys
 import tempfile
 
-from plot import as_svg
+from plot import scanning_plot
 from programs import HERE, MB, english_block, fill, log_block, machine, random_literals, rare_literal, write_lines
 
 PEERS = os.path.join(HERE, "peers/bin")
@@ -127,8 +127,7 @@ def as_table(results, tools, ours):
 
 
 def as_plot(results, ours):
-    return as_svg("GB/s of whole texts / those of Hyperscan's block mode", ours,
-                  [(result.name, [result.beside_hyperscan(name) for name in ours]) for result in results])
+    return scanning_plot(ours, [(result.name, [result.beside_hyperscan(name) for name in ours]) for result in results])
 
 
 def main():
