@@ -1,32 +1,52 @@
-# Builds the programs into bin/, tests and installs them. Only a proved program is built: the first
-# build proves each crate below it, which takes minutes; later ones only what changed.
+# Builds the programs into bin/, tests and installs them. Only a proved program is built: the first build proves each
+# crate below it, which takes minutes; later ones only what changed.
 #
-#   make                    the programs, in bin/
+#   make                    the programs, in bin/, for the processor level of this machine; -j proves crates side by side
+#   make CPU=x86-64-v2      the same for any processor of the last fifteen years
 #   make check              proves and tests everything from nothing, then runs the programs' tests
 #   make test               the programs' tests alone
 #   make bench              the programs that measure, in bin/
-#   make install PREFIX=..  copies the programs into PREFIX/bin, their manual into PREFIX/share/man
-#   CPU=x86-64-v3           builds for newer processors
+#   make install PREFIX=..  copies what was built into PREFIX/bin, the manual into PREFIX/share/man
 
 PROGRAMS = litgrep litplan
 MEASURES = bench_check bench_lanes bench_scan
 PREFIX = /usr/local
-CPU =
 
-SOURCES := crates.txt $(shell find crates -name out -prune -o -type f -print)
+# What a processor of level x86-64-v3 says of itself.
+V3_FLAGS = avx2 bmi1 bmi2 f16c fma abm movbe
+CPU := $(if $(filter-out $(shell grep -m1 '^flags' /proc/cpuinfo),$(V3_FLAGS)),x86-64-v2,x86-64-v3)
+
+CRATES := $(shell sed -nE 's/^([a-z_0-9]+).*:.*/\1/p' crates.txt)
+LIBRARIES := $(patsubst crates/%/src/lib.rt,%,$(wildcard $(CRATES:%=crates/%/src/lib.rt)))
+
+# The files of a crate, and the marks of the libraries of this repository that it stands on, by crates.txt.
+files_of = $(shell find crates/$(1) -name out -prune -o -type f -print)
+marks_below = $(patsubst %,crates/%/out/proved,$(filter $(LIBRARIES),$(shell sed -nE 's/^$(1)( .*)?:(.*)/\2/p' crates.txt)))
 
 all: $(PROGRAMS:%=bin/%)
 
+# A library is marked once it is proved.
+define library_rule
+crates/$(1)/out/proved: $$(call files_of,$(1)) $$(call marks_below,$(1))
+	@echo "proving $(1)"
+	@cd crates/$(1) && mkdir -p out && { rt lib > out/build.log 2>&1 || { cat out/build.log >&2; exit 1; }; }
+	@touch $$@
+endef
+$(foreach library,$(LIBRARIES),$(eval $(call library_rule,$(library))))
+
 # A build ends with the program's stored run, whose output is compared.
-bin/%: $(SOURCES) bin/.cpu
-	@echo "proving and building $*"
-	@cd crates/$* && mkdir -p out && \
-	if rt run $(CPU:%=--cpu=%) -- $$(cat args 2> /dev/null) < $(if $(wildcard crates/$*/stdin),stdin,/dev/null) \
+define program_rule
+bin/$(1): $$(call files_of,$(1)) $$(call marks_below,$(1)) bin/.cpu
+	@echo "proving and building $(1) for $(CPU)"
+	@cd crates/$(1) && mkdir -p out && \
+	if rt run --cpu=$(CPU) -- $$$$(cat args 2> /dev/null) < $$(if $$(wildcard crates/$(1)/stdin),stdin,/dev/null) \
 		> out/build.stdout 2> out/build.log; \
 	then test ! -f stdout || cmp out/build.stdout stdout; else cat out/build.log >&2; exit 1; fi
-	@cp crates/$*/out/$* $@
+	@cp crates/$(1)/out/$(1) $$@
+endef
+$(foreach program,$(PROGRAMS) $(MEASURES),$(eval $(call program_rule,$(program))))
 
-# The processor of the last build, so that another one builds anew.
+# The processor level of the last build, so that another one builds anew.
 bin/.cpu: FORCE
 	@mkdir -p bin
 	@echo '$(CPU)' | cmp -s - $@ || echo '$(CPU)' > $@
@@ -41,7 +61,8 @@ test: all
 # The programs that measure; bench/README.md says how they are run.
 bench: $(MEASURES:%=bin/%)
 
-install: all
+# What was built is taken as it is, for whatever processor; what was not is built.
+install: $(filter-out $(wildcard bin/*),$(PROGRAMS:%=bin/%))
 	install -d '$(DESTDIR)$(PREFIX)/bin'
 	install -m 755 $(PROGRAMS:%=bin/%) '$(DESTDIR)$(PREFIX)/bin'
 	install -d '$(DESTDIR)$(PREFIX)/share/man/man1'
