@@ -3,19 +3,43 @@ use Rattle.std.specs.Prelude.{◌≡◌, ℕ, List, length, ◌⊎◌}
 use Rattle.lit_base.specs.Literals.{Literals}
 use Rattle.nib_mask.specs.Candidates.{GivesFilterSets, IsCandidate}
 use Rattle.lane_filter.specs.Pairs.{IsPairEnd, IsPairOf}
+use Rattle.lane_filter.specs.declared.pair.BytePair.{BytePair}
 use Rattle.lane_filter.specs.declared.sieve.Sieve.{Sieve}
-use Rattle.lane_filter.specs.declared.sieve.Sieve.TheVariants.{Nibbles, Bytes, TwoPairs, ThreePairs}
+use Rattle.lane_filter.specs.declared.sieve.Sieve.TheVariants.{Nibbles, OnePair, OneExactPair, TwoPairs, TwoExactPairs, ThreePairs, ThreeExactPairs}
+
+-- one of two pairs of bytes, or of three, stands before this place of the text
+abbrev pub IsEndOfTwo : BytePair → BytePair → List ℕ → ℕ → Type 0
+IsEndOfTwo one two = λ text end. IsPairEnd one text end ⊎ IsPairEnd two text end
+
+abbrev pub IsEndOfThree : BytePair → BytePair → BytePair → List ℕ → ℕ → Type 0
+IsEndOfThree one two three = λ text end. IsPairEnd one text end ⊎ IsEndOfTwo two three text end
 
 -- an occurrence may end at this place of the text
 abbrev pub Passes : Sieve → List ℕ → ℕ → Type 0
 Passes (Nibbles masks) = IsCandidate masks
-Passes (Bytes pair) = IsPairEnd pair
-Passes (TwoPairs one two) = λ text end. IsPairEnd one text end ⊎ IsPairEnd two text end
-Passes (ThreePairs one two three) = λ text end. IsPairEnd one text end ⊎ (IsPairEnd two text end ⊎ IsPairEnd three text end)
+Passes (OnePair pair) = IsPairEnd pair
+Passes (OneExactPair exact) = IsPairEnd exact.pair
+Passes (TwoPairs any) = IsEndOfTwo any.one any.other
+Passes (TwoExactPairs any) = IsEndOfTwo any.one.pair any.other.pair
+Passes (ThreePairs any) = IsEndOfThree any.one any.other.one any.other.other
+Passes (ThreeExactPairs any) = IsEndOfThree any.one.pair any.other.one.pair any.other.other.pair
+
+-- one pair of bytes, two, or three, of each of as many literals
+abbrev pub IsOnePair : Literals → BytePair → Type 0
+IsOnePair l pair = (length l.texts ≡ 1) × IsPairOf l 0 pair
+
+abbrev pub AreTwoPairs : Literals → BytePair → BytePair → Type 0
+AreTwoPairs l one two = (length l.texts ≡ 2) × IsPairOf l 0 one × IsPairOf l 1 two
+
+abbrev pub AreThreePairs : Literals → BytePair → BytePair → BytePair → Type 0
+AreThreePairs l one two three = (length l.texts ≡ 3) × IsPairOf l 0 one × IsPairOf l 1 two × IsPairOf l 2 three
 
 -- the sieve of literals and a cut of them: tables that give their filter sets, or two bytes of each of at most three literals
 abbrev pub IsSieveOf : Literals → List ℕ → Sieve → Type 0
 IsSieveOf l ends (Nibbles masks) = GivesFilterSets l ends masks
-IsSieveOf l ends (Bytes pair) = (length l.texts ≡ 1) × IsPairOf l 0 pair
-IsSieveOf l ends (TwoPairs one two) = (length l.texts ≡ 2) × IsPairOf l 0 one × IsPairOf l 1 two
-IsSieveOf l ends (ThreePairs one two three) = (length l.texts ≡ 3) × IsPairOf l 0 one × IsPairOf l 1 two × IsPairOf l 2 three
+IsSieveOf l ends (OnePair pair) = IsOnePair l pair
+IsSieveOf l ends (OneExactPair exact) = IsOnePair l exact.pair
+IsSieveOf l ends (TwoPairs any) = AreTwoPairs l any.one any.other
+IsSieveOf l ends (TwoExactPairs any) = AreTwoPairs l any.one.pair any.other.pair
+IsSieveOf l ends (ThreePairs any) = AreThreePairs l any.one any.other.one any.other.other
+IsSieveOf l ends (ThreeExactPairs any) = AreThreePairs l any.one.pair any.other.one.pair any.other.other.pair

@@ -5,11 +5,8 @@ ghost use Rattle.lane_filter.specs.Ends.{NoneWithin, IsFirstAfter, AreMarked};
 ghost use Rattle.lane_filter.specs.Sieves.{Passes};
 
 use crate::bits::{from_bit, split_lowest};
-use crate::either::Either;
-use crate::exact_pair::ExactPair;
 use crate::marker::Marker;
 use crate::nibbles::Nibbles;
-use crate::pair::BytePair;
 use crate::sieve::Sieve;
 use std::marker::Model;
 
@@ -132,7 +129,8 @@ fn next_block<M: Marker>(marker: &M, text: &[u8], from: usize) -> Block
     wide_block(marker, text, front)
 }
 
-/// The same by a sieve.
+/// The first block after a place with an end that the sieve lets pass, or the end of the text. Which
+/// test it is, is told here and not in a loop over lanes.
 fn sieved_block(sieve: &Sieve, text: &[u8], from: usize) -> Block
     requires { from ≤ length text.now }
     ensures marked { AreMarked (Passes sieve.now text.now) from result.first result.done result.mask }
@@ -141,65 +139,13 @@ fn sieved_block(sieve: &Sieve, text: &[u8], from: usize) -> Block
 {
     match sieve {
         Sieve::Nibbles(masks) => next_block(&Nibbles::new(masks), text, from),
-        Sieve::Bytes(pair) if pair.is_exact() => next_block(&ExactPair::new(pair), text, from),
-        Sieve::Bytes(pair) => next_block(pair, text, from),
-        Sieve::TwoPairs(one, two) => block_of_two(one, two, text, from),
-        Sieve::ThreePairs(one, two, three) => block_of_three(one, two, three, text, from),
+        Sieve::OnePair(pair) => next_block(pair, text, from),
+        Sieve::OneExactPair(pair) => next_block(pair, text, from),
+        Sieve::TwoPairs(two) => next_block(two, text, from),
+        Sieve::TwoExactPairs(two) => next_block(two, text, from),
+        Sieve::ThreePairs(three) => next_block(three, text, from),
+        Sieve::ThreeExactPairs(three) => next_block(three, text, from),
     }
-}
-
-/// The same by two pairs of bytes.
-fn block_of_two(one: &BytePair, two: &BytePair, text: &[u8], from: usize) -> Block
-    requires { from ≤ length text.now }
-    ensures marked { AreMarked (Passes (Sieve.TwoPairs one.now two.now) text.now) from result.first result.done result.mask }
-    ensures within { result.done ≤ length text.now }
-    ensures ended { result.mask ≡ 0 → result.done ≡ length text.now }
-{
-    if one.is_exact() && two.is_exact() {
-        let either = Either {
-            one: ExactPair::new(one),
-            other: ExactPair::new(two),
-        };
-        return next_block(&either, text, from);
-    }
-    let either = Either {
-        one: *one,
-        other: *two,
-    };
-    next_block(&either, text, from)
-}
-
-/// The same by three pairs.
-fn block_of_three(
-    one: &BytePair,
-    two: &BytePair,
-    three: &BytePair,
-    text: &[u8],
-    from: usize,
-) -> Block
-    requires { from ≤ length text.now }
-    ensures marked { AreMarked (Passes (Sieve.ThreePairs one.now two.now three.now) text.now) from result.first result.done result.mask }
-    ensures within { result.done ≤ length text.now }
-    ensures ended { result.mask ≡ 0 → result.done ≡ length text.now }
-{
-    if one.is_exact() && two.is_exact() && three.is_exact() {
-        let either = Either {
-            one: ExactPair::new(one),
-            other: Either {
-                one: ExactPair::new(two),
-                other: ExactPair::new(three),
-            },
-        };
-        return next_block(&either, text, from);
-    }
-    let either = Either {
-        one: *one,
-        other: Either {
-            one: *two,
-            other: *three,
-        },
-    };
-    next_block(&either, text, from)
 }
 
 /// The places of a text at which an occurrence may end, in order. A contract sees the sieve, the

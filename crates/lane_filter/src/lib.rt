@@ -6,9 +6,9 @@
 //! text that a sieve lets pass, in order and each once.
 #![tactic(auto)]
 
+mod any_of;
 mod bits;
 mod candidates;
-mod either;
 mod entries;
 mod exact_pair;
 mod four;
@@ -21,7 +21,9 @@ mod plain;
 mod sieve;
 mod tables;
 
+pub use any_of::AnyOf;
 pub use candidates::Candidates;
+pub use exact_pair::ExactPair;
 pub use kernels::{any_set, filter, filter_wide};
 pub use pair::BytePair;
 pub use sieve::Sieve;

@@ -1,24 +1,35 @@
 //! What tells the places of a text at which a literal may end.
-ghost use Rattle.std.specs.Prelude.{length};
+ghost use Rattle.std.specs.Prelude.{ℕ, List, length};
 ghost use Rattle.lit_base.specs.Cuts.{IsCut};
+ghost use Rattle.lit_base.specs.Literals.{Literals};
 ghost use Rattle.nib_mask.specs.Candidates.{CoversBy};
-ghost use Rattle.lane_filter.specs.Sieves.{IsSieveOf, Passes};
+ghost use Rattle.lane_filter.specs.Pairs.{IsPairEnd};
+ghost use Rattle.lane_filter.specs.Sieves.{AreThreePairs, AreTwoPairs, IsEndOfThree, IsEndOfTwo, IsOnePair, IsSieveOf, Passes};
 
+use crate::any_of::AnyOf;
+use crate::exact_pair::ExactPair;
 use crate::pair::BytePair;
 use lit_base::{Ends, LitList};
 use nib_mask::Masks;
 
-/// What tells the places of a text at which a literal may end.
+/// What tells the places of a text at which a literal may end: each is searched for by a loop of its
+/// own.
 #[derive(Clone, Copy, Debug, PartialEq, Eq)]
 pub enum Sieve {
     /// The tables of a filter, for any number of literals.
     Nibbles(Masks),
     /// Two bytes of the only literal.
-    Bytes(BytePair),
+    OnePair(BytePair),
+    /// Two bytes of the only literal, of which the case counts.
+    OneExactPair(ExactPair),
     /// Two bytes of each of two literals.
-    TwoPairs(BytePair, BytePair),
+    TwoPairs(AnyOf<BytePair, BytePair>),
+    /// Two bytes of each of two literals, of which the case counts.
+    TwoExactPairs(AnyOf<ExactPair, ExactPair>),
     /// Two bytes of each of three literals.
-    ThreePairs(BytePair, BytePair, BytePair),
+    ThreePairs(AnyOf<BytePair, AnyOf<BytePair, BytePair>>),
+    /// Two bytes of each of three literals, of which the case counts.
+    ThreeExactPairs(AnyOf<ExactPair, AnyOf<ExactPair, ExactPair>>),
 }
 
 impl Sieve {
@@ -29,14 +40,52 @@ impl Sieve {
         ensures covers { CoversBy list.now (Passes result) }
     {
         match list.len() {
-            1 => Sieve::Bytes(BytePair::of(list, 0)),
-            2 => Sieve::TwoPairs(BytePair::of(list, 0), BytePair::of(list, 1)),
-            3 => Sieve::ThreePairs(
+            1 => Sieve::of_one(BytePair::of(list, 0)),
+            2 => Sieve::of_two(BytePair::of(list, 0), BytePair::of(list, 1)),
+            3 => Sieve::of_three(
                 BytePair::of(list, 0),
                 BytePair::of(list, 1),
                 BytePair::of(list, 2),
             ),
             _ => Sieve::Nibbles(Masks::of(list, ends)),
+        }
+    }
+
+    /// By a pair of the only literal.
+    fn of_one(pair: BytePair) -> Sieve
+        ensures sieve { (l : Literals) (ends : List ℕ) → IsOnePair l pair → IsSieveOf l ends result }
+        ensures passes { (text : List ℕ) (end : ℕ) → IsPairEnd pair text end → Passes result text end }
+    {
+        match ExactPair::of(pair) {
+            Some(exact) => Sieve::OneExactPair(exact),
+            None => Sieve::OnePair(pair),
+        }
+    }
+
+    /// By a pair of each of two literals.
+    fn of_two(one: BytePair, two: BytePair) -> Sieve
+        ensures sieve { (l : Literals) (ends : List ℕ) → AreTwoPairs l one two → IsSieveOf l ends result }
+        ensures passes { (text : List ℕ) (end : ℕ) → IsEndOfTwo one two text end
+            → Passes result text end }
+    {
+        match (ExactPair::of(one), ExactPair::of(two)) {
+            (Some(one), Some(two)) => Sieve::TwoExactPairs(AnyOf::new(one, two)),
+            _ => Sieve::TwoPairs(AnyOf::new(one, two)),
+        }
+    }
+
+    /// By a pair of each of three literals.
+    fn of_three(one: BytePair, two: BytePair, three: BytePair) -> Sieve
+        ensures sieve { (l : Literals) (ends : List ℕ) → AreThreePairs l one two three
+            → IsSieveOf l ends result }
+        ensures passes { (text : List ℕ) (end : ℕ) → IsEndOfThree one two three text end
+            → Passes result text end }
+    {
+        match (ExactPair::of(one), ExactPair::of(two), ExactPair::of(three)) {
+            (Some(one), Some(two), Some(three)) => {
+                Sieve::ThreeExactPairs(AnyOf::new(one, AnyOf::new(two, three)))
+            }
+            _ => Sieve::ThreePairs(AnyOf::new(one, AnyOf::new(two, three))),
         }
     }
 }

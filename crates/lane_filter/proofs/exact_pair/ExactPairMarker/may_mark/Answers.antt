@@ -6,5 +6,5 @@ use Rattle.lane_filter.proofs.exact_pair.ExactPairMarker.may_mark.Goals as goal
 pub returns : goal.returns
 returns c =
     let seen = c.any_lane_of.ensures in
-    told_in_four (IsPairEnd c.args.self.now.pair.now c.args.text.now) _ c.args.first _ _ _ _
+    told_in_four (IsPairEnd c.args.self.now.pair c.args.text.now) _ c.args.first _ _ _ _
     c.exact_lanes.ensures c.exact_lanes-2.ensures c.exact_lanes-3.ensures c.exact_lanes-4.ensures seen.first seen.second seen.third seen.fourth

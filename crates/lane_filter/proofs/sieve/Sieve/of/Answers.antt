@@ -14,29 +14,44 @@ inside l text place end occurs = slice_get_within l.texts place occurs.literal o
 occurs_at : (l : Literals) (text : List ℕ) (place other end : ℕ) → place ≡ other → Occurs l text place end → Occurs l text other end
 occurs_at l text place other end same occurs = subst (λ p. Occurs l text p end) same occurs
 
+pub returns-in-1-clause-sieve : goal.returns-in-1-clause-sieve
+returns-in-1-clause-sieve c =
+    c.of_one.ensures.sieve c.args.list.now c.args.ends.now.items (omega (arith, c.in-1.is, c.len.ensures.value), c.of.ensures.pair)
+
+pub returns-in-2-clause-sieve : goal.returns-in-2-clause-sieve
+returns-in-2-clause-sieve c =
+    c.of_two.ensures.sieve c.args.list.now c.args.ends.now.items
+    (omega (arith, c.in-2.is, c.len.ensures.value), c.of-in-2.ensures.pair, c.of-in-2-2.ensures.pair)
+
+pub returns-in-3-clause-sieve : goal.returns-in-3-clause-sieve
+returns-in-3-clause-sieve c =
+    c.of_three.ensures.sieve c.args.list.now c.args.ends.now.items
+    (omega (arith, c.in-3.is, c.len.ensures.value), c.of-in-3.ensures.pair, c.of-in-3-2.ensures.pair, c.of-in-3-3.ensures.pair)
+
 pub returns-in-1-clause-covers : goal.returns-in-1-clause-covers
 returns-in-1-clause-covers c text place end _ occurs =
     let l = c.args.list.now in
     let within = inside l text place end occurs in
-    c.of.ensures.stands text end (occurs_at l text place 0 end (omega (arith, within, c.in-1.is, c.len.ensures.value)) occurs)
+    c.of_one.ensures.passes text end
+    (c.of.ensures.stands text end (occurs_at l text place 0 end (omega (arith, within, c.in-1.is, c.len.ensures.value)) occurs))
 
 pub returns-in-2-clause-covers : goal.returns-in-2-clause-covers
 returns-in-2-clause-covers c text place end _ occurs =
     let l = c.args.list.now in
     let within = inside l text place end occurs in
-    elim (cases_eq place 0) [
+    c.of_two.ensures.passes text end (elim (cases_eq place 0) [
       | inl same ↦ inl (c.of-in-2.ensures.stands text end (occurs_at l text place 0 end same occurs))
       | inr other ↦ inr (c.of-in-2-2.ensures.stands text end (occurs_at l text place 1 end (omega (arith, within, other, c.in-2.is, c.len.ensures.value)) occurs))
-    ]
+    ])
 
 pub returns-in-3-clause-covers : goal.returns-in-3-clause-covers
 returns-in-3-clause-covers c text place end _ occurs =
     let l = c.args.list.now in
     let within = inside l text place end occurs in
-    elim (cases_eq place 0) [
+    c.of_three.ensures.passes text end (elim (cases_eq place 0) [
       | inl same ↦ inl (c.of-in-3.ensures.stands text end (occurs_at l text place 0 end same occurs))
       | inr not_first ↦ elim (cases_eq place 1) [
         | inl same ↦ inr (inl (c.of-in-3-2.ensures.stands text end (occurs_at l text place 1 end same occurs)))
         | inr other ↦ inr (inr (c.of-in-3-3.ensures.stands text end (occurs_at l text place 2 end (omega (arith, within, not_first, other, c.in-3.is, c.len.ensures.value)) occurs)))
       ]
-    ]
+    ])

@@ -1,16 +1,26 @@
-//! The test of ends that one of two tests lets pass.
-ghost use Rattle.std.specs.Prelude.{max};
+//! The test of ends that lets pass what one of two tests does.
+ghost use Rattle.std.specs.Prelude.{◌≡◌, max};
 
 use crate::marker::Marker;
 
 /// Two tests of ends: it lets pass what one of them does.
-#[derive(Clone, Copy)]
-pub(crate) struct Either<A, B> {
-    pub one: A,
-    pub other: B,
+#[derive(Clone, Copy, Debug, PartialEq, Eq)]
+pub struct AnyOf<A, B> {
+    one: A,
+    other: B,
 }
 
-impl<A: Marker, B: Marker> Marker for Either<A, B> {
+impl<A, B> AnyOf<A, B> {
+    #[inline(always)]
+    pub(crate) fn new(one: A, other: B) -> AnyOf<A, B>
+        ensures one { result.one ≡ one }
+        ensures other { result.other ≡ other }
+    {
+        AnyOf { one, other }
+    }
+}
+
+impl<A: Marker, B: Marker> Marker for AnyOf<A, B> {
     ghost use Rattle.std.specs.Prelude.{max, ◌⊎◌};
 
     ghost candidate = { λ s text end. A.candidate s.one text end ⊎ B.candidate s.other text end };

@@ -1,5 +1,5 @@
 use Rattle.lane_filter.proofs.PairLemmas.{either_told}
-use Rattle.lane_filter.proofs.either.EitherMarker.marks.Goals as goal
+use Rattle.lane_filter.proofs.any_of.AnyOfMarker.marks.Goals as goal
 
 pub returns : goal.returns
 returns g c =
