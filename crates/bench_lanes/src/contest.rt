@@ -181,7 +181,7 @@ fn candidates(masks: &Masks, text: &[u8]) -> u64 {
     let mut cursor = Candidates::new(&sieve, text, 0);
     let mut count = 0u64;
     for _ in 0..=text.len() {
-        if cursor.next_end().is_none() {
+        if cursor.next().is_none() {
             break;
         }
         count = count.wrapping_add(1);

@@ -99,7 +99,7 @@ fn next_sieved(
 {
     let mut start = 0;
     let mut left = CROWD;
-    while let Some(end) = candidates.next_end() {
+    while let Some(end) = candidates.next() {
         if let Some(first) = list.next_ending(text, end, 0) {
             return Ok(Some((end, first)));
         }

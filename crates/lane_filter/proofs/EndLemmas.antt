@@ -7,9 +7,9 @@ use Rattle.nib_mask.specs.declared.masks.Masks.{Masks}
 use Rattle.nib_mask.specs.Tables.{table_value}
 use Rattle.nib_mask.specs.Candidates.{IsCandidate, filter_byte_at}
 use Rattle.lane_filter.specs.Bits.{SplitsLowest}
-use Rattle.lane_filter.specs.Lanes.{Tells}
+use Rattle.lane_filter.specs.Lanes.{TellsBits}
 use Rattle.lane_filter.specs.Filtered.{IsMarked}
-use Rattle.lane_filter.specs.Ends.{NoneWithin, IsFirstAfter, AreMarked}
+use Rattle.lane_filter.specs.PlacesAfter.{NoneWithin, IsFirstAfter, AreMarked}
 
 module _ (P : ℕ → Type 0) where
   -- a stretch without places may go before
@@ -29,7 +29,7 @@ module _ (P : ℕ → Type 0) where
       let there = (m.all end low high holds).1 in
       absurd (omega (arith, there, ap (λ x. bit_at x (end - first)) none ∙ bit_at-zero (end - first)))
 
-  -- two stretches without places, one behind the other
+  -- two stretches without places, one after the other
   pub quiet_on : (from mid to : ℕ) → NoneWithin P from mid → NoneWithin P mid to → NoneWithin P from to
   quiet_on from mid to front back end low high holds =
       ⊎_elim (λ after. back end after high holds) (λ before. front end low before holds) (cases_lt mid end)
@@ -116,8 +116,8 @@ candidate_is_marked masks text place end at within =
     )
 
 -- the marks of 64 places of a text are those of the ends three places later
-pub marks_of_ends : (masks : Masks) (text : List ℕ) (place first mask : ℕ) → first ≡ place + 3 → first + 63 ≤ length text → Tells (IsMarked masks text) place 64 mask
-    → Tells (IsCandidate masks text) first 64 mask
+pub marks_of_ends : (masks : Masks) (text : List ℕ) (place first mask : ℕ) → first ≡ place + 3 → first + 63 ≤ length text → TellsBits (IsMarked masks text) place 64 mask
+    → TellsBits (IsCandidate masks text) first 64 mask
 marks_of_ends masks text place first mask start within told k =
     let at : (k < 64) → IsMarked masks text (place + k) ↔ IsCandidate masks text (first + k) =
     λ l. candidate_is_marked masks text (place + k) (first + k) (omega arith) (omega arith) in (
@@ -126,7 +126,7 @@ marks_of_ends masks text place first mask start within told k =
     )
 
 -- the marks of 64 ends, from some place after `from` on, are those of the ends after it
-pub block_marked : (P : ℕ → Type 0) (from first done whole mask : ℕ) → first + 63 ≡ done → from ≤ done → first ≤ from + 1 → Tells P first 64 whole
+pub block_marked : (P : ℕ → Type 0) (from first done whole mask : ℕ) → first + 63 ≡ done → from ≤ done → first ≤ from + 1 → TellsBits P first 64 whole
     → ((k : ℕ) → (bit_at mask k ≡ 1) ↔ ((from + 1 ≤ first + k) × (bit_at whole k ≡ 1))) → AreMarked P from first done mask
 block_marked P from first done whole mask long reached low told bits =
     marked_by_bits P from first done mask reached long low

@@ -16,14 +16,14 @@ use Rattle.lit_base.specs.Occurrences.{Occurs}
 use Rattle.nib_mask.proofs.LawLemmas.{cases_folded}
 use Rattle.nib_mask.proofs.Ranges.{get_or-range}
 use Rattle.lane_filter.proofs.LaneLemmas.{lanes_named}
-use Rattle.lane_filter.specs.Lanes.{HasLanes, SeesLanes, Tells, TellsLanes}
+use Rattle.lane_filter.specs.Lanes.{HasLanes, SeesLanes, TellsBits, TellsLanes}
 use Rattle.lane_filter.specs.Pairs.{IsPairEnd, IsPairOf, IsRareByteOf, StandsBefore, case_bit}
 use Rattle.lane_filter.specs.declared.pair.RareByte.{RareByte}
 use Rattle.lane_filter.specs.declared.pair.BytePair.{BytePair}
 
 -- the bits that both masks have tell the ends before which both bytes stand
 pub both_told : (pair : BytePair) (text : List ℕ) (first one other : ℕ) → pair.first.behind < first → pair.second.behind < first → first + 63 ≤ length text
-    → Tells (StandsBefore pair.first text) first 64 one → Tells (StandsBefore pair.second text) first 64 other → Tells (IsPairEnd pair text) first 64 (bit_and one other)
+    → TellsBits (StandsBefore pair.first text) first 64 one → TellsBits (StandsBefore pair.second text) first 64 other → TellsBits (IsPairEnd pair text) first 64 (bit_and one other)
 both_told pair text first one other after_one after_other within of_one of_other k =
     let meet = bit_at_and one other k in
     let small = bit_at-lt one k in
@@ -41,7 +41,7 @@ both_told pair text first one other after_one after_other within of_one of_other
     )
 
 -- the bits that one of two masks has tell the ends that one of two tests lets pass
-pub either_told : (P Q : ℕ → Type 0) (first one other : ℕ) → Tells P first 64 one → Tells Q first 64 other → Tells (λ end. P end ⊎ Q end) first 64 (bit_or one other)
+pub either_told : (P Q : ℕ → Type 0) (first one other : ℕ) → TellsBits P first 64 one → TellsBits Q first 64 other → TellsBits (λ end. P end ⊎ Q end) first 64 (bit_or one other)
 either_told P Q first one other of_one of_other k =
     let joined = bit_at_or one other k in
     let small = bit_at-lt one k in
@@ -73,7 +73,7 @@ told_in_lane rare text first k bytes told after l lanes tests stands =
     lanes.each k l ∙ ap (λ b. bit_or b rare.case_bit) (byte_of_lane text rare.behind first k after) ∙ stands in
     tests.each k l ∙ cond-true _ 255 0 (eq-eqb _ rare.byte same)
 
--- the same without a bit of case
+-- it is told so without a bit of case, where the case counts
 pub told_in_exact_lane : (rare : RareByte) (text : List ℕ) (first k : ℕ) (bytes told : List ℕ) → rare.case_bit ≡ 0 → rare.behind < first → k < 32
     → HasLanes bytes (λ j. get_or text (first - 1 - rare.behind + j) 0)
     → HasLanes told (λ j. cond (eqb (get_or bytes j 0) rare.byte) 255 0) → StandsBefore rare text (first + k) → get_or told k 0 ≡ 255

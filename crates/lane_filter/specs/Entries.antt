@@ -15,7 +15,7 @@ abbrev pub AreEntriesOf : List ℕ → Entries → Type 0
 AreEntriesOf table entries =
     (half : ℕ) → half < 16 → entries_value entries.halves entries.values entries.count half ≡ slice_index table half
 
--- the same for each table of the masks
+-- each table of the masks has its entries
 pub record AreMaskEntries (masks : Masks) (entries : MaskEntries) : Type 0 where
   pub third_low : AreEntriesOf (slice_index_or masks.low 0 []) entries.third_low
   pub third_high : AreEntriesOf (slice_index_or masks.high 0 []) entries.third_high

@@ -24,5 +24,5 @@ abbrev pub SeesLanes : List ℕ → Type 0 → Type 0
 SeesLanes lanes answer = (k : ℕ) → k < 32 → slice_index lanes k ≢ 0 → answer
 
 -- bit k of the mask is set if and only if P holds at place + k, for k below count, and no other bit is
-abbrev pub Tells : (ℕ → Type 0) → ℕ → ℕ → ℕ → Type 0
-Tells P place count mask = (k : ℕ) → (bit_at mask k ≡ 1) ↔ ((k < count) × P (place + k))
+abbrev pub TellsBits : (ℕ → Type 0) → ℕ → ℕ → ℕ → Type 0
+TellsBits P place count mask = (k : ℕ) → (bit_at mask k ≡ 1) ↔ ((k < count) × P (place + k))

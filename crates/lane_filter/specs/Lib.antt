@@ -1,7 +1,7 @@
 pub mod Bits
 pub mod CursorViews
 pub mod Cursors
-pub mod Ends
+pub mod PlacesAfter
 pub mod Entries
 pub mod Filtered
 pub mod Fours

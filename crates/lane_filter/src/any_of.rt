@@ -1,7 +1,7 @@
 //! The test of ends that lets pass what one of two tests does.
 ghost use Rattle.std.specs.Prelude.{◌≡◌, max};
 
-use crate::marker::Marker;
+use crate::end_test::EndTest;
 
 /// Two tests of ends: it lets pass what one of them does.
 #[derive(Clone, Copy, Debug, PartialEq, Eq)]
@@ -20,7 +20,7 @@ impl<A, B> AnyOf<A, B> {
     }
 }
 
-impl<A: Marker, B: Marker> Marker for AnyOf<A, B> {
+impl<A: EndTest, B: EndTest> EndTest for AnyOf<A, B> {
     ghost use Rattle.std.specs.Prelude.{max, ◌⊎◌};
 
     ghost candidate = { λ s text end. A.candidate s.one text end ⊎ B.candidate s.other text end };

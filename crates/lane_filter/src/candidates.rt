@@ -1,83 +1,83 @@
 //! The places of a text at which an occurrence may end.
 ghost use Rattle.std.specs.Prelude.{◌≡◌, ◌+◌, ◌<◌, ◌≤◌, length, IfSome};
 ghost use Rattle.std.specs.Option.{IfNone};
-ghost use Rattle.lane_filter.specs.Ends.{NoneWithin, IsFirstAfter, AreMarked};
+ghost use Rattle.lane_filter.specs.PlacesAfter.{NoneWithin, IsFirstAfter, AreMarked};
 ghost use Rattle.lane_filter.specs.Sieves.{Passes};
 
 use crate::bits::{from_bit, split_lowest};
-use crate::marker::Marker;
+use crate::end_test::EndTest;
 use crate::nibbles::Nibbles;
 use crate::sieve::Sieve;
 use std::marker::Model;
 
-/// Ends in a row, up to `done`: bit k of `mask` is set where `first + k` is a candidate.
+/// 64 ends in a row, up to `done`: bit k of `mask` is set where `first + k` is a candidate.
 #[derive(Clone, Copy)]
-struct Block {
+struct EndBits {
     first: usize,
     mask: u64,
     done: usize,
 }
 
-/// The candidates after a place, by look at one place after the other up to another.
-fn plain_block<M: Marker>(marker: &M, text: &[u8], from: usize, to: usize) -> Block
+/// The first candidate after a place and up to another, one place looked at after the other.
+fn plain_bits<T: EndTest>(test: &T, text: &[u8], from: usize, to: usize) -> EndBits
     requires ordered { from ≤ to }
     requires within { to ≤ length text.now }
-    ensures marked { AreMarked (M.candidate marker.now text.now) from result.first result.done result.mask }
+    ensures marked { AreMarked (T.candidate test.now text.now) from result.first result.done result.mask }
     ensures within { result.done ≤ to }
     ensures ended { result.mask ≡ 0 → result.done ≡ to }
 {
     for end in from + 1..to + 1 {
-        if marker.is_candidate(text, end) {
-            return Block {
+        if test.is_candidate(text, end) {
+            return EndBits {
                 first: end,
                 mask: 1,
                 done: end,
             };
         }
     }
-    Block {
+    EndBits {
         first: to,
         mask: 0,
         done: to,
     }
 }
 
-/// The first block after a place with a candidate, or the end of the text.
+/// The first 64 ends after a place with a candidate among them, or none at the end of the text.
 #[inline(always)]
-fn wide_block<M: Marker>(marker: &M, text: &[u8], from: usize) -> Block
-    requires long { M.reaches marker.now + 63 ≤ length text.now }
-    requires after { M.reaches marker.now ≤ from + 1 }
+fn wide_bits<T: EndTest>(test: &T, text: &[u8], from: usize) -> EndBits
+    requires long { T.reaches test.now + 63 ≤ length text.now }
+    requires after { T.reaches test.now ≤ from + 1 }
     requires within { from ≤ length text.now }
-    ensures marked { AreMarked (M.candidate marker.now text.now) from result.first result.done result.mask }
+    ensures marked { AreMarked (T.candidate test.now text.now) from result.first result.done result.mask }
     ensures within { result.done ≤ length text.now }
     ensures ended { result.mask ≡ 0 → result.done ≡ length text.now }
 {
     let mut seen = from;
     while text.len() - seen >= 64 {
-        let mask = marker.marks(text, seen + 1);
+        let mask = test.marks(text, seen + 1);
         if mask != 0 {
-            return Block {
+            return EndBits {
                 first: seen + 1,
                 mask,
                 done: seen + 64,
             };
         }
-        seen = skip_unmarked(marker, text, seen + 64);
+        seen = skip_unmarked(test, text, seen + 64);
     }
-    last_block(marker, text, seen)
+    last_bits(test, text, seen)
 }
 
 /// A place up to which there is no candidate after another, found by 128 ends at once.
 #[inline(always)]
-fn skip_unmarked<M: Marker>(marker: &M, text: &[u8], from: usize) -> usize
-    requires after { M.reaches marker.now ≤ from + 1 }
+fn skip_unmarked<T: EndTest>(test: &T, text: &[u8], from: usize) -> usize
+    requires after { T.reaches test.now ≤ from + 1 }
     requires within { from ≤ length text.now }
-    ensures behind { from ≤ result }
+    ensures after { from ≤ result }
     ensures within { result ≤ length text.now }
-    ensures quiet { NoneWithin (M.candidate marker.now text.now) from result }
+    ensures quiet { NoneWithin (T.candidate test.now text.now) from result }
 {
     let mut seen = from;
-    while text.len() - seen >= 128 && !marker.may_mark(text, seen + 1) {
+    while text.len() - seen >= 128 && !test.may_mark(text, seen + 1) {
         seen += 128;
     }
     seen
@@ -85,66 +85,66 @@ fn skip_unmarked<M: Marker>(marker: &M, text: &[u8], from: usize) -> usize
 
 /// The ends after a place, fewer than 64, as part of the last 64 ends.
 #[inline(always)]
-fn last_block<M: Marker>(marker: &M, text: &[u8], seen: usize) -> Block
-    requires long { M.reaches marker.now + 63 ≤ length text.now }
+fn last_bits<T: EndTest>(test: &T, text: &[u8], seen: usize) -> EndBits
+    requires long { T.reaches test.now + 63 ≤ length text.now }
     requires within { seen ≤ length text.now }
     requires short { length text.now < seen + 64 }
-    ensures marked { AreMarked (M.candidate marker.now text.now) seen result.first result.done result.mask }
+    ensures marked { AreMarked (T.candidate test.now text.now) seen result.first result.done result.mask }
     ensures done { result.done ≡ length text.now }
 {
     let done = text.len();
     let first = done - 63;
     if seen == done {
-        return Block {
+        return EndBits {
             first,
             mask: 0,
             done,
         };
     }
-    let whole = marker.marks(text, first);
-    Block {
+    let whole = test.marks(text, first);
+    EndBits {
         first,
         mask: from_bit(whole, seen + 1 - first),
         done,
     }
 }
 
-/// The first block after a place with a candidate, or the end of the text. A block of 64 needs as
-/// many bytes before its first end as the test looks at.
-fn next_block<M: Marker>(marker: &M, text: &[u8], from: usize) -> Block
+/// The first ends after a place with a candidate among them, or none at the end of the text. Tested
+/// 64 at a time they need as many bytes before the first of them as the test looks at.
+fn next_bits<T: EndTest>(test: &T, text: &[u8], from: usize) -> EndBits
     requires { from ≤ length text.now }
-    ensures marked { AreMarked (M.candidate marker.now text.now) from result.first result.done result.mask }
+    ensures marked { AreMarked (T.candidate test.now text.now) from result.first result.done result.mask }
     ensures within { result.done ≤ length text.now }
     ensures ended { result.mask ≡ 0 → result.done ≡ length text.now }
 {
-    let reach = marker.reach();
+    let reach = test.reach();
     if text.len() < reach + 63 {
-        return plain_block(marker, text, from, text.len());
+        return plain_bits(test, text, from, text.len());
     }
     let front = from.max(reach - 1);
-    let start = plain_block(marker, text, from, front);
+    let start = plain_bits(test, text, from, front);
     if start.mask != 0 {
         return start;
     }
-    wide_block(marker, text, front)
+    wide_bits(test, text, front)
 }
 
-/// The first block after a place with an end that the sieve lets pass, or the end of the text. Which
-/// test it is, is told here and not in a loop over lanes.
-fn sieved_block(sieve: &Sieve, text: &[u8], from: usize) -> Block
+/// The first ends after a place of which the sieve lets one pass, or none at the end of the text. The
+/// test is chosen here, before its loop over lanes.
+fn sieved_bits(sieve: &Sieve, text: &[u8], from: usize) -> EndBits
     requires { from ≤ length text.now }
     ensures marked { AreMarked (Passes sieve.now text.now) from result.first result.done result.mask }
     ensures within { result.done ≤ length text.now }
     ensures ended { result.mask ≡ 0 → result.done ≡ length text.now }
 {
     match sieve {
-        Sieve::Nibbles(masks) => next_block(&Nibbles::new(masks), text, from),
-        Sieve::OnePair(pair) => next_block(pair, text, from),
-        Sieve::OneExactPair(pair) => next_block(pair, text, from),
-        Sieve::TwoPairs(two) => next_block(two, text, from),
-        Sieve::TwoExactPairs(two) => next_block(two, text, from),
-        Sieve::ThreePairs(three) => next_block(three, text, from),
-        Sieve::ThreeExactPairs(three) => next_block(three, text, from),
+        Sieve::Nibbles(masks) => next_bits(&Nibbles::new(masks), text, from),
+        Sieve::OnePair(pair) => next_bits(pair, text, from),
+        Sieve::OneExactPair(pair) => next_bits(pair, text, from),
+        Sieve::TwoPairs(two) => next_bits(two, text, from),
+        Sieve::TwoExactPairs(two) => next_bits(two, text, from),
+        Sieve::ThreePairs(three) => next_bits(three, text, from),
+        Sieve::ThreeExactPairs(three) => next_bits(three, text, from),
     }
 }
 
@@ -193,7 +193,7 @@ impl<'a> Candidates<'a> {
 
     /// The first candidate after the last one handed out.
     #[inline(always)]
-    pub fn next_end(&mut self) -> Option<usize>
+    pub fn next(&mut self) -> Option<usize>
         ensures sieve { self.new.sieve ≡ self.old.sieve }
         ensures text { self.new.text ≡ self.old.text }
         ensures first { IfSome result (IsFirstAfter (Passes self.old.sieve self.old.text) self.old.from) }
@@ -204,10 +204,10 @@ impl<'a> Candidates<'a> {
         ensures stays { IfNone result (self.new.from ≡ self.old.from) }
     {
         if self.mask == 0 {
-            let block = sieved_block(self.sieve, self.text, self.done);
-            self.first = block.first;
-            self.mask = block.mask;
-            self.done = block.done;
+            let ends = sieved_bits(self.sieve, self.text, self.done);
+            self.first = ends.first;
+            self.mask = ends.mask;
+            self.done = ends.done;
             if self.mask == 0 {
                 return None;
             }
@@ -218,7 +218,7 @@ impl<'a> Candidates<'a> {
         Some(self.from)
     }
 
-    /// Goes on behind a place of the text, as if that were the last candidate handed out.
+    /// Goes on after a place of the text, as if that were the last candidate handed out.
     #[inline]
     pub fn skip_to(&mut self, place: usize)
         requires { place ≤ length self.old.text }

@@ -2,12 +2,11 @@
 ghost use Rattle.std.specs.Prelude.{◌≡◌, ◌↔◌, IsSome, IfSome};
 ghost use Rattle.lane_filter.specs.Pairs.{IsExact};
 
+use crate::end_test::EndTest;
 use crate::lanes::any_lane_of;
-use crate::marker::Marker;
 use crate::pair::BytePair;
 
-/// A pair of bytes of which the case counts: told without the bits of case, it is searched for a
-/// quarter faster.
+/// A pair of bytes of which the case counts, compared without the bits of case.
 #[derive(Clone, Copy, Debug, PartialEq, Eq)]
 pub struct ExactPair {
     pair: BytePair,
@@ -28,7 +27,7 @@ impl ExactPair {
     }
 }
 
-impl Marker for ExactPair {
+impl EndTest for ExactPair {
     ghost use Rattle.std.specs.Prelude.{max, ◌+◌};
     ghost use Rattle.lane_filter.specs.Pairs.{IsPairEnd};
 

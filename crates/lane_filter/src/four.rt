@@ -43,7 +43,7 @@ impl Four {
         }
     }
 
-    /// Writes the lanes from a place on, behind those that are there.
+    /// Writes the lanes from a place on, after those that are there.
     #[inline(always)]
     pub(crate) fn store(&self, bytes: &mut [u8], at: usize)
         requires { at + 128 ≤ length bytes.old }

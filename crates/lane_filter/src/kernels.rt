@@ -59,7 +59,7 @@ pub fn any_set(bytes: &[u8]) -> bool
     any_set_in(rest)
 }
 
-/// The same of a few bytes, one after the other.
+/// Whether one of a few bytes is not zero, looked at one after the other.
 fn any_set_in(bytes: &[u8]) -> bool
     ensures { IsTrue result ↔ Any (λ byte. byte ≢ 0) bytes.now }
 {

@@ -9,12 +9,12 @@
 mod any_of;
 mod bits;
 mod candidates;
+mod end_test;
 mod entries;
 mod exact_pair;
 mod four;
 mod kernels;
 mod lanes;
-mod marker;
 mod nibbles;
 mod pair;
 mod plain;

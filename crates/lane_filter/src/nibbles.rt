@@ -2,7 +2,7 @@
 ghost use Rattle.std.specs.Prelude.{◌≡◌};
 ghost use Rattle.lane_filter.specs.WideTables.{AreTablesOf};
 
-use crate::marker::Marker;
+use crate::end_test::EndTest;
 use crate::plain;
 use crate::tables::Tables;
 use nib_mask::Masks;
@@ -27,7 +27,7 @@ impl<'a> Nibbles<'a> {
     }
 }
 
-impl<'a> Marker for Nibbles<'a> {
+impl<'a> EndTest for Nibbles<'a> {
     ghost use Rattle.nib_mask.specs.Candidates.{IsCandidate};
 
     ghost candidate = { λ s. IsCandidate s.masks.now };

@@ -1,12 +1,12 @@
 //! Two bytes of a literal that are rare in usual text: where not both stand, it does not end.
 ghost use Rattle.std.specs.Prelude.{◌≡◌, ℕ, ◌+◌, ◌-◌, ◌<◌, ◌≤◌, ◌↔◌, IsTrue, List, length, slice_index, slice_index_or, max};
-ghost use Rattle.lane_filter.specs.Lanes.{HoldsBelow, Tells, TellsLanes};
+ghost use Rattle.lane_filter.specs.Lanes.{HoldsBelow, TellsBits, TellsLanes};
 ghost use Rattle.lane_filter.specs.Pairs.{IsExact, IsPairEnd, IsPairOf, IsRareByteOf, StandsBefore, case_bit};
 ghost use Rattle.lit_base.specs.declared.fold.Fold.{Fold};
 ghost use Rattle.lit_base.specs.Occurrences.{Occurs};
 
+use crate::end_test::EndTest;
 use crate::lanes::{any_lane_of, both, equal_bits, load, load_64, value_where, with_bits};
-use crate::marker::Marker;
 use lit_base::{Fold, LitList};
 use memchr::arch::all::packedpair::{DefaultFrequencyRank, HeuristicFrequencyRank};
 use std::simd::prelude::*;
@@ -71,7 +71,7 @@ impl RareByte {
         value_where(with_bits(bytes, self.case_bit), self.byte, 255)
     }
 
-    /// The same where its case counts.
+    /// 255 in each of 32 lanes where the text has a byte of which the case counts before an end.
     #[inline(always)]
     fn exact_lanes(&self, text: &[u8], first: usize) -> u8x32
         requires exact { self.now.case_bit ≡ 0 }
@@ -88,7 +88,7 @@ impl RareByte {
     fn marks(&self, text: &[u8], first: usize) -> u64
         requires after { self.now.behind < first }
         requires within { first + 63 ≤ length text.now }
-        ensures { Tells (StandsBefore self.now text.now) first 64 result }
+        ensures { TellsBits (StandsBefore self.now text.now) first 64 result }
     {
         equal_bits(self.bytes_before(text, first), self.case_bit, self.byte)
     }
@@ -140,7 +140,8 @@ impl BytePair {
         )
     }
 
-    /// The same where the case of both counts: without the bits of case searching is a quarter faster.
+    /// 255 in each of 32 lanes where both bytes, of which the case counts, stand before an end. Without
+    /// the bits of case searching is a quarter faster.
     #[inline(always)]
     pub(crate) fn exact_lanes(&self, text: &[u8], first: usize) -> u8x32
         requires exact { IsExact self.now }
@@ -155,7 +156,7 @@ impl BytePair {
     }
 }
 
-impl Marker for BytePair {
+impl EndTest for BytePair {
     ghost use Rattle.std.specs.Prelude.{max, ◌+◌};
     ghost use Rattle.lane_filter.specs.Pairs.{IsPairEnd};
 

@@ -1,6 +1,6 @@
 //! The tables of a filter as vectors, and what they give 32 or 64 places.
 ghost use Rattle.std.specs.Prelude.{ℕ, ◌+◌, ◌/◌, ◌%◌, ◌≤◌, List, length, slice_index, bit_and};
-ghost use Rattle.lane_filter.specs.Lanes.{HasLanes, HoldsTwice, Tells};
+ghost use Rattle.lane_filter.specs.Lanes.{HasLanes, HoldsTwice, TellsBits};
 ghost use Rattle.nib_mask.specs.declared.masks.Masks.{Masks};
 ghost use Rattle.nib_mask.specs.Tables.{table_value};
 
@@ -58,7 +58,7 @@ impl Tables {
     #[inline(always)]
     pub(crate) fn marks(&self, text: &[u8], at: usize) -> u64
         requires { at + 66 ≤ length text.now }
-        ensures { (masks : Masks) → AreTablesOf masks self.now → Tells (IsMarked masks text.now) at 64 result }
+        ensures { (masks : Masks) → AreTablesOf masks self.now → TellsBits (IsMarked masks text.now) at 64 result }
     {
         let front = self.filter(load(text, at), load(text, at + 1), load(text, at + 2));
         let back = self.filter(

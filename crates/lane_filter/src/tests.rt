@@ -1,3 +1,4 @@
+//! The kernels and the cursor beside the filter place by place, over lengths round each boundary.
 ghost use Rattle.std.specs.Prelude.{◌<◌, ◌≤◌, length};
 
 use crate::{Candidates, Sieve, any_set, filter, filter_wide};
@@ -127,11 +128,11 @@ fn cursor_agrees(masks: &Masks, text: &[u8], from: usize) -> bool
     let mut last = from;
     for _ in 0..=text.len() {
         let wanted = plain_next(masks, text, last);
-        if cursor.next_end() != wanted {
+        if cursor.next() != wanted {
             return false;
         }
         let Some(end) = wanted else {
-            return cursor.next_end().is_none();
+            return cursor.next().is_none();
         };
         last = end;
     }

@@ -3,7 +3,7 @@ use Rattle.std.proofs.Common.{◌≡◌, ℕ, ◌+◌, ◌<◌, ◌≤◌, lengt
 use Rattle.std.proofs.lemmas.Bool.{cases_lt}
 use Rattle.flow_scan.specs.NextEnds.{NoEndUpTo}
 use Rattle.lit_base.specs.Occurrences.{Occurs}
-use Rattle.lane_filter.specs.Ends.{IsFirstAfter, NoneWithin}
+use Rattle.lane_filter.specs.PlacesAfter.{IsFirstAfter, NoneWithin}
 use Rattle.lane_filter.specs.Sieves.{Passes}
 use Rattle.flow_scan.proofs.Steps.{all_bytes, none_before}
 use Rattle.flow_scan.proofs.endings.next_sieved.Goals as goal
@@ -46,10 +46,10 @@ pub loop-end-preserved : goal.loop-end-preserved
 loop-end-preserved c =
     let at = (goal.at.loop-end-preserved c).In_default-next_ending in
     let before = c.loop-end.invariant in
-    let reached : c.next_end.new.self.from ≡ c.in-Some.end = c.in-Some.ensures.moved in
+    let reached : c.next.new.self.from ≡ c.in-Some.end = c.in-Some.ensures.moved in
     record {
-      sieve = c.next_end.ensures.sieve ∙ before.sieve;
-      text = c.next_end.ensures.text ∙ before.text;
+      sieve = c.next.ensures.sieve ∙ before.sieve;
+      text = c.next.ensures.text ∙ before.text;
       ahead = omega (arith, reached, end_ahead at);
       none = subst (NoEndUpTo c.args.list.now c.args.text.now c.args.candidates.now.from) (sym reached) (none_to_end at);
     }

@@ -6,7 +6,7 @@ use Rattle.lane_filter.proofs.candidates.skip_unmarked.Goals as goal
 
 pub loop-seen-preserved : goal.loop-seen-preserved
 loop-seen-preserved g c =
-    let P = g.M.Marker.candidate c.args.marker.now c.args.text.now in
+    let P = g.T.EndTest.candidate c.args.test.now c.args.text.now in
     let seen = c.loop-seen.seen in (
       omega arith,
       omega arith,

@@ -1,9 +1,9 @@
 use Rattle.std.proofs.Common.{◌≤◌, ◌-◌, length}
-use Rattle.lane_filter.specs.Ends.{NoneWithin}
+use Rattle.lane_filter.specs.PlacesAfter.{NoneWithin}
 use Rattle.lane_filter.proofs.candidates.skip_unmarked.Given as goal
 
 abbrev pub invariant-loop-seen : goal.invariant-loop-seen
-invariant-loop-seen g l = (l.from ≤ l.seen) × (l.seen ≤ length l.text) × NoneWithin (g.M.Marker.candidate l.marker l.text) l.from l.seen
+invariant-loop-seen g l = (l.from ≤ l.seen) × (l.seen ≤ length l.text) × NoneWithin (g.T.EndTest.candidate l.test l.text) l.from l.seen
 
 abbrev pub decreases-loop-seen : goal.decreases-loop-seen
 decreases-loop-seen g l = length l.text - l.seen

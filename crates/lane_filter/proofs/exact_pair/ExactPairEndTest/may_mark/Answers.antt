@@ -1,7 +1,7 @@
 -- Of 128 ends at most one vector of four has the lane of one.
 use Rattle.lane_filter.specs.Pairs.{IsPairEnd}
 use Rattle.lane_filter.proofs.PairLemmas.{told_in_four}
-use Rattle.lane_filter.proofs.exact_pair.ExactPairMarker.may_mark.Goals as goal
+use Rattle.lane_filter.proofs.exact_pair.ExactPairEndTest.may_mark.Goals as goal
 
 pub returns : goal.returns
 returns c =

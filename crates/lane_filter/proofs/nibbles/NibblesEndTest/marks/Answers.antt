@@ -1,6 +1,6 @@
 use Rattle.std.proofs.Common.{◌-◌, arith}
 use Rattle.lane_filter.proofs.EndLemmas.{marks_of_ends}
-use Rattle.lane_filter.proofs.nibbles.NibblesMarker.marks.Goals as goal
+use Rattle.lane_filter.proofs.nibbles.NibblesEndTest.marks.Goals as goal
 
 pub returns : goal.returns
 returns c =

@@ -1,9 +1,9 @@
 //! Tests of the places of a text at which an occurrence may end, 64 of them at a time.
 ghost use Rattle.std.specs.Prelude.{◌≡◌, ℕ, ◌+◌, ◌<◌, ◌≤◌, ◌↔◌, IsTrue, List, length};
-ghost use Rattle.lane_filter.specs.Lanes.{Tells};
+ghost use Rattle.lane_filter.specs.Lanes.{TellsBits};
 
 /// A test of ends.
-pub(crate) trait Marker {
+pub(crate) trait EndTest {
     ghost candidate: { Self → List ℕ → ℕ → Type 0 };
 
     ghost reaches: { Self → ℕ };
@@ -31,5 +31,5 @@ pub(crate) trait Marker {
     fn marks(&self, text: &[u8], first: usize) -> u64
         requires after { reaches self.now ≤ first }
         requires within { first + 63 ≤ length text.now }
-        ensures { Tells (candidate self.now text.now) first 64 result };
+        ensures { TellsBits (candidate self.now text.now) first 64 result };
 }

@@ -1,7 +1,7 @@
 -- Of 128 ends at most one vector of four has the lane of one.
 use Rattle.lane_filter.specs.Pairs.{IsPairEnd}
 use Rattle.lane_filter.proofs.PairLemmas.{told_in_four}
-use Rattle.lane_filter.proofs.pair.BytePairMarker.may_mark.Goals as goal
+use Rattle.lane_filter.proofs.pair.BytePairEndTest.may_mark.Goals as goal
 
 pub returns : goal.returns
 returns c =
