@@ -1,4 +1,5 @@
 pub mod Certificates
 pub mod FirstTails
+pub mod OnePlan
 pub mod Splitting
 pub mod Tails

@@ -1,3 +1,5 @@
+//! Why a list was not planned.
+
 ghost use Rattle.std.specs.Prelude.{◌≡◌};
 ghost use Rattle.run_planner.specs.Faults.{number_of};
 ghost use Rattle.run_planner.specs.declared.fault.Fault.TheVariants.{OutOfMemory};

@@ -71,7 +71,7 @@ fn first_ends<M: Meter>(meter: &mut M, n: u16, rows: &[u64], runs: usize) -> End
     let mut place = 0;
     let mut left = runs;
     while place < n {
-        place = next_end(meter, n, rows, left, place);
+        place = first_run_end(meter, n, rows, left, place);
         ends.push(place);
         left -= 1;
     }
@@ -80,7 +80,7 @@ fn first_ends<M: Meter>(meter: &mut M, n: u16, rows: &[u64], runs: usize) -> End
 
 /// The end of the first run of the first of the cheapest cuts from `place` on into at most `runs`
 /// runs. It asks for no more prices than the run has places.
-fn next_end<M: Meter>(meter: &mut M, n: u16, rows: &[u64], runs: usize, place: u16) -> u16
+fn first_run_end<M: Meter>(meter: &mut M, n: u16, rows: &[u64], runs: usize, place: u16) -> u16
     requires size { M.size meter.old ≡ n }
     requires few { n ≤ 4096 }
     requires from_one { 1 ≤ runs }

@@ -1,3 +1,5 @@
+//! The plan of a list, and of the places of any meter.
+
 ghost use Rattle.std.specs.Prelude.{◌≡◌, ◌↔◌, ℕ, ◌+◌, ◌*◌, ◌^◌, ◌<◌, ◌≤◌, Err, IfOk, length};
 ghost use Rattle.lit_base.specs.Assignments.{NoAssignmentBelow};
 ghost use Rattle.lit_base.specs.Costs.{run_cost};
@@ -5,6 +7,7 @@ ghost use Rattle.lit_base.specs.Cuts.{cut_price};
 ghost use Rattle.lit_base.specs.Literals.{lengths};
 ghost use Rattle.lit_cert.specs.Certified.{IsCertified};
 ghost use Rattle.run_planner.specs.FirstCut.{IsFirstCut};
+ghost use Rattle.run_planner.specs.Plans.{IsOnlyPlan};
 ghost use Rattle.run_planner.specs.TailCosts.{AreTailCosts};
 ghost use Rattle.run_planner.specs.declared.fault.Fault.TheVariants.{NoLiterals};
 
@@ -22,6 +25,7 @@ const MOST: usize = 8;
 /// Plans the literals: the first of the cheapest cuts into at most eight runs, first by price, then
 /// by the number of runs, then by the ends; its price; and as potentials the least prices of cutting
 /// what is left. The certificate passes the check, so that no assignment to buckets is cheaper.
+/// No other one is such a plan.
 ///
 /// # Errors
 /// - `NoLiterals` where the list is empty.
@@ -32,6 +36,8 @@ pub fn plan(alloc: Global, list: &LitList) -> Result<Certificate, Fault>
     ensures cost { IfOk result (λ c. c.cost ≡ cut_price (run_cost (lengths list.now)) 0 c.ends) }
     ensures potentials { IfOk result
         (λ c. AreTailCosts (run_cost (lengths list.now)) (length list.now.texts) 8 c.potentials) }
+    ensures len { IfOk result (λ c. length c.potentials ≡ 8 * length list.now.texts) }
+    ensures only { IfOk result (IsOnlyPlan (run_cost (lengths list.now)) 8 (length list.now.texts)) }
     ensures certified { IfOk result (λ c. IsCertified 8 list.now c) }
     ensures least { IfOk result (λ c. NoAssignmentBelow 8 list.now c.cost) }
     ensures none { (result ≡ Err NoLiterals) ↔ (length list.now.texts ≡ 0) }
@@ -45,7 +51,8 @@ pub fn plan(alloc: Global, list: &LitList) -> Result<Certificate, Fault>
 
 /// Plans the meter's n places by its prices alone, as `plan` does a list by its costs: the first of
 /// the cheapest cuts into at most eight runs, its price, and the least prices of cutting what is
-/// left. With d binary digits of n it asks for at most `16 * n * d` prices, also where it finds no
+/// left. No other certificate is such a plan, so that by a list's own meter it is that of `plan`, byte
+/// for byte. With d binary digits of n it asks for at most `16 * n * d` prices, also where it finds no
 /// memory, and for none where n is 0.
 ///
 /// # Errors
@@ -59,6 +66,7 @@ pub fn plan_counted<M: Meter>(alloc: Global, n: u16, meter: &mut M) -> Result<Ce
     ensures cost { IfOk result (λ c. c.cost ≡ cut_price (M.prices meter.old) 0 c.ends) }
     ensures potentials { IfOk result (λ c. AreTailCosts (M.prices meter.old) n 8 c.potentials) }
     ensures len { IfOk result (λ c. length c.potentials ≡ 8 * n) }
+    ensures only { IfOk result (IsOnlyPlan (M.prices meter.old) 8 n) }
     ensures none { (result ≡ Err NoLiterals) ↔ (n ≡ 0) }
     ensures prices { M.prices meter.new ≡ M.prices meter.old }
     ensures size { M.size meter.new ≡ M.size meter.old }

@@ -5,8 +5,8 @@ use Rattle.run_planner.specs.TailCosts.{IsTailCost}
 use Rattle.run_planner.proofs.FirstTails.{first_tail-done}
 use Rattle.run_planner.proofs.first_cut.first_ends.Goals as goal
 
-pub next_end-place-requires-clause-filled : goal.next_end-place-requires-clause-filled
-next_end-place-requires-clause-filled g c r p from_one within inner =
+pub first_run_end-place-requires-clause-filled : goal.first_run_end-place-requires-clause-filled
+first_run_end-place-requires-clause-filled g c r p from_one within inner =
     subst (λ prices. IsTailCost prices c.args.n r p (potential c.args.rows.now c.args.n r p)) (sym c.loop-place.invariant.prices) (c.requires.filled r p from_one (omega arith) inner)
 
 pub returns-clause-first : goal.returns-clause-first

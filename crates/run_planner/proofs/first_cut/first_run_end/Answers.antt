@@ -4,7 +4,7 @@ use Rattle.lit_base.specs.Costs.{AreSmall}
 use Rattle.lit_base.specs.Potentials.{potential}
 use Rattle.lit_base.proofs.Least.{potential-inner}
 use Rattle.run_planner.proofs.FirstTails.{goes_on, fewer_at, fewer-small}
-use Rattle.run_planner.proofs.first_cut.next_end.Goals as goal
+use Rattle.run_planner.proofs.first_cut.first_run_end.Goals as goal
 
 pub returns-then-runs-eq1-clause-first : goal.returns-then-runs-eq1-clause-first
 returns-then-runs-eq1-clause-first g c =

@@ -2,6 +2,7 @@
 use Rattle.std.proofs.Common.{subst, arith}
 use Rattle.lit_base.specs.Costs.{run_cost}
 use Rattle.lit_base.specs.Literals.{lengths}
+use Rattle.run_planner.specs.Plans.{IsOnlyPlan}
 use Rattle.run_planner.specs.TailCosts.{AreTailCosts}
 use Rattle.run_planner.proofs.Certificates.{certified-from_meter}
 use Rattle.run_planner.proofs.planning.plan.Goals as goal
@@ -21,3 +22,10 @@ pub returns-clause-certified : goal.returns-clause-certified
 returns-clause-certified c =
     let given = c.in_ok-certificate.ensures in
     certified-from_meter 8 c.args.list.now c.in_ok-certificate.certificate c.len-n.result _ (omega arith) c.len-n.ensures.value c.new-meter.ensures.prices given.first given.cost given.potentials given.len
+
+pub returns-clause-only : goal.returns-clause-only
+returns-clause-only c =
+    let given = c.in_ok-certificate.ensures in
+    let certificate = c.in_ok-certificate.certificate in
+    let only = subst (λ p. IsOnlyPlan p 8 c.len-n.result certificate) c.new-meter.ensures.prices given.only in
+    subst (λ n. IsOnlyPlan (run_cost (lengths c.args.list.now)) 8 n certificate) c.len-n.ensures.value only

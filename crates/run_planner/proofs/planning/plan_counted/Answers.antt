@@ -2,9 +2,11 @@
 use Rattle.std.proofs.Common.{◌≡◌, ◌*◌, ◌<◌, ◌∙◌, ◌++◌, length, get_or, take, drop, sym, ap, subst, arith}
 use Rattle.std.proofs.lemmas.List.{get_or_read}
 use Rattle.lit_base.specs.Cuts.{cut_price}
+use Rattle.run_planner.specs.FirstCut.{IsFirstCut}
 use Rattle.run_planner.specs.TailCosts.{AreTailCosts}
 use Rattle.run_planner.proofs.FirstTails.{first_entry}
 use Rattle.run_planner.proofs.Certificates.{written_back, count_all}
+use Rattle.run_planner.proofs.OnePlan.{plan-one}
 use Rattle.run_planner.proofs.planning.plan_counted.Goals as goal
 
 pub first_cut-ends-requires-clause-filled : goal.first_cut-ends-requires-clause-filled
@@ -33,3 +35,13 @@ returns-clause-potentials g c =
 pub returns-clause-count : goal.returns-clause-count
 returns-clause-count g c d digits =
     count_all c.args.n d _ _ _ (omega arith) digits (c.fill_rows.ensures.count d digits) c.first_cut-ends.ensures.count
+
+pub returns-clause-only : goal.returns-clause-only
+returns-clause-only g c =
+    let back = written_back c.fill_rows.new.rows c.in_ok-potentials.potentials.items c.in_ok-potentials.potentials.len (omega (arith, c.fill_rows.ensures.len, c.as_mut_slice.ensures.len)) in
+    plan-one (g.M.Meter.prices c.args.meter.now) 8 c.args.n _ (record {
+      first = subst (λ prices. IsFirstCut prices 8 c.args.n c.first_cut-ends.result.items) c.fill_rows.ensures.prices c.first_cut-ends.ensures.first;
+      cost = returns-clause-cost g c;
+      potentials = returns-clause-potentials g c;
+      len = omega (arith, ap length back, c.fill_rows.ensures.len, c.as_mut_slice.ensures.len, c.in_ok-potentials.ensures.len);
+    })
