@@ -132,6 +132,6 @@ ctz-lead p xs e =
       | inr some ↦ trailing_mask_l p 64 xs (omega (arith, e)) some
     ]
 
--- the same of the newlines in the first 64 bytes
+-- the bits of the first 64 bytes tell how many of these stand before a newline
 pub first-lead : (text : List ℕ) {lanes : List ℕ} {bits : ℕ} → bits ≡ mask_l (map (λ b. eqb b 10) lanes) → length lanes ≡ 64 → lanes ≡ take 64 text → count_trailing_zeros 64 bits ≡ prefix_len (λ b. not (eqb b 10)) (take 64 text)
 first-lead text {lanes} mask e is = ap (count_trailing_zeros 64) mask ∙ ctz-lead (λ b. eqb b 10) lanes e ∙ ap (prefix_len (λ b. not (eqb b 10))) is

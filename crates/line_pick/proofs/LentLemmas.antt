@@ -106,7 +106,7 @@ Lends-held {takes = takes} {s = s} {t = t} {lines = lines} (Err halt) h starved 
 pub Lends-refused : {S T : Type 0} {takes : S → ℕ → List ℕ → Result Next Fault → S → Type 0} {s : S} (lines : List (ℕ × List ℕ)) (r : Result T Halt) → r ≡ Err (Failed StreamTooLong) → Lends takes s lines (answer_of r) s
 Lends-refused {takes = takes} {s = s} lines r e = subst (λ q. Lends takes s lines (answer_of q) s) (sym e) Refused
 
--- the same of other words for the lines
+-- lines that are the same are lent alike
 pub Lent-lines : {S : Type 0} {takes : S → ℕ → List ℕ → Result Next Fault → S → Type 0} {s t : S} {lines others : List (ℕ × List ℕ)} {answer : Result Next Fault} → lines ≡ others → Lent takes s lines answer t → Lent takes s others answer t
 Lent-lines {takes = takes} {s = s} {t = t} {answer = answer} e h = subst (λ ls. Lent takes s ls answer t) e h
 

@@ -1,7 +1,7 @@
-pub mod Blocks
+pub mod AroundHitLines
 pub mod Counts
 pub mod Crossing
-pub mod HitLemmas
+pub mod HitLineLemmas
 pub mod LastNewline
 pub mod LentLemmas
 pub mod Literals

@@ -55,48 +55,48 @@ pub open_rest-nil : open_rest [] ≡ []
 open_rest-nil = open_rest-none [] (λ k d inside. absurd (omega arith))
 
 -- lines before an open rest: it adds none, and is the open rest of both
-pub ended_lines-block : (block rest : List ℕ) → open_rest block ≡ [] → IsOnePiece rest → ended_lines (block ++ rest) ≡ ended_lines block
-ended_lines-block block rest closed one =
-    ended_lines-append block rest ∙ ap (λ r. ended_lines block ++ ended_lines (r ++ rest)) closed ∙ ap (λ ls. ended_lines block ++ ls) (ended_lines-none rest one) ∙ append-nil (ended_lines block)
+pub ended_lines-ended : (ended rest : List ℕ) → open_rest ended ≡ [] → IsOnePiece rest → ended_lines (ended ++ rest) ≡ ended_lines ended
+ended_lines-ended ended rest closed one =
+    ended_lines-append ended rest ∙ ap (λ r. ended_lines ended ++ ended_lines (r ++ rest)) closed ∙ ap (λ ls. ended_lines ended ++ ls) (ended_lines-none rest one) ∙ append-nil (ended_lines ended)
 
-pub open_rest-block : (block rest : List ℕ) → open_rest block ≡ [] → IsOnePiece rest → open_rest (block ++ rest) ≡ rest
-open_rest-block block rest closed one = open_rest-append block rest ∙ ap (λ r. open_rest (r ++ rest)) closed ∙ open_rest-none rest one
+pub open_rest-ended : (ended rest : List ℕ) → open_rest ended ≡ [] → IsOnePiece rest → open_rest (ended ++ rest) ≡ rest
+open_rest-ended ended rest closed one = open_rest-append ended rest ∙ ap (λ r. open_rest (r ++ rest)) closed ∙ open_rest-none rest one
 
 -- two parts of a line are one
 pub one-append : (front back : List ℕ) → IsOnePiece front → IsOnePiece back → IsOnePiece (front ++ back)
 one-append front back h k = All-append (λ b. b ≢ 10) front back h k
 
 -- a text cut behind its last newline
-pub last-cut : (text block rest : List ℕ) (at : ℕ) → IsLastByte (is_byte 10) text (Some at) → block ≡ take (at + 1) text → rest ≡ drop (at + 1) text → IsLastCut text block rest
-last-cut text block rest at h front back = record {
-  whole = sym (take-append-drop (at + 1) text) ∙ ap (λ b. b ++ drop (at + 1) text) (sym front) ∙ ap (λ r. block ++ r) (sym back);
+pub last-cut : (text ended rest : List ℕ) (at : ℕ) → IsLastByte (is_byte 10) text (Some at) → ended ≡ take (at + 1) text → rest ≡ drop (at + 1) text → IsLastCut text ended rest
+last-cut text ended rest at h front back = record {
+  whole = sym (take-append-drop (at + 1) text) ∙ ap (λ b. b ++ drop (at + 1) text) (sym front) ∙ ap (λ r. ended ++ r) (sym back);
   closed = ap open_rest front ∙ last-closed text at h;
   one = subst IsOnePiece (sym back) (behind-one text at h);
 }
 
--- the same by the number of bytes behind it
-pub last-cut-behind : (text block rest : List ℕ) (behind : ℕ) → behind < length text → IsOnePiece (drop (length text - behind) text) → get_or text (length text - behind - 1) 0 ≡ 10
-    → block ≡ take (length text - behind) text → rest ≡ drop (length text - behind) text → IsLastCut text block rest
-last-cut-behind text block rest behind few one newline front back =
+-- it is cut so by the number of bytes after it
+pub last-cut-behind : (text ended rest : List ℕ) (behind : ℕ) → behind < length text → IsOnePiece (drop (length text - behind) text) → get_or text (length text - behind - 1) 0 ≡ 10
+    → ended ≡ take (length text - behind) text → rest ≡ drop (length text - behind) text → IsLastCut text ended rest
+last-cut-behind text ended rest behind few one newline front back =
     let at = length text - behind - 1 in
     let cut : length text - behind ≡ at + 1 = omega (arith, few) in
     record {
-      whole = sym (take-append-drop (length text - behind) text) ∙ ap (λ b. b ++ drop (length text - behind) text) (sym front) ∙ ap (λ r. block ++ r) (sym back);
+      whole = sym (take-append-drop (length text - behind) text) ∙ ap (λ b. b ++ drop (length text - behind) text) (sym front) ∙ ap (λ r. ended ++ r) (sym back);
       closed = ap open_rest (front ∙ ap (λ n. take n text) cut ∙ take_more text at 0 (omega (arith, few)) ∙ ap (λ b. take at text ++ b ∷ []) newline) ∙ open_rest-closed (take at text);
       one = subst IsOnePiece (sym back) one;
     }
 
 -- and one without a newline
-pub last-cut-none : (text block rest : List ℕ) → IsLastByte (is_byte 10) text None → block ≡ [] → rest ≡ text → IsLastCut text block rest
-last-cut-none text block rest h front back = record {
-  whole = ap (λ b. b ++ text) (sym front) ∙ ap (λ r. block ++ r) (sym back);
+pub last-cut-none : (text ended rest : List ℕ) → IsLastByte (is_byte 10) text None → ended ≡ [] → rest ≡ text → IsLastCut text ended rest
+last-cut-none text ended rest h front back = record {
+  whole = ap (λ b. b ++ text) (sym front) ∙ ap (λ r. ended ++ r) (sym back);
   closed = ap open_rest front ∙ open_rest-nil;
   one = subst IsOnePiece (sym back) (none_last text h);
 }
 
-pub last-cut-one : (text block rest : List ℕ) → IsOnePiece text → block ≡ [] → rest ≡ text → IsLastCut text block rest
-last-cut-one text block rest one front back = record {
-  whole = ap (λ b. b ++ text) (sym front) ∙ ap (λ r. block ++ r) (sym back);
+pub last-cut-one : (text ended rest : List ℕ) → IsOnePiece text → ended ≡ [] → rest ≡ text → IsLastCut text ended rest
+last-cut-one text ended rest one front back = record {
+  whole = ap (λ b. b ++ text) (sym front) ∙ ap (λ r. ended ++ r) (sym back);
   closed = ap open_rest front ∙ open_rest-nil;
   one = subst IsOnePiece (sym back) one;
 }
@@ -126,14 +126,14 @@ lead-stops text r long is few =
     subst (λ k. get_or text k 0 ≡ 10) here (eqb-true _ _ (run_in_chunk_stops (λ b. eqb b 10) text 0 64 r 0 (omega arith) is few))
 
 -- its lines and its open rest
-pub ended_lines-cut : {text block rest : List ℕ} → IsLastCut text block rest → ended_lines text ≡ ended_lines block
-ended_lines-cut {text} {block} {rest} cut = ap ended_lines cut.whole ∙ ended_lines-block block rest cut.closed cut.one
+pub ended_lines-cut : {text ended rest : List ℕ} → IsLastCut text ended rest → ended_lines text ≡ ended_lines ended
+ended_lines-cut {text} {ended} {rest} cut = ap ended_lines cut.whole ∙ ended_lines-ended ended rest cut.closed cut.one
 
-pub open_rest-cut : {text block rest : List ℕ} → IsLastCut text block rest → open_rest text ≡ rest
-open_rest-cut {text} {block} {rest} cut = ap open_rest cut.whole ∙ open_rest-block block rest cut.closed cut.one
+pub open_rest-cut : {text ended rest : List ℕ} → IsLastCut text ended rest → open_rest text ≡ rest
+open_rest-cut {text} {ended} {rest} cut = ap open_rest cut.whole ∙ open_rest-ended ended rest cut.closed cut.one
 
-pub length-cut : {text block rest : List ℕ} → IsLastCut text block rest → length text ≡ length block + length rest
-length-cut {text} {block} {rest} cut = ap length cut.whole ∙ length-append block rest
+pub length-cut : {text ended rest : List ℕ} → IsLastCut text ended rest → length text ≡ length ended + length rest
+length-cut {text} {ended} {rest} cut = ap length cut.whole ∙ length-append ended rest
 
 -- bytes before the first line belong to it
 pub first-held : (held : List ℕ) {text line rest : List ℕ} → IsOnePiece held → IsFirstLine text line rest → IsFirstLine (held ++ text) (held ++ line) rest

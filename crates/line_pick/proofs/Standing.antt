@@ -15,7 +15,7 @@ use Rattle.lit_base.proofs.NormalForms.{folded_text-folded_text}
 use Rattle.lit_base.proofs.Members.{In, contains_from_in, in_from_contains}
 use Rattle.lit_base.proofs.PieceLemmas.{null_if}
 use Rattle.flow_scan.specs.Plans.{Plan}
-use Rattle.line_pick.specs.Matching.{AreInLines, StandingLaw, StandsFor, fold_of, literals_of, patterns_of}
+use Rattle.line_pick.specs.Matching.{AreInLines, StandingLaw, StandsFor, fold_of, literals_of, literals_and_null}
 use Rattle.line_pick.proofs.Patterns.{null-misses, null-matches, null-occurs, null-whole, none-matches}
 
 -- an element of a mapped list comes from one of the list
@@ -103,7 +103,7 @@ null_alone fold true true line = by (eqb (length line) 0) refl
 
 -- a plan matches under the fold of the raw patterns
 plan-matches : (fold : Fold) (raw : List (List ℕ)) (plan : Option Plan) (has_empty whole : Bool) (line : List ℕ) → StandsFor fold raw plan has_empty
-    → matches (fold_of plan) whole (patterns_of plan has_empty) line ≡ matches fold whole raw line
+    → matches (fold_of plan) whole (literals_and_null plan has_empty) line ≡ matches fold whole raw line
 plan-matches fold raw None has_empty whole line h = null_alone fold whole has_empty line ∙ normal-matches fold raw [] has_empty h.form h.null whole line
 plan-matches fold raw (Some p) has_empty whole line h =
     ap (λ f. matches f whole (p.literals.texts ++ null_if has_empty) line) h.fold ∙ normal-matches fold raw p.literals.texts has_empty h.form h.null whole line

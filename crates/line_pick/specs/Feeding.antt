@@ -13,7 +13,7 @@ use Rattle.line_pick.specs.Picking.{Picking, answer_in, fed_state, finished_stat
 abbrev pub picked : Picking → List (List ℕ) → List (ℕ × List ℕ)
 picked p lines = numbered (selects p.plan p.has_empty p.rule) p.lines lines
 
--- the picker behind a piece, which goes on with the open rest of what it held and the piece
+-- the picker after a piece, which goes on with the open rest of what it held and the piece
 abbrev pub fed : Picking → List ℕ → Picking
 fed p piece = record p {
   held = open_rest (p.held ++ piece);

@@ -8,7 +8,7 @@ use Rattle.line_pick.specs.declared.halt.Halt.TheVariants.{Stopped, Failed}
 use Rattle.line_pick.specs.declared.sink.Next.{Next}
 use Rattle.line_pick.specs.declared.sink.Next.TheVariants.{More, Stop}
 
--- those of some lines that pass a test, with their numbers, behind so many lines
+-- those of some lines that pass a test, with their numbers, after so many lines
 abbrev pub numbered : (List ℕ → Bool) → ℕ → List (List ℕ) → List (ℕ × List ℕ)
 numbered test before lines = filter (λ l. test l.1) (enumerate_from (before + 1) lines)
 
@@ -18,7 +18,7 @@ pub data Lent {S : Type 0} (takes : S → ℕ → List ℕ → Result Next Fault
   OneMore : {s t u : S} {number : ℕ} {line : List ℕ} {rest : List (ℕ × List ℕ)} {answer : Result Next Fault} → takes s number line (Ok More) t → Lent takes t rest answer u → Lent takes s ((number, line) ∷ rest) answer u
   LastOne : {s t : S} {number : ℕ} {line : List ℕ} {rest : List (ℕ × List ℕ)} {answer : Result Next Fault} → takes s number line answer t → answer ≢ Ok More → Lent takes s ((number, line) ∷ rest) answer t
 
--- lines are lent; or memory ran out behind a front of them; or none is, where the stream would become too long
+-- lines are lent; or memory ran out after a front of them; or none is, where the stream would become too long
 pub data Lends {S : Type 0} (takes : S → ℕ → List ℕ → Result Next Fault → S → Type 0) : S → List (ℕ × List ℕ) → Result Next Fault → S → Type 0 where
   Whole : {s t : S} {lines : List (ℕ × List ℕ)} {answer : Result Next Fault} → Lent takes s lines answer t → Lends takes s lines answer t
   Starved : {s t : S} {lines : List (ℕ × List ℕ)} (front rest : List (ℕ × List ℕ)) → lines ≡ front ++ rest → Lent takes s front (Ok More) t → Lends takes s lines (Err OutOfMemory) t

@@ -1,7 +1,7 @@
 pub mod Cutting
 pub mod Faults
 pub mod Feeding
-pub mod Hits
+pub mod HitLines
 pub mod Lending
 pub mod Matching
 pub mod Picking

@@ -21,20 +21,20 @@ fold_of None = No
 fold_of (Some plan) = plan.literals.folding
 
 -- the patterns: the literals, and the null pattern if there is one
-abbrev pub patterns_of : Option Plan → Bool → List (List ℕ)
-patterns_of plan has_empty = literals_of plan ++ (if has_empty then [] ∷ [] else [])
+abbrev pub literals_and_null : Option Plan → Bool → List (List ℕ)
+literals_and_null plan has_empty = literals_of plan ++ (if has_empty then [] ∷ [] else [])
 
 -- whether a line is selected
 abbrev pub selects : Option Plan → Bool → LineRule → List ℕ → Bool
-selects plan has_empty rule = is_selected (fold_of plan) rule.whole rule.invert (patterns_of plan has_empty)
+selects plan has_empty rule = is_selected (fold_of plan) rule.whole rule.invert (literals_and_null plan has_empty)
 
--- the same, by what a picker compares lines with
+-- whether it is, by what a picker compares lines with
 abbrev pub picks : Matcher → List ℕ → Bool
 picks m = selects (option_copied m.plan) m.has_empty m.rule
 
 -- whether a line matches by it, as a whole or in part
 abbrev pub matched : Matcher → Bool → List ℕ → Bool
-matched m whole = matches (fold_of (option_copied m.plan)) whole (patterns_of (option_copied m.plan) m.has_empty)
+matched m whole = matches (fold_of (option_copied m.plan)) whole (literals_and_null (option_copied m.plan) m.has_empty)
 
 -- no literal holds a newline
 abbrev pub AreInLines : Option Plan → Type 0

@@ -65,8 +65,8 @@ fn newlines_in_stretch(text: &[u8], start: usize) -> u8x64
     lanes
 }
 
-/// The same from a place on that is less than a stretch before the end, and where counting ended:
-/// fewer than 64 bytes before the end. Wider steps, with a loop for what they left, took 1.2 times as
+/// How many newlines stand from a place on that is less than a stretch before the end, lane by lane,
+/// and where counting ended: fewer than 64 bytes before the end. Wider steps, with a loop for what they left, took 1.2 times as
 /// long for the few lines between two hits: where a loop ends there is not foreseen.
 #[inline(always)]
 fn newlines_behind(text: &[u8], start: usize) -> (u8x64, usize)
@@ -132,8 +132,9 @@ pub(crate) fn first_newline(text: &[u8]) -> usize
     newline_bits(load(text, 0)).trailing_zeros() as usize
 }
 
-/// The same of the first 128 bytes, by one look at both halves: which of them has the newline is not
-/// foreseen, where lines are about as long as one.
+/// How many bytes stand before the first newline of a text, or 128 or more where its first 128 bytes
+/// are none, by one look at both halves: which of them has the newline is not foreseen, where lines are
+/// about as long as one.
 #[inline(always)]
 pub(crate) fn first_newline_of_two(text: &[u8]) -> usize
     requires { 128 ≤ length text.now }
@@ -146,7 +147,7 @@ pub(crate) fn first_newline_of_two(text: &[u8]) -> usize
     if near < LANES { near } else { far }
 }
 
-/// How many bytes stand behind the last newline of a text, or 64 where its last 64 bytes are none.
+/// How many bytes stand after the last newline of a text, or 64 where its last 64 bytes are none.
 #[inline(always)]
 pub(crate) fn bytes_behind_newline(text: &[u8]) -> usize
     requires long { 64 ≤ length text.now }
@@ -175,7 +176,7 @@ fn newline_bits(bytes: u8x64) -> u64
     bytes.simd_eq(u8x64::splat(b'\n')).to_bitmask()
 }
 
-/// The same count, byte by byte.
+/// How many newlines the text has, byte by byte.
 fn count_one_by_one(text: &[u8]) -> usize
     ensures { result ≡ count_by (λ b. b == 10) text.now }
 {

@@ -6,7 +6,7 @@ ghost use Rattle.line_pick.specs.Cutting.{IsFirstLine, IsLastCut};
 use crate::counting::{LANES, bytes_behind_newline, first_newline, first_newline_of_two};
 use memchr::{memchr, memrchr};
 
-/// The text before the first newline, and the text behind it, if there is a newline.
+/// The text before the first newline, and the text after it, if there is a newline.
 #[inline(always)]
 pub(crate) fn split_line(text: &[u8]) -> Option<(&[u8], &[u8])>
     ensures { MatchOption result
@@ -18,7 +18,8 @@ pub(crate) fn split_line(text: &[u8]) -> Option<(&[u8], &[u8])>
     Some((line, &behind[1..]))
 }
 
-/// The same where the newline is near: for some bytes one look takes less time than a search.
+/// The text before and after the first newline, if there is one, by one look where it is near: for some
+/// bytes that takes less time than a search.
 #[inline(always)]
 pub(crate) fn split_near_line(text: &[u8]) -> Option<(&[u8], &[u8])>
     ensures { MatchOption result
@@ -35,7 +36,7 @@ pub(crate) fn split_near_line(text: &[u8]) -> Option<(&[u8], &[u8])>
     split_line(text)
 }
 
-/// The text up to its last newline, with it, and the text behind it.
+/// The text up to its last newline, with it, and the text after it.
 pub(crate) fn split_ended(text: &[u8]) -> (&[u8], &[u8])
     ensures { IsLastCut text.now result.0.now result.1.now }
 {
@@ -45,9 +46,9 @@ pub(crate) fn split_ended(text: &[u8]) -> (&[u8], &[u8])
     }
 }
 
-/// The same of the front of a text, by one look where the newline is near, or where the front is short
-/// and has none: for some bytes a search from the end takes longer. With the look at 128 bytes behind a
-/// hit, a search for a frequent literal is 1.05 to 1.1 times as fast.
+/// The front of a text up to its last newline, and what stands after it, by one look where the newline
+/// is near, or where the front is short and has none: for some bytes a search from the end takes longer.
+/// With the look at 128 bytes after a hit, a search for a frequent literal is 1.05 to 1.1 times as fast.
 #[inline(always)]
 pub(crate) fn split_front<'t>(front: &'t [u8], text: &[u8]) -> (&'t [u8], &'t [u8])
     requires { front.now ≡ take (length front.now) text.now }
@@ -62,7 +63,8 @@ pub(crate) fn split_front<'t>(front: &'t [u8], text: &[u8]) -> (&'t [u8], &'t [u
     split_ended(front)
 }
 
-/// What `split_ended` says of a text of at least 64 bytes, by one look where its last newline is near.
+/// A text of at least 64 bytes up to its last newline, and what stands after it, by one look where this
+/// newline is near.
 #[inline(always)]
 fn split_near_end(text: &[u8]) -> (&[u8], &[u8])
     requires { 64 ≤ length text.now }

@@ -1,12 +1,11 @@
 //! The selected lines of a text that comes in pieces, lent one by one with their numbers.
 #![tactic(auto)]
 
-mod block;
 mod counting;
 mod cutting;
 mod fault;
 mod halt;
-mod hit;
+mod hit_line;
 mod lending;
 mod line_rule;
 mod matcher;
@@ -14,6 +13,7 @@ mod picker;
 mod progress;
 mod sink;
 mod state;
+mod text_lending;
 
 pub use fault::Fault;
 pub use line_rule::LineRule;

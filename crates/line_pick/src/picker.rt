@@ -83,7 +83,7 @@ impl<'p> Picker<'p> {
     ///
     /// The line to which the sink answers `Stop` or a fault is the last one lent, and the answer is
     /// the same. `StreamTooLong` comes where the bytes fed would pass 2^64 - 1, before any line is
-    /// lent; `OutOfMemory` also where the open line cannot be kept, behind the lines lent so far.
+    /// lent; `OutOfMemory` also where the open line cannot be kept, after the lines lent so far.
     /// A picker that stopped, failed or finished lends nothing: it answers `Stop`, or its fault again.
     pub fn feed<S: Sink>(&mut self, piece: &[u8], sink: &mut S) -> Result<Next, Fault>
         ensures running { self.old.state ≡ Running

@@ -6,13 +6,13 @@ ghost use Rattle.line_pick.specs.Lending.{Lends, Lent, answer_of, numbered};
 ghost use Rattle.line_pick.specs.Matching.{AreInLines, picks};
 ghost use Rattle.line_pick.specs.Progresses.{IsSound};
 
-use crate::block::lend_block;
 use crate::cutting::{split_ended, split_line};
 use crate::fault::Fault;
 use crate::halt::Halt;
 use crate::lending::lend_selected;
 use crate::matcher::Matcher;
 use crate::sink::Sink;
+use crate::text_lending::lend_text;
 use std::alloc::Global;
 
 /// The line that no newline has ended yet, and how far a text has come.
@@ -75,7 +75,7 @@ impl Progress {
         }
     }
 
-    /// Holds the bytes behind those that it holds.
+    /// Holds the bytes after those that it holds.
     fn hold(&mut self, bytes: &[u8]) -> Result<(), Halt>
         ensures ok { OnOk result (self.new.held.items ≡ self.old.held.items ++ bytes.now) }
         ensures err { OnErr result (self.new.held.items ≡ self.old.held.items) }
@@ -137,8 +137,8 @@ impl Progress {
     {
         // Read here, it is known to fit, and so is the number of lines.
         let _bytes = self.bytes;
-        let (block, open) = split_ended(text);
-        self.lines = lend_block(matcher, block, self.lines, sink)?;
+        let (ended, open) = split_ended(text);
+        self.lines = lend_text(matcher, ended, self.lines, sink)?;
         self.hold(open)
     }
 

@@ -8,8 +8,8 @@ use Rattle.line_pick.proofs.LentLemmas.{Lent-lines, Lends-held, OnOk-any, either
 use Rattle.line_pick.proofs.Newlines.{ended_lines-cut, open_rest-cut, length-cut}
 use Rattle.line_pick.proofs.progress.Progress.take_lines.Goals as goal
 
-pub lend_block-requires-clause-fits : goal.lend_block-requires-clause-fits
-lend_block-requires-clause-fits g c = omega (arith, c.requires.counted, length-cut c.split_ended.ensures)
+pub lend_text-requires-clause-fits : goal.lend_text-requires-clause-fits
+lend_text-requires-clause-fits g c = omega (arith, c.requires.counted, length-cut c.split_ended.ensures)
 
 pub returns-in_err-self-clause-lent : goal.returns-in_err-self-clause-lent
 returns-in_err-self-clause-lent g c =

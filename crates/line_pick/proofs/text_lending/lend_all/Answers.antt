@@ -5,7 +5,7 @@ use Rattle.line_pick.specs.Lending.{NoneLeft, numbered}
 use Rattle.line_pick.specs.Matching.{picks}
 use Rattle.line_pick.proofs.Crossing.{length-ended_lines}
 use Rattle.line_pick.proofs.LentLemmas.{Lent-lines, numbered-none, numbered-same}
-use Rattle.line_pick.proofs.block.lend_all.Goals as goal
+use Rattle.line_pick.proofs.text_lending.lend_all.Goals as goal
 
 pub returns-then-selected-clause-lent : goal.returns-then-selected-clause-lent
 returns-then-selected-clause-lent g c =

@@ -4,9 +4,9 @@ use Rattle.std.proofs.lemmas.Result.{err_from_is_err_and}
 use Rattle.lit_base.specs.Lines.{ended_lines}
 use Rattle.lit_base.specs.Selected.{is_selected}
 use Rattle.line_pick.specs.Lending.{answer_of, numbered}
-use Rattle.line_pick.proofs.Blocks.{hit-closed, hit-count, hit-length, hit-numbered, missed-numbered}
+use Rattle.line_pick.proofs.AroundHitLines.{hit-closed, hit-count, hit-length, hit-numbered, missed-numbered}
 use Rattle.line_pick.proofs.LentLemmas.{Lent-lines, LentOn-front, LentOn-last, answer_to-More}
-use Rattle.line_pick.proofs.block.lend_hits.Goals as goal
+use Rattle.line_pick.proofs.text_lending.lend_hit_lines.Goals as goal
 
 pub returns-in_err-lines-clause-lent : goal.returns-in_err-lines-clause-lent
 returns-in_err-lines-clause-lent g c =

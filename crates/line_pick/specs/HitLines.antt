@@ -8,8 +8,8 @@ use Rattle.lit_base.specs.Selected.{matches}
 abbrev pub AllMiss : Literals → List ℕ → Type 0
 AllMiss l text = All (λ line. matches l.folding false l.texts line ≡ false) (ended_lines text)
 
--- the first line that holds one: the lines before it, the line, and what stands behind its newline
-pub record IsFirstHit (l : Literals) (text missed line rest : List ℕ) : Type 0 where
+-- the first line that holds one: the lines before it, the line, and what stands after its newline
+pub record IsFirstHitLine (l : Literals) (text missed line rest : List ℕ) : Type 0 where
   pub whole : text ≡ missed ++ (line ++ 10 ∷ rest)
   pub closed : open_rest missed ≡ []
   pub one : IsOnePiece line

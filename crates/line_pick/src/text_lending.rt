@@ -1,4 +1,4 @@
-//! How the lines of a block are lent: without -x those alone that are lent are split.
+//! How the lines of a text are lent: without -x those alone that are lent are split.
 ghost use Rattle.std.specs.Prelude.{◌≡◌, ◌≢◌, ◌≤◌, ◌<◌, ◌+◌, ◌^◌, ◌∷◌, [], All, IfOk, false, length};
 ghost use Rattle.std.specs.Option.{option_copied};
 ghost use Rattle.lit_base.specs.Lines.{IsOnePiece, ended_lines, open_rest};
@@ -9,7 +9,7 @@ ghost use Rattle.line_pick.specs.Matching.{AreInLines, picks};
 use crate::counting::count_newlines;
 use crate::fault::Fault;
 use crate::halt::Halt;
-use crate::hit::first_hit;
+use crate::hit_line::first_hit_line;
 use crate::lending::{lend_if, lend_lines};
 use crate::matcher::Matcher;
 use crate::sink::Sink;
@@ -17,54 +17,54 @@ use flow_scan::Compiled;
 
 /// Lends the selected ones of the lines of a text that a newline ends, and answers how many lines
 /// there are by then. So many stand before the text.
-pub(crate) fn lend_block<S: Sink>(
+pub(crate) fn lend_text<S: Sink>(
     matcher: Matcher<'_>,
-    block: &[u8],
+    text: &[u8],
     before: u64,
     sink: &mut S,
 ) -> Result<u64, Halt>
-    requires fits { before + length block.now < 2 ^ 64 }
-    requires closed { open_rest block.now ≡ [] }
+    requires fits { before + length text.now < 2 ^ 64 }
+    requires closed { open_rest text.now ≡ [] }
     requires apart { AreInLines (option_copied matcher.plan) }
     ensures lent { Lent S.takes sink.old
-        (numbered (picks matcher.entry) before (ended_lines block.now)) (answer_of result) sink.new }
-    ensures count { IfOk result (λ lines. lines ≡ before + length (ended_lines block.now)) }
-    ensures bound { IfOk result (λ lines. lines ≤ before + length block.now) }
+        (numbered (picks matcher.entry) before (ended_lines text.now)) (answer_of result) sink.new }
+    ensures count { IfOk result (λ lines. lines ≡ before + length (ended_lines text.now)) }
+    ensures bound { IfOk result (λ lines. lines ≤ before + length text.now) }
     ensures faults { result ≢ Err (Halt.Failed Fault.StreamTooLong) }
 {
     if matcher.rule.whole {
-        return lend_lines(matcher, block, before, sink);
+        return lend_lines(matcher, text, before, sink);
     }
     if matcher.has_empty {
-        return lend_all(!matcher.rule.invert, block, before, sink);
+        return lend_all(!matcher.rule.invert, text, before, sink);
     }
     match matcher.plan {
-        Some(compiled) => lend_hits(compiled, matcher.rule.invert, block, before, sink),
-        None => lend_all(matcher.rule.invert, block, before, sink),
+        Some(compiled) => lend_hit_lines(compiled, matcher.rule.invert, text, before, sink),
+        None => lend_all(matcher.rule.invert, text, before, sink),
     }
 }
 
 /// Lends the lines that hold a literal, or under `invert` the others.
-fn lend_hits<S: Sink>(
+fn lend_hit_lines<S: Sink>(
     compiled: &Compiled,
     invert: bool,
-    block: &[u8],
+    text: &[u8],
     before: u64,
     sink: &mut S,
 ) -> Result<u64, Halt>
-    requires fits { before + length block.now < 2 ^ 64 }
-    requires closed { open_rest block.now ≡ [] }
+    requires fits { before + length text.now < 2 ^ 64 }
+    requires closed { open_rest text.now ≡ [] }
     requires apart { All IsOnePiece compiled.now.literals.texts }
     ensures lent { let list = compiled.now.literals in Lent S.takes sink.old
-        (numbered (is_selected list.folding false invert list.texts) before (ended_lines block.now))
+        (numbered (is_selected list.folding false invert list.texts) before (ended_lines text.now))
         (answer_of result) sink.new }
-    ensures count { IfOk result (λ lines. lines ≡ before + length (ended_lines block.now)) }
-    ensures bound { IfOk result (λ lines. lines ≤ before + length block.now) }
+    ensures count { IfOk result (λ lines. lines ≡ before + length (ended_lines text.now)) }
+    ensures bound { IfOk result (λ lines. lines ≤ before + length text.now) }
     ensures faults { result ≢ Err (Halt.Failed Fault.StreamTooLong) }
 {
-    let mut rest = block;
+    let mut rest = text;
     let mut lines = before;
-    while let Some(hit) = first_hit(compiled, rest) {
+    while let Some(hit) = first_hit_line(compiled, rest) {
         lines = lend_all(invert, hit.missed, lines, sink)?;
         lend_if(!invert, hit.line, lines, sink)?;
         lines += 1;

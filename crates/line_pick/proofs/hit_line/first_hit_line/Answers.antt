@@ -3,8 +3,8 @@ use Rattle.std.proofs.Common.{◌-◌, ap, length, subst, arith}
 use Rattle.std.proofs.lemmas.List.{length-drop}
 use Rattle.lit_base.specs.Literals.{IsNormal}
 use Rattle.line_pick.proofs.Newlines.{front-whole}
-use Rattle.line_pick.proofs.HitLemmas.{first-hit, line-room, misses-all, no-hit-open}
-use Rattle.line_pick.proofs.hit.first_hit.Goals as goal
+use Rattle.line_pick.proofs.HitLineLemmas.{first-hit, line-room, misses-all, no-hit-open}
+use Rattle.line_pick.proofs.hit_line.first_hit_line.Goals as goal
 
 pub returns-in_err-end : goal.returns-in_err-end
 returns-in_err-end c =

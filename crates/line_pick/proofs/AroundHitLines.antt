@@ -1,4 +1,4 @@
--- The lines of a block: those before a hit, the hit's line, and those behind it.
+-- The lines of a text: those before a line with a literal, this line, and those after it.
 use Rattle.std.proofs.Common.{◌≡◌, ℕ, suc, ◌+◌, Bool, true, false, not, cond, List, [], ◌∷◌, ◌++◌, length, Some, None, refl, sym, ap, ◌∙◌}
 use Rattle.std.specs.Option.{option_copied}
 use Rattle.std.proofs.lemmas.List.{length-append}
@@ -8,9 +8,9 @@ use Rattle.lit_base.specs.Selected.{is_selected, matches}
 use Rattle.lit_base.proofs.EndedLemmas.{ended_lines-append, ended_lines-newline, open_rest-append, open_rest-newline}
 use Rattle.flow_scan.specs.Plans.{Plan}
 use Rattle.line_pick.specs.declared.matcher.Matcher.{Matcher}
-use Rattle.line_pick.specs.Hits.{AllMiss, IsFirstHit}
+use Rattle.line_pick.specs.HitLines.{AllMiss, IsFirstHitLine}
 use Rattle.line_pick.specs.Lending.{numbered}
-use Rattle.line_pick.specs.Matching.{fold_of, literals_of, patterns_of, picks}
+use Rattle.line_pick.specs.Matching.{fold_of, literals_of, literals_and_null, picks}
 use Rattle.line_pick.proofs.LentLemmas.{numbered-append, numbered-cons, numbered-same}
 use Rattle.line_pick.proofs.Patterns.{by_plan, no_plan, null-matches, null-misses, null-occurs}
 
@@ -30,7 +30,7 @@ module _ (l : Literals) (invert : Bool) where
       numbered-same (is_selected l.folding false invert l.texts) (λ _. invert) before (ended_lines text)
       (λ k d inside. ap (λ m. cond invert (not m) m) (misses k d inside) ∙ select_missed invert)
 
-  module _ (rest missed line behind : List ℕ) (hit : IsFirstHit l rest missed line behind) where
+  module _ (rest missed line behind : List ℕ) (hit : IsFirstHitLine l rest missed line behind) where
     hit-lines : ended_lines rest ≡ ended_lines missed ++ line ∷ ended_lines behind
     hit-lines =
         ap ended_lines hit.whole ∙ ended_lines-append missed (line ++ 10 ∷ behind) ∙ ap (λ r. ended_lines missed ++ ended_lines (r ++ (line ++ 10 ∷ behind))) hit.closed
@@ -64,16 +64,16 @@ module _ (l : Literals) (invert : Bool) where
 -- a matcher that does not ask for whole lines
 module _ (m : Matcher) (part : m.rule.whole ≡ false) (line : List ℕ) where
   -- what a line matches, it is selected by
-  picks-by : (b : Bool) → matches (fold_of (option_copied m.plan)) false (patterns_of (option_copied m.plan) m.has_empty) line ≡ b → cond m.rule.invert (not b) b ≡ picks m line
+  picks-by : (b : Bool) → matches (fold_of (option_copied m.plan)) false (literals_and_null (option_copied m.plan) m.has_empty) line ≡ b → cond m.rule.invert (not b) b ≡ picks m line
   picks-by b e =
-      ap (λ t. cond m.rule.invert (not t) t) (sym e ∙ ap (λ w. matches (fold_of (option_copied m.plan)) w (patterns_of (option_copied m.plan) m.has_empty) line) (sym part))
+      ap (λ t. cond m.rule.invert (not t) t) (sym e ∙ ap (λ w. matches (fold_of (option_copied m.plan)) w (literals_and_null (option_copied m.plan) m.has_empty) line) (sym part))
 
   -- the null pattern is a slice of each line
   pub picks-null : m.has_empty ≡ true → not m.rule.invert ≡ picks m line
   picks-null is = sym (select_hit m.rule.invert) ∙ picks-by true
       (null-matches (fold_of (option_copied m.plan)) false m.has_empty (literals_of (option_copied m.plan)) line is (null-occurs (fold_of (option_copied m.plan)) line))
 
-  alone : m.has_empty ≡ false → matches (fold_of (option_copied m.plan)) false (patterns_of (option_copied m.plan) m.has_empty) line ≡ matches (fold_of (option_copied m.plan)) false (literals_of (option_copied m.plan)) line
+  alone : m.has_empty ≡ false → matches (fold_of (option_copied m.plan)) false (literals_and_null (option_copied m.plan) m.has_empty) line ≡ matches (fold_of (option_copied m.plan)) false (literals_of (option_copied m.plan)) line
   alone none = null-misses (fold_of (option_copied m.plan)) false m.has_empty (literals_of (option_copied m.plan)) line (λ is. let both : true ≡ false = sym is ∙ none in absurd (cc))
 
   -- without it the literals decide

@@ -15,10 +15,10 @@ use Rattle.lit_base.proofs.MatchLemmas.{matching}
 use Rattle.lit_base.specs.Occurrences.{HasEnd}
 use Rattle.flow_scan.specs.NextEnds.{IsNextEnd, NoEndAfter}
 use Rattle.line_pick.specs.Cutting.{IsFirstLine, IsLastCut}
-use Rattle.line_pick.specs.Hits.{AllMiss, IsFirstHit}
+use Rattle.line_pick.specs.HitLines.{AllMiss, IsFirstHitLine}
 use Rattle.line_pick.proofs.Crossing.{crossing, ended_lines-slices, ends_in_newline, middle_slice}
 use Rattle.line_pick.proofs.Literals.{not_passed, occurs-parts, own_folded, own_some, own, slice-occurs}
-use Rattle.line_pick.proofs.Newlines.{open_rest-block}
+use Rattle.line_pick.proofs.Newlines.{open_rest-ended}
 
 -- a newline stays one
 folded-10 : (fold : Fold) → folded fold 10 ≡ 10
@@ -136,7 +136,7 @@ module _ (l : Literals) (normal : IsNormal l) where
 
   -- the line that the first end stands in is the first that holds a literal: what is before that end, and up to the next newline
   pub first-hit : (apart : All IsOnePiece l.texts) (text front tail missed head ending rest line behind : List ℕ) (end : ℕ) → IsNextEnd l text 0 end → front ≡ take (end - 1) text → tail ≡ drop (end - 1) text
-      → IsLastCut front missed head → IsFirstLine tail ending behind → rest ≡ drop (length missed) text → line ≡ take (length head + length ending) rest → IsFirstHit l text missed line behind
+      → IsLastCut front missed head → IsFirstLine tail ending behind → rest ≡ drop (length missed) text → line ≡ take (length head + length ending) rest → IsFirstHitLine l text missed line behind
   first-hit apart text front tail missed head ending rest line behind end n is_front is_tail cut last is_rest is_line =
       let parts = split_front text front tail missed head end is_front is_tail cut in
       let later : rest ≡ head ++ tail = is_rest ∙ ap (drop (length missed)) parts ∙ drop-append_seam missed (head ++ tail) in
@@ -157,5 +157,5 @@ module _ (l : Literals) (normal : IsNormal l) where
   no-hit-open text front tail missed head end n is_front is_tail cut one closed =
       let parts = split_front text front tail missed head end is_front is_tail cut in
       let joined = All-append (λ b. b ≢ 10) head tail cut.one one in
-      let none : head ++ tail ≡ [] = sym (open_rest-block missed (head ++ tail) cut.closed joined) ∙ sym (ap open_rest parts) ∙ closed in
+      let none : head ++ tail ≡ [] = sym (open_rest-ended missed (head ++ tail) cut.closed joined) ∙ sym (ap open_rest parts) ∙ closed in
       omega (arith, ap length none, length-append head tail, ap length is_tail, length-drop (end - 1) text, n.after, n.within)
