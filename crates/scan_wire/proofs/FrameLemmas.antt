@@ -1,0 +1,131 @@
+-- What stands at the front of a text: a frame, a bad length, or too few bytes.
+use Rattle.std.proofs.Common.{◌≡◌, ◌≢◌, ℕ, ◌+◌, ◌^◌, ◌<◌, ◌≤◌, List, ◌∷◌, ◌++◌, length, take, drop, sym, ap, subst, ◌∙◌, Option, Some, None, append_assoc, arith}
+use Rattle.std.specs.Prelude.{IfNone, IfSome, MatchOption}
+use Rattle.std.proofs.lemmas.List.{length-append, length-take, take-append-drop, drop_at}
+use Rattle.scan_wire.specs.declared.fault.Cause.{Cause}
+use Rattle.scan_wire.specs.declared.fault.Cause.TheVariants.{Length, Kind, Stream, Payload}
+use Rattle.scan_wire.specs.declared.fault.Fault.{Fault}
+use Rattle.scan_wire.specs.declared.fault.Fault.TheVariants.{OutOfMemory, BadFrame}
+use Rattle.scan_wire.specs.Causes.{HasBadLength, HasCause, IfBadFrame, IsWrong, Waits}
+use Rattle.scan_wire.specs.Frames.{FrameParts, HasFields, IsFrame, IsRequest, frame_text, request_frame, request_text}
+use Rattle.scan_wire.specs.Messages.{RequestParts, Publish, Open, Feed, Close, ShowPlan}
+use Rattle.scan_wire.specs.Numbers.{u32_text}
+use Rattle.scan_wire.specs.Reading.{NoList, StartsWith, StartsWithFrame, parts_of}
+use Rattle.scan_wire.specs.declared.frames.Frame.{Frame}
+use Rattle.scan_wire.proofs.NumberLemmas.{SameFirst, length-u32_text, u32_same}
+
+-- what stands behind the length of a frame
+abbrev pub body_of : FrameParts → List ℕ
+body_of f = f.kind ∷ (u32_text f.stream ++ f.payload)
+
+pub length-body_of : (f : FrameParts) → length (body_of f) ≡ 5 + length f.payload
+length-body_of f = omega (arith, length-append (u32_text f.stream) f.payload, length-u32_text f.stream)
+
+pub length-frame_text : (f : FrameParts) → length (frame_text f) ≡ 9 + length f.payload
+length-frame_text f = omega (arith, length-append (u32_text (5 + length f.payload)) (body_of f), length-body_of f, length-u32_text (5 + length f.payload))
+
+-- the length that a text begins with is that of the frame that it begins with
+begins_same : (text : List ℕ) (n : ℕ) (rest : List ℕ) (f : FrameParts) (after : List ℕ) → n < 2 ^ 32 → text ≡ u32_text n ++ rest → IsFrame f → text ≡ frame_text f ++ after → SameFirst n (5 + length f.payload) rest (body_of f ++ after)
+begins_same text n rest f after ln is frame e =
+    u32_same n (5 + length f.payload) rest (body_of f ++ after) ln (omega (arith, frame.payload)) (sym is ∙ e ∙ append_assoc (u32_text (5 + length f.payload)) (body_of f) after)
+
+-- no frame stands at the front
+abbrev pub NoFrame : List ℕ → Type 0
+NoFrame text = (f : FrameParts) (after : List ℕ) → IsFrame f → text ≢ frame_text f ++ after
+
+-- no frame has fewer than four bytes
+none_short : (text : List ℕ) → length text < 4 → NoFrame text
+none_short text short f after frame e = omega (arith, ap length e, length-append (frame_text f) after, length-frame_text f)
+
+-- no frame is whole of which bytes are missing
+none_cut : (text : List ℕ) (n : ℕ) (rest : List ℕ) → n < 2 ^ 32 → text ≡ u32_text n ++ rest → length rest < n → NoFrame text
+none_cut text n rest ln is few f after frame e =
+    let same = begins_same text n rest f after ln is frame e in
+    omega (arith, same.number, ap length same.rest, length-append (body_of f) after, length-body_of f)
+
+-- a text at whose front no frame stands, and no bad length, waits
+waits_from : (text : List ℕ) → NoFrame text → (HasBadLength text → ⊥) → Waits text
+waits_from text none good = record {
+  no_request = λ b. none (request_frame b.request) b.rest b.is_request.frame b.text_is;
+  no_cause = no_cause_of;
+}
+  where
+    no_cause_of : (cause : Cause) → HasCause cause text → ⊥
+    no_cause_of Length h = good h
+    no_cause_of Kind h = none h.frame h.rest h.is_frame h.text_is
+    no_cause_of Stream h = none h.frame h.rest h.is_frame h.text_is
+    no_cause_of Payload h = none h.frame h.rest h.is_frame h.text_is
+
+-- fewer than four bytes wait
+pub waits_short : (text : List ℕ) → length text < 4 → Waits text
+waits_short text short = waits_from text (none_short text short) (λ bad. omega (arith, ap length bad.text_is, length-append (u32_text bad.len) bad.rest, length-u32_text bad.len))
+
+-- a length in its range with too few bytes behind it waits
+pub waits_cut : (text : List ℕ) (n : ℕ) (rest : List ℕ) → n < 2 ^ 32 → text ≡ u32_text n ++ rest → 5 ≤ n → n ≤ 65541 → length rest < n → Waits text
+waits_cut text n rest ln is least most few = waits_from text (none_cut text n rest ln is few) good
+  where
+    good : HasBadLength text → ⊥
+    good bad =
+        let same = u32_same n bad.len rest bad.rest ln bad.four_bytes (sym is ∙ bad.text_is) in
+        bad.out_of_range (record { least = omega (arith, same.number); most = omega (arith, same.number) })
+
+-- as many bytes behind the length as it tells are a frame
+pub starts_with : (text : List ℕ) (n : ℕ) (rest front : List ℕ) (f : FrameParts) → f.kind < 2 ^ 8 → f.stream < 2 ^ 32 → text ≡ u32_text n ++ rest → n ≤ 65541 → n ≤ length rest → front ≡ take n rest → front ≡ body_of f → StartsWithFrame text f
+starts_with text n rest front f kind stream is most long front_is body =
+    let len : n ≡ 5 + length f.payload = omega (arith, ap length front_is, ap length body, length-take n rest, length-body_of f) in
+    let rest-is : rest ≡ body_of f ++ drop n rest = sym (take-append-drop n rest) ∙ ap (λ (x : List ℕ). x ++ drop n rest) (sym front_is ∙ body) in
+    let text-is : text ≡ frame_text f ++ drop n rest = is ∙ ap (λ (x : List ℕ). u32_text n ++ x) rest-is ∙ sym (append_assoc (u32_text n) (body_of f) (drop n rest)) ∙ ap (λ (k : ℕ). (u32_text k ++ body_of f) ++ drop n rest) len in
+    let behind : drop (9 + length f.payload) text ≡ drop n rest = ap (λ (x : List ℕ). drop (9 + length f.payload) x) text-is ∙ drop_at (frame_text f) (drop n rest) (9 + length f.payload) (length-frame_text f) in
+    record {
+      is_frame = record { kind = kind; stream = stream; payload = omega (arith, len, most) };
+      within = omega (arith, ap length text-is, length-append (frame_text f) (drop n rest), length-frame_text f);
+      text_is = text-is ∙ ap (λ (x : List ℕ). frame_text f ++ x) (sym behind);
+    }
+
+-- the frame of a request at the front is the request
+pub found_request : (text : List ℕ) (f : FrameParts) (r : RequestParts) (len : ℕ) → StartsWithFrame text f → HasFields r × (request_frame r ≡ f) → len ≡ 9 + length f.payload → StartsWith text r len
+found_request text f r len s h is = record {
+  is_request = record { fields = h.0; frame = subst IsFrame (sym h.1) s.is_frame };
+  some = omega arith;
+  within = omega (arith, s.within);
+  text_is = s.text_is ∙ ap (λ (g : FrameParts). frame_text g ++ drop (9 + length f.payload) text) (sym h.1) ∙ ap (λ (k : ℕ). request_text r ++ drop k text) (sym is);
+}
+
+-- what is wrong with the frame at the front is wrong with the text
+pub wrong_frame : (text : List ℕ) (f : FrameParts) (e : Fault) → StartsWithFrame text f → IfBadFrame (λ cause. IsWrong cause f) e → IfBadFrame (λ cause. HasCause cause text) e
+wrong_frame text f OutOfMemory s w = w
+wrong_frame text f (BadFrame Length) s w = absurd w
+wrong_frame text f (BadFrame Kind) s w = record { frame = f; rest = drop (9 + length f.payload) text; is_frame = s.is_frame; text_is = s.text_is; wrong = w }
+wrong_frame text f (BadFrame Stream) s w = record { frame = f; rest = drop (9 + length f.payload) text; is_frame = s.is_frame; text_is = s.text_is; wrong = w }
+wrong_frame text f (BadFrame Payload) s w = record { frame = f; rest = drop (9 + length f.payload) text; is_frame = s.is_frame; text_is = s.text_is; wrong = w }
+
+-- what is read of the bytes behind a length in its range is the frame at the front
+pub starts_or_waits : (text : List ℕ) (n : ℕ) (rest front : List ℕ) (o : Option Frame) → text ≡ u32_text n ++ rest → 5 ≤ n → n ≤ 65541 → n ≤ length rest → front ≡ take n rest → IfSome o (λ f. (f.kind < 2 ^ 8) × (f.stream < 2 ^ 32) × (front ≡ f.kind ∷ (u32_text f.stream ++ f.payload.now))) → IfNone o (length front < 5) → MatchOption o (Waits text) (λ f. StartsWithFrame text (parts_of f))
+starts_or_waits text n rest front None is least most long front_is some none = absurd (omega (arith, none, ap length front_is, length-take n rest))
+starts_or_waits text n rest front (Some f) is least most long front_is some none = starts_with text n rest front (parts_of f) some.0 some.1 is most long front_is some.2
+
+kinds_apart : (n k : ℕ) → 2 ≤ n → n ≡ k → k ≡ 1 → ⊥
+kinds_apart n k some same one = omega arith
+
+-- a frame of the kind of Publish that is no list is no request's
+no_publish : (f : FrameParts) → f.kind ≡ 1 → NoList f.payload → (r : RequestParts) → IsRequest r → request_frame r ≢ f
+no_publish f kind none (Publish fold literals) is e = none fold literals is.fields (sym (ap (λ (g : FrameParts). g.payload) e))
+no_publish f kind none (Open stream number) is e = absurd (kinds_apart 2 f.kind (omega arith) (ap (λ (g : FrameParts). g.kind) e) kind)
+no_publish f kind none (Feed stream bytes) is e = absurd (kinds_apart 3 f.kind (omega arith) (ap (λ (g : FrameParts). g.kind) e) kind)
+no_publish f kind none (Close stream) is e = absurd (kinds_apart 4 f.kind (omega arith) (ap (λ (g : FrameParts). g.kind) e) kind)
+no_publish f kind none (ShowPlan stream) is e = absurd (kinds_apart 5 f.kind (omega arith) (ap (λ (g : FrameParts). g.kind) e) kind)
+
+-- what is wrong with the payload of a Publish is wrong with its frame
+pub publish_wrong : (f : FrameParts) (e : Fault) → f.kind ≡ 1 → f.stream ≡ 0 → IfBadFrame (λ cause. (cause ≡ Payload) × NoList f.payload) e → IfBadFrame (λ cause. IsWrong cause f) e
+publish_wrong f OutOfMemory kind stream h = tt
+publish_wrong f (BadFrame cause) kind stream h =
+    subst (λ (c : Cause). IsWrong c f) (sym h.0) (record { least = omega arith; most = omega arith }, λ _. stream, no_publish f kind h.1)
+
+-- as many bytes as kind and stream have are a frame
+pub not_short : (P : Type 0) (o : Option Frame) (front : List ℕ) → 5 ≤ length front → IfNone o (length front < 5) → IfNone o P
+not_short P None front long none = absurd (omega arith)
+not_short P (Some f) front long none = tt
+
+-- a text that begins with a length in its range, and has not all of its bytes, is short
+pub cut_short : (text : List ℕ) (n : ℕ) (rest : List ℕ) → text ≡ u32_text n ++ rest → n ≤ 65541 → length rest < n → length text < 65545
+cut_short text n rest is most few = omega (arith, ap length is, length-append (u32_text n) rest, length-u32_text n)

@@ -1,0 +1,177 @@
+//! The one text of each reply.
+ghost use Rattle.std.specs.Prelude.{◌≡◌, ◌+◌, [], ◌∷◌, ◌++◌, ◌≤◌, length, IfOk, IsOkUnless, OnOk};
+ghost use Rattle.std.specs.List.{flat_map};
+ghost use Rattle.scan_wire.specs.declared.fault.Fault.TheVariants.{OutOfMemory};
+ghost use Rattle.scan_wire.specs.Frames.{FitsReply, IsBlock, flag_of, frame_text, hit_text, reply_text};
+ghost use Rattle.scan_wire.specs.Messages.{Hits, Plan, Refused, reply_parts};
+ghost use Rattle.scan_wire.specs.Numbers.{u16_text, u32_text, u64_text};
+
+use crate::fault::Fault;
+use crate::message::Reply;
+use crate::numbers::{push_u16, push_u32, push_u64};
+use flow_scan::Hit;
+use lit_base::{Ends, Fold};
+use std::alloc::{AllocError, Global};
+
+/// Appends what stands before a payload of so many bytes.
+fn push_head(out: &mut Vec<u8>, kind: u8, stream: u32, len: u32) -> Result<(), AllocError>
+    requires { len ≤ 65536 }
+    ensures { OnOk result
+        (out.new.items ≡ out.old.items ++ (u32_text (5 + len) ++ (kind ∷ u32_text stream))) }
+{
+    push_u32(out, 5 + len)?;
+    out.push(kind)?;
+    push_u32(out, stream)
+}
+
+/// Appends a frame without payload.
+#[tactic(auto, using(crate::proofs::ReplyLemmas::frame_done))]
+fn push_bare(out: &mut Vec<u8>, kind: u8, stream: u32) -> Result<(), AllocError>
+    ensures { OnOk result (out.new.items ≡ out.old.items
+        ++ frame_text (record { kind = kind; stream = stream; payload = [] })) }
+{
+    push_head(out, kind, stream, 0)
+}
+
+/// Appends a frame whose payload is a number of eight bytes.
+fn push_number(out: &mut Vec<u8>, kind: u8, stream: u32, number: u64) -> Result<(), AllocError>
+    ensures { OnOk result (out.new.items ≡ out.old.items
+        ++ frame_text (record { kind = kind; stream = stream; payload = u64_text number })) }
+{
+    push_head(out, kind, stream, 8)?;
+    push_u64(out, number)
+}
+
+/// Appends hits, one after the other.
+fn push_hits(out: &mut Vec<u8>, hits: &[Hit]) -> Result<(), AllocError>
+    ensures { OnOk result (out.new.items ≡ out.old.items ++ flat_map hit_text hits.now) }
+{
+    for hit in hits {
+        push_u16(out, hit.lit)?;
+        push_u64(out, hit.end_at)?;
+    }
+    Ok(())
+}
+
+/// Appends ends, one after the other.
+fn push_ends(out: &mut Vec<u8>, ends: &[u16]) -> Result<(), AllocError>
+    ensures { OnOk result (out.new.items ≡ out.old.items ++ flat_map u16_text ends.now) }
+{
+    for end in ends {
+        push_u16(out, *end)?;
+    }
+    Ok(())
+}
+
+/// Appends a Hits reply.
+fn push_block(out: &mut Vec<u8>, stream: u32, hits: &[Hit]) -> Result<(), AllocError>
+    requires { IsBlock (length hits.now) }
+    ensures { OnOk result (out.new.items ≡ out.old.items ++ reply_text (Hits stream hits.now)) }
+{
+    let count = hits.len() as u32;
+    push_head(out, 0x13, stream, 2 + 10 * count)?;
+    push_u16(out, hits.len() as u16)?;
+    push_hits(out, hits)
+}
+
+/// Appends a Plan reply.
+fn push_plan(
+    out: &mut Vec<u8>,
+    stream: u32,
+    fold: Fold,
+    count: u16,
+    cost: u64,
+    ends: &[u16],
+) -> Result<(), AllocError>
+    requires { length ends.now ≤ 8 }
+    ensures { OnOk result
+        (out.new.items ≡ out.old.items ++ reply_text (Plan stream fold count cost ends.now)) }
+{
+    let ends_count = ends.len() as u8;
+    push_head(out, 0x16, stream, 12 + 2 * u32::from(ends_count))?;
+    out.push(flag(fold))?;
+    push_u16(out, count)?;
+    push_u64(out, cost)?;
+    out.push(ends_count)?;
+    push_ends(out, ends)
+}
+
+/// The byte that tells a fold.
+fn flag(fold: Fold) -> u8
+    ensures { result ≡ flag_of fold }
+{
+    match fold {
+        Fold::No => 0,
+        Fold::Ascii => 1,
+    }
+}
+
+/// Appends a Refused reply.
+fn push_refusal(out: &mut Vec<u8>, stream: u32, code: u8, detail: u16) -> Result<(), AllocError>
+    ensures { OnOk result
+        (out.new.items ≡ out.old.items ++ reply_text (Refused stream code detail)) }
+{
+    push_head(out, 0x17, stream, 3)?;
+    out.push(code)?;
+    push_u16(out, detail)
+}
+
+/// Appends a reply.
+fn push_reply(out: &mut Vec<u8>, reply: &Reply) -> Result<(), AllocError>
+    requires { FitsReply (reply_parts reply.now) }
+    ensures { OnOk result (out.new.items ≡ out.old.items ++ reply_text (reply_parts reply.now)) }
+{
+    match reply {
+        Reply::Published { number } => push_number(out, 0x11, 0, *number),
+        Reply::Opened { stream } => push_bare(out, 0x12, *stream),
+        Reply::Hits { stream, hits } => push_block(out, *stream, hits),
+        Reply::Fed { stream, place } => push_number(out, 0x14, *stream, *place),
+        Reply::Closed { stream } => push_bare(out, 0x15, *stream),
+        Reply::Plan {
+            stream,
+            fold,
+            count,
+            cost,
+            ends,
+        } => push_plan(out, *stream, *fold, *count, *cost, ends.as_slice()),
+        Reply::Refused {
+            stream,
+            code,
+            detail,
+        } => push_refusal(out, *stream, *code, *detail),
+    }
+}
+
+/// Appends the text of a reply. The only refusal is `OutOfMemory`, after which an unknown front of
+/// the text was appended.
+pub fn append_reply(out: &mut Vec<u8>, reply: &Reply) -> Result<(), Fault>
+    requires { FitsReply (reply_parts reply.now) }
+    ensures ok { OnOk result
+        (out.new.items ≡ out.old.items ++ reply_text (reply_parts reply.now)) }
+    ensures refused { IsOkUnless result OutOfMemory }
+{
+    push_reply(out, reply)?;
+    Ok(())
+}
+
+/// Appends the text of a Hits reply, without a list of its own for the hits. The only refusal is
+/// `OutOfMemory`, after which an unknown front of the text was appended.
+pub fn append_hits(out: &mut Vec<u8>, stream: u32, hits: &[Hit]) -> Result<(), Fault>
+    requires { IsBlock (length hits.now) }
+    ensures ok { OnOk result (out.new.items ≡ out.old.items ++ reply_text (Hits stream hits.now)) }
+    ensures refused { IsOkUnless result OutOfMemory }
+{
+    push_block(out, stream, hits)?;
+    Ok(())
+}
+
+/// The text of a reply. The only refusal is `OutOfMemory`.
+pub fn encode_reply(alloc: Global, reply: &Reply) -> Result<Vec<u8>, Fault>
+    requires { FitsReply (reply_parts reply.now) }
+    ensures ok { IfOk result (λ text. text.items ≡ reply_text (reply_parts reply.now)) }
+    ensures refused { IsOkUnless result OutOfMemory }
+{
+    let mut text = Vec::new(alloc);
+    append_reply(&mut text, reply)?;
+    Ok(text)
+}

@@ -1,0 +1,20 @@
+//! The frames in which a scan server is asked and answers: what is asked, read from a stream in
+//! whatever pieces it comes, and the one text of each reply.
+#![tactic(auto)]
+
+mod decoder;
+mod encoding;
+mod fault;
+mod frames;
+mod message;
+mod numbers;
+mod reading;
+
+pub use decoder::Decoder;
+pub use encoding::{append_hits, append_reply, encode_reply};
+pub use fault::{Cause, Fault};
+pub use frames::next;
+pub use message::{Lent, MAX_HITS, MAX_PAYLOAD, Reply, Request};
+
+#[cfg(test)]
+mod tests;

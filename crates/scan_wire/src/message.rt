@@ -1,0 +1,106 @@
+//! What a client asks, and what the server answers.
+ghost use Rattle.std.specs.Prelude.{◌≡◌, IfOk, IsOkUnless};
+ghost use Rattle.scan_wire.specs.declared.fault.Fault.TheVariants.{OutOfMemory};
+ghost use Rattle.scan_wire.specs.Messages.{lent_parts, request_parts};
+
+use crate::fault::Fault;
+use flow_scan::Hit;
+use lit_base::{Ends, Fold};
+use std::alloc::Global;
+
+/// Bytes of a payload, at most.
+pub const MAX_PAYLOAD: usize = 65_536;
+
+/// Hits that one reply tells, at most.
+pub const MAX_HITS: usize = 4096;
+
+/// What a client asks.
+#[derive(Debug, Drop)]
+pub enum Request {
+    /// To plan a list of literals and show the plan to all sessions.
+    Publish { fold: Fold, literals: Vec<Vec<u8>> },
+    /// To scan a new stream by the plan of that number.
+    Open { stream: u32, number: u64 },
+    /// To scan the next piece of a stream.
+    Feed { stream: u32, bytes: Vec<u8> },
+    /// To forget a stream.
+    Close { stream: u32 },
+    /// To tell the plan that a stream is scanned by.
+    ShowPlan { stream: u32 },
+}
+
+/// What the server answers.
+#[derive(Debug, Drop)]
+pub enum Reply {
+    /// The plan has this number.
+    Published {
+        number: u64,
+    },
+    /// The stream is open.
+    Opened {
+        stream: u32,
+    },
+    /// Hits of a piece: 1 to 4,096 of them.
+    Hits {
+        stream: u32,
+        hits: Vec<Hit>,
+    },
+    /// All hits of the piece are told. The stream has so many bytes now.
+    Fed {
+        stream: u32,
+        place: u64,
+    },
+    /// The stream is closed.
+    Closed {
+        stream: u32,
+    },
+    /// The plan of a stream: how many literals it has, and how it groups them at which price.
+    Plan {
+        stream: u32,
+        fold: Fold,
+        count: u16,
+        cost: u64,
+        ends: Ends,
+    },
+    /// What was asked is refused with this code. The detail says where, for some codes, and is 0 for
+    /// the others.
+    Refused {
+        stream: u32,
+        code: u8,
+        detail: u16,
+    },
+}
+
+/// What a client asks, with the piece of a Feed where it was read.
+#[derive(Debug, Drop)]
+pub enum Lent<'a> {
+    /// To plan a list of literals and show the plan to all sessions.
+    Publish { fold: Fold, literals: Vec<Vec<u8>> },
+    /// To scan a new stream by the plan of that number.
+    Open { stream: u32, number: u64 },
+    /// To scan the next piece of a stream.
+    Feed { stream: u32, bytes: &'a [u8] },
+    /// To forget a stream.
+    Close { stream: u32 },
+    /// To tell the plan that a stream is scanned by.
+    ShowPlan { stream: u32 },
+}
+
+impl Lent<'_> {
+    /// The request with a copy of its bytes. The only refusal is `OutOfMemory`.
+    pub fn into_request(self, alloc: Global) -> Result<Request, Fault>
+        ensures ok { IfOk result (λ request. request_parts request ≡ lent_parts self.entry) }
+        ensures refused { IsOkUnless result OutOfMemory }
+    {
+        Ok(match self {
+            Lent::Publish { fold, literals } => Request::Publish { fold, literals },
+            Lent::Open { stream, number } => Request::Open { stream, number },
+            Lent::Feed { stream, bytes } => {
+                let bytes = Vec::from_slice(alloc, bytes)?;
+                Request::Feed { stream, bytes }
+            }
+            Lent::Close { stream } => Request::Close { stream },
+            Lent::ShowPlan { stream } => Request::ShowPlan { stream },
+        })
+    }
+}
