@@ -2,12 +2,17 @@
 """Tests of the programs in bin/, run as a user runs them. Prints 'N passed, M failed'."""
 
 import os
+import random
 import re
 import select
 import socket
 import subprocess
 import sys
 import tempfile
+
+import plain_grep
+import plain_plan
+import random_cases
 
 TOP = os.path.dirname(os.path.dirname(os.path.abspath(__file__)))
 LITGREP = os.path.join(TOP, "bin", "litgrep")
@@ -31,6 +36,7 @@ GREPS = [
     ({}, ["\xff"], b"\xc3\xbf\n\xff\n", b"\xc3\xbf\n", b"", 0),
     ({}, ["--", "-F"], b"a-F\n", b"a-F\n", b"", 0),
     ({}, ["\n" * 4096], b"x\n", b"", b"litgrep: patterns refused (2)\n", 2),
+    ({}, ["\n" * 4095], b"x\n", b"x\n", b"", 0),
     ({}, ["a" * 4096], b"x\n", b"", b"litgrep: patterns refused (3)\n", 2),
     ({}, ["\n".join(map(str, range(1025)))], b"x\n", b"", b"litgrep: patterns refused (6)\n", 2),
     ({}, ["-i", "\n".join(map(str, range(1024))) + "\n7\n9"], b"12\n", b"12\n", b"", 0),
@@ -116,6 +122,10 @@ cost 934
 end
 """
 CAT = b"litcert 1\nliterals 1\nends 1\ncost 351\n%bend\n" % b"".join(b"%d 351\n" % r for r in range(1, 9))
+# As many bytes of patterns as a list may have.
+FULL = (b"a" * 4095 + b"\n") * 256 + b"a" * 256
+# The longest text of a certificate.
+LONGEST = plain_plan.spelled(([65535] * 8, plain_plan.NUMBER_MAX, [[plain_plan.NUMBER_MAX] * 1024] * 8))
 REFUSED = b"litplan: refused (%d)\n"
 
 # Files by name, the words of litplan, standard input, and what must come. Words name files of the folder.
@@ -126,6 +136,8 @@ PLANS = [
     ({}, ["plan", "-"], b"\n", b"", REFUSED % 5, 2),
     ({}, ["plan", "-"], b"", b"", REFUSED % 5, 2),
     ({}, ["plan", "-"], b"".join(b"%d\n" % n for n in range(1025)), b"", REFUSED % 6, 2),
+    ({}, ["plan", "-"], FULL, plain_plan.spelled(plain_plan.plan_of([b"a" * 256, b"a" * 4095])), b"", 0),
+    ({}, ["plan", "-"], FULL + b"\nx", b"", REFUSED % 7, 2),
     ({}, ["plan", "-"], b"\n" * 1052672, b"", REFUSED % 2, 2),
     ({}, ["plan", "-"], b"\n" * 1052673, b"", REFUSED % 7, 2),
     ({}, ["plan", "-"], b"a" * 4096, b"", REFUSED % 3, 2),
@@ -142,6 +154,7 @@ PLANS = [
     ({"c": THREE + b"x\n"}, ["check", "-", "c"], b"cat\ndog\nhorse", b"", REFUSED % 9, 2),
     ({"c": THREE[:50]}, ["check", "-", "c"], b"cat\ndog\nhorse", b"", REFUSED % 9, 2),
     ({"c": b"1" * 1000000}, ["check", "-", "c"], b"cat\ndog\nhorse", b"", REFUSED % 9, 2),
+    ({"c": LONGEST}, ["check", "-", "c"], b"".join(b"%d\n" % n for n in range(1024)), b"not certified: ends\n", b"", 1),
     ({}, ["check", "-", "-"], b"cat", b"", b"litplan: -: cannot be used\n", 2),
     ({"-": CAT}, ["check", "-", "-"], b"cat", b"optimal 351\n", b"", 0),
     ({"-": CAT}, ["check", "none", "-"], b"cat", b"", b"litplan: none: cannot be used\n", 2),
@@ -286,6 +299,68 @@ def plans():
     with open("/dev/full", "wb") as full:
         got = run(["plan", "-"], b"cat\n", program=LITPLAN, stdout=full)
         yield "litplan on a full device", got, (2, None, REFUSED % 18)
+    for front in b"", b"litcert 1\nliterals ", THREE[:31], b"litcert 1\nliterals 1024\nends 1\ncost 0\n1 0", THREE:
+        for byte in b"1", b" ", b"x":
+            files = {"c": front + byte * (1 << 20)}
+            got = run_in_folder(files, ["check", "-", "c"], b"cat\ndog\nhorse", program=LITPLAN)
+            yield f"a certificate that goes on with {byte!r} behind {front!r:.60}", got, (2, b"", REFUSED % 9)
+
+
+def in_pieces(words, text, size, **how):
+    """Runs litgrep on a text that it reads in pieces of this size."""
+    near, far = socket.socketpair(socket.AF_UNIX, socket.SOCK_SEQPACKET)
+    with near, far:
+        for start in range(0, len(text), size):
+            near.send(text[start : start + size])
+        near.shutdown(socket.SHUT_WR)
+        return run(words, far, **how)
+
+
+def searches(cases):
+    """Each of these searches, in one run over its texts and in one over the first text in pieces, beside
+    plain matching."""
+    for number, (patterns, flags, texts) in enumerate(cases):
+        named = {b"%d" % place: text for place, text in enumerate(texts)}
+        words = ["-f", "p", *("-" + flag for flag in flags)]
+        with tempfile.TemporaryDirectory() as folder:
+            lay_out(folder, {"p": b"".join(pattern + b"\n" for pattern in patterns)})
+            lay_out(folder.encode(), named)
+            size = max(random_cases.SIZES[number % len(random_cases.SIZES)], len(texts[0]) // 100)
+            got = run(words + sorted(named), cwd=folder)
+            part = in_pieces(words, texts[0], size, cwd=folder)
+        name = f"litgrep {words} of {patterns!r:.60}"
+        yield f"{name} on {texts!r:.100}", got, plain_grep.answer(dict(sorted(named.items())), patterns, flags)
+        yield f"{name} on {texts[0]!r:.100}, {size} at a time", part, plain_grep.answer({b"": texts[0]}, patterns, flags)
+
+
+def random_greps():
+    """Random searches, and lines of each length round a hit, beside plain matching."""
+    yield from searches(random_cases.small_searches())
+    yield from searches(random_cases.long_searches())
+    lines = list(random_cases.long_lines())
+    named = {b"%03d" % place: text for place, (text, _) in enumerate(lines)}
+    with tempfile.TemporaryDirectory() as folder:
+        lay_out(folder.encode(), named)
+        yield "lines of each length", run(["-n", "a", *named], cwd=folder), plain_grep.answer(named, [b"a"], "n")
+    for text, size in lines:
+        got = in_pieces(["-n", "a"], text, size)
+        yield f"a line in {text!r:.300}, {size} at a time", got, plain_grep.answer({b"": text}, [b"a"], "n")
+
+
+def random_plans():
+    """Random lists, and certificates right and wrong, beside a plain planner and a plain check."""
+    source = random.Random(5)
+    with tempfile.TemporaryDirectory() as folder:
+        how = {"program": LITPLAN, "cwd": folder}
+        for patterns, is_folded in random_cases.lists():
+            literals, stdin, flags = plain_plan.literals_of(patterns, is_folded), b"\n".join(patterns), ["-i"] * is_folded
+            certificate = plain_plan.plan_of(literals)
+            got = run(["plan", "-"] + flags, stdin, **how)
+            yield f"a plan of {literals!r:.200}", got, (0, plain_plan.spelled(certificate), b"")
+            for text in random_cases.certificates(source, certificate):
+                lay_out(folder, {"c": text})
+                got = run(["check", "-", "c"] + flags, stdin, **how)
+                yield f"a check of {text!r:.300} for {literals!r:.100}", got, plain_plan.answer(literals, text)
 
 
 def refused_plans(env, mark):
@@ -339,7 +414,7 @@ def refused_growths():
 
 def main():
     passed = failed = 0
-    for part in (greps, options, edges, streams, gathered, plans, refused_growths):
+    for part in (greps, options, edges, streams, gathered, plans, random_greps, random_plans, refused_growths):
         for name, got, want in part():
             if got == want:
                 passed += 1

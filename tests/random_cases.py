@@ -1,0 +1,85 @@
+"""Random searches, lists and certificates, the same in each run, for programs beside plain answers."""
+
+import random
+
+import plain_plan
+
+LETTERS = b"aaaabbbAABBcc\n\n\n"
+SIZES = [1, 2, 3, 5, 23, 4096]
+LENGTHS = [0, 1, 40, 62, 63, 64, 65, 126, 127, 128, 129, 200]
+
+
+def text_of(source, letters, most):
+    """A text of at most so many of these letters."""
+    return bytes(source.choices(letters, k=source.randrange(most + 1)))
+
+
+def small_searches():
+    """Patterns of a few letters, of which some are null or none is there, flags, and small texts."""
+    source = random.Random(1)
+    for _ in range(200):
+        patterns = [text_of(source, b"aabbABc", 4) for _ in range(source.randrange(6))]
+        flags = "".join(flag for flag in "ixvn" if source.random() < 0.4)
+        yield patterns, flags, [text_of(source, LETTERS, 40) for _ in range(12)]
+
+
+def long_searches():
+    """Lists of one to a thousand words, flags, and longer texts of the same letters."""
+    source = random.Random(2)
+    for count in [1, 2, 3, 5, 8, 9, 20, 100, 1000] * 6:
+        patterns = [b"a"[: source.randrange(2)] + text_of(source, b"abcdefghij", 7) for _ in range(count)]
+        patterns = [pattern or b"j" for pattern in patterns]
+        flags = "".join(flag for flag in "ixvn" if source.random() < 0.3)
+        letters = b"abcdefghij" * source.choice([1, 3]) + b"AJ.\0\xff\n"
+        yield patterns, flags, [text_of(source, letters, 3000) for _ in range(4)]
+
+
+def long_lines():
+    """Texts with one line that holds an `a`, with so many bytes before it and behind, and a size of
+    pieces."""
+    source = random.Random(3)
+    for before in LENGTHS:
+        for behind in LENGTHS:
+            text = b"c" * 100 + b"\n" + b"b" * before + b"a" + b"b" * behind + b"\n" + b"c" * 130 + b"\n"
+            yield text, source.choice([5, 23, 64, 127, 128, 4096])
+
+
+def lists():
+    """Patterns whose literals have few lengths or many, and a fold or none."""
+    source = random.Random(4)
+    for number in range(100):
+        count, longest = source.randrange(1, 12 if number < 70 else 50), source.choice([1, 2, 4, 11])
+        patterns = [text_of(source, b"abAB01", longest - 1) + b"z" for _ in range(count)]
+        yield patterns, source.random() < 0.5
+
+
+def changed_numbers(source, certificate):
+    """A certificate with another number in it."""
+    ends, price, rows = list(certificate[0]), certificate[1], [list(row) for row in certificate[2]]
+    step = source.choice([1, -1, 1, -1, 2, -100, 1000])
+    where = source.randrange(10)
+    if where == 0:
+        price = max(price + step, 0)
+    elif where < 3:
+        at = source.randrange(len(ends))
+        ends[at] = max(ends[at] + step, 0)
+    else:
+        row = source.choice(rows)
+        at = source.randrange(len(row))
+        row[at] = max(row[at] + step, 0)
+    return ends, price, rows
+
+
+def changed_text(source, text):
+    """A text with another byte in it, one byte less, or cut off."""
+    at = source.randrange(len(text))
+    byte = bytes([source.choice(b"0159 \nx+\xff")])
+    return source.choice([text[:at] + byte + text[at + 1 :], text[:at] + text[at + 1 :], text[:at] + byte + text[at:], text[:at]])
+
+
+def certificates(source, certificate):
+    """Texts for a certificate: right, with another number in it, and with other bytes."""
+    text = plain_plan.spelled(certificate)
+    changed = [plain_plan.spelled(changed_numbers(source, certificate)) for _ in range(3)]
+    others = [changed_text(source, text) for _ in range(6)]
+    return [text, *changed, *(others if len(text) < 500 else [])]
