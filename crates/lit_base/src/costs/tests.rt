@@ -1,38 +1,36 @@
 use super::*;
+use crate::fault::Fault;
 use crate::fold::Fold;
 use crate::raw_list::RawList;
 use std::alloc::Global;
-use std::process::Abort;
 use std::test::Fail;
+
+/// The weights by their shortest lengths, from 1 on, and what groups of one and of two literals cost.
+static TABLE: [(u64, u64, u64); 9] = [
+    (4096, 4296, 16584),
+    (512, 712, 2248),
+    (151, 351, 804),
+    (64, 264, 456),
+    (32, 232, 328),
+    (18, 218, 272),
+    (11, 211, 244),
+    (8, 208, 232),
+    (8, 208, 232),
+];
 
 #[test]
 fn weighs_and_prices_by_the_table(rt: HostRuntime) {
-    let weights = [4096, 512, 151, 64, 32, 18, 11, 8, 8];
-    let ones = [4296, 712, 351, 264, 232, 218, 211, 208, 208];
-    let twos = [16584, 2248, 804, 456, 328, 272, 244, 232, 232];
-    for shortest in 1..10usize {
-        assert_eq!(rt;
-            weights.get(shortest - 1).copied(),
-            Some(weight(shortest)),
-            "at {shortest}"
-        );
-        assert_eq!(rt;
-            ones.get(shortest - 1).copied(),
-            Some(cost(1, shortest)),
-            "at {shortest}"
-        );
-        assert_eq!(rt;
-            twos.get(shortest - 1).copied(),
-            Some(cost(2, shortest)),
-            "at {shortest}"
-        );
+    for (place, row) in TABLE.iter().enumerate() {
+        let shortest = place + 1;
+        let found = (weight(shortest), cost(1, shortest), cost(2, shortest));
+        assert_eq!(rt; found, *row, "at {shortest}");
     }
     assert_eq!(rt; weight(4095), 8);
     assert_eq!(rt; cost(1024, 1), 4_294_967_496);
 }
 
 /// The normal form of the words of a text.
-fn list_of(alloc: Global, words: &str) -> Result<LitList, crate::fault::Fault> {
+fn list_of(alloc: Global, words: &str) -> Result<LitList, Fault> {
     let mut raw = RawList::new(alloc);
     for word in words.split(' ') {
         raw.push(word.as_bytes())?;
@@ -53,66 +51,89 @@ fn price_of(list: &LitList, ends: &[u16]) -> Option<u64> {
     None
 }
 
+/// What the words cost in these runs, if the ends are a cut of them.
+fn price_of_words(alloc: Global, words: &str, ends: &[u16]) -> Result<Option<u64>, Fault> {
+    let list = list_of(alloc, words)?;
+    Ok(price_of(&list, ends))
+}
+
+const NINE: &str =
+    "aaaaaaaa bbbbbbbb cccccccc dddddddd eeeeeeee ffffffff gggggggg hhhhhhhh iiiiiiii";
+
+/// Words, the ends of runs, and what they cost.
+static CUTS: [(&str, &[u16], Option<u64>); 14] = [
+    ("cat dog horse", &[1, 2, 3], Some(934)),
+    ("cat dog horse", &[2, 3], Some(1036)),
+    ("cat dog horse", &[3], Some(1559)),
+    ("cat dog horse", &[1, 1, 3], None),
+    ("cat dog horse", &[1, 2], None),
+    ("cat dog horse", &[], None),
+    ("a", &[1], Some(4296)),
+    ("abcdefgh abcdefgi", &[2], Some(232)),
+    ("abcdefgh abcdefgi", &[1, 2], Some(416)),
+    ("a the", &[1, 2], Some(4647)),
+    ("a the", &[2], Some(16584)),
+    (NINE, &[4, 9], Some(728)),
+    (NINE, &[5, 9], Some(728)),
+    (NINE, &[9], Some(848)),
+];
+
 #[test]
 fn prices_cuts(rt: HostRuntime) -> Result<(), Fail> {
-    let nine = "aaaaaaaa bbbbbbbb cccccccc dddddddd eeeeeeee ffffffff gggggggg hhhhhhhh iiiiiiii";
-    let animals = "cat dog horse";
-    let cases: [(&str, &[u16], Option<u64>); 14] = [
-        (animals, &[1, 2, 3], Some(934)),
-        (animals, &[2, 3], Some(1036)),
-        (animals, &[3], Some(1559)),
-        (animals, &[1, 1, 3], None),
-        (animals, &[1, 2], None),
-        (animals, &[], None),
-        ("a", &[1], Some(4296)),
-        ("abcdefgh abcdefgi", &[2], Some(232)),
-        ("abcdefgh abcdefgi", &[1, 2], Some(416)),
-        ("a the", &[1, 2], Some(4647)),
-        ("a the", &[2], Some(16584)),
-        (nine, &[4, 9], Some(728)),
-        (nine, &[5, 9], Some(728)),
-        (nine, &[9], Some(848)),
-    ];
-    for (words, ends, price) in cases {
-        let list = list_of(rt.alloc(), words)?;
-        assert_eq!(rt; price_of(&list, ends), price, "{words} cut at {ends:?}");
+    for (words, ends, wanted) in &CUTS {
+        let price = price_of_words(rt.alloc(), words, ends)?;
+        assert_eq!(rt; price, *wanted, "{words} cut at {ends:?}");
     }
     Ok(())
+}
+
+/// What the literals cost in these buckets, if the numbers assign them.
+fn price_in_buckets(list: &LitList, numbers: &[u8]) -> Option<u64> {
+    if is_assignment(list, numbers) {
+        return Some(assign_cost(list, numbers));
+    }
+    None
+}
+
+/// What `cat`, `dog` and `horse` cost in these buckets.
+fn price_of_animals(cat: u8, dog: u8, horse: u8) -> u64 {
+    if cat == dog && dog == horse {
+        return 1559;
+    }
+    if cat == dog {
+        return 1036;
+    }
+    if cat == horse || dog == horse {
+        return 1155;
+    }
+    934
 }
 
 #[test]
 fn prices_every_assignment_of_three_literals(rt: HostRuntime) -> Result<(), Fail> {
     let list = list_of(rt.alloc(), "cat dog horse")?;
-    for a in 0..8u8 {
-        for b in 0..8u8 {
-            for c in 0..8u8 {
-                let numbers = [a, b, c];
-                assert!(rt; is_assignment(&list, &numbers));
-                let price = assign_cost(&list, &numbers);
-                assert!(rt; price >= 934, "{numbers:?}");
-                if a != b && b != c && a != c {
-                    assert_eq!(rt; price, 934, "{numbers:?}");
-                }
-                if a == c && b != a {
-                    assert_eq!(rt; price, 1155, "{numbers:?}");
-                }
-            }
-        }
+    for number in 0..512_u16 {
+        let [cat, dog, horse] = [number / 64, number / 8, number].map(|digits| (digits % 8) as u8);
+        let price = price_in_buckets(&list, &[cat, dog, horse]);
+        assert_eq!(rt; price, Some(price_of_animals(cat, dog, horse)), "{number}");
     }
     Ok(())
 }
 
-fn has_price(rt: &impl Abort, list: &LitList, numbers: &[u8], price: u64) {
-    assert!(rt; is_assignment(list, numbers));
-    assert_eq!(rt; assign_cost(list, numbers), price, "{numbers:?}");
-}
+/// Buckets of `a` and `the`, and what they cost.
+static BUCKETS: [(&[u8], Option<u64>); 5] = [
+    (&[0, 0], Some(16584)),
+    (&[7, 7], Some(16584)),
+    (&[0, 1], Some(4647)),
+    (&[0, 8], None),
+    (&[0], None),
+];
 
 #[test]
 fn prices_a_bucket_by_its_shortest(rt: HostRuntime) -> Result<(), Fail> {
     let list = list_of(rt.alloc(), "a the")?;
-    has_price(&rt, &list, &[0, 0], 16584);
-    has_price(&rt, &list, &[7, 7], 16584);
-    has_price(&rt, &list, &[0, 1], 4647);
-    assert!(rt; !is_assignment(&list, &[0, 8]) && !is_assignment(&list, &[0]));
+    for (numbers, wanted) in &BUCKETS {
+        assert_eq!(rt; price_in_buckets(&list, numbers), *wanted, "{numbers:?}");
+    }
     Ok(())
 }

@@ -1,95 +1,89 @@
 use super::*;
 use std::test::Fail;
 
-fn is_at(raw: &RawList, place: usize, pattern: &[u8]) -> bool {
-    place < raw.len() && raw.get(place) == pattern
+/// Whether these are the patterns of the list.
+fn are_patterns(raw: &RawList, patterns: &[&[u8]]) -> bool {
+    if raw.len() != patterns.len() {
+        return false;
+    }
+    for place in 0..raw.len() {
+        if patterns.get(place).copied() != Some(raw.get(place)) {
+            return false;
+        }
+    }
+    true
+}
+
+/// The list of two patterns, and the answer to a third one of so many bytes.
+fn third_of(alloc: Global, len: usize) -> Result<(RawList, Result<(), Fault>), Fault> {
+    let mut raw = RawList::new(alloc);
+    raw.push(b"a")?;
+    raw.push(b"")?;
+    let pattern = vec![in alloc; b'x'; len]?;
+    let answer = raw.push(&pattern);
+    Ok((raw, answer))
 }
 
 #[test]
 fn takes_patterns_up_to_the_longest(rt: HostRuntime) -> Result<(), Fail> {
-    let mut raw = RawList::new(rt.alloc());
-    assert_eq!(rt; raw.push(b"a"), Ok(()));
-    assert_eq!(rt; raw.push(b""), Ok(()));
-    let longest = vec![in rt.alloc(); b'x'; MAX_LITERAL_LEN]?;
-    let longer = vec![in rt.alloc(); b'x'; MAX_LITERAL_LEN + 1]?;
-    assert_eq!(rt; raw.push(&longer), Err(Fault::LiteralTooLong { place: 2 }));
-    assert_eq!(rt; raw.len(), 2);
-    assert_eq!(rt; raw.push(&longest), Ok(()));
-    assert_eq!(rt; raw.len(), 3);
-    assert!(rt; is_at(&raw, 0, b"a") && is_at(&raw, 1, b"") && is_at(&raw, 2, &longest));
+    let (raw, answer) = third_of(rt.alloc(), 4095)?;
+    assert_eq!(rt; (answer, raw.len()), (Ok(()), 3));
+    let (raw, answer) = third_of(rt.alloc(), 4096)?;
+    assert_eq!(rt;
+        (answer, raw.len()),
+        (Err(Fault::LiteralTooLong { place: 2 }), 2)
+    );
+    assert!(rt; are_patterns(&raw, &[b"a", b""]));
     Ok(())
+}
+
+/// The list of these options' lists.
+fn of_options(alloc: Global, lists: &[&[u8]]) -> Result<RawList, Fault> {
+    let mut raw = RawList::new(alloc);
+    for list in lists {
+        raw.add_text_list(list)?;
+    }
+    Ok(raw)
 }
 
 #[test]
 fn reads_an_option_list_strictly(rt: HostRuntime) -> Result<(), Fail> {
-    let mut raw = RawList::new(rt.alloc());
-    raw.add_text_list(b"a\n")?;
-    raw.add_text_list(b"")?;
-    raw.add_text_list(b"b\n\nc")?;
-    assert_eq!(rt; raw.len(), 6);
-    assert!(rt; is_at(&raw, 0, b"a") && is_at(&raw, 1, b"") && is_at(&raw, 2, b""));
-    assert!(rt; is_at(&raw, 3, b"b") && is_at(&raw, 4, b"") && is_at(&raw, 5, b"c"));
+    let raw = of_options(rt.alloc(), &[b"a\n", b"", b"b\n\nc"])?;
+    assert!(rt; are_patterns(&raw, &[b"a", b"", b"", b"b", b"", b"c"]));
     Ok(())
+}
+
+/// The list of these pattern files.
+fn of_files(alloc: Global, files: &[&[u8]]) -> Result<RawList, Fault> {
+    let mut raw = RawList::new(alloc);
+    for file in files {
+        raw.add_file_bytes(file)?;
+    }
+    Ok(raw)
 }
 
 #[test]
 fn reads_a_pattern_file_by_lines(rt: HostRuntime) -> Result<(), Fail> {
-    let mut raw = RawList::new(rt.alloc());
-    raw.add_file_bytes(b"")?;
-    assert!(rt; raw.is_empty());
-    raw.add_file_bytes(b"a\n\nb")?;
-    raw.add_file_bytes(b"c\n")?;
-    assert_eq!(rt; raw.len(), 4);
-    assert!(rt;
-        is_at(&raw, 0, b"a") && is_at(&raw, 1, b"") && is_at(&raw, 2, b"b") && is_at(&raw, 3, b"c")
-    );
+    let raw = of_files(rt.alloc(), &[b"", b"a\n\nb", b"c\n"])?;
+    assert!(rt; are_patterns(&raw, &[b"a", b"", b"b", b"c"]));
+    assert!(rt; of_files(rt.alloc(), &[b""])?.is_empty());
     Ok(())
+}
+
+/// What an option's list and a pattern file of so many newlines answer.
+fn newlines_of(alloc: Global, len: usize) -> Result<(Result<(), Fault>, Result<(), Fault>), Fault> {
+    let newlines = vec![in alloc; b'\n'; len]?;
+    let mut raw = RawList::new(alloc);
+    let of_list = raw.add_text_list(&newlines);
+    Ok((of_list, raw.add_file_bytes(&newlines)))
 }
 
 #[test]
 fn refuses_a_text_by_its_length_and_then_by_its_patterns(rt: HostRuntime) -> Result<(), Fail> {
-    let mut raw = RawList::new(rt.alloc());
-    raw.push(b"kept")?;
-    let newlines = vec![in rt.alloc(); b'\n'; MAX_TEXT_LEN + 1]?;
-    assert_eq!(rt; raw.add_file_bytes(&newlines), Err(Fault::ListTooLarge));
-    assert_eq!(rt; raw.add_text_list(&newlines), Err(Fault::ListTooLarge));
-    assert_eq!(rt;
-        raw.add_file_bytes(&newlines[1..]),
-        Err(Fault::TooManyPatterns)
-    );
-    assert_eq!(rt;
-        raw.add_text_list(&newlines[1..]),
-        Err(Fault::TooManyPatterns)
-    );
-    assert_eq!(rt; raw.len(), 1);
-    assert!(rt; is_at(&raw, 0, b"kept"));
-    Ok(())
-}
-
-#[test]
-fn refuses_more_pattern_bytes_than_the_limit(rt: HostRuntime) -> Result<(), Fail> {
-    let mut raw = RawList::new(rt.alloc());
-    let longest = vec![in rt.alloc(); b'x'; MAX_LITERAL_LEN]?;
-    for _ in 0..256 {
-        raw.push(&longest)?;
-    }
-    assert_eq!(rt; raw.push(&longest), Err(Fault::ListTooLarge));
-    assert_eq!(rt; raw.push(&longest[..256]), Ok(()));
-    assert_eq!(rt; raw.push(b"x"), Err(Fault::ListTooLarge));
-    assert_eq!(rt; raw.push(b""), Ok(()));
-    assert_eq!(rt; raw.len(), 258);
-    Ok(())
-}
-
-#[test]
-fn refuses_more_patterns_than_the_limit(rt: HostRuntime) -> Result<(), Fail> {
-    let mut raw = RawList::new(rt.alloc());
-    for _ in 0..MAX_PATTERNS {
-        raw.push(b"")?;
-    }
-    assert_eq!(rt; raw.push(b""), Err(Fault::TooManyPatterns));
-    assert_eq!(rt; raw.add_text_list(b"a"), Err(Fault::TooManyPatterns));
-    assert_eq!(rt; raw.len(), MAX_PATTERNS);
+    let many = Err(Fault::TooManyPatterns);
+    assert_eq!(rt; newlines_of(rt.alloc(), 1_052_672)?, (many, many));
+    let large = Err(Fault::ListTooLarge);
+    assert_eq!(rt; newlines_of(rt.alloc(), 1_052_673)?, (large, large));
     Ok(())
 }
 
