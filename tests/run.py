@@ -45,7 +45,17 @@ GREPS = [
     ({}, ["-F"], b"", b"", NO_PATTERN, 2),
     ({}, ["-z", "a"], b"a\n", b"", b"error: unexpected argument '-z' found...", 2),
     ({}, ["--help"], b"", b"", b"litgrep writes the lines...", 2),
+    ({}, ["--version"], b"", b"", b"litgrep 0.1.0\n", 2),
     ({}, [b"\xff"], b"", b"", b"litgrep: a word is not UTF-8\n", 2),
+    # long spellings
+    ({}, ["--count", "--ignore-case", "--regexp=CAT"], b"cat\n", b"1\n", b"", 0),
+    ({"-v": b"dog\n"}, ["--line-number", "--regexp", "-n", "--file", "-v"], b"a-n\ndog\n", b"1:a-n\n2:dog\n", b"", 0),
+    ({"p": b"a\n"}, ["--files-with-matches", "--fixed-strings", "--file=p"], b"a\n", b"(standard input)\n", b"", 0),
+    ({"f": b"a\n"}, ["--quiet", "--no-messages", "a", "none", "f"], b"", b"", b"", 0),
+    ({}, ["--invert-match", "--line-regexp", "a"], b"a\nab\n", b"ab\n", b"", 0),
+    ({}, ["--regexp="], b"a\n", b"a\n", b"", 0),
+    ({}, ["--regexp==a"], b"=a\na\n", b"=a\n", b"", 0),
+    ({}, ["--", "--count"], b"a--count\n", b"a--count\n", b"", 0),
     # the flags
     ({}, ["-F", "-n", "cat"], b"cat\ndog\nconcat", b"1:cat\n3:concat\n", b"", 0),
     ({}, ["-x", "-e", "cat"], b"concat\ncat\n", b"cat\n", b"", 0),
@@ -211,12 +221,20 @@ def greps():
 
 def options():
     """The options of the help text and of the manual are the same, in the same order."""
-    helped = re.findall(r"^  (--?\w+(?: [A-Z]+)?)", run(["--help"])[2].decode(), re.M)
+    helped = re.findall(r"^  (-\S.*?)  ", run(["--help"])[2].decode(), re.M)
     with open(os.path.join(TOP, "man", "litgrep.1")) as file:
         manual = file.read().split(".SH OPTIONS\n")[1].split(".SH ")[0]
     tagged = [line for tag, line in zip(manual.split("\n"), manual.split("\n")[1:]) if tag == ".TP"]
-    listed = [" ".join(re.sub(r'^\.BI? |[\\"]', "", line).split()) for line in tagged]
+    listed = [" ".join(re.sub(r'^\.BI? |^\.BR |[\\"]', "", line).split()).replace(" ,", ",") for line in tagged]
     yield "options of the help text and of the manual", helped, listed
+
+
+def usages():
+    """The usage behind a refusal of words names the program and its operands."""
+    lists = "Usage: litgrep [-F] [-c | -l | -q] [-insvx] LIST [FILE]..."
+    for program, words, usage in ((LITGREP, ["-z"], lists),):
+        text = run(words, program=program)[2].decode()
+        yield f"usage of {words}", text if usage not in text else usage, usage
 
 
 def edges():
@@ -414,7 +432,7 @@ def refused_growths():
 
 def main():
     passed = failed = 0
-    for part in (greps, options, edges, streams, gathered, plans, random_greps, random_plans, refused_growths):
+    for part in (greps, options, usages, edges, streams, gathered, plans, random_greps, random_plans, refused_growths):
         for name, got, want in part():
             if got == want:
                 passed += 1

@@ -1,13 +1,13 @@
 -- The options that clap's matches tell. POSIX.1-2017 `grep`, OPTIONS and OPERANDS.
-use Rattle.std.specs.Prelude.{◌≡◌, ℕ, ◌||◌, Bool, false, List, [], map, length, take, drop, nat_lt, if◌then◌else◌, codes, string_bytes}
+use Rattle.std.specs.Prelude.{◌≡◌, ℕ, ◌||◌, Bool, true, false, List, [], map, length, take, drop, nat_lt, if◌then◌else◌, codes, string_bytes}
 use Rattle.std.specs.Option.{option_map_or}
 use Rattle.std.specs.Borrow.{Bor}
 use Rattle.clap.specs.Words.{count_of, found_of, matched_of, raw_values, rows_of}
 use Rattle.clap.specs.declared.parser.matches.ArgMatches.{ArgMatches}
 use Rattle.lit_base.specs.declared.fold.Fold.TheVariants.{No, Ascii}
 use Rattle.grep_run.specs.declared.options.GrepOptions.{GrepOptions}
-use Rattle.litgrep.specs.declared.fault.Fault.{Fault}
-use Rattle.litgrep.specs.declared.fault.Fault.TheVariants.{Usage, OutOfMemory}
+use Rattle.program_words.specs.declared.fault.Fault.{Fault}
+use Rattle.program_words.specs.declared.fault.Fault.TheVariants.{Usage, OutOfMemory}
 
 -- the texts behind references
 abbrev pub texts : List (Bor (List ℕ)) → List (List ℕ)
@@ -67,3 +67,7 @@ IsNoPattern OutOfMemory = Unit {0}
 abbrev pub IsRefusalOf : ArgMatches → Fault → Type 0
 IsRefusalOf m (Usage text) = (gives_pattern m ≡ false) × IsNoPattern (Usage text)
 IsRefusalOf m OutOfMemory = Unit {0}
+
+-- the options that some matches tell, which give a pattern
+abbrev pub AreOptions : GrepOptions → Type 0
+AreOptions o = (m : ArgMatches) × (gives_pattern m ≡ true) × IsOptionsOf m o

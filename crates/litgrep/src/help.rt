@@ -1,4 +1,9 @@
-//! The text of `--help`.
+//! The texts of `--help` and of refusals.
+
+/// How `litgrep` is called, as its help has it too.
+pub const USAGE: &str = "\
+litgrep [-F] [-c | -l | -q] [-insvx] LIST [FILE]...
+       litgrep [-F] [-c | -l | -q] [-insvx] (-e LIST | -f FILE)... [FILE]...";
 
 /// What `litgrep` does, its options in the order of POSIX, its limits and its statuses.
 pub const HELP: &str = "\
@@ -13,18 +18,19 @@ a file to search; - is standard input, which is searched where there is none.
 Options may follow operands; behind -- all words are operands.
 
 Options:
-  -F       patterns are literals, as they always are here: changes nothing
-  -c       write only the number of selected lines of each file
-  -e LIST  use the patterns of LIST, which are separated by newlines
-  -f FILE  use the lines of FILE as patterns
-  -i       ignore the difference between A to Z and a to z
-  -l       write only the names of the files that have a selected line
-  -n       write before each line its number in its file, from 1 on
-  -q       write nothing, and end at the first selected line
-  -s       write no message on a file to search that cannot be opened or read
-  -v       select the lines that match no pattern
-  -x       let a pattern match whole lines only
-  --help   write this text, to standard error and with status 2
+  -F, --fixed-strings       patterns are literals, as they always are here
+  -c, --count               write only the number of selected lines of each file
+  -e, --regexp LIST         use the patterns of LIST, separated by newlines
+  -f, --file FILE           use the lines of FILE as patterns
+  -i, --ignore-case         ignore the difference between A to Z and a to z
+  -l, --files-with-matches  write only the names of files with a selected line
+  -n, --line-number         write before each line its number in its file
+  -q, --quiet               write nothing, and end at the first selected line
+  -s, --no-messages         no message on a file to search that cannot be read
+  -v, --invert-match        select the lines that match no pattern
+  -x, --line-regexp         let a pattern match whole lines only
+  --help                    write this text, to standard error, with status 2
+  --version                 write the version, to standard error, with status 2
 
 A line matches if it contains a pattern, byte by byte; a null pattern matches
 every line, with -x every empty one. -e and -f may be repeated and mixed, and

@@ -2,7 +2,6 @@
 //! locale.
 #![tactic(auto)]
 
-mod fault;
 mod files;
 mod help;
 mod options;

@@ -3,10 +3,10 @@ ghost use Rattle.std.specs.Prelude.{◌≡◌, IfErr, IfOk, OnOk, codes, if◌th
 ghost use Rattle.lit_base.specs.declared.fold.Fold.TheVariants.{Ascii, No};
 ghost use Rattle.litgrep.specs.Options.{IsNoPattern, IsOptionsOf, IsRefusalOf, Tells, gives_pattern, is_used, texts, texts_of};
 
-use crate::fault::Fault;
 use clap::ArgMatches;
 use grep_run::GrepOptions;
 use lit_base::Fold;
+use program_words::Fault;
 use std::alloc::{AllocError, Global};
 
 /// The options that clap's matches tell, each under the name of its field as id.
@@ -58,10 +58,7 @@ fn told(
 fn no_pattern(alloc: Global) -> Fault
     ensures { IsNoPattern result }
 {
-    match String::from_str(alloc, "litgrep: no pattern given\n") {
-        Ok(text) => Fault::Usage { text },
-        Err(_) => Fault::OutOfMemory,
-    }
+    Fault::usage(String::from_str(alloc, "litgrep: no pattern given\n"))
 }
 
 fn is_given(matches: &ArgMatches<'_>, id: &str) -> bool

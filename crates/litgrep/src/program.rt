@@ -1,11 +1,11 @@
 //! The program: words in, a status out.
 ghost use Rattle.std.specs.Prelude.{◌≡◌, ◌≢◌, ◌||◌};
 
-use crate::fault::Fault;
 use crate::files::SystemOpener;
-use crate::words::{options, words};
+use crate::words::options;
 use grep_run::{Status, Stop, run, say_out_of_memory, write_whole};
 use lit_base::ByteOut;
+use program_words::{Fault, words};
 use std::io::Read;
 use std::rt::{Env, Files};
 
@@ -20,7 +20,7 @@ pub fn serve<R: Env + Files + AllocGlobal, S: Read + Copy + Drop, W: ByteOut, E:
     ensures { result ≢ Status.Trouble
         → (W.has_failed out.new || E.has_failed err.new) ≡ (W.has_failed out.old || E.has_failed err.old) }
 {
-    match words(rt) {
+    match words(rt, "litgrep") {
         Ok(words) => serve_words(rt, standard, words.as_slice(), out, err),
         Err(fault) => refuse(&fault, err),
     }

@@ -1,9 +1,9 @@
 //! What no clause says: words that clap reads, files of the system, and reads that a signal interrupts.
-use crate::fault::Fault;
 use crate::files::SystemOpener;
 use crate::words::options;
 use grep_run::Opener;
 use lit_base::{FileOrInput, Fold, FromRead, read_to_end};
+use program_words::Fault;
 use std::alloc::{AllocError, Global};
 use std::io::{ErrorKind, Read};
 use std::process::Abort;
@@ -47,6 +47,34 @@ fn takes_any_word_for_the_argument_of_an_option(rt: HostRuntime) -> Result<(), F
     assert!(rt; are(&options.files, &["-e", "g"]));
     assert!(rt; are(&options.operands, &["-e", "-="]));
     assert!(rt; options.invert && matches!(options.fold, Fold::Ascii) && !options.number);
+    Ok(())
+}
+
+#[test]
+fn reads_long_spellings(rt: HostRuntime) -> Result<(), Fail> {
+    let alloc = rt.alloc();
+    let words = words(
+        alloc,
+        &[
+            "--count",
+            "--regexp=-n",
+            "--regexp",
+            "--file",
+            "--ignore-case",
+            "--file",
+            "-v",
+            "--regexp==",
+            "--file=p",
+            "--",
+            "--quiet",
+        ],
+    )?;
+    let options = options(alloc, words.as_slice())?;
+    assert!(rt; options.count && matches!(options.fold, Fold::Ascii));
+    assert!(rt; !(options.number || options.quiet || options.invert));
+    assert!(rt; are(&options.lists, &["-n", "--file", "="]));
+    assert!(rt; are(&options.files, &["-v", "p"]));
+    assert!(rt; are(&options.operands, &["--quiet"]));
     Ok(())
 }
 

@@ -1,52 +1,36 @@
 //! The words of the command line, read with clap.
-ghost use Rattle.std.specs.Prelude.{◌<◌, length};
+ghost use Rattle.std.specs.Prelude.{◌<◌, IfOk, length};
+ghost use Rattle.litgrep.specs.Options.{AreOptions};
 
-use crate::fault::Fault;
-use crate::help::HELP;
+use crate::help::{HELP, USAGE};
 use crate::options::options_of;
-use clap::error::ErrorKind;
-use clap::{Arg, ArgAction, Command, Error};
+use clap::{Arg, ArgAction, Command};
 use grep_run::GrepOptions;
+use program_words::{Fault, VERSION, matches_of};
 use std::alloc::{AllocError, Global};
-use std::io;
-use std::rt::Env;
 
 /// The flags, each with the id that `options_of` knows it by.
-static FLAGS: [(&str, char); 9] = [
-    ("fixed", 'F'),
-    ("count", 'c'),
-    ("fold", 'i'),
-    ("list", 'l'),
-    ("number", 'n'),
-    ("quiet", 'q'),
-    ("silent", 's'),
-    ("invert", 'v'),
-    ("whole", 'x'),
+static FLAGS: [(&str, char, &str); 9] = [
+    ("fixed", 'F', "fixed-strings"),
+    ("count", 'c', "count"),
+    ("fold", 'i', "ignore-case"),
+    ("list", 'l', "files-with-matches"),
+    ("number", 'n', "line-number"),
+    ("quiet", 'q', "quiet"),
+    ("silent", 's', "no-messages"),
+    ("invert", 'v', "invert-match"),
+    ("whole", 'x', "line-regexp"),
 ];
-
-/// The words after the program's name.
-///
-/// `Usage` where one is no text, `OutOfMemory` where a growth was refused.
-pub fn words<R: Env + AllocGlobal>(rt: &R) -> Result<Vec<String>, Fault> {
-    match std::env::args(rt) {
-        Ok(words) => Ok(words.skip(1).collect(rt.alloc())?),
-        Err(error) => Err(unreadable(rt.alloc(), &error)),
-    }
-}
-
-/// Why the words cannot be read.
-fn unreadable(alloc: Global, error: &io::Error) -> Fault {
-    if error.kind() == io::ErrorKind::OutOfMemory {
-        return Fault::OutOfMemory;
-    }
-    usage(String::from_str(alloc, "litgrep: a word is not UTF-8\n"))
-}
 
 /// The options that the words after the program's name ask for.
 ///
-/// `Usage` where clap gives no matches, help included, with clap's text, and where no pattern is
-/// given; `OutOfMemory` where a growth was refused.
-pub fn options(alloc: Global, words: &[String]) -> Result<GrepOptions, Fault> {
+/// # Errors
+/// - `Usage` where clap gives no matches, help and version included, with clap's text, and where no
+///   pattern is given.
+/// - `OutOfMemory` where a growth was refused.
+pub fn options(alloc: Global, words: &[String]) -> Result<GrepOptions, Fault>
+    ensures { IfOk result AreOptions }
+{
     if !any_is_respelled(words) {
         return matched(alloc, words);
     }
@@ -55,27 +39,35 @@ pub fn options(alloc: Global, words: &[String]) -> Result<GrepOptions, Fault> {
 }
 
 /// The options that the words ask for, as clap reads them.
-fn matched(alloc: Global, words: &[String]) -> Result<GrepOptions, Fault> {
-    match command(alloc)?.try_get_matches_from(words) {
-        Ok(matches) => options_of(alloc, &matches),
-        Err(error) => Err(refusal(alloc, &error)),
-    }
+fn matched(alloc: Global, words: &[String]) -> Result<GrepOptions, Fault>
+    ensures { IfOk result AreOptions }
+{
+    let matches = matches_of(alloc, command(alloc)?, words)?;
+    options_of(alloc, &matches)
 }
 
 /// What litgrep takes.
 fn command<'a>(alloc: Global) -> Result<Command<'a>, AllocError> {
     let mut command = Command::new(alloc, "litgrep")
+        .version(VERSION)
         .no_binary_name(true)
+        .override_usage(USAGE)
         .override_help(HELP);
-    for (id, short) in FLAGS {
-        command = command.arg(Arg::new(alloc, id).short(short).action(ArgAction::Count))?;
+    for (id, short, long) in FLAGS {
+        let flag = Arg::new(alloc, id)
+            .short(short)
+            .long(long)
+            .action(ArgAction::Count);
+        command = command.arg(flag)?;
     }
     let lists = Arg::new(alloc, "lists")
         .short('e')
+        .long("regexp")
         .value_name("LIST")
         .action(ArgAction::Append);
     let files = Arg::new(alloc, "files")
         .short('f')
+        .long("file")
         .value_name("FILE")
         .action(ArgAction::Append);
     let operands = Arg::new(alloc, "operands")
@@ -92,8 +84,9 @@ enum Spelling<'a> {
     Same,
     /// `=` begins the argument in this word. Clap drops one, so it gets two.
     TwoEquals { letters: &'a str, rest: &'a str },
-    /// The argument is the next word, though it begins with `-`: the two are one word.
-    Joined { argument: &'a str },
+    /// The argument is the next word, though it begins with `-`: the two are one word, with this
+    /// between them.
+    Joined { by: &'a str, argument: &'a str },
 }
 
 /// Whether clap would take one of the words otherwise than POSIX does.
@@ -122,9 +115,9 @@ fn spelled_words(alloc: Global, words: &[String]) -> Result<Vec<String>, AllocEr
             Spelling::TwoEquals { letters, rest } if !are_operands => {
                 format!(in alloc; "-{letters}=={rest}")?
             }
-            Spelling::Joined { argument } if !are_operands => {
+            Spelling::Joined { by, argument } if !are_operands => {
                 is_taken = true;
-                format!(in alloc; "{word}{argument}")?
+                format!(in alloc; "{word}{by}{argument}")?
             }
             _ => String::from_str(alloc, word)?,
         };
@@ -146,11 +139,18 @@ fn spelling_of(words: &[String], place: usize) -> Spelling<'_>
         }
     }
     match words.get(place + 1) {
-        Some(next) if next.as_str().starts_with('-') && takes_argument(letters) => {
-            Spelling::Joined {
-                argument: next.as_str(),
-            }
-        }
+        Some(next) if next.as_str().starts_with('-') => joined(letters, next.as_str()),
+        _ => Spelling::Same,
+    }
+}
+
+/// How clap is told a word with these letters before a word that begins with `-`.
+fn joined<'a>(letters: &str, argument: &'a str) -> Spelling<'a> {
+    if takes_argument(letters) {
+        return Spelling::Joined { by: "", argument };
+    }
+    match letters {
+        "-regexp" | "-file" => Spelling::Joined { by: "=", argument },
         _ => Spelling::Same,
     }
 }
@@ -160,21 +160,5 @@ fn takes_argument(letters: &str) -> bool {
     match letters.strip_suffix('e').or(letters.strip_suffix('f')) {
         Some(flags) => { !(flags.starts_with('-') || flags.contains('e') || flags.contains('f')) }
         None => false,
-    }
-}
-
-/// The text that clap has for the words, or want of memory.
-fn refusal(alloc: Global, error: &Error) -> Fault {
-    if error.kind() == ErrorKind::OutOfMemory {
-        return Fault::OutOfMemory;
-    }
-    usage(error.to_string(alloc))
-}
-
-/// The fault with this text, if there was memory for it.
-fn usage(text: Result<String, AllocError>) -> Fault {
-    match text {
-        Ok(text) => Fault::Usage { text },
-        Err(_) => Fault::OutOfMemory,
     }
 }

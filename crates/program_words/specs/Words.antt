@@ -1,0 +1,9 @@
+-- The message on words that cannot be read.
+use Rattle.std.specs.Prelude.{◌≡◌, ℕ, List, ◌++◌, codes, string_bytes, ⊤}
+use Rattle.program_words.specs.declared.fault.Fault.{Fault}
+use Rattle.program_words.specs.declared.fault.Fault.TheVariants.{OutOfMemory, Usage}
+
+-- that a word of the program of this name is no text, or that memory ran out
+abbrev pub IsUnread : List ℕ → Fault → Type 0
+IsUnread program (Usage text) = string_bytes text ≡ program ++ codes ": a word is not UTF-8\n"
+IsUnread program OutOfMemory = ⊤

@@ -1,0 +1,34 @@
+//! What no clause says: the texts that clap gives.
+use crate::{Fault, VERSION, matches_of};
+use clap::{Arg, ArgAction, Command};
+use std::alloc::Global;
+use std::test::Fail;
+
+#[test]
+fn counts_a_flag(rt: HostRuntime) -> Result<(), Fail> {
+    assert_eq!(rt; flags_in(rt.alloc(), "-vv")?, 2);
+    Ok(())
+}
+
+#[test]
+fn refuses_with_a_text(rt: HostRuntime) -> Result<(), Fail> {
+    let unknown = flags_in(rt.alloc(), "-z");
+    assert!(rt;
+        matches!(&unknown, Err(Fault::Usage { text }) if text.as_str().starts_with("error: "))
+    );
+    let version = flags_in(rt.alloc(), "--version");
+    assert!(rt; matches!(&version, Err(Fault::Usage { text }) if text.as_str() == "try 0.1.0\n"));
+    Ok(())
+}
+
+/// How often a word has the flag of a command.
+fn flags_in(alloc: Global, word: &str) -> Result<u64, Fault> {
+    let flag = Arg::new(alloc, "flag").short('v').action(ArgAction::Count);
+    let command = Command::new(alloc, "try")
+        .version(VERSION)
+        .no_binary_name(true)
+        .arg(flag)?;
+    let words = vec![in alloc; String::from_str(alloc, word)?]?;
+    let matches = matches_of(alloc, command, words.as_slice())?;
+    Ok(u64::from(matches.get_count("flag")))
+}
