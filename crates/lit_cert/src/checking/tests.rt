@@ -89,7 +89,7 @@ fn answer(
     Ok(check(&list, &certificate))
 }
 
-/// The same for `cat, dog, horse`.
+/// What the check answers for a certificate of `cat, dog, horse`.
 fn answer_on_animals(alloc: Global, certificate: Certificate) -> Result<Result<(), Reason>, Fault> {
     answer(alloc, &[b"cat", b"dog", b"horse"], certificate)
 }
@@ -134,17 +134,20 @@ fn refuses_another_number_of_literals(rt: HostRuntime) -> Result<(), Fail> {
     Ok(())
 }
 
+/// Ends of `cat, dog, horse` beside potentials of 0, and what the check answers.
+static OTHER_ENDS: [([u16; 3], Reason); 4] = [
+    ([1, 2, 3], Reason::Total),
+    ([1, 1, 3], Reason::Ends),
+    ([1, 2, 4], Reason::Ends),
+    ([2, 3, 3], Reason::Ends),
+];
+
 #[test]
 fn refuses_what_is_no_plan_of_the_list(rt: HostRuntime) -> Result<(), Fail> {
     let alloc = rt.alloc();
-    for (ends, reason) in [
-        ([1, 2, 3], Reason::Total),
-        ([1, 1, 3], Reason::Ends),
-        ([1, 2, 4], Reason::Ends),
-        ([2, 3, 3], Reason::Ends),
-    ] {
-        let answer = answer_on_animals(alloc, of_animals_and_zeros(alloc, ends)?)?;
-        assert_eq!(rt; answer, Err(reason), "at {ends:?}");
+    for (ends, reason) in &OTHER_ENDS {
+        let answer = answer_on_animals(alloc, of_animals_and_zeros(alloc, *ends)?)?;
+        assert_eq!(rt; answer, Err(*reason), "at {ends:?}");
     }
     Ok(())
 }

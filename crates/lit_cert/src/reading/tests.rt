@@ -1,11 +1,8 @@
-ghost use Rattle.lit_cert.specs.Spelling.{IsShaped};
-
 use super::*;
 use crate::write_cert;
 use arrayvec::ArrayVec;
 use lit_base::{CutIn, CutOut};
 use std::alloc::AllocError;
-use std::process::Abort;
 use std::test::Fail;
 
 /// The text of the certificate for `cat`, `dog` and `horse`.
@@ -29,150 +26,24 @@ const POTENTIALS: [u64; 24] = [
     934, 583, 232, 934, 583, 232,
 ];
 
-/// What each line of a text begins with, from the first on.
-const FRONTS: [&str; 13] = [
-    "litcert 1",
-    "literals ",
-    "ends ",
-    "cost ",
-    "1 ",
-    "2 ",
-    "3 ",
-    "4 ",
-    "5 ",
-    "6 ",
-    "7 ",
-    "8 ",
-    "end",
-];
-
-/// The number that a word prints as.
-fn printed_number(alloc: Global, word: &str) -> Result<Option<u64>, AllocError> {
-    let Ok(number) = word.parse::<u64>() else {
-        return Ok(None);
-    };
-    let printed = number.to_string(alloc)?;
-    Ok(if printed.as_str() == word {
-        Some(number)
-    } else {
-        None
-    })
-}
-
-/// The numbers between the spaces of a text, if each word prints one.
-fn printed_numbers(alloc: Global, text: &str) -> Result<Option<Vec<u64>>, AllocError> {
-    let mut numbers = Vec::new(alloc);
-    for word in text.split(' ') {
-        match printed_number(alloc, word)? {
-            Some(number) => numbers.push(number)?,
-            None => return Ok(None),
-        }
-    }
-    Ok(Some(numbers))
-}
-
-/// Whether these numbers may stand in the line at this place, with so many potentials in a row.
-fn are_of_line(place: usize, numbers: &[u64], n: usize) -> bool {
-    match place {
-        2 => numbers.len() == 1 && numbers.iter().all(|number| (1..=1024).contains(number)),
-        3 => numbers.len() <= 8 && numbers.iter().all(|end| *end < 65536),
-        4 => numbers.len() == 1,
-        _ => numbers.len() == n,
-    }
-}
-
-/// Whether a line is one that may stand at this place, with so many potentials in a row.
-///
-/// Unlike the reader, this takes the line as text, and prints each number again.
-fn is_line(alloc: Global, place: usize, line: &str, n: usize) -> Result<bool, AllocError> {
-    let front = FRONTS
-        .get(place.saturating_sub(1))
-        .copied()
-        .unwrap_or_default();
-    let Some(words) = line.strip_prefix(front) else {
-        return Ok(false);
-    };
-    if place == 1 || place == 13 {
-        return Ok(words.is_empty());
-    }
-    let numbers = printed_numbers(alloc, words)?;
-    Ok(numbers.is_some_and(|numbers| are_of_line(place, &numbers, n)))
-}
-
-/// The number of literals that a second line tells, or 0.
-fn count_in(line: &str) -> usize {
-    match line.strip_prefix("literals ") {
-        Some(word) => word.parse::<usize>().unwrap_or(0),
-        None => 0,
-    }
-}
-
-/// The first bad line of a text, or 0, by a look at each of its lines.
-fn first_bad_line(alloc: Global, text: &[u8]) -> Result<usize, AllocError> {
-    let lines: Vec<&[u8]> = text.split(|byte| *byte == b'\n').collect(alloc)?;
-    let mut n = 0;
-    for (i, line) in lines.iter().enumerate() {
-        let place = i + 1;
-        // The last part has no newline behind it.
-        let is_last = place == lines.len();
-        if place == 14 {
-            return Ok(if is_last && line.is_empty() { 0 } else { 14 });
-        }
-        let Ok(line) = str::from_utf8(line) else {
-            return Ok(place);
-        };
-        if place == 2 {
-            n = count_in(line);
-        }
-        if is_last || !is_line(alloc, place, line, n)? {
-            return Ok(place);
-        }
-    }
-    Ok(0)
-}
-
-/// Whether the text written of a certificate is this one.
-fn is_written_as(alloc: Global, certificate: &Certificate, text: &[u8]) -> Result<bool, Fault>
-    requires { IsShaped 8 certificate.now }
-{
-    let mut room = vec![in alloc; 0; text.len()]?;
-    let mut out = CutOut::within(&mut room);
-    write_cert(alloc, certificate, &mut out)?;
-    Ok(out.written() == text)
-}
-
-/// The bad line that the reader names, or 0 where it takes the text. None where the text written of
-/// what it took is another.
-fn bad_line(alloc: Global, text: &[u8]) -> Result<Option<usize>, Fault> {
-    match read_cert(alloc, &mut CutIn::whole(text)) {
-        Ok(certificate) => {
-            let is_same = is_written_as(alloc, &certificate, text)?;
-            Ok(if is_same { Some(0) } else { None })
-        }
-        Err(Fault::BadCertText { line }) => Ok(Some(line as usize)),
-        Err(fault) => Err(fault),
-    }
-}
-
-/// Compares what is read of a text with the slow reader, and what is read with what is written.
-fn compare(rt: &(impl Abort + AllocGlobal), text: &[u8]) -> Result<(), Fail> {
-    let wanted = first_bad_line(rt.alloc(), text)?;
-    let named = bad_line(rt.alloc(), text)?;
-    assert_eq!(rt; named, Some(wanted), "at {text:?}");
-    Ok(())
+/// Whether the text is read as the certificate of three literals.
+fn is_read_as_three(alloc: Global) -> Result<bool, Fault> {
+    let certificate = read_cert(alloc, &mut CutIn::whole(TEXT))?;
+    Ok(
+        certificate.ends.as_slice() == [1, 2, 3].as_slice()
+            && certificate.cost == 934
+            && certificate.potentials.as_slice() == POTENTIALS.as_slice(),
+    )
 }
 
 #[test]
 fn reads_the_certificate_of_three_literals(rt: HostRuntime) -> Result<(), Fail> {
-    let certificate = read_cert(rt.alloc(), &mut CutIn::whole(TEXT))?;
-    assert_eq!(rt; certificate.ends.as_slice(), [1, 2, 3].as_slice());
-    assert_eq!(rt; certificate.cost, 934);
-    assert_eq!(rt; certificate.potentials.as_slice(), POTENTIALS.as_slice());
+    assert!(rt; is_read_as_three(rt.alloc())?);
     Ok(())
 }
 
-#[test]
-fn writes_the_text_of_three_literals(rt: HostRuntime) -> Result<(), Fail> {
+/// Whether the text is what is written of the certificate of three literals.
+fn is_written_of_three(alloc: Global) -> Result<bool, Fault> {
     let mut ends = ArrayVec::new();
     ends.push(1);
     ends.push(2);
@@ -180,37 +51,71 @@ fn writes_the_text_of_three_literals(rt: HostRuntime) -> Result<(), Fail> {
     let certificate = Certificate {
         ends,
         cost: 934,
-        potentials: POTENTIALS.to_vec(rt.alloc())?,
+        potentials: POTENTIALS.to_vec(alloc)?,
     };
     let mut room = [0; 300];
     let mut out = CutOut::within(&mut room);
-    write_cert(rt.alloc(), &certificate, &mut out)?;
-    assert_eq!(rt; out.written(), TEXT);
-    Ok(())
+    write_cert(alloc, &certificate, &mut out)?;
+    Ok(out.written() == TEXT)
 }
 
 #[test]
-fn agrees_with_a_slow_reader_on_each_changed_byte(rt: HostRuntime) -> Result<(), Fail> {
-    for place in 0..TEXT.len() {
-        for byte in *b"0159 \nx+\xff" {
-            let mut text = TEXT.to_vec(rt.alloc())?;
-            text[place] = byte;
-            compare(&rt, &text)?;
+fn writes_the_text_of_three_literals(rt: HostRuntime) -> Result<(), Fail> {
+    assert!(rt; is_written_of_three(rt.alloc())?);
+    Ok(())
+}
+
+/// The bad line that the reader names, or 0 where it takes the text.
+fn bad_line(alloc: Global, text: &[u8]) -> Result<u32, Fault> {
+    match read_cert(alloc, &mut CutIn::whole(text)) {
+        Ok(_) => Ok(0),
+        Err(Fault::BadCertText { line }) => Ok(line),
+        Err(fault) => Err(fault),
+    }
+}
+
+/// The number of the line in which this place of the text lies.
+fn line_at(place: usize) -> u32 {
+    let mut line = 1u32;
+    for byte in &TEXT[..place.min(TEXT.len())] {
+        if *byte == b'\n' {
+            line = line.wrapping_add(1);
         }
     }
+    line
+}
+
+/// The text with an `x` at this place.
+fn with_letter(alloc: Global, place: usize) -> Result<Vec<u8>, AllocError> {
+    let mut text = TEXT.to_vec(alloc)?;
+    if let Some(byte) = text.get_mut(place) {
+        *byte = b'x';
+    }
+    Ok(text)
+}
+
+/// The bad line of the text with an `x` at this place.
+fn line_of_letter(alloc: Global, place: usize) -> Result<u32, Fault> {
+    let text = with_letter(alloc, place)?;
+    bad_line(alloc, &text)
+}
+
+#[test]
+fn names_the_line_of_a_letter_at_each_place(rt: HostRuntime) -> Result<(), Fail> {
+    for place in 0..TEXT.len() {
+        let line = line_of_letter(rt.alloc(), place)?;
+        assert_eq!(rt; line, line_at(place), "at {place}");
+    }
     Ok(())
 }
 
 #[test]
-fn agrees_with_a_slow_reader_on_each_cut(rt: HostRuntime) -> Result<(), Fail> {
-    for place in 0..TEXT.len() {
-        let (front, rest) = TEXT.split_at(place);
-        compare(&rt, front)?;
-        let mut text = front.to_vec(rt.alloc())?;
-        text.extend_from_slice(&rest[1..])?;
-        compare(&rt, &text)?;
+fn names_the_line_that_is_cut_off_or_missing(rt: HostRuntime) -> Result<(), Fail> {
+    for len in 0..TEXT.len() {
+        let line = bad_line(rt.alloc(), &TEXT[..len])?;
+        assert_eq!(rt; line, line_at(len), "of the first {len} bytes");
     }
-    compare(&rt, TEXT)
+    Ok(())
 }
 
 /// The text of three literals with another line at this place, from 1.
@@ -226,11 +131,10 @@ fn with_line(alloc: Global, place: usize, line: &[u8]) -> Result<Vec<u8>, AllocE
     Ok(text)
 }
 
-/// Whether the reader names this bad line, or takes the text where it is 0, in the text with another
-/// line at this place, and the slow reader does too.
-fn is_named(alloc: Global, place: usize, line: &[u8], wanted: usize) -> Result<bool, Fault> {
+/// The bad line of the text with another line at this place.
+fn line_of_other(alloc: Global, place: usize, line: &[u8]) -> Result<u32, Fault> {
     let text = with_line(alloc, place, line)?;
-    Ok(bad_line(alloc, &text)? == Some(wanted) && first_bad_line(alloc, &text)? == wanted)
+    bad_line(alloc, &text)
 }
 
 /// Lines that are wrong, by their places in the text of three literals.
@@ -270,9 +174,16 @@ static WRONG_LINES: [(usize, &[u8]); 30] = [
 #[test]
 fn names_the_first_bad_line(rt: HostRuntime) -> Result<(), Fail> {
     for (place, line) in &WRONG_LINES {
-        let is_named = is_named(rt.alloc(), *place, line, *place)?;
-        assert!(rt; is_named, "line {place}: {line:?}");
+        let named = line_of_other(rt.alloc(), *place, line)?;
+        assert_eq!(rt; named as usize, *place, "{line:?}");
     }
+    Ok(())
+}
+
+#[test]
+fn names_the_line_after_a_break(rt: HostRuntime) -> Result<(), Fail> {
+    assert_eq!(rt; line_of_other(rt.alloc(), 3, b"ends 1 2\n3")?, 4);
+    assert_eq!(rt; line_of_other(rt.alloc(), 4, b"cost 93\n4")?, 5);
     Ok(())
 }
 
@@ -289,18 +200,8 @@ static EXTREME_LINES: [(usize, &[u8]); 6] = [
 #[test]
 fn takes_each_number_within_its_limit(rt: HostRuntime) -> Result<(), Fail> {
     for (place, line) in &EXTREME_LINES {
-        let is_taken = is_named(rt.alloc(), *place, line, 0)?;
-        assert!(rt; is_taken, "line {place}: {line:?}");
-    }
-    Ok(())
-}
-
-#[test]
-fn tells_a_line_that_is_cut_off_or_missing(rt: HostRuntime) -> Result<(), Fail> {
-    // The first three lines, with the last newline and without it.
-    for (len, line) in [(32, 4), (31, 3), (0, 1)] {
-        let named = bad_line(rt.alloc(), &TEXT[..len])?;
-        assert_eq!(rt; named, Some(line), "of the first {len} bytes");
+        let named = line_of_other(rt.alloc(), *place, line)?;
+        assert_eq!(rt; named, 0, "line {place}: {line:?}");
     }
     Ok(())
 }
@@ -311,20 +212,22 @@ fn cost_read_with_refusal(alloc: Global, call: u64) -> Result<u64, Fault> {
     Ok(read_cert(alloc, &mut input)?.cost)
 }
 
-#[test]
-fn tells_each_refused_read(rt: HostRuntime) -> Result<(), Fail> {
+/// Whether the reader answers a refusal of this call, or the cost where it makes fewer calls.
+fn is_refusal_told(alloc: Global, call: u64) -> bool {
+    let cost = cost_read_with_refusal(alloc, call);
     // Reads of at most 50 bytes, and the one that finds the end.
-    let reads = TEXT.len().div_ceil(50) as u64 + 1;
-    for call in 0..reads + 2 {
-        let cost = cost_read_with_refusal(rt.alloc(), call);
-        let wanted = if call < reads {
-            Err(Fault::ReadFault)
-        } else {
-            Ok(934)
-        };
-        assert_eq!(rt; cost, wanted, "at call {call}");
+    if call < TEXT.len().div_ceil(50) as u64 + 1 {
+        cost == Err(Fault::ReadFault)
+    } else {
+        cost == Ok(934)
     }
-    Ok(())
+}
+
+#[test]
+fn tells_each_refused_read(rt: HostRuntime) {
+    for call in 0..9 {
+        assert!(rt; is_refusal_told(rt.alloc(), call), "at call {call}");
+    }
 }
 
 /// Whether the writer of the certificate for three literals, by 50 bytes, answers a refusal of this
@@ -348,59 +251,4 @@ fn tells_each_refused_write(rt: HostRuntime) -> Result<(), Fail> {
         assert!(rt; is_written_up_to(rt.alloc(), call)?, "at call {call}");
     }
     Ok(())
-}
-
-/// The bad line that the reader names where this byte follows a text without an end.
-fn line_of_endless(alloc: Global, front: &[u8], byte: u8) -> Result<Option<usize>, Fault> {
-    let mut text = front.to_vec(alloc)?;
-    text.resize(1 << 20, byte)?;
-    bad_line(alloc, &text)
-}
-
-/// Whether the reader names this line whichever byte follows without an end.
-fn is_named_in_endless(alloc: Global, front: &[u8], line: usize) -> Result<bool, Fault> {
-    for byte in *b"1 x" {
-        if line_of_endless(alloc, front, byte)? != Some(line) {
-            return Ok(false);
-        }
-    }
-    Ok(true)
-}
-
-/// Texts whose last line goes on without an end, with that line's number.
-static ENDLESS: [(&[u8], usize); 5] = [
-    (b"", 1),
-    (b"litcert 1\nliterals ", 2),
-    (b"litcert 1\nliterals 3\nends 1 2 3", 3),
-    (b"litcert 1\nliterals 1024\nends 1\ncost 0\n1 0", 5),
-    (TEXT, 14),
-];
-
-#[test]
-fn refuses_endless_lines(rt: HostRuntime) -> Result<(), Fail> {
-    for (front, line) in &ENDLESS {
-        let is_named = is_named_in_endless(rt.alloc(), front, *line)?;
-        assert!(rt; is_named, "behind {front:?}");
-    }
-    Ok(())
-}
-
-/// The longest text of a certificate.
-fn longest_text(alloc: Global) -> Result<Vec<u8>, Fault> {
-    let certificate = Certificate {
-        ends: ArrayVec::from([65535; 8]),
-        cost: u64::MAX,
-        potentials: vec![in alloc; u64::MAX; 8192]?,
-    };
-    let mut room = vec![in alloc; 0; LONGEST_TEXT]?;
-    let mut out = CutOut::within(&mut room);
-    write_cert(alloc, &certificate, &mut out)?;
-    Ok(out.written().to_vec(alloc)?)
-}
-
-#[test]
-fn reads_the_longest_text(rt: HostRuntime) -> Result<(), Fail> {
-    let text = longest_text(rt.alloc())?;
-    assert!(rt; text.len() > 170_000);
-    compare(&rt, &text)
 }
