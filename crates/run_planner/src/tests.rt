@@ -3,9 +3,9 @@ ghost use Rattle.std.specs.Prelude.{◌≡◌, ◌+◌, ◌<◌, ◌≤◌, leng
 use crate::fault::Fault;
 use crate::meter::{ListMeter, Meter};
 use crate::planning::{plan, plan_counted};
-use lit_base::{Fold, LitList, RawList, cost};
+use lit_base::{Fold, LitList, RawList};
 use lit_cert::{Certificate, check};
-use std::alloc::{AllocError, Global};
+use std::alloc::Global;
 use std::test::Fail;
 
 /// The normal form of these patterns.
@@ -185,71 +185,5 @@ fn plans_a_full_list_with_few_prices(rt: HostRuntime) -> Result<(), Fail> {
     let ends = [128, 256, 384, 512, 640, 768, 896, 1024];
     let asked = prices_asked(rt.alloc(), &list, &ends, 67_110_464)?;
     assert!(rt; asked.is_some_and(|count| count <= 180_224));
-    Ok(())
-}
-
-/// The rows of potentials by the whole table, each entry from all ends.
-fn table(alloc: Global, list: &LitList) -> Result<Vec<u64>, AllocError> {
-    let n = list.len();
-    let mut rows = vec![in alloc]?;
-    let mut later = vec![in alloc]?;
-    for r in 0..8 {
-        let mut row = vec![in alloc]?;
-        for place in 0..n {
-            let mut least = cost(n - place, list.get(place).len());
-            for end in place + 1..n {
-                if let Some(left) = later.get(end) {
-                    let price = cost(end - place, list.get(place).len()).saturating_add(*left);
-                    least = least.min(price);
-                }
-            }
-            row.push(least)?;
-        }
-        rows.extend_from_slice(row.as_slice())?;
-        later = row;
-    }
-    Ok(rows)
-}
-
-/// The next of a row of numbers without order.
-fn next(seed: u32) -> u32 {
-    let seed = seed ^ (seed << 13);
-    let seed = seed ^ (seed >> 17);
-    seed ^ (seed << 5)
-}
-
-/// So many patterns of random bytes.
-fn random_patterns(alloc: Global, seed: &mut u32, count: u32) -> Result<RawList, lit_base::Fault> {
-    let mut raw = RawList::new(alloc);
-    for _ in 0..count {
-        *seed = next(*seed);
-        let bytes = [*seed, next(*seed), next(*seed ^ 5)].map(|s| s.to_be_bytes());
-        let len = 1 + (*seed % 11) as usize;
-        raw.push(bytes.as_flattened().get(..len).unwrap_or(b"a"))?;
-    }
-    Ok(raw)
-}
-
-/// Whether the plan of the list has the potentials of the whole table, and is certified.
-fn table_agrees(alloc: Global, list: &LitList) -> Result<bool, Fail> {
-    let found = plan(alloc, list)?;
-    let rows = table(alloc, list)?;
-    Ok(found.potentials == rows && check(list, &found).is_ok())
-}
-
-/// The same of so many random patterns.
-fn patterns_agree(alloc: Global, seed: &mut u32, count: u32) -> Result<bool, Fail> {
-    let raw = random_patterns(alloc, seed, count)?;
-    let (list, _) = LitList::normal(alloc, &raw, Fold::Ascii)?;
-    table_agrees(alloc, &list)
-}
-
-#[test]
-fn agrees_with_the_whole_table(rt: HostRuntime) -> Result<(), Fail> {
-    let mut seed = 2_463_534_242;
-    for count in 1..40_u32 {
-        let agrees = patterns_agree(rt.alloc(), &mut seed, count)?;
-        assert!(rt; agrees, "{count} patterns");
-    }
     Ok(())
 }
