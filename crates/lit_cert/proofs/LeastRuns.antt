@@ -9,7 +9,7 @@ use Rattle.lit_base.specs.Literals.{Literals, lengths}
 use Rattle.lit_base.specs.Potentials.{potential}
 use Rattle.lit_base.proofs.Runs.{run_cost-lt}
 use Rattle.lit_cert.specs.Certified.{cost_of, EndRowsHold, StepsHold}
-use Rattle.lit_cert.specs.Steps.{AllFit, IsLeastRun, Suffice, price_of}
+use Rattle.lit_cert.specs.Steps.{AllFit, IsLeastRun, RunsSuffice, price_of}
 use Rattle.lit_cert.proofs.Potentials.{row_at, row_within}
 
 -- of one run, this is the cheapest
@@ -46,9 +46,9 @@ least_keeps l before p first k q least price so is dearer = record {
 }
 
 -- for literals, a row of potentials and the one before it, with a cheapest run from place m to q
-module _ (l : Literals) (here before : List ℕ) (low high first end m q price : ℕ) (quadrangle : MeetQuadrangle (cost_of l) (length l.texts)) (suffice : Suffice l here before low high first end) (within : end ≤ length l.texts) (from : low ≤ m) (to : m < high) (least : IsLeastRun l before m (max first (m + 1)) end q price) where
+module _ (l : Literals) (here before : List ℕ) (low high first end m q price : ℕ) (quadrangle : MeetQuadrangle (cost_of l) (length l.texts)) (suffice : RunsSuffice l here before low high first end) (within : end ≤ length l.texts) (from : low ≤ m) (to : m < high) (least : IsLeastRun l before m (max first (m + 1)) end q price) where
   -- no place before m needs an end behind q
-  pub suffice_before : Suffice l here before low m first (q + 1)
+  pub suffice_before : RunsSuffice l here before low m first (q + 1)
   suffice_before p above below fits =
       suffice p above (omega arith) (λ k past start stop. elim (cases_lt k (q + 1)) [
         | inl early ↦ fits k past start early
@@ -59,7 +59,7 @@ module _ (l : Literals) (here before : List ℕ) (low high first end m q price :
       ])
 
   -- and none behind m an end before q
-  pub suffice_behind : Suffice l here before (m + 1) high q end
+  pub suffice_behind : RunsSuffice l here before (m + 1) high q end
   suffice_behind p above below fits =
       suffice p (omega arith) below (λ k past start stop. elim (cases_lt k q) [
         | inl early ↦

@@ -72,7 +72,7 @@ line_is text line rest ws after is lacks plain e =
 pub is_line : (text line rest : List ℕ) (ws : List (List ℕ)) → text ≡ line ++ 10 ∷ rest → line ≡ join_with_byte 32 ws → text ≡ line_text ws ++ rest
 is_line text line rest ws is e = is ∙ ap (λ (t : List ℕ). t ++ 10 ∷ rest) e ∙ sym (append_assoc (join_with_byte 32 ws) (10 ∷ []) rest)
 
--- the same, by a test that computes
+-- a word lacks a byte where a test that computes says so
 pub lacks_by_test : (c : ℕ) (w : List ℕ) → list_all (λ b. not (eqb b c)) w ≡ true → Lacks c w
 lacks_by_test c [] e = All-nil (λ b. b ≢ c)
 lacks_by_test c (b ∷ w) e =

@@ -74,7 +74,7 @@ one_byte [] x e one = absurd (omega arith)
 one_byte (b ∷ []) x e one = cc
 one_byte (b ∷ c ∷ word) x e one = absurd (omega arith)
 
--- the same, where the answer is an option
+-- a number that an option answers
 pub found_by : {E : Type 0} (o : Option ℕ) (r : Result ℕ E) (word : List ℕ) → o ≡ result_ok r → MatchResult r (IsNumber word) (λ _. IsNoNumber word) → IfSome o (IsNumber word) × IfNone o (IsNoNumber word)
 found_by o (Ok x) word e h = rw e (h, tt)
 found_by o (Err x) word e h = rw e (tt, h)

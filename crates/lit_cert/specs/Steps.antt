@@ -3,7 +3,7 @@ use Rattle.std.specs.Prelude.{◌≡◌, ℕ, ◌+◌, ◌<◌, ◌≤◌, List,
 use Rattle.lit_base.specs.Literals.{Literals}
 use Rattle.lit_cert.specs.Certified.{cost_of}
 
--- what the run from p to q costs, and the potential behind it
+-- what the run from p to q costs, and the potential at its end
 abbrev pub price_of : Literals → List ℕ → ℕ → ℕ → ℕ
 price_of l before p q = cost_of l p q + slice_index before q
 
@@ -18,8 +18,8 @@ AllFit l here before low high =
     (p : ℕ) → low ≤ p → p < high → Fits l here before p 0 (length l.texts)
 
 -- for these it suffices that they are above none of the runs that end from first up to but not including end
-abbrev pub Suffice : Literals → List ℕ → List ℕ → ℕ → ℕ → ℕ → ℕ → Type 0
-Suffice l here before low high first end =
+abbrev pub RunsSuffice : Literals → List ℕ → List ℕ → ℕ → ℕ → ℕ → ℕ → Type 0
+RunsSuffice l here before low high first end =
     (p : ℕ) → low ≤ p → p < high → Fits l here before p first end → Fits l here before p 0 (length l.texts)
 
 -- q is the end of a cheapest run from p of those that end from first up to but not including end, and price its price

@@ -1,3 +1,4 @@
+//! A grouping of literals into runs, with what shows that no other one is cheaper.
 use lit_base::Ends;
 use std::marker::Model;
 

@@ -1,3 +1,4 @@
+//! The check that a certificate shows its runs to be the cheapest.
 ghost use Rattle.std.specs.Prelude.{◌≡◌, ◌+◌, ◌*◌, ◌<◌, ◌≤◌, ◌↔◌, length, IsTrue, IsOk, IsErrOf, OnOk, MatchOption, MatchResult};
 ghost use Rattle.lit_base.specs.Literals.{lengths};
 ghost use Rattle.lit_base.specs.Cuts.{IsCut, NoCutBelow};
@@ -98,7 +99,7 @@ fn first_end_row(list: &LitList, potentials: &[u64], most: usize) -> Option<(usi
         (λ s. IsFirstEndRow most list.now potentials.now s.0 s.1) }
 {
     for r in 1..=most {
-        if let Some(p) = first_end(list, potentials, r) {
+        if let Some(p) = first_above_end(list, potentials, r) {
             return Some((r, p));
         }
     }
@@ -106,7 +107,7 @@ fn first_end_row(list: &LitList, potentials: &[u64], most: usize) -> Option<(usi
 }
 
 /// The first place p at which `h(r, p)` is above `c(p, n)`.
-fn first_end(list: &LitList, potentials: &[u64], r: usize) -> Option<usize>
+fn first_above_end(list: &LitList, potentials: &[u64], r: usize) -> Option<usize>
     requires from_one { 1 ≤ r }
     requires within { r * length list.now.texts ≤ length potentials.now }
     ensures { MatchOption result
@@ -123,7 +124,7 @@ fn first_end(list: &LitList, potentials: &[u64], r: usize) -> Option<usize>
     None
 }
 
-/// The first row r from 2 on, its first place p, and the first place q behind p, at which `h(r, p)`
+/// The first row r from 2 on, its first place p, and the first place q after p, at which `h(r, p)`
 /// is above `c(p, q) + h(r - 1, q)`.
 fn first_step_row(list: &LitList, potentials: &[u64], most: usize) -> Option<(usize, usize, usize)>
     requires within { most * length list.now.texts ≤ length potentials.now }
@@ -140,7 +141,7 @@ fn first_step_row(list: &LitList, potentials: &[u64], most: usize) -> Option<(us
     None
 }
 
-/// The first place p of row r, and the first place q behind it, at which that is so. Where there is
+/// The first place p of row r, and the first place q after it, at which that is so. Where there is
 /// none it takes time n log n, else n^2.
 fn first_step(list: &LitList, potentials: &[u64], r: usize) -> Option<(usize, usize)>
     requires from_two { 2 ≤ r }
@@ -161,7 +162,7 @@ fn first_step(list: &LitList, potentials: &[u64], r: usize) -> Option<(usize, us
     None
 }
 
-/// The first place q behind p at which `h(r, p)` is above `c(p, q) + h(r - 1, q)`.
+/// The first place q after p at which `h(r, p)` is above `c(p, q) + h(r - 1, q)`.
 fn first_run(list: &LitList, potentials: &[u64], r: usize, p: usize) -> Option<usize>
     requires from_two { 2 ≤ r }
     requires within { r * length list.now.texts ≤ length potentials.now }

@@ -3,7 +3,7 @@
 ghost use Rattle.std.specs.Prelude.{◌≡◌, ◌+◌, ◌*◌, ◌^◌, ◌<◌, ◌≤◌, ◌↔◌, length, All, IsTrue};
 ghost use Rattle.lit_base.specs.Costs.{MeetQuadrangle};
 ghost use Rattle.lit_cert.specs.Certified.{EndRowsHold, StepsHold, cost_of};
-ghost use Rattle.lit_cert.specs.Steps.{AllFit, IsLeastRun, Suffice};
+ghost use Rattle.lit_cert.specs.Steps.{AllFit, IsLeastRun, RunsSuffice};
 
 use lit_base::{LitList, cost, run_cost_law};
 
@@ -44,7 +44,7 @@ fn places_hold(
     requires before { length before.now ≡ length list.now.texts }
     requires here { length here.now ≡ length list.now.texts }
     requires first { first < end }
-    requires suffice { Suffice list.now here.now before.now low high first end }
+    requires suffice { RunsSuffice list.now here.now before.now low high first end }
     ensures { IsTrue result ↔ AllFit list.now here.now before.now low high }
 {
     if high <= low {

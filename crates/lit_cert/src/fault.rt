@@ -1,3 +1,4 @@
+//! Why a certificate could not be read or written.
 ghost use Rattle.std.specs.Prelude.{◌≡◌};
 ghost use Rattle.lit_cert.specs.Faults.{number_of};
 

@@ -1,3 +1,4 @@
+//! Certificates read from a device.
 ghost use Rattle.std.specs.Prelude.{◌≡◌, ◌≢◌, ℕ, ◌+◌, ◌^◌, ◌<◌, ◌≤◌, length, IsTrue, IfOk, IfErr, IfSome};
 ghost use Rattle.byte_io.specs.Devices.{Clean, EndsHere, Told};
 ghost use Rattle.lit_cert.specs.Certificates.{CertificateParts};
@@ -49,7 +50,8 @@ pub fn read_cert<R: ByteIn>(alloc: Global, input: &mut R) -> Result<Certificate,
     read_longest(alloc, input)
 }
 
-/// The same, of which each clause tells what an answer means, and none which answer comes.
+/// Reads the longest text that a certificate has, of which each clause tells what an answer means, and
+/// none which answer comes.
 fn read_longest<R: ByteIn>(alloc: Global, input: &mut R) -> Result<Certificate, Fault>
     ensures found { Told (R.coming input.old) (R.coming input.new) (λ old new.
         IfOk result (λ c. HasText 8 c × (old.text ≡ spelling 8 c) × EndsHere new)) }

@@ -1,3 +1,4 @@
+//! Why a certificate does not show that its runs are the cheapest.
 use thiserror::Error;
 
 /// Why a certificate does not show that its runs are the cheapest: the first of the check's

@@ -72,7 +72,7 @@ byte-lt text i bytes =
       | inr past ↦ omega (arith, get_or_past text i 0 past)
     ]
 
--- the same with two zero bytes before the text
+-- with two zero bytes before the text each is a byte too
 padded-lt : (text : List ℕ) (i : ℕ) → All (λ b. b < 256) text → get_or (0 ∷ 0 ∷ text) i 0 < 256
 padded-lt text zero bytes = omega arith
 padded-lt text (suc zero) bytes = omega arith

@@ -1,3 +1,4 @@
+//! The tables of worked lists, their filter bytes, and the law of candidates.
 use crate::candidates::candidate_law;
 use crate::masks::{Masks, plain_byte};
 use lit_base::{Ends, Fault, Fold, LitList, RawList, is_cut};

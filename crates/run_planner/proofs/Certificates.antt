@@ -57,7 +57,7 @@ certified-from_plan most l c from_one first cost tails len = record {
   bounds = tails-bound (run_cost (lengths l)) most (length l.texts) c.potentials tails;
 }
 
--- the same by a meter of as many places, whose prices are the costs of the literals
+-- so does that of a plan by a meter of as many places, whose prices are the costs of the literals
 pub certified-from_meter : (most : ℕ) (l : Literals) (c : CertificateParts) (n : ℕ) (prices : ℕ → ℕ → ℕ) → 1 ≤ most → n ≡ length l.texts → prices ≡ run_cost (lengths l) → IsFirstCut prices most n c.ends → c.cost ≡ cut_price prices 0 c.ends → AreTailCosts prices n most c.potentials → length c.potentials ≡ most * n → IsCertified most l c
 certified-from_meter most l c n prices from_one size same first cost tails len =
     let costs = run_cost (lengths l) in

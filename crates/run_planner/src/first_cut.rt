@@ -108,7 +108,7 @@ fn first_run_end<M: Meter>(meter: &mut M, n: u16, rows: &[u64], runs: usize, pla
 }
 
 /// The first end before n of a run from `place` that costs so much with what is left after it, by
-/// the row behind, or n where there is none.
+/// the row of one run fewer, or n where there is none.
 fn first_reaching<M: Meter>(meter: &mut M, later: &[u64], n: u16, place: u16, price: u64) -> u16
     requires size { M.size meter.old ≡ n }
     requires few { n ≤ 4096 }

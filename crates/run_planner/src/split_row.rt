@@ -1,6 +1,6 @@
-//! One row of potentials from the row behind it, by divide and conquer. Where the prices meet the
-//! quadrangle inequality, the best end of a run never moves back as its first place moves on: so the
-//! best end of the middle place bounds those of the places on both sides.
+//! One row of potentials from the row of one run fewer, by divide and conquer. Where the prices meet
+//! the quadrangle inequality, the best end of a run never moves back as its first place moves on: so
+//! the best end of the middle place bounds those of the places on both sides.
 
 ghost use Rattle.std.specs.Prelude.{◌≡◌, ℕ, ◌+◌, ◌-◌, ◌*◌, ◌^◌, ◌<◌, ◌≤◌, All, length, slice_index};
 ghost use Rattle.run_planner.specs.Splits.{IsBestEnd, IsLeastSplit, Suffice, SufficeAt};
@@ -14,8 +14,8 @@ struct Best {
     end: u16,
 }
 
-/// What the run from `place` to `end` costs with what is left after it, by the row behind: nothing
-/// after the last place.
+/// What the run from `place` to `end` costs with what is left after it, by the row of one run fewer:
+/// nothing after the last place.
 fn price_to<M: Meter>(meter: &mut M, later: &[u64], place: u16, end: u16) -> u64
     requires size { M.size meter.old ≡ length later.now }
     requires small { All (λ v. v < 2 ^ 40) later.now }

@@ -1,7 +1,7 @@
 -- Each turn compares one end row.
 use Rattle.std.proofs.Common.{below_more, arith}
 use Rattle.lit_cert.proofs.Potentials.{row_within, end_read}
-use Rattle.lit_cert.proofs.checking.first_end.Goals as goal
+use Rattle.lit_cert.proofs.checking.first_above_end.Goals as goal
 
 pub returns-then-here-cost : goal.returns-then-here-cost
 returns-then-here-cost c =
