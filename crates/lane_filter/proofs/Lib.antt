@@ -6,3 +6,4 @@ pub mod FilterLemmas
 pub mod FourLemmas
 pub mod LaneLemmas
 pub mod PairLemmas
+pub mod Ranks

@@ -1,5 +1,5 @@
 -- Two bytes of a literal, and the places of a text before which they stand.
-use Rattle.std.specs.Prelude.{◌≡◌, ℕ, ◌+◌, ◌-◌, ◌<◌, ◌≤◌, ◌&&◌, nat_le, if◌then◌else◌, List, Some, length, slice_index, bit_or}
+use Rattle.std.specs.Prelude.{◌≡◌, ◌≢◌, ℕ, ◌+◌, ◌-◌, ◌<◌, ◌≤◌, ◌&&◌, nat_le, if◌then◌else◌, List, Some, length, slice_index, bit_or}
 use Rattle.std.specs.List.{slice_get}
 use Rattle.lit_base.specs.declared.fold.Fold.{Fold}
 use Rattle.lit_base.specs.declared.fold.Fold.TheVariants.{No, Ascii}
@@ -35,7 +35,13 @@ pub record IsPairEnd (pair : BytePair) (text : List ℕ) (end : ℕ) : Type 0 wh
 abbrev pub IsExact : BytePair → Type 0
 IsExact pair = (pair.first.case_bit ≡ 0) × (pair.second.case_bit ≡ 0)
 
--- two bytes of the literal at a place of the list, each with its own place
+-- of two places of a literal, the second has another byte than the first where one of the last 256 bytes is another
+abbrev pub AreUnlike : List ℕ → ℕ → ℕ → Type 0
+AreUnlike literal first second =
+    (place : ℕ) → place < length literal → length literal ≤ place + 256 → slice_index literal place ≢ slice_index literal first
+    → slice_index literal second ≢ slice_index literal first
+
+-- two bytes of the literal at a place of the list, at two places if it is longer than one, and unlike if they can be
 pub record IsPairOf (l : Literals) (place : ℕ) (pair : BytePair) : Type 0 where
   pub literal : List ℕ
   pub stands : slice_get l.texts place ≡ Some literal
@@ -43,3 +49,5 @@ pub record IsPairOf (l : Literals) (place : ℕ) (pair : BytePair) : Type 0 wher
   pub first : IsRareByteOf l.folding literal first_place pair.first
   pub second_place : ℕ
   pub second : IsRareByteOf l.folding literal second_place pair.second
+  pub apart : 2 ≤ length literal → first_place ≢ second_place
+  pub unlike : AreUnlike literal first_place second_place

@@ -1,7 +1,7 @@
 //! Two bytes of a literal that are rare in usual text: where not both stand, it does not end.
-ghost use Rattle.std.specs.Prelude.{◌≡◌, ℕ, ◌+◌, ◌-◌, ◌<◌, ◌≤◌, ◌↔◌, IsTrue, List, length, slice_index, slice_index_or, max};
+ghost use Rattle.std.specs.Prelude.{◌≡◌, ◌≢◌, ℕ, ◌+◌, ◌-◌, ◌^◌, ◌<◌, ◌≤◌, ◌↔◌, IfSome, IsTrue, List, length, slice_index, slice_index_or, max};
 ghost use Rattle.lane_filter.specs.Lanes.{HoldsBelow, TellsBits, TellsLanes};
-ghost use Rattle.lane_filter.specs.Pairs.{IsExact, IsPairEnd, IsPairOf, IsRareByteOf, StandsBefore, case_bit};
+ghost use Rattle.lane_filter.specs.Pairs.{AreUnlike, IsExact, IsPairEnd, IsPairOf, IsRareByteOf, StandsBefore, case_bit};
 ghost use Rattle.lit_base.specs.declared.fold.Fold.{Fold};
 ghost use Rattle.lit_base.specs.Occurrences.{Occurs};
 
@@ -102,8 +102,9 @@ pub struct BytePair {
 }
 
 impl BytePair {
-    /// The two rarest of the last bytes of the literal at a place, by what is usual in text. They
-    /// stand before each end of it.
+    /// The two rarest of the last bytes of the literal at a place, by what is usual in text: at two
+    /// places if it is longer than one byte, and different if its last bytes are. They stand before
+    /// each end of it.
     pub fn of(list: &LitList, place: usize) -> BytePair
         requires { place < length list.now.texts }
         ensures pair { IsPairOf list.now place result }
@@ -203,9 +204,12 @@ fn case_bit(fold: Fold, byte: u8) -> u8
 /// The place of the rarest of a folded literal's last bytes. Beside a place chosen before it is
 /// another, where there is one, with another byte if there is one.
 fn rarest(fold: Fold, literal: &[u8], chosen: Option<usize>) -> usize
-    requires { 0 < length literal.now }
+    requires some { 0 < length literal.now }
+    requires chosen { IfSome chosen (λ first. first < length literal.now) }
     ensures within { result < length literal.now }
     ensures near { length literal.now ≤ result + 256 }
+    ensures apart { IfSome chosen (λ first. 2 ≤ length literal.now → first ≢ result) }
+    ensures unlike { IfSome chosen (λ first. AreUnlike literal.now first result) }
 {
     let start = literal.len().saturating_sub(CHOSEN_FROM);
     let (mut least, mut found) = (u16::MAX, start);
@@ -220,13 +224,19 @@ fn rarest(fold: Fold, literal: &[u8], chosen: Option<usize>) -> usize
 
 /// How little a byte tells beside the one at a place chosen before.
 fn cost_of(fold: Fold, literal: &[u8], place: usize, chosen: Option<usize>) -> u16
-    requires { place < length literal.now }
+    requires within { place < length literal.now }
+    requires chosen { IfSome chosen (λ first. first < length literal.now) }
+    ensures short { result < 2 ^ 16 - 1 }
+    ensures here { IfSome chosen (λ first. first ≡ place → 512 ≤ result) }
+    ensures apart { IfSome chosen (λ first. first ≢ place → result < 512) }
+    ensures like { IfSome chosen (λ first. slice_index literal.now place ≡ slice_index literal.now first → 256 ≤ result) }
+    ensures unlike { IfSome chosen (λ first. slice_index literal.now place ≢ slice_index literal.now first → result < 256) }
 {
     let byte = literal[place];
     let rank = usual_rank(fold, byte);
     match chosen {
         Some(other) if other == place => 512 + rank,
-        Some(other) if literal.get(other) == Some(&byte) => 256 + rank,
+        Some(other) if literal[other] == byte => 256 + rank,
         _ => rank,
     }
 }

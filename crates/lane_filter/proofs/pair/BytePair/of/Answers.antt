@@ -12,6 +12,8 @@ returns-clause-pair c =
       first = rw c.fold-fold.ensures at c.at.ensures;
       second_place = c.rarest-second.result;
       second = rw c.fold-fold.ensures at c.at-2.ensures;
+      apart = c.rarest-second.ensures.apart;
+      unlike = c.rarest-second.ensures.unlike;
     }
 
 pub returns-clause-stands : goal.returns-clause-stands
