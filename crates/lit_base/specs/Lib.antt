@@ -5,6 +5,7 @@ pub mod Cuts
 pub mod Faults
 pub mod Folding
 pub mod Lines
+pub mod LinesLeft
 pub mod Literals
 pub mod Marks
 pub mod NormalForm

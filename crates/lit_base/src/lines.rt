@@ -1,10 +1,12 @@
+//! The lines of a text.
 ghost use Rattle.std.specs.Prelude.{◌≡◌, ◌≢◌, ◌==◌, ◌<◌, [], ◌∷◌, length, IfSome};
 ghost use Rattle.std.specs.List.{position};
 ghost use Rattle.std.specs.Iterator.{YieldsFirstRef, item_count};
 ghost use Rattle.lit_base.specs.Lines.{lines, EndedLaw, LinesLaw};
+ghost use Rattle.lit_base.specs.LinesLeft.{lines_left};
 ghost use Rattle.lit_base.specs.Selected.{MatchingLaw};
 
-/// The lines of a text, in order, without their newlines.
+/// The lines of a text, in order, without their newlines. A contract sees those that are left.
 #[derive(Clone, Copy)]
 pub struct Lines<'a> {
     rest: &'a [u8],
@@ -13,7 +15,7 @@ pub struct Lines<'a> {
 impl<'a> Lines<'a> {
     /// The lines of the text. A last line without newline is one if it is not empty.
     pub fn new(text: &'a [u8]) -> Lines<'a>
-        ensures { result.rest.now ≡ text.now }
+        ensures { lines_left result ≡ lines text.now }
     {
         Lines { rest: text }
     }
@@ -22,9 +24,9 @@ impl<'a> Lines<'a> {
 impl<'a> Iterator for Lines<'a> {
     type Item = &'a [u8];
 
-    ghost next_gives = { YieldsFirstRef (λ s. lines s.rest.now) };
+    ghost next_gives = { YieldsFirstRef lines_left };
 
-    ghost remaining = { item_count (λ s. lines s.rest.now) };
+    ghost remaining = { item_count lines_left };
 
     fn next(&mut self) -> Option<&'a [u8]> {
         if self.rest.is_empty() {

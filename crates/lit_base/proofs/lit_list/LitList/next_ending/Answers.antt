@@ -1,7 +1,4 @@
 -- The suffixes are those of the literals.
-use Rattle.std.proofs.Common.{subst}
-use Rattle.lit_base.specs.Literals.{IsNormal}
-use Rattle.lit_base.specs.Marks.{AreSuffixesOf}
 use Rattle.lit_base.proofs.ChainLemmas.{found_within}
 use Rattle.lit_base.proofs.lit_list.LitList.next_ending.Goals as goal
 

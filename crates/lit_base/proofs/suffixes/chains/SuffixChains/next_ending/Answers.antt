@@ -1,5 +1,5 @@
 -- Each class goes on where the one before it ends, and the last one ends with the literals.
-use Rattle.std.proofs.Common.{length, subst, arith}
+use Rattle.std.proofs.Common.{length, arith}
 use Rattle.lit_base.specs.Chains.{AreChainsOf}
 use Rattle.lit_base.proofs.ChainLemmas.{with_class, with_last, at_none, at_some}
 use Rattle.lit_base.proofs.suffixes.chains.SuffixChains.next_ending.Goals as goal
