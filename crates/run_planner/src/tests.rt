@@ -1,3 +1,5 @@
+//! Plans of worked lists, and how many prices they ask for.
+
 ghost use Rattle.std.specs.Prelude.{◌≡◌, ◌+◌, ◌<◌, ◌≤◌, length};
 
 use crate::fault::Fault;

@@ -1,3 +1,4 @@
+//! What the check answers for worked certificates, and how reasons are printed.
 use super::*;
 use lit_base::{Ends, Fault, Fold, RawList};
 use std::alloc::{AllocError, Global};

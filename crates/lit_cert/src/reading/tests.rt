@@ -1,3 +1,4 @@
+//! Texts of certificates read and written, bad lines, and devices that fail.
 use super::*;
 use crate::write_cert;
 use arrayvec::ArrayVec;
