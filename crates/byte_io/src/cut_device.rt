@@ -123,6 +123,16 @@ impl<'a> CutIn<'a> {
         CutIn { step, ..self }
     }
 
+    /// The reader, as if no call had failed.
+    pub(crate) fn afresh(self) -> Self
+        ensures { result ≡ record self.entry { has_failed = false } }
+    {
+        CutIn {
+            has_failed: false,
+            ..self
+        }
+    }
+
     fn with_cut(bytes: &'a [u8], cut: Cut) -> Self
         ensures { result ≡ record {
           text = bytes.now;
@@ -238,6 +248,16 @@ impl<'a> CutOut<'a> {
         ensures { result ≡ record self.entry { step = step } }
     {
         CutOut { step, ..self }
+    }
+
+    /// The writer, as if no call had failed.
+    pub(crate) fn afresh(self) -> Self
+        ensures { result ≡ record self.entry { has_failed = false } }
+    {
+        CutOut {
+            has_failed: false,
+            ..self
+        }
     }
 
     /// What it has taken.

@@ -3,12 +3,20 @@
 
 mod cut_device;
 mod device;
+mod files;
+mod lent_files;
 mod limits;
+mod opener;
 mod std_device;
+mod system_files;
 mod transfer;
 
 pub use cut_device::{CutIn, CutOut};
 pub use device::{ByteIn, ByteOut, Failed};
+pub use files::Files;
+pub use lent_files::LentFiles;
 pub use limits::MAX_TURNS;
+pub use opener::{Missing, Opener, open_operand};
 pub use std_device::{FileOrInput, FromRead, ToWrite};
+pub use system_files::SystemFiles;
 pub use transfer::{ReadError, read_to_end, write_all};

@@ -3,17 +3,18 @@ use Rattle.std.proofs.Common.{◌≡◌, ℕ, ◌<◌, Bool, true, false, ◌&&�
 use Rattle.std.proofs.lemmas.List.{length-map}
 use Rattle.std.proofs.lemmas.Bool.Decides.{nat_tests}
 use Rattle.byte_io.specs.Devices.{Told}
+use Rattle.byte_io.specs.Sources.{AreShort, Ask, Sources, after, ask_of, taken_by}
+use Rattle.byte_io.proofs.ToldLemmas.{Told-none, Told-weaker}
 use Rattle.grep_run.specs.declared.block.Block.{Block}
 use Rattle.grep_run.specs.declared.options.GrepOptions.{GrepOptions}
 use Rattle.grep_run.specs.declared.scanning.Found.{Found}
 use Rattle.grep_run.specs.declared.status.Stop.{Stop}
 use Rattle.grep_run.specs.Grep.{answer_to, asks, searched}
-use Rattle.grep_run.specs.Options.{ask_of, asks_or_standard}
+use Rattle.grep_run.specs.Options.{asks_or_standard}
 use Rattle.grep_run.specs.Outputs.{Grows, GrowsFront, Output, all_written, output_of}
 use Rattle.grep_run.specs.Searching.{AreCut, Searches, SearchesAll}
-use Rattle.grep_run.specs.Sources.{AreShort, Ask, Input, Sources, after, found, name_of, taken_by}
+use Rattle.grep_run.specs.Sources.{Input, found, name_of}
 use Rattle.grep_run.proofs.SearchLemmas.{InputsSoFar-all, InputsSoFar-cut, InputsSoFar-last, InputsSoFar-more, InputsSoFar-none}
-use Rattle.byte_io.proofs.ToldLemmas.{Told-none, Told-weaker}
 use Rattle.grep_run.specs.Running.{AsksFront}
 use Rattle.grep_run.proofs.FrontLemmas.{AppendsFront-all, AppendsFront-none}
 use Rattle.grep_run.proofs.OutputLemmas.{Grows-kept, GrowsFront-behind, GrowsFront-none, output-none}

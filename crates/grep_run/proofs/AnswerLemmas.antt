@@ -4,6 +4,9 @@ use Rattle.std.specs.Io.KnownBytes.{Appends}
 use Rattle.std.proofs.KnownBytes.{Appends-nil, Appends-trans}
 use Rattle.std.proofs.lemmas.Bool.{or_parts}
 use Rattle.byte_io.specs.Devices.{Told}
+use Rattle.byte_io.specs.Sources.{AreShort, Ask, Sources, after_all}
+use Rattle.byte_io.proofs.ToldLemmas.{Told-then, Told-weaker}
+use Rattle.byte_io.proofs.OpenerLemmas.{after_all-append, short-after_all}
 use Rattle.lit_base.specs.declared.fault.Fault.{Fault}
 use Rattle.lit_base.specs.declared.fault.Fault.TheVariants.{OutOfMemory, TooManyPatterns, LiteralTooLong, TooManyLiterals, ListTooLarge}
 use Rattle.line_pick.proofs.Standing.{standing}
@@ -27,11 +30,9 @@ use Rattle.grep_run.specs.Blocks.{selects}
 use Rattle.grep_run.specs.Scanning.{test_of}
 use Rattle.grep_run.specs.Outputs.{all_written}
 use Rattle.grep_run.specs.Searching.{SearchesAll}
-use Rattle.grep_run.specs.Sources.{AreShort, Ask, Sources, after_all, found}
+use Rattle.grep_run.specs.Sources.{found}
 use Rattle.grep_run.proofs.FrontLemmas.{AppendsFront-none}
 use Rattle.grep_run.proofs.OutputLemmas.{Grows-all_written}
-use Rattle.byte_io.proofs.ToldLemmas.{Told-then, Told-weaker}
-use Rattle.grep_run.proofs.ToldLemmas.{after_all-append, short-after_all}
 
 -- tests that agree on each line are one
 same-function : (f h : List ℕ → Bool) → ((line : List ℕ) → f line ≡ h line) → f ≡ h

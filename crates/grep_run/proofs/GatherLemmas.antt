@@ -3,6 +3,9 @@ use Rattle.std.proofs.Common.{◌≡◌, ◌≢◌, ℕ, ◌+◌, ◌<◌, true,
 use Rattle.std.specs.Option.{option_map}
 use Rattle.std.proofs.lemmas.List.{drop_more}
 use Rattle.byte_io.specs.Devices.{Told}
+use Rattle.byte_io.specs.Sources.{AreShort, Ask, Named, Sources, after, after_all, source_of}
+use Rattle.byte_io.proofs.ToldLemmas.{Told-then, Told-weaker}
+use Rattle.byte_io.proofs.OpenerLemmas.{after_all-one, short-after}
 use Rattle.lit_base.specs.declared.fault.Fault.{Fault}
 use Rattle.lit_base.specs.declared.fault.Fault.TheVariants.{OutOfMemory}
 use Rattle.line_pick.specs.Matching.{StandsFor}
@@ -15,9 +18,7 @@ use Rattle.grep_run.specs.Grep.{asks}
 use Rattle.grep_run.specs.Messages.{patterns_refused}
 use Rattle.grep_run.specs.Options.{asks_for, lists_of}
 use Rattle.grep_run.specs.Patterns.{content_message, files_asked, files_message, files_read, first_of, lists_refusal, literals_refusal, pattern_files, patterns_from, patterns_in}
-use Rattle.grep_run.specs.Sources.{AreShort, Ask, Input, Named, Sources, after_all, after_named, found, source_of}
-use Rattle.byte_io.proofs.ToldLemmas.{Told-then, Told-weaker}
-use Rattle.grep_run.proofs.ToldLemmas.{after_all-one, short-after}
+use Rattle.grep_run.specs.Sources.{Input, found}
 
 -- the patterns of files
 abbrev pub all_from : List Input → List (List ℕ)
@@ -48,12 +49,12 @@ made-more made a rest = sym (append_assoc made (a ∷ []) rest)
 
 -- and one file more
 pub FilesSoFar-more : {old now : List (List ℕ)} {all : List Ask} {s mid : Sources} (new : List (List ℕ)) (name : List ℕ) (rest : List Ask) (left : Sources)
-    → FilesSoFar old now all (Named name ∷ rest) s mid → left ≡ after_named name mid → content_message now name (source_of name mid.named) ≡ None
+    → FilesSoFar old now all (Named name ∷ rest) s mid → left ≡ after (Named name) mid → content_message now name (source_of name mid.named) ≡ None
     → new ≡ now ++ patterns_from (source_of name mid.named) → FilesSoFar old new all rest s left
 FilesSoFar-more {old} {now} {all} {s} {mid} new name rest left p e none grown =
     let file : Input = record { ask = Named name; source = source_of name mid.named } in
-    let behind : List Input = found rest (after_named name mid) in
-    let same : found rest (after_named name mid) ≡ found rest left = ap (found rest) (sym e) in
+    let behind : List Input = found rest (after (Named name) mid) in
+    let same : found rest (after (Named name) mid) ≡ found rest left = ap (found rest) (sym e) in
     let more : List (List ℕ) = now ++ patterns_from (source_of name mid.named) in
     record {
       message = p.message ∙ behind-none _ _ none ∙ ap (λ ps. files_message ps behind) (sym grown) ∙ ap (files_message new) same;
@@ -61,7 +62,7 @@ FilesSoFar-more {old} {now} {all} {s} {mid} new name rest left p e none grown =
       made = p.made ++ Named name ∷ [];
       front = p.front ∙ ap (λ fs. p.made ++ (Named name ∷ asks fs)) (rest-read _ (files_read more behind) none ∙ ap (λ ps. files_read ps behind) (sym grown) ∙ ap (files_read new) same)
           ∙ made-more p.made (Named name) (asks (files_read new (found rest left)));
-      after = e ∙ ap (after_named name) p.after ∙ sym (after_all-one p.made (Named name) s);
+      after = e ∙ ap (after (Named name)) p.after ∙ sym (after_all-one p.made (Named name) s);
       short = subst AreShort (sym e) (short-after (Named name) mid p.short);
     }
 
@@ -77,12 +78,12 @@ has-message (Refused fault) message other e = ap is_some (e (λ memory. other (a
 
 -- where a file gives no patterns, it is the last that is asked for
 pub FilesSoFar-stop : {old now : List (List ℕ)} {all : List Ask} {s mid : Sources} (name : List ℕ) (rest : List Ask) (left : Sources) (why : NoPatterns)
-    → FilesSoFar old now all (Named name ∷ rest) s mid → left ≡ after_named name mid → Explains why (content_message now name (source_of name mid.named))
+    → FilesSoFar old now all (Named name ∷ rest) s mid → left ≡ after (Named name) mid → Explains why (content_message now name (source_of name mid.named))
     → StopsAtFile old s left (found all s) why
 FilesSoFar-stop {old} {now} {all} {s} {mid} name rest left why p e explains =
     let message : Option (List ℕ) = content_message now name (source_of name mid.named) in
-    let behind : List Input = files_read (now ++ patterns_from (source_of name mid.named)) (found rest (after_named name mid)) in
-    let here : left ≡ after_all (p.made ++ Named name ∷ []) s = e ∙ ap (after_named name) p.after ∙ sym (after_all-one p.made (Named name) s) in
+    let behind : List Input = files_read (now ++ patterns_from (source_of name mid.named)) (found rest (after (Named name) mid)) in
+    let here : left ≡ after_all (p.made ++ Named name ∷ []) s = e ∙ ap (after (Named name)) p.after ∙ sym (after_all-one p.made (Named name) s) in
     record {
       message = subst (Explains why) (sym p.message) (Explains-first why message _ explains);
       front = record {
@@ -132,7 +133,7 @@ asks-at files place file name inside at same =
 -- the loop goes on
 pub files-more : (known mid left : Option Sources) (old now new : List (List ℕ)) (name : List ℕ) (all : List Ask) {here rest : List Ask} → here ≡ Named name ∷ rest
     → Told known mid (λ s m. AreShort s → FilesSoFar old now all here s m)
-    → Told mid left (λ m l. AreShort m → (l ≡ after_named name m) × ((content_message now name (source_of name m.named) ≡ None) × (new ≡ now ++ patterns_from (source_of name m.named))))
+    → Told mid left (λ m l. AreShort m → (l ≡ after (Named name) m) × ((content_message now name (source_of name m.named) ≡ None) × (new ≡ now ++ patterns_from (source_of name m.named))))
     → Told known left (λ s l. AreShort s → FilesSoFar old new all rest s l)
 files-more known mid left old now new name all {here} {rest} e before step =
     Told-then known mid left _ _ (λ s l. AreShort s → FilesSoFar old new all rest s l) before step (λ s m l p q short.
@@ -143,7 +144,7 @@ files-more known mid left old now new name all {here} {rest} e before step =
 -- and it stops
 pub files-stop : (known mid left : Option Sources) (old now : List (List ℕ)) (name : List ℕ) (all : List Ask) {here rest : List Ask} (why : NoPatterns) → here ≡ Named name ∷ rest
     → Told known mid (λ s m. AreShort s → FilesSoFar old now all here s m)
-    → Told mid left (λ m l. AreShort m → (l ≡ after_named name m) × Explains why (content_message now name (source_of name m.named)))
+    → Told mid left (λ m l. AreShort m → (l ≡ after (Named name) m) × Explains why (content_message now name (source_of name m.named)))
     → Told known left (λ s l. AreShort s → StopsAtFile old s l (found all s) why)
 files-stop known mid left old now name all {here} {rest} why e before step =
     Told-then known mid left _ _ (λ s l. AreShort s → StopsAtFile old s l (found all s) why) before step (λ s m l p q short.

@@ -1,6 +1,5 @@
 pub mod FrontLemmas
 pub mod OutputLemmas
-pub mod ToldLemmas
 pub mod GatherLemmas
 pub mod RefusalLemmas
 pub mod SearchLemmas
@@ -9,4 +8,3 @@ pub mod AllLemmas
 pub mod AnswerLemmas
 pub mod PieceLemmas
 pub mod ScanLemmas
-pub mod SourceLemmas

@@ -11,6 +11,7 @@ use Rattle.std.specs.Io.KnownBytes.{Appends}
 use Rattle.byte_io.specs.Devices.{Coming, EndsHere, Ending, Faulty, MayFail, ReadGives, Told}
 use Rattle.byte_io.specs.Devices as Devices
 use Rattle.byte_io.specs.declared.device.Failed.{Failed}
+use Rattle.byte_io.specs.Sources.{Content, IsShort, coming_of}
 use Rattle.lit_base.specs.Lines.{ended_lines, last_line, lines, open_rest}
 use Rattle.lit_base.proofs.EndedLemmas.{ended_lines-append, ended_lines-none, lines-ended_open, open_rest-append}
 use Rattle.line_pick.proofs.Crossing.{length-ended_lines}
@@ -36,7 +37,6 @@ use Rattle.grep_run.specs.Scanning.{FeedsPiece, tested_by, HasFed, HasRead, HasT
 use Rattle.grep_run.specs.declared.scanning.End.{End}
 use Rattle.grep_run.specs.Outputs.{Grows, GrowsFront, Output, output_of}
 use Rattle.grep_run.specs.Searching.{IsCut, IsScanned, IsSearched}
-use Rattle.grep_run.specs.Sources.{Content, IsShort, coming_of}
 use Rattle.grep_run.proofs.BlockLemmas.{HasMore, any-behind, block-parts, ending-any, lent-more, lent-stop, lent-stop-text, wants-none}
 use Rattle.grep_run.proofs.FrontLemmas.{AppendsFront-none}
 use Rattle.grep_run.proofs.OutputLemmas.{Grows-held, Grows-kept, Grows-trans, GrowsFront-behind, GrowsFront-grown, GrowsFront-more}

@@ -3,23 +3,23 @@ use Rattle.std.proofs.Common.{◌≡◌, ℕ, ◌+◌, ◌<◌, String, string_b
 use Rattle.std.specs.List.{list_any}
 use Rattle.std.proofs.Math.Bool.{or-false, or_assoc}
 use Rattle.std.proofs.lemmas.List.{drop_more}
-use Rattle.byte_io.specs.Devices.{Told}
 use Rattle.std.specs.Io.KnownBytes.{Appends}
 use Rattle.std.proofs.KnownBytes.{Appends-nil, Appends-trans}
+use Rattle.byte_io.specs.Devices.{Told}
+use Rattle.byte_io.specs.Sources.{AreShort, Ask, Sources, after, after_all, ask_of, taken_by}
+use Rattle.byte_io.proofs.ToldLemmas.{Told-none, Told-then}
+use Rattle.byte_io.proofs.OpenerLemmas.{after_all-one, short-after}
 use Rattle.grep_run.specs.declared.options.GrepOptions.{GrepOptions}
 use Rattle.grep_run.specs.declared.scanning.Found.{Found}
 use Rattle.grep_run.specs.Blocks.{block, block_in, has_selected, is_error, message, message_in}
 use Rattle.grep_run.specs.Fronts.{AppendsFront}
 use Rattle.grep_run.specs.Grep.{answer_to, asks, searched}
-use Rattle.grep_run.specs.Options.{ask_of}
 use Rattle.grep_run.specs.Outputs.{Grows, GrowsFront, Output}
 use Rattle.grep_run.specs.Running.{AsksFront}
 use Rattle.grep_run.specs.Searching.{AreCut, AreSearched, IsCut, IsSearched}
-use Rattle.grep_run.specs.Sources.{AreShort, Ask, Input, Sources, after, after_all, found, name_of, taken_by}
+use Rattle.grep_run.specs.Sources.{Input, found, name_of}
 use Rattle.grep_run.proofs.FrontLemmas.{AppendsFront-behind}
 use Rattle.grep_run.proofs.OutputLemmas.{Grows-nil, Grows-trans, GrowsFront-behind}
-use Rattle.byte_io.proofs.ToldLemmas.{Told-none, Told-then}
-use Rattle.grep_run.proofs.ToldLemmas.{after_all-one, short-after}
 
 -- the asks before those that are left are made, and their inputs searched
 pub record InputsSoFar (o : GrepOptions) (test : List ℕ → Bool) (all rest : List Ask) (s left : Sources) (is_selected has_error : Bool) (out_old out_new : Output) (err_old err_new : Option (List ℕ)) : Type 0 where

@@ -1,11 +1,12 @@
 -- What one input gives: its block of output, its message, whether a line is selected, and whether it is an error. POSIX.1-2017 `grep`, OPTIONS, STDOUT, CONSEQUENCES OF ERRORS.
 use Rattle.std.specs.Prelude.{ℕ, ◌&&◌, ◌||◌, not, Bool, true, List, [], ◌++◌, length, flat_map, nat_lt, if◌then◌else◌, Option, Some, None, codes, decimal}
+use Rattle.byte_io.specs.Sources.{Content}
 use Rattle.lit_base.specs.Lines.{ended_lines, lines}
 use Rattle.lit_base.specs.Selected.{is_selected}
 use Rattle.line_pick.specs.Lending.{numbered}
 use Rattle.grep_run.specs.declared.options.GrepOptions.{GrepOptions}
 use Rattle.grep_run.specs.Messages.{unreadable}
-use Rattle.grep_run.specs.Sources.{Content, Input, name_of}
+use Rattle.grep_run.specs.Sources.{Input, name_of}
 
 -- the lines of a content: before a fault those alone that a newline ended
 abbrev pub lines_of : Content → List (List ℕ)

@@ -1,6 +1,7 @@
 -- What gathering patterns answers, against the patterns and the messages of pattern files.
 use Rattle.std.specs.Prelude.{◌≡◌, ◌≢◌, ℕ, List, [], ◌++◌, flat_map, Option, Some, None, Result, Ok, Err}
 use Rattle.std.specs.Io.KnownBytes.{Appends}
+use Rattle.byte_io.specs.Sources.{Content, Sources, after_all}
 use Rattle.lit_base.specs.declared.fault.Fault.TheVariants.{OutOfMemory}
 use Rattle.line_pick.specs.Matching.{StandsFor}
 use Rattle.grep_run.specs.declared.needles.Needles.{Needles}
@@ -13,7 +14,7 @@ use Rattle.grep_run.specs.Grep.{asks, behind_files}
 use Rattle.grep_run.specs.Messages.{patterns_refused, unreadable}
 use Rattle.grep_run.specs.Patterns.{content_message, files_asked, files_message, files_read, patterns_from, patterns_message, patterns_of}
 use Rattle.grep_run.specs.Running.{AsksFront}
-use Rattle.grep_run.specs.Sources.{Content, Input, Sources, after_all}
+use Rattle.grep_run.specs.Sources.{Input}
 
 -- the message is on this, or memory ran out before
 abbrev pub Explains : NoPatterns → Option (List ℕ) → Type 0

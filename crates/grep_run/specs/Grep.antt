@@ -1,13 +1,14 @@
 -- What grep writes and answers, for options and sources. POSIX.1-2017 `grep`: STDOUT, STDERR, EXIT STATUS and CONSEQUENCES OF ERRORS.
 use Rattle.std.specs.Prelude.{ℕ, ◌&&◌, Bool, true, false, List, [], ◌∷◌, ◌++◌, map, flat_map, if◌then◌else◌, Option, Some, None}
 use Rattle.std.specs.List.{list_any}
+use Rattle.byte_io.specs.Sources.{Ask, Sources, after_all}
 use Rattle.grep_run.specs.declared.options.GrepOptions.{GrepOptions}
 use Rattle.grep_run.specs.declared.status.Status.{Status}
 use Rattle.grep_run.specs.declared.status.Status.TheVariants.{Selected, NoneSelected, Trouble}
 use Rattle.grep_run.specs.Blocks.{block, has_selected, is_error, message, selects}
 use Rattle.grep_run.specs.Options.{searched_of}
 use Rattle.grep_run.specs.Patterns.{files_asked, patterns_message, patterns_of}
-use Rattle.grep_run.specs.Sources.{Ask, Input, Sources, after_all, found}
+use Rattle.grep_run.specs.Sources.{Input, found}
 
 -- what grep writes, whether a line was selected, and whether there was an error
 pub record Answer : Type 0 where

@@ -1,6 +1,7 @@
 -- The patterns of pattern lists and pattern files, and why they are refused. POSIX.1-2017 `grep`, OPTIONS, -e and -f, and OPERANDS, pattern_list.
 use Rattle.std.specs.Prelude.{◌≡◌, ◌≢◌, ℕ, List, [], ◌∷◌, ◌++◌, length, flat_map, nat_lt, if◌then◌else◌, is_some, Option, Some, None, Result, MatchResult}
 use Rattle.std.specs.Option.{option_map}
+use Rattle.byte_io.specs.Sources.{Content, Sources}
 use Rattle.lit_base.specs.Lines.{lines, pieces}
 use Rattle.lit_base.specs.NormalForm.{normal_form}
 use Rattle.lit_base.specs.RawLists.{earlier, text_refusal}
@@ -11,7 +12,7 @@ use Rattle.lit_base.specs.declared.limits.TheConstants.{MAX_LITERALS, MAX_TEXT_L
 use Rattle.grep_run.specs.declared.options.GrepOptions.{GrepOptions}
 use Rattle.grep_run.specs.Messages.{patterns_refused, unreadable}
 use Rattle.grep_run.specs.Options.{files_of, lists_of}
-use Rattle.grep_run.specs.Sources.{Content, Input, Sources, found, name_of}
+use Rattle.grep_run.specs.Sources.{Input, found, name_of}
 
 -- the patterns of all lists, in order
 abbrev pub patterns_in : List (List ℕ) → List (List ℕ)

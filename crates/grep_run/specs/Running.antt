@@ -1,6 +1,7 @@
 -- How a run ends, against what grep writes and answers.
 use Rattle.std.specs.Prelude.{◌≡◌, ℕ, Bool, true, false, List, [], ◌++◌, Option, Result, Ok, Err}
 use Rattle.std.specs.Io.KnownBytes.{Appends}
+use Rattle.byte_io.specs.Sources.{Ask, Sources, after_all}
 use Rattle.grep_run.specs.declared.options.GrepOptions.{GrepOptions}
 use Rattle.grep_run.specs.declared.status.Status.{Status}
 use Rattle.grep_run.specs.declared.status.Status.TheVariants.{Trouble}
@@ -8,7 +9,6 @@ use Rattle.grep_run.specs.declared.status.Stop.{Stop}
 use Rattle.grep_run.specs.Fronts.{AppendsFront}
 use Rattle.grep_run.specs.Grep.{Answer, asks_of, grep, left_of, status_of}
 use Rattle.grep_run.specs.Messages.{out_of_memory}
-use Rattle.grep_run.specs.Sources.{Ask, Sources, after_all}
 
 -- all was written, and this is the status
 pub record IsAnswered (o : GrepOptions) (a : Answer) (status : Status) (out_old out_new err_old err_new : Option (List ℕ)) : Type 0 where

@@ -1,5 +1,6 @@
 -- Scanning one input: where the picker and the block stand behind the bytes so far.
 use Rattle.std.specs.Prelude.{◌≡◌, ℕ, ◌+◌, ◌-◌, ◌^◌, ◌<◌, ◌≤◌, Bool, true, false, List, [], ◌++◌, flat_map, length, min, nat_lt, Option, None, Some, Result, Ok, Err}
+use Rattle.byte_io.specs.Sources.{Content}
 use Rattle.lit_base.specs.Lines.{ended_lines, open_rest}
 use Rattle.line_pick.specs.Lending.{numbered}
 use Rattle.line_pick.specs.Matching.{selects as picks_of}
@@ -15,7 +16,6 @@ use Rattle.grep_run.specs.declared.status.Stop.{Stop as Halt}
 use Rattle.grep_run.specs.Blocks.{block_in, block_of, has_any, is_trouble, lines_of}
 use Rattle.grep_run.specs.Growing.{added_line, ending_of, next_of}
 use Rattle.grep_run.specs.Outputs.{Grows, GrowsFront, Output, output_of}
-use Rattle.grep_run.specs.Sources.{Content}
 
 -- the test for a selected line, by what stands for the patterns
 abbrev pub test_of : GrepOptions → Needles → List ℕ → Bool

@@ -1,6 +1,7 @@
 -- What searching inputs writes and answers.
 use Rattle.std.specs.Prelude.{◌≡◌, ℕ, Bool, List, Option, Some, Result, Ok, Err}
 use Rattle.std.specs.Io.KnownBytes.{Appends}
+use Rattle.byte_io.specs.Sources.{Content, Sources, after_all}
 use Rattle.grep_run.specs.declared.options.GrepOptions.{GrepOptions}
 use Rattle.grep_run.specs.declared.scanning.Found.{Found}
 use Rattle.grep_run.specs.declared.status.Stop.{Stop}
@@ -9,7 +10,7 @@ use Rattle.grep_run.specs.Fronts.{AppendsFront}
 use Rattle.grep_run.specs.Grep.{Answer, answer_to, asks}
 use Rattle.grep_run.specs.Outputs.{Grows, GrowsFront, Output}
 use Rattle.grep_run.specs.Running.{AsksFront}
-use Rattle.grep_run.specs.Sources.{Content, Input, Sources, after_all}
+use Rattle.grep_run.specs.Sources.{Input}
 
 -- the block of a content is written or held, and this was found
 pub record IsScanned (o : GrepOptions) (test : List ℕ → Bool) (name : List ℕ) (c : Content) (found : Found) (out_old out_new : Output) : Type 0 where

@@ -3,10 +3,10 @@ ghost use Rattle.std.specs.Prelude.{◌≡◌, ◌++◌, ◌∷◌, ◌||◌, �
 ghost use Rattle.grep_run.specs.Blocks.{prefix_of, written_line};
 ghost use Rattle.grep_run.specs.Fronts.{is_write_fault};
 ghost use Rattle.grep_run.specs.Outputs.{Grows, GrowsFront, IsDue, output_of};
-ghost use Rattle.grep_run.specs.declared.opener.TheConstants.{STANDARD_NAME};
+ghost use Rattle.grep_run.specs.declared.names.TheConstants.{STANDARD_NAME};
 
 use crate::message::write_whole;
-use crate::opener::STANDARD_NAME;
+use crate::names::STANDARD_NAME;
 use crate::options::GrepOptions;
 use crate::status::Stop;
 use itoa::Buffer;

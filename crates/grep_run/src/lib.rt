@@ -4,8 +4,8 @@
 
 mod block;
 mod message;
+mod names;
 mod needles;
-mod opener;
 mod options;
 mod patterns;
 mod running;
@@ -13,8 +13,8 @@ mod scanning;
 mod searching;
 mod status;
 
+pub use byte_io::{Missing, Opener};
 pub use message::{say_out_of_memory, write_whole};
-pub use opener::{Missing, Opener};
 pub use options::GrepOptions;
 pub use running::{answer, run};
 pub use status::{Status, Stop};

@@ -1,15 +1,16 @@
 //! The patterns of a run.
 ghost use Rattle.std.specs.Prelude.{◌≡◌, [], All, IfOk, OnOk, Some, map, string_bytes};
 ghost use Rattle.byte_io.specs.Devices.{Told};
+ghost use Rattle.byte_io.specs.Sources.{AreShort, Content, IsShort, Named, after, coming_of, source_of};
 ghost use Rattle.lit_base.specs.Lines.{IsOnePiece};
 ghost use Rattle.grep_run.specs.Gathering.{TakesFile, TakesFiles, TakesPatterns};
 ghost use Rattle.grep_run.specs.Options.{asks_for};
 ghost use Rattle.grep_run.specs.Patterns.{RefusesAs, lists_refusal, patterns_in};
-ghost use Rattle.grep_run.specs.Sources.{AreShort, Content, IsShort, after_named, coming_of, found, source_of};
+ghost use Rattle.grep_run.specs.Sources.{found};
 
 use crate::needles::Needles;
-use crate::opener::Opener;
 use crate::options::GrepOptions;
+use byte_io::Opener;
 use lit_base::{ByteIn, Fault, MAX_TEXT_LEN, RawList, ReadError, lines_law, read_to_end};
 use std::alloc::Global;
 
@@ -87,7 +88,7 @@ fn add_file<'a, O: Opener>(
 ) -> Result<(), NoPatterns<'a>>
     ensures apart { All IsOnePiece patterns.old → OnOk result (All IsOnePiece patterns.new) }
     ensures answer { Told (O.sources opener.old) (O.sources opener.new) (λ s left. AreShort s
-        → (left ≡ after_named name.now s) × TakesFile name.now patterns.old patterns.new (source_of name.now s.named) result) }
+        → (left ≡ after (Named name.now) s) × TakesFile name.now patterns.old patterns.new (source_of name.now s.named) result) }
 {
     match opener.open_named(name) {
         Ok(mut input) => add_content(alloc, name, &mut input, patterns),

@@ -2,20 +2,20 @@
 ghost use Rattle.std.specs.Prelude.{◌≡◌, ◌≢◌, ◌||◌, ◌&&◌, [], IfOk, OnErr, OnOk, if◌then◌else◌};
 ghost use Rattle.std.specs.Io.KnownBytes.{Appends};
 ghost use Rattle.byte_io.specs.Devices.{Told};
+ghost use Rattle.byte_io.specs.Sources.{AreShort};
 ghost use Rattle.grep_run.specs.Fronts.{AppendsFront, is_write_fault};
 ghost use Rattle.grep_run.specs.Gathering.{Refuses};
 ghost use Rattle.grep_run.specs.Grep.{status_where};
 ghost use Rattle.grep_run.specs.Messages.{patterns_refused};
 ghost use Rattle.grep_run.specs.Running.{Answers, Ends};
-ghost use Rattle.grep_run.specs.Sources.{AreShort};
 
 use crate::message::{say_out_of_memory, say_refused, say_unreadable};
-use crate::opener::Opener;
 use crate::options::GrepOptions;
 use crate::patterns::{NoPatterns, gathered};
 use crate::scanning::{Found, Request};
 use crate::searching::search_all;
 use crate::status::{Status, Stop};
+use byte_io::Opener;
 use lit_base::{ByteOut, Fault};
 use std::alloc::Global;
 

@@ -1,12 +1,12 @@
 //! One input searched, from its first byte to its end, its fault, or the last line that is wanted.
 ghost use Rattle.std.specs.Prelude.{◌≡◌, ℕ, ◌<◌, ◌||◌, Bool, List, [], OnErr, OnOk, Option, Some, false, length};
+ghost use Rattle.byte_io.specs.Sources.{Content, IsShort, coming_of};
 ghost use Rattle.grep_run.specs.Fronts.{is_write_fault};
 ghost use Rattle.grep_run.specs.Growing.{ending_of};
 ghost use Rattle.grep_run.specs.Outputs.{Grows, GrowsFront, Output, output_of};
 ghost use Rattle.grep_run.specs.Searching.{Scans};
 ghost use Rattle.grep_run.specs.Scanning.{FeedsPiece, HasFed, ReadsLines, StandsBehind, is_fault, test_of};
 ghost use Rattle.grep_run.specs.declared.options.GrepOptions.{GrepOptions};
-ghost use Rattle.grep_run.specs.Sources.{Content, IsShort, coming_of};
 
 use crate::block::Block;
 use crate::needles::Needles;

@@ -2,22 +2,24 @@
 ghost use Rattle.std.specs.Prelude.{◌≡◌, ℕ, ◌<◌, ◌≤◌, ◌||◌, ◌&&◌, Bool, List, [], None, OnErr, OnOk, Option, Some, if◌then◌else◌, length, map, not, string_bytes};
 ghost use Rattle.std.specs.Io.KnownBytes.{Appends};
 ghost use Rattle.byte_io.specs.Devices.{Told};
+ghost use Rattle.byte_io.specs.Sources.{AreShort, Content, IsShort, after, ask_of, coming_of, taken_by};
 ghost use Rattle.grep_run.specs.Fronts.{AppendsFront, is_write_fault};
 ghost use Rattle.grep_run.specs.Grep.{searched};
 ghost use Rattle.grep_run.specs.Messages.{unreadable};
-ghost use Rattle.grep_run.specs.Options.{ask_of, searched_of};
+ghost use Rattle.grep_run.specs.Options.{searched_of};
 ghost use Rattle.grep_run.specs.Outputs.{Grows, GrowsFront, all_written, output_of};
 ghost use Rattle.grep_run.specs.Scanning.{test_of};
 ghost use Rattle.grep_run.specs.Searching.{Searches, SearchesAll};
 ghost use Rattle.grep_run.specs.declared.searching.TheConstants.{LEAST_READ_SIZE, READ_SIZE};
-ghost use Rattle.grep_run.specs.Sources.{AreShort, Content, IsShort, after, coming_of, found, name_of, taken_by};
+ghost use Rattle.grep_run.specs.Sources.{found, name_of};
 
 use crate::block::Block;
 use crate::message::say_unreadable;
-use crate::opener::{Opener, open_operand, shown_name};
+use crate::names::shown_name;
 use crate::options::GrepOptions;
 use crate::scanning::{Found, Request, scan_input};
 use crate::status::Stop;
+use byte_io::{Opener, open_operand};
 use lit_base::{ByteIn, ByteOut};
 
 /// How many bytes are read at once, at most. Pieces of a quarter of that made a run that shows

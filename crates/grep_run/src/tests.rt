@@ -1,13 +1,8 @@
 //! What no clause says: worked rows, and reads and writes that fail.
-mod failing;
-mod lent_opener;
-
-use crate::opener::Opener;
 use crate::options::GrepOptions;
 use crate::running::run;
 use crate::status::Status;
-use failing::FailingOpener;
-use lent_opener::{Lent, LentOpener};
+use byte_io::{CutIn, LentFiles};
 use lit_base::{CutOut, Fold};
 use std::alloc::{AllocError, Global};
 use std::test::Fail;
@@ -253,7 +248,7 @@ fn answers_each_read_that_fails(rt: HostRuntime) -> Result<(), Fail> {
     )?;
     // Four reads give the bytes, and the fifth finds their end.
     for read in 0..7 {
-        let mut opener = FailingOpener::new(b"cat\ndog\nconcat", read);
+        let mut opener = failing_at(rt.alloc(), b"cat\ndog\nconcat", read)?;
         let mut out_bytes = [0u8; 32];
         let mut out = CutOut::within(&mut out_bytes);
         let mut err_bytes = [0u8; 64];
@@ -344,19 +339,29 @@ fn strings(alloc: Global, texts: &[&str]) -> Result<Vec<String>, AllocError> {
     Ok(strings)
 }
 
-fn opener_of(alloc: Global, row: Row) -> Result<LentOpener<'static>, AllocError> {
+fn opener_of(alloc: Global, row: Row) -> Result<LentFiles<'static>, AllocError> {
     let mut named = Vec::new(alloc);
     for (name, text) in row.named {
         named.push((*name, Some(lent(text))))?;
     }
     let standard = vec![in alloc; lent(row.standard)]?;
-    Ok(LentOpener::new(named, standard))
+    Ok(LentFiles::new(named, standard, Vec::new(alloc)))
+}
+
+/// Bytes on standard input, at most four a read, of which one fails, counted from 0.
+fn failing_at(
+    alloc: Global,
+    bytes: &'static [u8],
+    read: u64,
+) -> Result<LentFiles<'static>, AllocError> {
+    let standard = vec![in alloc; CutIn::failing_at(bytes, read).with_step(4)]?;
+    Ok(LentFiles::new(Vec::new(alloc), standard, Vec::new(alloc)))
 }
 
 /// The bytes, which a fault follows where they end in `!`.
-fn lent(text: &'static str) -> Lent<'static> {
+fn lent(text: &'static str) -> CutIn<'static> {
     match text.strip_suffix('!') {
-        Some(bytes) => Lent::faulty(bytes.as_bytes()),
-        None => Lent::whole(text.as_bytes()),
+        Some(bytes) => CutIn::failing_after(bytes.as_bytes(), bytes.len()),
+        None => CutIn::whole(text.as_bytes()),
     }
 }

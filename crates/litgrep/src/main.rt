@@ -2,13 +2,12 @@
 //! locale.
 #![tactic(auto)]
 
-mod files;
 mod help;
 mod options;
 mod program;
 mod words;
 
-use lit_base::ToWrite;
+use byte_io::ToWrite;
 use std::process::ExitCode;
 
 fn main(rt: HostRuntime) -> ExitCode {

@@ -1,10 +1,9 @@
 //! The program: words in, a status out.
 ghost use Rattle.std.specs.Prelude.{◌≡◌, ◌≢◌, ◌||◌};
 
-use crate::files::SystemOpener;
 use crate::words::options;
+use byte_io::{ByteOut, SystemFiles};
 use grep_run::{Status, Stop, run, say_out_of_memory, write_whole};
-use lit_base::ByteOut;
 use program_words::{Fault, words};
 use std::io::Read;
 use std::rt::{Env, Files};
@@ -38,8 +37,8 @@ fn serve_words<R: Files + AllocGlobal, S: Read + Copy + Drop, W: ByteOut, E: Byt
 {
     match options(rt.alloc(), words) {
         Ok(options) => {
-            let mut opener = SystemOpener::new(rt, standard);
-            run(rt.alloc(), &options, &mut opener, out, err)
+            let mut files = SystemFiles::new(rt, standard);
+            run(rt.alloc(), &options, &mut files, out, err)
         }
         Err(fault) => refuse(&fault, err),
     }

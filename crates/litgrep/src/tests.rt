@@ -1,16 +1,10 @@
-//! What no clause says: words that clap reads, files of the system, and reads that a signal interrupts.
-use crate::files::SystemOpener;
+//! What no clause says: words that clap reads.
 use crate::words::options;
-use grep_run::Opener;
-use lit_base::{FileOrInput, Fold, FromRead, read_to_end};
+use lit_base::Fold;
 use program_words::Fault;
 use std::alloc::{AllocError, Global};
-use std::io::{ErrorKind, Read};
 use std::process::Abort;
 use std::test::Fail;
-use std::{fs, io};
-
-const INPUT: &[u8] = b"cat\ndog\nconcat";
 
 #[test]
 fn reads_the_words(rt: HostRuntime) -> Result<(), Fail> {
@@ -107,41 +101,6 @@ fn says_what_is_wrong_with_the_words(rt: HostRuntime) -> Result<(), Fail> {
     Ok(())
 }
 
-#[test]
-fn opens_what_there_is(rt: HostRuntime) -> Result<(), Fail> {
-    let alloc = rt.alloc();
-    let mut path = std::env::temp_dir(&rt)?;
-    path.push(format!(in alloc; "litgrep_{}", std::process::id(rt.process()))?.as_str())?;
-    fs::write(&rt, path.as_path(), "two\nlines")?;
-    let mut opener = SystemOpener::new(&rt, rt.stdin());
-    let opened = opener.open_named(path.as_path().as_str());
-    fs::remove_file(&rt, path.as_path())?;
-    let mut text = Vec::new(alloc);
-    let mut file = opened.map_err(|_| "it is there")?;
-    assert!(rt; read_to_end(&mut file, 100, &mut text).is_ok());
-    assert_eq!(rt; text.as_slice(), b"two\nlines".as_slice());
-    assert!(rt; opener.open_named(path.as_path().as_str()).is_err());
-    // A directory opens, and its reading fails.
-    let mut folder = opener.open_named("/").map_err(|_| "a folder opens")?;
-    assert!(rt; read_to_end(&mut folder, 100, &mut text).is_err());
-    Ok(())
-}
-
-#[test]
-fn reads_on_after_a_signal(rt: HostRuntime) -> Result<(), Fail> {
-    let reader = Interrupted {
-        bytes: INPUT,
-        is_next: false,
-    };
-    let mut input: FromRead<FileOrInput<Interrupted<'_>, Interrupted<'_>>> = FromRead::new(
-        FileOrInput::Input(reader),
-    );
-    let mut text = Vec::new(rt.alloc());
-    assert!(rt; read_to_end(&mut input, 100, &mut text).is_ok());
-    assert_eq!(rt; text.as_slice(), INPUT);
-    Ok(())
-}
-
 /// Whether these are the texts.
 fn are(strings: &[String], texts: &[&str]) -> bool {
     strings.len() == texts.len()
@@ -165,26 +124,5 @@ fn usage_of(rt: &(impl Abort + AllocGlobal), texts: &[&str]) -> Result<String, F
     match options(rt.alloc(), words.as_slice()) {
         Err(Fault::Usage { text }) => Ok(text),
         _ => Err("the words are refused")?,
-    }
-}
-
-/// A reader that a signal interrupts before each byte that it gives.
-#[derive(Drop)]
-struct Interrupted<'a> {
-    bytes: &'a [u8],
-    is_next: bool,
-}
-
-impl Read for Interrupted<'_> {
-    fn read(&mut self, buf: &mut [u8]) -> io::Result<usize> {
-        self.is_next = !self.is_next;
-        if self.is_next {
-            return Err(io::Error::from(ErrorKind::Interrupted));
-        }
-        let count = buf.len().min(self.bytes.len()).min(1);
-        let (next, rest) = self.bytes.split_at(count);
-        buf[..count].copy_from_slice(next);
-        self.bytes = rest;
-        Ok(count)
     }
 }

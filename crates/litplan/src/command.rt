@@ -1,13 +1,10 @@
 //! What a command does.
 ghost use Rattle.std.specs.Prelude.{◌≡◌, ◌≢◌, ◌||◌, OnOk};
 
-use crate::files::Files;
 use crate::message::{OUT_OF_MEMORY, Trouble, WRITE_FAULT, say, say_out_of_memory, say_text};
 use crate::words::{NoRequest, Request, requested};
-use lit_base::{
-    ByteIn, ByteOut, Failed, Fold, LitList, MAX_TEXT_LEN, RawList, ReadError, read_to_end,
-    write_all,
-};
+use byte_io::{ByteIn, ByteOut, Failed, Files, ReadError, read_to_end, write_all};
+use lit_base::{Fold, LitList, MAX_TEXT_LEN, RawList};
 use lit_cert::{Fault, Reason, check, read_cert, write_cert};
 use run_planner::plan;
 use std::alloc::{AllocError, Global};

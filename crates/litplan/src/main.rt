@@ -2,17 +2,16 @@
 #![tactic(auto)]
 
 mod command;
-mod files;
 mod message;
 mod system;
 mod words;
 
-use lit_base::ToWrite;
+use byte_io::{SystemFiles, ToWrite};
 use std::process::ExitCode;
-use system::{SystemFiles, serve};
+use system::serve;
 
 fn main(rt: HostRuntime) -> ExitCode {
     let mut out = ToWrite::new(rt.stdout());
     let mut err = ToWrite::new(rt.stderr());
-    ExitCode::from(serve(&rt, &mut SystemFiles::new(&rt), &mut out, &mut err))
+    ExitCode::from(serve(&rt, &mut SystemFiles::new(&rt, rt.stdin()), &mut out, &mut err))
 }

@@ -1,5 +1,5 @@
 //! Messages on standard error, each a line behind the program's name.
-use lit_base::{ByteOut, Failed, write_all};
+use byte_io::{ByteOut, Failed, write_all};
 use std::alloc::Global;
 
 /// Why a command ends without its answer.

@@ -1,7 +1,7 @@
 -- What holds of the content that was read holds of the source that the opener told.
+use Rattle.byte_io.specs.Sources.{Named}
+use Rattle.byte_io.proofs.OpenerLemmas.{opened}
 use Rattle.grep_run.specs.Gathering.{TakesFile}
-use Rattle.grep_run.specs.Sources.{Named}
-use Rattle.grep_run.proofs.ToldLemmas.{opened}
 use Rattle.grep_run.proofs.patterns.add_file.Goals as goal
 
 pub returns-in-Ok-clause-answer : goal.returns-in-Ok-clause-answer

@@ -1,8 +1,8 @@
 use Rattle.std.proofs.Common.{All, map, string_bytes, drop}
 use Rattle.byte_io.specs.Devices.{Told}
+use Rattle.byte_io.specs.Sources.{AreShort}
 use Rattle.lit_base.specs.Lines.{IsOnePiece}
 use Rattle.grep_run.specs.Options.{asks_for}
-use Rattle.grep_run.specs.Sources.{AreShort}
 use Rattle.grep_run.proofs.GatherLemmas.{FilesSoFar}
 use Rattle.grep_run.proofs.patterns.add_files.Given as goal
 

@@ -1,10 +1,11 @@
 -- All lists and all files gave their patterns, and there are not too many literals.
 use Rattle.std.proofs.Common.{◌≡◌, ◌∙◌, [], None, ap, map, string_bytes, subst}
 use Rattle.byte_io.specs.Devices.{Told}
+use Rattle.byte_io.specs.Sources.{AreShort}
 use Rattle.grep_run.specs.Gathering.{TakesAllFiles}
 use Rattle.grep_run.specs.Options.{asks_for}
 use Rattle.grep_run.specs.Patterns.{lists_refusal, patterns_in}
-use Rattle.grep_run.specs.Sources.{AreShort, found}
+use Rattle.grep_run.specs.Sources.{found}
 use Rattle.grep_run.proofs.GatherLemmas.{had-all}
 use Rattle.grep_run.proofs.patterns.gathered.Goals as goal
 

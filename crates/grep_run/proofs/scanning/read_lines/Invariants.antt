@@ -1,8 +1,8 @@
 use Rattle.std.proofs.Common.{◌≡◌, ℕ, ◌<◌, Bool, List, [], Some, length}
+use Rattle.byte_io.specs.Sources.{Content, coming_of}
 use Rattle.grep_run.specs.declared.options.GrepOptions.{GrepOptions}
 use Rattle.grep_run.specs.Outputs.{Output}
 use Rattle.grep_run.specs.Scanning.{StandsBehind}
-use Rattle.grep_run.specs.Sources.{Content, coming_of}
 use Rattle.grep_run.proofs.ScanLemmas.{ReadSoFar}
 use Rattle.grep_run.proofs.scanning.read_lines.Given as goal
 

@@ -1,6 +1,6 @@
 -- Standard input alone, or the operands.
 use Rattle.std.proofs.Common.{◌≡◌, ◌<◌, [], map, string_bytes, length, eqb, ◌∙◌, ap}
-use Rattle.grep_run.specs.Sources.{Standard}
+use Rattle.byte_io.specs.Sources.{Standard}
 use Rattle.grep_run.specs.Scanning.{test_of}
 use Rattle.grep_run.proofs.AllLemmas.{search-alone, asks-some, map-none, map-some}
 use Rattle.grep_run.proofs.searching.search_inputs.Goals as goal

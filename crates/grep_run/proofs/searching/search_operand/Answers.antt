@@ -1,9 +1,9 @@
 -- What holds of the content that was searched holds of the source that the opener told.
-use Rattle.grep_run.specs.Options.{ask_of}
+use Rattle.byte_io.specs.Sources.{ask_of}
+use Rattle.byte_io.proofs.OpenerLemmas.{opened}
 use Rattle.grep_run.specs.Outputs.{output_of}
 use Rattle.grep_run.specs.Searching.{Searches}
 use Rattle.grep_run.specs.Scanning.{test_of}
-use Rattle.grep_run.proofs.ToldLemmas.{opened}
 use Rattle.grep_run.proofs.searching.search_operand.Goals as goal
 
 pub returns-in-Ok-clause-answer : goal.returns-in-Ok-clause-answer

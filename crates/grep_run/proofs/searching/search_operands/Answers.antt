@@ -1,7 +1,7 @@
 -- An operand more is searched; under -q a selected line makes it the last, and where a write fails it is.
 use Rattle.std.proofs.Common.{◌≡◌, ◌&&◌, true, false, map, string_bytes, rules, arith}
 use Rattle.std.proofs.lemmas.Result.{err_from_is_err_and}
-use Rattle.grep_run.specs.Options.{ask_of}
+use Rattle.byte_io.specs.Sources.{ask_of}
 use Rattle.grep_run.specs.Outputs.{output_of}
 use Rattle.grep_run.specs.Scanning.{test_of}
 use Rattle.grep_run.proofs.SearchLemmas.{inputs-cut, inputs-last, inputs-more, inputs-none, operands-at}

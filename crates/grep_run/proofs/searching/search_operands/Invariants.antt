@@ -1,9 +1,8 @@
 use Rattle.std.proofs.Common.{◌≡◌, ◌<◌, ◌||◌, length, map, string_bytes, drop}
 use Rattle.byte_io.specs.Devices.{Told}
-use Rattle.grep_run.specs.Options.{ask_of}
+use Rattle.byte_io.specs.Sources.{AreShort, ask_of}
 use Rattle.grep_run.specs.Outputs.{output_of}
 use Rattle.grep_run.specs.Scanning.{test_of}
-use Rattle.grep_run.specs.Sources.{AreShort}
 use Rattle.grep_run.proofs.SearchLemmas.{InputsSoFar}
 use Rattle.grep_run.proofs.searching.search_operands.Given as goal
 

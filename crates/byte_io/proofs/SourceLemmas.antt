@@ -2,13 +2,13 @@
 use Rattle.std.proofs.Common.{◌≡◌, ℕ, ◌+◌, ◌<◌, true, cond, List, ◌∷◌, map, length, drop, get_or, Option, sym, ap, ◌∙◌}
 use Rattle.std.specs.Str.{bytes_eq}
 use Rattle.std.proofs.lemmas.List.{drop_more, get_or_default}
-use Rattle.grep_run.specs.Sources.{Content, source_of}
+use Rattle.byte_io.specs.Sources.{source_of}
 
 -- the first entry under the name is taken
-source_of-first : (name : List ℕ) (e : List ℕ × Option Content) (rest : List (List ℕ × Option Content)) → bytes_eq e.0 name ≡ true → source_of name (e ∷ rest) ≡ e.1
+source_of-first : {T : Type 0} (name : List ℕ) (e : List ℕ × Option T) (rest : List (List ℕ × Option T)) → bytes_eq e.0 name ≡ true → source_of name (e ∷ rest) ≡ e.1
 source_of-first name e rest same = ap (λ b. cond b e.1 (source_of name rest)) same
 
-module _ {X : Type 0} (f : X → List ℕ × Option Content) (name : List ℕ) (xs : List X) (place : ℕ) (inside : place < length xs) where
+module _ {X T : Type 0} (f : X → List ℕ × Option T) (name : List ℕ) (xs : List X) (place : ℕ) (inside : place < length xs) where
   -- the entry at a place, and those behind it
   entries-at : (x : X) → x ≡ get_or xs place x → map f (drop place xs) ≡ f x ∷ map f (drop (place + 1) xs)
   entries-at x at = ap (map f) (drop_more xs place x inside) ∙ ap (λ y. f y ∷ map f (drop (place + 1) xs)) (sym at)

@@ -1,10 +1,10 @@
 -- What an opener tells from one ask to the next.
-use Rattle.std.proofs.Common.{◌≡◌, ℕ, true, false, cond, List, [], ◌∷◌, ◌++◌, All, Option, None, Some, IfSome, Ok, Err, refl, lit<, arith}
+use Rattle.std.proofs.Common.{◌≡◌, ℕ, true, false, cond, List, [], ◌∷◌, ◌++◌, All, Option, None, Some, IfSome, Ok, Err, refl, sym, ap, ◌∙◌, append_assoc, append-nil, lit<, arith}
 use Rattle.std.specs.Str.{bytes_eq}
 use Rattle.std.proofs.lemmas.List.Elements.{All-cons, All-tail}
 use Rattle.byte_io.specs.Devices.{Coming, Told}
-use Rattle.grep_run.specs.Sources.{AreShort, Ask, Content, IsShort, Named, OpensAs, Sources, Standard, after, after_all, after_first, coming_of, content_of, source_of, taken_by, without_first}
-use Rattle.grep_run.specs.declared.opener.Missing.{Missing}
+use Rattle.byte_io.specs.Sources.{AreShort, Ask, Content, Created, IsShort, Named, OpensAs, Sources, Standard, after, after_all, after_first, coming_of, content_of, source_of, taken_by, without_first}
+use Rattle.byte_io.specs.declared.opener.Missing.{Missing}
 
 -- the content of an ask is short where all are
 short-first : (contents : List Content) → All IsShort contents → IsShort (content_of contents)
@@ -28,6 +28,7 @@ short-named name (e ∷ rest) h =
 pub short-taken : (ask : Ask) (s : Sources) → AreShort s → IfSome (taken_by ask s) IsShort
 short-taken (Named name) s h = short-named name s.named h.named
 short-taken Standard s h = short-first s.standard h.standard
+short-taken (Created name) s h = tt
 
 -- the sources left by an ask are short where all are
 short-rest : (name : List ℕ) (named : List (List ℕ × Option Content)) → All IsShortEntry named → All IsShortEntry (without_first name named)
@@ -45,6 +46,13 @@ short-after_first (d ∷ rest) h = All-tail IsShort d rest h
 pub short-after : (ask : Ask) (s : Sources) → AreShort s → AreShort (after ask s)
 short-after (Named name) s h = record { named = short-rest name s.named h.named; standard = h.standard }
 short-after Standard s h = record { named = h.named; standard = short-after_first s.standard h.standard }
+short-after (Created name) s h = record { named = h.named; standard = h.standard }
+
+-- an ask is told behind the ones before
+after-asks : (a : Ask) (s : Sources) → (after a s).asks ≡ s.asks ++ a ∷ []
+after-asks (Named name) s = refl
+after-asks Standard s = refl
+after-asks (Created name) s = refl
 
 -- one ask behind others
 pub after_all-append : (asks more : List Ask) (s : Sources) → after_all (asks ++ more) s ≡ after_all more (after_all asks s)
@@ -53,6 +61,11 @@ after_all-append (a ∷ asks) more s = after_all-append asks more (after a s)
 
 pub after_all-one : (asks : List Ask) (a : Ask) (s : Sources) → after_all (asks ++ a ∷ []) s ≡ after a (after_all asks s)
 after_all-one asks a s = after_all-append asks (a ∷ []) s
+
+-- after several asks those are told, behind the ones before
+pub after_all-asks : (asks : List Ask) (s : Sources) → (after_all asks s).asks ≡ s.asks ++ asks
+after_all-asks [] s = sym (append-nil s.asks)
+after_all-asks (a ∷ asks) s = after_all-asks asks (after a s) ∙ ap (λ l. l ++ asks) (after-asks a s) ∙ append_assoc s.asks (a ∷ []) asks
 
 -- what holds of the content of an input that was opened holds of its source
 opened-here : {I : Type 0} (f : I → Option Coming) (input : I) (source : Option Content) (R : Option Content → Type 0)

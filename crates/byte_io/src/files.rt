@@ -1,0 +1,25 @@
+//! Files: what a program reads, and new files that it writes.
+ghost use Rattle.std.specs.Prelude.{◌≡◌, IfOk, IfSome, false};
+ghost use Rattle.byte_io.specs.Devices.{Told};
+ghost use Rattle.byte_io.specs.Sources.{Created, CreatesAs, after, can_create};
+
+use crate::device::ByteOut;
+use crate::opener::{Missing, Opener};
+
+/// The files that a command reads and writes: an opener that makes files too.
+///
+/// Its `sources` tell besides under which names a file can be made, and a file that is made is one of
+/// the asks, in order with the others. What a file was given its device tells.
+pub trait Files: Opener {
+    /// What is written to.
+    type Output: ByteOut + Drop;
+
+    /// Makes the file of a name, or empties it, for writing.
+    ///
+    /// # Errors
+    /// `Missing` where none can be made.
+    fn create_named(&mut self, name: &str) -> Result<Self::Output, Missing>
+        ensures takes { Told (Self.sources self.old) (Self.sources self.new) (λ old new. new ≡ after (Created name.now) old) }
+        ensures gives { IfSome (Self.sources self.old) (λ s. CreatesAs Self.Output.written (can_create name.now s.creatable) result) }
+        ensures fresh { IfOk result (λ output. Self.Output.has_failed output ≡ false) };
+}

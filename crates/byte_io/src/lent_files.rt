@@ -1,0 +1,122 @@
+//! Files for tests, over bytes that are lent to them.
+ghost use Rattle.std.specs.Prelude.{◌≡◌, IfOk, MatchOption, false, map};
+ghost use Rattle.byte_io.specs.Lent.{reader_of, readers_after};
+ghost use Rattle.byte_io.specs.Sources.{source_of, without_first};
+
+use crate::cut_device::{CutIn, CutOut};
+use crate::files::Files;
+use crate::opener::{Missing, Opener};
+use std::marker::Model;
+
+/// Files for tests: readers that stand under names, those of one name in order, readers that standard
+/// input gives, in order, and writers under names. What stands for nothing cannot be opened or made;
+/// with no reader left standard input is empty.
+///
+/// It tells no asks, since it keeps none.
+#[derive(Drop)]
+pub struct LentFiles<'a> {
+    named: Vec<(&'a str, Option<CutIn<'a>>)>,
+    standard: Vec<CutIn<'a>>,
+    creatable: Vec<(&'a str, Option<CutOut<'a>>)>,
+}
+
+impl<'a> Model for LentFiles<'a> {
+    ghost use Rattle.std.specs.Prelude.{map};
+    ghost use Rattle.byte_io.specs.Lent.{LentSources};
+
+    ghost Value = { LentSources };
+
+    ghost view = { λ f. record {
+      named = map (λ e. (e.0.now, e.1)) f.named.items;
+      standard = f.standard.items;
+      creatable = map (λ e. (e.0.now, e.1)) f.creatable.items;
+    } };
+}
+
+impl<'a> LentFiles<'a> {
+    /// Files of these readers and writers.
+    pub fn new(
+        named: Vec<(&'a str, Option<CutIn<'a>>)>,
+        standard: Vec<CutIn<'a>>,
+        creatable: Vec<(&'a str, Option<CutOut<'a>>)>,
+    ) -> LentFiles<'a>
+        ensures { result ≡ record {
+          named = map (λ e. (e.0.now, e.1)) named.entry.items;
+          standard = standard.entry.items;
+          creatable = map (λ e. (e.0.now, e.1)) creatable.entry.items;
+        } }
+    {
+        LentFiles {
+            named,
+            standard,
+            creatable,
+        }
+    }
+}
+
+impl<'a> Opener for LentFiles<'a> {
+    type Input = CutIn<'a>;
+
+    ghost use Rattle.std.specs.Prelude.{None};
+
+    ghost sources = { λ _. None };
+
+    fn open_named(&mut self, name: &str) -> Result<CutIn<'a>, Missing>
+        ensures fresh { IfOk result (λ input. input.has_failed ≡ false) }
+
+        // What it answers, exactly.
+        ensures answer { MatchOption (source_of name.now self.old.named) (result ≡ Err (record {}))
+            (λ d. result ≡ Ok (record d { has_failed = false })) }
+        ensures after { self.new ≡ record self.old { named = without_first name.now self.old.named } }
+    {
+        match take_first(&mut self.named, name) {
+            Some(input) => Ok(input.afresh()),
+            None => Err(Missing),
+        }
+    }
+
+    fn standard_input(&mut self) -> CutIn<'a>
+        ensures fresh { result.has_failed ≡ false }
+
+        // What it answers, exactly.
+        ensures answer { result ≡ record (reader_of self.old.standard) { has_failed = false } }
+        ensures after { self.new ≡ record self.old { standard = readers_after self.old.standard } }
+    {
+        if self.standard.is_empty() {
+            return CutIn::whole(&[]);
+        }
+        self.standard.remove(0).afresh()
+    }
+}
+
+impl<'a> Files for LentFiles<'a> {
+    type Output = CutOut<'a>;
+
+    fn create_named(&mut self, name: &str) -> Result<CutOut<'a>, Missing>
+        ensures fresh { IfOk result (λ output. output.has_failed ≡ false) }
+
+        // What it answers, exactly.
+        ensures answer { MatchOption (source_of name.now self.old.creatable) (result ≡ Err (record {}))
+            (λ d. result ≡ Ok (record d { has_failed = false })) }
+        ensures after { self.new ≡ record self.old { creatable = without_first name.now self.old.creatable } }
+    {
+        match take_first(&mut self.creatable, name) {
+            Some(output) => Ok(output.afresh()),
+            None => Err(Missing),
+        }
+    }
+}
+
+/// Takes what stands first under the name.
+fn take_first<'a, T: Drop>(entries: &mut Vec<(&'a str, Option<T>)>, name: &str) -> Option<T>
+    ensures value { result ≡ source_of name.now (map (λ e. (e.0.now, e.1)) entries.old.items) }
+    ensures rest { map (λ e. (e.0.now, e.1)) entries.new.items
+        ≡ without_first name.now (map (λ e. (e.0.now, e.1)) entries.old.items) }
+{
+    for place in 0..entries.len() {
+        if entries[place].0 == name {
+            return entries.remove(place).1;
+        }
+    }
+    None
+}
