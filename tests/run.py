@@ -309,6 +309,32 @@ def gathered():
         yield "lines of a long file", run(["cat", "f", "long"], cwd=folder), (0, b"f:cat\n" + b"long:cat\n" * 20000, b"")
 
 
+def own_outputs():
+    """A file that is also standard output is missing where lines go there, under any name, and read where none do."""
+    with tempfile.TemporaryDirectory() as folder:
+        whole = os.path.join(folder, "all")
+        refused = b"litgrep: %s: cannot be read\n"
+        for words, status, messages, added in (
+            (["cat", "f", "all", "g"], 2, refused % b"all", b"f:cat\ng:2 cat\n"),
+            (["cat", "./all", "link"], 2, refused % b"./all" + refused % b"link", b""),
+            (["-s", "-n", "cat", "all", "f"], 2, b"", b"f:1:cat\n"),
+            (["-v", "-f", "all", "f"], 2, refused % b"all", b""),
+            (["-c", "cat", "all", "f"], 0, b"", b"all:1\nf:1\n"),
+            (["-l", "cat", "all", "f"], 0, b"", b"all\nf\n"),
+            (["-q", "cat", "all"], 0, b"", b""),
+            (["-v", "cat", "-"], 1, b"", b""),
+        ):
+            lay_out(folder, {"f": b"cat\n", "g": b"2 cat\n", "all": b"old cat\n"})
+            if not os.path.exists(whole.replace("all", "link")):
+                os.link(whole, os.path.join(folder, "link"))
+            with open(whole, "rb") as given, open(whole, "ab") as out:
+                got = run(words, given, cwd=folder, stdout=out)
+            with open(whole, "rb") as file:
+                yield f"{words} >> all", (*got, file.read()), (status, None, messages, b"old cat\n" + added)
+        with open("/dev/null", "wb") as out:
+            yield "a device for both", run(["cat", "/dev/null"], stdout=out), (1, None, b"")
+
+
 def plans():
     """Each row of litplan's table, in a folder with its files, and a full device."""
     for files, words, stdin, stdout, stderr, status in PLANS:
@@ -432,7 +458,7 @@ def refused_growths():
 
 def main():
     passed = failed = 0
-    for part in (greps, options, usages, edges, streams, gathered, plans, random_greps, random_plans, refused_growths):
+    for part in (greps, options, usages, edges, streams, gathered, own_outputs, plans, random_greps, random_plans, refused_growths):
         for name, got, want in part():
             if got == want:
                 passed += 1

@@ -3,7 +3,7 @@ ghost use Rattle.std.specs.Prelude.{◌≡◌, ◌≢◌, ◌||◌};
 
 use crate::words::options;
 use byte_io::{ByteOut, SystemFiles};
-use grep_run::{Status, Stop, run, say_out_of_memory, write_whole};
+use grep_run::{GrepOptions, Status, Stop, run, say_out_of_memory, write_whole};
 use program_words::{Fault, words};
 use std::io::Read;
 use std::rt::{Env, Files};
@@ -37,10 +37,25 @@ fn serve_words<R: Files + AllocGlobal, S: Read + Copy + Drop, W: ByteOut, E: Byt
 {
     match options(rt.alloc(), words) {
         Ok(options) => {
-            let mut files = SystemFiles::new(rt, standard);
+            let mut files = files_for(rt, standard, &options);
             run(rt.alloc(), &options, &mut files, out, err)
         }
         Err(fault) => refuse(&fault, err),
+    }
+}
+
+/// The files of the system that a run may read. One that its lines go to is missing: it would grow as
+/// it is read, without end.
+fn files_for<'a, R: Files, S: Read + Copy + Drop>(
+    rt: &'a R,
+    standard: S,
+    options: &GrepOptions,
+) -> SystemFiles<'a, R, S> {
+    let files = SystemFiles::new(rt, standard);
+    if options.count || options.list || options.quiet {
+        files
+    } else {
+        files.without_output()
     }
 }
 
