@@ -15,7 +15,7 @@ pub use cut_device::{CutIn, CutOut};
 pub use device::{ByteIn, ByteOut, Failed};
 pub use files::Files;
 pub use lent_files::LentFiles;
-pub use limits::MAX_TURNS;
+pub use limits::{MAX_TURNS, turns_law};
 pub use opener::{Missing, Opener, open_operand};
 pub use std_device::{FileOrInput, FromRead, ToWrite};
 pub use system_files::SystemFiles;

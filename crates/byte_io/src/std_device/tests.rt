@@ -127,3 +127,25 @@ fn fails_where_the_count_of_bytes_could_overflow(rt: HostRuntime) -> Result<(), 
     assert_eq!(rt; input.read_some(&mut buf[..1]), Err(Failed));
     Ok(())
 }
+
+#[test]
+fn reads_and_writes_64_mebibytes(rt: HostRuntime) -> Result<(), Fail> {
+    let text = vec![in rt.alloc(); b'x'; mebibytes(64)]?;
+    let mut out = ToWrite::new(Vec::new(rt.alloc()));
+    write_all(&mut out, text.as_slice())?;
+    let written = out.into_inner();
+    assert_eq!(rt; written.len(), text.len());
+    let mut read = Vec::new(rt.alloc());
+    read_to_end(
+        &mut FromRead::new(written.as_slice()),
+        text.len(),
+        &mut read,
+    )?;
+    assert_eq!(rt; read.len(), text.len());
+    assert_eq!(rt; read.last(), Some(&b'x'));
+    Ok(())
+}
+
+fn mebibytes(count: u8) -> usize {
+    (count as usize) << 20
+}

@@ -106,3 +106,8 @@ fn writes_as_much_as_there_is_room_for(rt: HostRuntime) -> Result<(), Fail> {
     }
     Ok(())
 }
+
+#[test]
+fn knows_its_limit(rt: HostRuntime) {
+    assert_eq!(rt; MAX_TURNS, 1_099_511_627_776);
+}

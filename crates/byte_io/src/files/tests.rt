@@ -1,0 +1,87 @@
+//! That files can tell each ask that they get, whatever they are asked for.
+ghost use Rattle.std.specs.Prelude.{◌≡◌, [], ◌∷◌, ◌++◌, string_bytes};
+
+use super::*;
+use crate::cut_device::{CutIn, CutOut};
+use crate::device::ByteIn;
+use std::process::Abort;
+use std::test::Fail;
+
+/// What was asked for: a file, standard input, or a new file.
+#[derive(Drop)]
+enum Asked {
+    File(String),
+    Input,
+    Made(String),
+}
+
+/// Files of nothing, which keep what they are asked for.
+#[derive(Drop)]
+struct NoFiles<'a, R> {
+    rt: &'a R,
+    asks: Vec<Asked>,
+}
+
+impl<R: Abort + AllocGlobal> NoFiles<'_, R> {
+    fn note(&mut self, ask: Asked)
+        ensures { self.new.asks.items ≡ self.old.asks.items ++ ask ∷ [] }
+    {
+        self.asks.push(ask).expect(self.rt, "there is memory");
+    }
+
+    fn text_of(&self, name: &str) -> String
+        ensures { string_bytes result ≡ name.now }
+    {
+        String::from_str(self.rt.alloc(), name).expect(self.rt, "there is memory")
+    }
+}
+
+impl<R: Abort + AllocGlobal> Opener for NoFiles<'_, R> {
+    type Input = CutIn<'static>;
+
+    ghost use Rattle.std.specs.Prelude.{[], Some, map, string_bytes};
+    ghost use Rattle.byte_io.specs.Sources.{Ask, Created, Named, Standard};
+    ghost use Rattle.byte_io.specs.declared.files.tests.Asked.TheVariants.{File, Input, Made};
+
+    ghost sources = { λ d. Some (record {
+      named = [];
+      standard = [];
+      creatable = [];
+      asks = map (λ a. elim a [ File s ↦ Named (string_bytes s) | Input ↦ Standard | Made s ↦ Created (string_bytes s) ]) d.asks.items;
+    }) };
+
+    fn open_named(&mut self, name: &str) -> Result<CutIn<'static>, Missing> {
+        let name = self.text_of(name);
+        self.note(Asked::File(name));
+        Err(Missing)
+    }
+
+    fn standard_input(&mut self) -> CutIn<'static> {
+        self.note(Asked::Input);
+        CutIn::whole(&[])
+    }
+}
+
+impl<R: Abort + AllocGlobal> Files for NoFiles<'_, R> {
+    type Output = CutOut<'static>;
+
+    fn create_named(&mut self, name: &str) -> Result<CutOut<'static>, Missing> {
+        let name = self.text_of(name);
+        self.note(Asked::Made(name));
+        Err(Missing)
+    }
+}
+
+#[test]
+fn keeps_what_it_is_asked_for(rt: HostRuntime) -> Result<(), Fail> {
+    let mut files = NoFiles {
+        rt: &rt,
+        asks: Vec::new(rt.alloc()),
+    };
+    assert!(rt; files.open_named("a").is_err());
+    let mut input = files.standard_input();
+    assert_eq!(rt; input.read_some(&mut [0; 4]), Ok(0));
+    assert!(rt; files.create_named("b").is_err());
+    assert_eq!(rt; files.asks.len(), 3);
+    Ok(())
+}
