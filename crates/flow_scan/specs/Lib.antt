@@ -1,3 +1,4 @@
+pub mod Faults
 pub mod HitsAt
 pub mod NextEnds
 pub mod Plans

@@ -1,5 +1,6 @@
 //! Why a plan is refused, or a scan stops.
 ghost use Rattle.std.specs.Prelude.{◌≡◌};
+ghost use Rattle.flow_scan.specs.Faults.{number_of};
 ghost use Rattle.flow_scan.specs.declared.fault.Fault.TheVariants.{OutOfMemory};
 
 use lit_cert::Reason;
@@ -17,6 +18,19 @@ pub enum Fault {
     /// The place in the stream would pass 2^64 - 1.
     #[error("the stream is too long")]
     StreamTooLong,
+}
+
+impl Fault {
+    /// The number by which messages name the fault, the same in every crate.
+    pub fn number(&self) -> u8
+        ensures { result ≡ number_of self.now }
+    {
+        match self {
+            Fault::OutOfMemory => 1,
+            Fault::NotCertified { .. } => 8,
+            Fault::StreamTooLong => 20,
+        }
+    }
 }
 
 impl From<AllocError> for Fault {

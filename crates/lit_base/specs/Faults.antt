@@ -12,6 +12,6 @@ number_of TooManyLiterals = 6
 number_of ListTooLarge = 7
 
 -- the refusal is the answer where there is one; where there is none, only want of memory is refused
-abbrev pub Answers : {T : Type 0} → Option Fault → Result T Fault → Type 0
-Answers (Some fault) result = result ≡ Err fault
-Answers None result = IsOkUnless result OutOfMemory
+abbrev pub RefusedBy : {T : Type 0} → Option Fault → Result T Fault → Type 0
+RefusedBy (Some fault) result = result ≡ Err fault
+RefusedBy None result = IsOkUnless result OutOfMemory

@@ -4,6 +4,7 @@ pub mod Costs
 pub mod Cuts
 pub mod Faults
 pub mod Folding
+pub mod Limits
 pub mod Lines
 pub mod LinesLeft
 pub mod Literals

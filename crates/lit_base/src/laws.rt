@@ -1,7 +1,8 @@
-//! Laws of costs, cuts and assignments. Each is a call whose contract is the law, and which does
+//! Laws of limits, costs, cuts and assignments. Each is a call whose contract is the law, and which does
 //! nothing.
 
 ghost use Rattle.std.specs.Prelude.{◌≡◌, ◌↔◌, length};
+ghost use Rattle.lit_base.specs.Limits.{LimitsLaw};
 ghost use Rattle.lit_base.specs.Literals.{lengths};
 ghost use Rattle.lit_base.specs.Costs.{AreSmall, CostTheSame, MeetQuadrangle, run_cost, true_run_cost};
 ghost use Rattle.lit_base.specs.Cuts.{IncreasesTo, IsCut, NoCutBelow, cut_price};
@@ -9,6 +10,11 @@ ghost use Rattle.lit_base.specs.Assignments.{IsAssignment, NoAssignmentBelow, as
 ghost use Rattle.lit_base.specs.Potentials.{BoundsBelow, potential};
 
 use crate::lit_list::LitList;
+
+/// The law of the limits: by which numbers lists are refused.
+pub fn limits_law()
+    ensures { LimitsLaw }
+{}
 
 /// The law of run costs. Since the literals stand by length, the cost of a run by its first literal
 /// is that by its shortest. It stays small, and meets the quadrangle inequality, by which runs may
@@ -38,10 +44,13 @@ pub fn assignment_law(list: &LitList, most: usize, ends: &[u16])
 /// The law on which certificates stand: where potentials are nowhere above one run to the end, nor
 /// above one run and the potential behind it, no assignment costs less than the potential of all
 /// literals, and so no cut does.
-pub fn least_law(list: &LitList, most: usize, potentials: &[u64])
+pub fn potentials_law(list: &LitList, most: usize, potentials: &[u64])
     requires { BoundsBelow (run_cost (lengths list.now)) (potential potentials.now (length list.now.texts)) most (length list.now.texts) }
     ensures assignments { NoAssignmentBelow most list.now (potential potentials.now (length list.now.texts) most 0) }
     ensures cuts { NoCutBelow most list.now (potential potentials.now (length list.now.texts) most 0) }
 {
     let _count = list.len();
 }
+
+#[cfg(test)]
+mod tests;

@@ -1,5 +1,5 @@
 ghost use Rattle.std.specs.Prelude.{◌≡◌, ◌≢◌, ℕ, ◌+◌, ◌<◌, ◌≤◌, ◌++◌, ◌∷◌, [], length, map, sum_by, take, slice_index_or, IfOk, OnOk, OnErr, MatchResult, IsTrue, ◌↔◌};
-ghost use Rattle.lit_base.specs.Faults.{Answers};
+ghost use Rattle.lit_base.specs.Faults.{RefusedBy};
 ghost use Rattle.lit_base.specs.Lines.{pieces, lines};
 ghost use Rattle.lit_base.specs.RawLists.{pattern_refusal, first_refusal, text_refusal, IsWithinLimits};
 ghost use Rattle.lit_base.specs.Patterns.{patterns_of};
@@ -68,7 +68,7 @@ impl RawList {
     /// `LiteralTooLong` with the place that it would have had, `ListTooLarge`, `OutOfMemory`.
     pub fn push(&mut self, pattern: &[u8]) -> Result<(), Fault>
         ensures ok { OnOk result (self.new ≡ self.old ++ pattern.now ∷ []) }
-        ensures answers { Answers (pattern_refusal (length self.old) (sum_by length self.old) (length pattern.now)) result }
+        ensures refused { RefusedBy (pattern_refusal (length self.old) (sum_by length self.old) (length pattern.now)) result }
         ensures err { OnErr result (self.new ≡ self.old) }
     {
         let len_in_all = len_with(self.patterns.len(), self.len_in_all, pattern.len())?;
@@ -86,7 +86,7 @@ impl RawList {
     /// the first piece that `push` would refuse; then `OutOfMemory`. None changes the list.
     pub fn add_text_list(&mut self, text: &[u8]) -> Result<(), Fault>
         ensures ok { OnOk result (self.new ≡ self.old ++ pieces text.now) }
-        ensures answers { Answers (text_refusal self.old text.now (pieces text.now)) result }
+        ensures refused { RefusedBy (text_refusal self.old text.now (pieces text.now)) result }
         ensures err { OnErr result (self.new ≡ self.old) }
     {
         if text.len() > MAX_TEXT_LEN {
@@ -101,7 +101,7 @@ impl RawList {
     /// Refusals as those of `add_text_list`.
     pub fn add_file_bytes(&mut self, text: &[u8]) -> Result<(), Fault>
         ensures ok { OnOk result (self.new ≡ self.old ++ lines text.now) }
-        ensures answers { Answers (text_refusal self.old text.now (lines text.now)) result }
+        ensures refused { RefusedBy (text_refusal self.old text.now (lines text.now)) result }
         ensures err { OnErr result (self.new ≡ self.old) }
     {
         if text.len() > MAX_TEXT_LEN {
@@ -112,7 +112,7 @@ impl RawList {
 
     fn add(&mut self, patterns: Patterns<'_>) -> Result<(), Fault>
         ensures ok { OnOk result (self.new ≡ self.old ++ patterns_of patterns.entry) }
-        ensures answers { Answers (first_refusal (length self.old) (sum_by length self.old) (patterns_of patterns.entry)) result }
+        ensures refused { RefusedBy (first_refusal (length self.old) (sum_by length self.old) (patterns_of patterns.entry)) result }
         ensures err { OnErr result (self.new ≡ self.old) }
     {
         let len_in_all = len_with_all(self.patterns.len(), self.len_in_all, patterns)?;

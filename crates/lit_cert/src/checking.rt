@@ -9,7 +9,7 @@ ghost use Rattle.lit_cert.specs.declared.reason.Reason.{Reason};
 use crate::certificate::Certificate;
 use crate::dividing::row_holds;
 use crate::reason::Reason;
-use lit_base::{LitList, assignment_law, cost, cut_cost, is_cut, least_law};
+use lit_base::{LitList, assignment_law, cost, cut_cost, is_cut, potentials_law};
 
 /// How many rows of potentials there are: one for each number of runs.
 const ROWS: usize = 8;
@@ -41,7 +41,7 @@ pub fn certified_law(list: &LitList, certificate: &Certificate)
     ensures assignment { IsAssignment 8 (length list.now.texts) (assignment_of certificate.now.ends) }
     ensures reached { assign_price 8 (lengths list.now) (assignment_of certificate.now.ends) ≡ certificate.now.cost }
 {
-    least_law(list, ROWS, certificate.potentials.as_slice());
+    potentials_law(list, ROWS, certificate.potentials.as_slice());
     assignment_law(list, ROWS, certificate.ends.as_slice());
 }
 

@@ -3,7 +3,7 @@ use Rattle.std.proofs.lemmas.List.{length-map}
 use Rattle.lit_base.specs.Literals.{lengths}
 use Rattle.lit_base.specs.Costs.{run_cost}
 use Rattle.lit_base.proofs.Least.{least_assignment, least_cut}
-use Rattle.lit_base.proofs.laws.least_law.Goals as goal
+use Rattle.lit_base.proofs.laws.potentials_law.Goals as goal
 
 pub returns-clause-assignments : goal.returns-clause-assignments
 returns-clause-assignments c =
