@@ -6,7 +6,7 @@ use Rattle.std.specs.Ordering.{ordering_then}
 use Rattle.std.specs.List.Sorted.{IsStrictlySortedBy}
 use Rattle.std.proofs.lemmas.Bool.Decides.{Decides-ltb}
 use Rattle.std.proofs.lemmas.Bool.{cases_lt}
-use Rattle.std.proofs.lemmas.List.{append-nil, append_assoc, length-take, take-append-drop, take-take}
+use Rattle.std.proofs.lemmas.List.{append-nil, append_assoc, length-append, length-take, take-append-drop, take-take}
 use Rattle.std.proofs.lemmas.List.Elements.{All-from_recursion, recursion_from_All, All-append, Contains-get_or, Contains-append_left, Contains-append_right, Contains-append_cases, Contains-push, Contains-push_cases}
 use Rattle.lit_base.specs.Literals.{Literals}
 use Rattle.lit_base.specs.Occurrences.{IsFirstEnding, NoneEnds, Occurs, hit_cmp}
@@ -191,3 +191,7 @@ gained_both old middle new found more first second = second ∙ ap (λ hs. hs ++
 -- one that gained a hit told in another way gained the hit
 pub gained_one : (old new : List (ℕ × ℕ)) (told hit : ℕ × ℕ) → new ≡ old ++ told ∷ [] → told ≡ hit → new ≡ old ++ hit ∷ []
 gained_one old new told hit gained same = subst (λ h. new ≡ old ++ h ∷ []) same gained
+
+-- and it has not become shorter
+pub gained_more : (old new found : List (ℕ × ℕ)) → new ≡ old ++ found → length old ≤ length new
+gained_more old new found gained = omega (arith, ap length gained, length-append old found)

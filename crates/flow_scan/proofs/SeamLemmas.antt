@@ -1,8 +1,9 @@
 -- Parts of the room of a seam, before and after a write.
-use Rattle.std.proofs.Common.{◌≡◌, ℕ, ◌+◌, ◌-◌, ◌≤◌, List, ◌++◌, length, take, drop, sym, ap, ◌∙◌, subst, arith}
+use Rattle.std.proofs.Common.{◌≡◌, ℕ, ◌+◌, ◌-◌, ◌≤◌, List, ◌++◌, length, take, drop, inl, inr, refl, sym, ap, ◌∙◌, subst, arith}
 use Rattle.std.specs.List.{copy_within}
-use Rattle.std.proofs.Math.Seq.{drop-append-add, take-add}
-use Rattle.std.proofs.lemmas.List.{length-append, length-drop, length-take, length-take-le, take_at, drop-drop, drop-take, take_all}
+use Rattle.std.proofs.Math.Seq.{drop-append-add, take-add, take-append-add}
+use Rattle.std.proofs.lemmas.List.{append_assoc, length-append, length-drop, length-take, length-take-le, take_at, take-append-drop, take-take, drop-drop, drop-take, take_all}
+use Rattle.std.proofs.lemmas.Bool.{cases_lt}
 use Rattle.flow_scan.specs.Seams.{Seaming}
 use Rattle.flow_scan.specs.Tails.{last_bytes}
 use Rattle.flow_scan.proofs.Occurring.{last_len}
@@ -60,3 +61,25 @@ kept_long carry xs rest piece long =
     let skip : length (xs ++ piece) - carry ≡ length xs + (length piece - carry) = omega (arith, length-append xs piece) in
     ap (last_bytes carry) (take_at last rest carry len) ∙ last_of_short carry last (omega (arith, len))
     ∙ sym (ap (λ n. drop n (xs ++ piece)) skip ∙ drop-append-add xs piece (length piece - carry))
+
+-- of a piece whose first bytes stand behind what is held, so do those of its first bytes
+pub offered_front : (carry count ahead : ℕ) (held piece : List ℕ) → take ahead held ≡ take carry piece → take (length (take carry (take count piece))) held ≡ take carry (take count piece)
+offered_front carry count ahead held piece offered =
+    let front : take carry (take count piece) ≡ take count (take carry piece) = elim (cases_lt carry count) [
+      | inl less ↦ take-take carry count piece (omega (arith, less)) ∙ sym (take_all count (take carry piece) (omega (arith, less, length-take carry piece)))
+      | inr more ↦ take_all carry (take count piece) (omega (arith, more, length-take count piece)) ∙ sym (take-take count carry piece more)
+    ] in
+    let part : take count (take ahead held) ≡ take carry (take count piece) = ap (take count) offered ∙ sym front in
+    let rest : List ℕ = drop count (take ahead held) ++ drop ahead held in
+    let whole : take carry (take count piece) ++ rest ≡ held =
+    ap (λ xs. xs ++ rest) (sym part) ∙ sym (append_assoc (take count (take ahead held)) (drop count (take ahead held)) (drop ahead held))
+    ∙ ap (λ xs. xs ++ drop ahead held) (take-append-drop count (take ahead held)) ∙ take-append-drop ahead held in
+    ap (take (length (take carry (take count piece)))) (sym whole) ∙ take_at (take carry (take count piece)) rest (length (take carry (take count piece))) refl
+
+-- of a text that begins with a tail, the bytes up to a place behind it
+pub front_behind : (tail piece : List ℕ) (carry stop : ℕ) → length tail ≤ stop → stop ≤ length (tail ++ take carry piece) → take stop (tail ++ take carry piece) ≡ tail ++ take (stop - length tail) piece
+front_behind tail piece carry stop behind within =
+    let count = stop - length tail in
+    let at : length tail + count ≡ stop = omega (arith, behind) in
+    let fits : count ≤ carry = omega (arith, within, length-append tail (take carry piece), length-take carry piece) in
+    ap (λ n. take n (tail ++ take carry piece)) (sym at) ∙ take-append-add tail (take carry piece) count ∙ ap (λ xs. tail ++ xs) (take-take count carry piece fits)

@@ -6,7 +6,7 @@ use Rattle.std.proofs.lemmas.List.{append-nil, append_assoc, length-append, leng
 use Rattle.lit_base.specs.Literals.{Literals}
 use Rattle.lit_base.specs.Occurrences.{IsHits, Occurs}
 use Rattle.flow_scan.specs.NextEnds.{NoEndAfter}
-use Rattle.flow_scan.specs.Tails.{AreAdded, AreHitsBehind, AreSteps, GainsHits, GainsHitsBehind, HasBounds, carry_of, last_bytes}
+use Rattle.flow_scan.specs.Tails.{AreAdded, AreHitsBehind, AreSteps, Continues, GainsHits, GainsHitsBehind, HasBounds, carry_of, last_bytes}
 use Rattle.flow_scan.proofs.Occurring.{last_len, occurs_behind, occurs_behind_all, occurs_behind_last, occurs_of_front}
 use Rattle.flow_scan.proofs.HitLists.{hits_joined, hits_none, none_past}
 
@@ -111,11 +111,29 @@ pub quiet_rest : (l : Literals) (tail piece : List ℕ) (n : ℕ) → NoEndAfter
 quiet_rest l tail piece n none end after here =
     none (length tail + end) (omega (arith, after)) (here.0, occurs_behind l tail piece here.0 end here.1)
 
--- from no hits on, all that a list gained are the hits of the text
-pub hits_of_all : (l : Literals) (text : List ℕ) (old new : List (ℕ × ℕ)) → HasBounds l → old ≡ [] → GainsHitsBehind l text 0 0 old new → IsHits l text new
-hits_of_all l text old new b none gains =
+-- from no hits on, they are all that a list gained
+pub gained_all : (l : Literals) (text : List ℕ) (from at : ℕ) (old new : List (ℕ × ℕ)) → old ≡ [] → GainsHitsBehind l text from at old new → AreHitsBehind l text from at new
+gained_all l text from at old new none gains =
     let same : gains.found ≡ new = sym (gains.grown ∙ ap (λ hs. hs ++ gains.found) none) in
-    subst (IsHits l text) same (hits_from_start l text gains.found b gains.added)
+    subst (AreHitsBehind l text from at) same gains.added
+
+-- the hits of a text are those behind its start
+hits_to_start : (l : Literals) (text : List ℕ) (hits : List (ℕ × ℕ)) → HasBounds l → IsHits l text hits → AreHitsBehind l text 0 0 hits
+hits_to_start l text hits b all = record {
+  rising = all.rising;
+  members = λ place end. (
+    λ inside. let o = (all.members place end).0 inside in
+        (omega (arith, b.some place o.literal o.stands, o.begins), subst (λ e. Occurs l text place e) (omega arith) o),
+    λ w. (all.members place end).1 (subst (λ e. Occurs l text place e) (omega arith) w.1),
+  );
+}
+
+-- the hits behind a place go on where those up to there end
+pub hits_continued : (l : Literals) (text : List ℕ) (from : ℕ) (hits : List (ℕ × ℕ)) → HasBounds l → from ≤ length text → AreHitsBehind l text from from hits → Continues l text from hits
+hits_continued l text from hits b within later front early =
+    let told : from ≡ 0 + (from - 0) = omega arith in
+    hits_from_start l text (front ++ hits) b
+    (hits_joined l text 0 from 0 front hits (omega arith) within (hits_to_start l (take from text) front b early) (subst (λ x. AreHitsBehind l text from x hits) told later))
 
 -- the hits of a text, and those that a piece adds behind its last bytes, are the hits of both
 pub hits_fed : (l : Literals) (text piece : List ℕ) (place : ℕ) (old new : List (ℕ × ℕ)) → HasBounds l → place ≡ length text → AreHitsBehind l text 0 0 old → GainsHits l (last_bytes (carry_of l) text) piece place old new → AreHitsBehind l (text ++ piece) 0 0 new

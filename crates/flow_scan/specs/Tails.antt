@@ -1,5 +1,5 @@
 -- The hits that a piece of a stream adds, seen from the last bytes before it.
-use Rattle.std.specs.Prelude.{◌≡◌, ℕ, ◌+◌, ◌-◌, ◌<◌, ◌≤◌, ◌↔◌, List, [], ◌∷◌, ◌++◌, length, drop, Contains, map, slice_index, Some}
+use Rattle.std.specs.Prelude.{◌≡◌, ℕ, ◌+◌, ◌-◌, ◌<◌, ◌≤◌, ◌↔◌, List, [], ◌∷◌, ◌++◌, length, take, drop, Contains, map, slice_index, Some}
 use Rattle.std.specs.List.{concat, slice_get}
 use Rattle.std.specs.Global.{Vec}
 use Rattle.std.specs.List.Sorted.{IsStrictlySortedBy}
@@ -48,6 +48,25 @@ pub record GainsHitsBehind (l : Literals) (text : List ℕ) (from at : ℕ) (old
 -- it has gained those that a piece adds
 abbrev pub GainsHits : Literals → List ℕ → List ℕ → ℕ → List (ℕ × ℕ) → List (ℕ × ℕ) → Type 0
 GainsHits l tail piece at = GainsHitsBehind l (tail ++ piece) (length tail) at
+
+-- a search through a text has stopped at a place: a list of hits has gained those up to there, and did not stop before the text's end until it had gained so many
+pub record StopsAt (l : Literals) (text : List ℕ) (from at most stop : ℕ) (old new : List (ℕ × ℕ)) : Type 0 where
+  pub after : from ≤ stop
+  pub within : stop ≤ length text
+  pub gained : GainsHitsBehind l (take stop text) from at old new
+  pub enough : stop < length text → length old + most ≤ length new
+  pub few : length new < length old + most + length l.texts + 1
+
+-- likewise of so many bytes of a piece behind a tail
+pub record StopsIn (l : Literals) (tail piece : List ℕ) (at most count : ℕ) (old new : List (ℕ × ℕ)) : Type 0 where
+  pub within : count ≤ length piece
+  pub gained : GainsHits l tail (take count piece) at old new
+  pub enough : count < length piece → length old + most ≤ length new
+  pub few : length new < length old + most + length l.texts + 1
+
+-- hits that go on behind a place of a text: whatever the hits up to there are, these and then those are the hits of the text
+abbrev pub Continues : Literals → List ℕ → ℕ → List (ℕ × ℕ) → Type 0
+Continues l text from hits = (front : List (ℕ × ℕ)) → IsHits l (take from text) front → IsHits l text (front ++ hits)
 
 -- steps from no bytes on give the hits of the pieces joined, counted from where the steps begin; from 0 on, these are the text's hits
 pub record PiecesLaw (l : Literals) (pieces : List (List ℕ)) : Type 0 where

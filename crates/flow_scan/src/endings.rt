@@ -48,7 +48,7 @@ struct Crowd {
 /// The first place behind the last candidate handed out at which some literal ends, with the first
 /// of these literals. The candidates are those of the text, by a sieve for the literals; where they
 /// crowd, the list goes on by itself for a while, as long as that is cheaper. It takes no memory.
-pub(crate) fn next_ending(
+pub(crate) fn next_verified(
     list: &LitList,
     text: &[u8],
     candidates: &mut Candidates,
@@ -78,7 +78,7 @@ pub(crate) fn next_ending(
     }
 }
 
-/// What `next_ending` says, by the candidates alone, unless they crowd behind a place.
+/// The search of `next_verified` by the candidates alone, unless they crowd behind a place.
 fn next_sieved(
     list: &LitList,
     text: &[u8],

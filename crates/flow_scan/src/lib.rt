@@ -19,7 +19,7 @@ pub use compiled::{Compiled, least_law};
 pub use fault::Fault;
 pub use hit::Hit;
 pub use scanner::Scanner;
-pub use scanning::{pieces_law, scan_all, scan_pieces};
+pub use scanning::{pieces_law, scan_all, scan_behind, scan_pieces};
 pub use searching::next_end;
 
 #[cfg(test)]

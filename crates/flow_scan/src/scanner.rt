@@ -4,7 +4,7 @@ ghost use Rattle.flow_scan.specs.declared.fault.Fault.TheVariants.{OutOfMemory, 
 ghost use Rattle.flow_scan.specs.NextEnds.{NoEndAfter};
 ghost use Rattle.flow_scan.specs.HitsAt.{Extends};
 ghost use Rattle.flow_scan.specs.Scanners.{Scanning, fed, started};
-ghost use Rattle.flow_scan.specs.Tails.{GainsHits, carry_of};
+ghost use Rattle.flow_scan.specs.Tails.{GainsHits, StopsIn, carry_of};
 
 use crate::compiled::Compiled;
 use crate::fault::Fault;
@@ -83,18 +83,49 @@ impl<'p> Scanner<'p> {
         ensures quiet { NoEndAfter self.old.plan.literals (self.old.tail ++ piece.now) (length self.old.tail)
             → IsOkUnless result StreamTooLong }
     {
+        self.feed_until(piece, usize::MAX, out)?;
+        Ok(())
+    }
+
+    /// Feeds the next piece up to the first end in it by which `out` gained at least `most` hits, or
+    /// all of it, and adds the hits that end in what was fed. The answer is how many bytes were fed.
+    /// So `out` never gains more than `most` hits and one for each literal.
+    ///
+    /// Refusals as those of `feed`, for the whole piece: once a piece is not too long, no rest of it is.
+    pub fn feed_until(
+        &mut self,
+        piece: &[u8],
+        most: usize,
+        out: &mut Vec<Hit>,
+    ) -> Result<usize, Fault>
+        ensures ok { IfOk result (λ count. self.new ≡ fed self.old (take count piece.now)) }
+        ensures hits { IfOk result (λ count. StopsIn self.old.plan.literals self.old.tail piece.now self.old.place most count out.old.items out.new.items) }
+
+        ensures too_long { IsErrOf result StreamTooLong ↔ (2 ^ 64 ≤ self.old.place + length piece.now) }
+        ensures faults { IfErr result (λ fault. (fault ≡ StreamTooLong) ⊎ (fault ≡ OutOfMemory)) }
+        ensures same { OnErr result (self.new ≡ self.old) }
+        ensures same_hits { OnErr result (out.new.items ≡ out.old.items) }
+
+        // Where nothing ends in the piece, it takes no memory.
+        ensures quiet { NoEndAfter self.old.plan.literals (self.old.tail ++ piece.now) (length self.old.tail)
+            → IsOkUnless result StreamTooLong }
+    {
         if piece.len() as u64 > u64::MAX - self.place() {
             return Err(Fault::StreamTooLong);
         }
         self.seam.offer(piece);
         let before = out.len();
-        if add_piece(self.compiled, &self.seam, piece, self.place(), out).is_err() {
-            out.truncate(before);
-            return Err(Fault::OutOfMemory);
+        match add_piece(self.compiled, &self.seam, piece, self.place(), most, out) {
+            Ok(count) => {
+                self.seam.commit(piece, count);
+                self.count += count as u64;
+                Ok(count)
+            }
+            Err(_) => {
+                out.truncate(before);
+                Err(Fault::OutOfMemory)
+            }
         }
-        self.seam.commit(piece);
-        self.count += piece.len() as u64;
-        Ok(())
     }
 
     /// The place reached: the base and how many bytes were fed.
@@ -121,27 +152,41 @@ impl<'p> Scanner<'p> {
 }
 
 /// Adds the hits that end in a piece, whose first bytes stand at the seam: those in its first bytes
-/// from there, and the others from the piece in place. Where memory is refused, hits before were
-/// added.
+/// from there, and the others from the piece in place, up to the first end by which `out` gained at
+/// least `most` of them. The answer is how many bytes of the piece lie up to there, or its length.
+/// Where memory is refused, hits before were added.
 fn add_piece(
     compiled: &Compiled,
     seam: &Seam,
     piece: &[u8],
     at: u64,
+    most: usize,
     out: &mut Vec<Hit>,
-) -> Result<(), AllocError>
+) -> Result<usize, AllocError>
     requires carry { seam.now.carry ≡ carry_of compiled.now.literals }
     requires front { seam.now.front ≡ take seam.now.carry piece.now }
     requires room { at + length piece.now < 2 ^ 64 }
-    ensures ok { OnOk result (GainsHits compiled.now.literals seam.now.tail piece.now at out.old.items out.new.items) }
+    ensures ok { IfOk result (λ count. StopsIn compiled.now.literals seam.now.tail piece.now at most count out.old.items out.new.items) }
     ensures kept { Extends out.old.items out.new.items }
     ensures quiet { NoEndAfter compiled.now.literals (seam.now.tail ++ piece.now) (length seam.now.tail) → IsOk result }
 {
-    add_hits(compiled, seam.text(), seam.tail_len(), at, out)?;
+    let before = out.len();
+    let stop = add_hits(compiled, seam.text(), seam.tail_len(), at, most, out)?;
+    let gained = out.len() - before;
+    if gained >= most {
+        return Ok(stop - seam.tail_len());
+    }
     let carry = compiled.carry();
     if piece.len() <= carry {
-        return Ok(());
+        return Ok(stop - seam.tail_len());
     }
-    add_hits(compiled, piece, carry, at + carry as u64, out)?;
-    Ok(())
+    let in_place = add_hits(
+        compiled,
+        piece,
+        carry,
+        at + carry as u64,
+        most - gained,
+        out,
+    )?;
+    Ok(in_place)
 }

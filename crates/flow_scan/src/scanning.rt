@@ -1,10 +1,11 @@
 //! Scans of whole texts, and the law on which scans in pieces stand.
-ghost use Rattle.std.specs.Prelude.{◌≡◌, ◌^◌, ◌<◌, ◌≤◌, ◌⊎◌, IfErr, IfOk, IsErr, IsOkUnless, length};
+ghost use Rattle.std.specs.Prelude.{◌≡◌, ◌^◌, ◌<◌, ◌≤◌, ◌⊎◌, IfErr, IfOk, IsErr, IsOk, IsOkUnless, length};
 ghost use Rattle.std.specs.List.{concat};
 ghost use Rattle.lit_base.specs.Assignments.{NoAssignmentBelow};
 ghost use Rattle.lit_base.specs.Occurrences.{IsHits};
 ghost use Rattle.flow_scan.specs.declared.fault.Fault.TheVariants.{OutOfMemory, StreamTooLong};
-ghost use Rattle.flow_scan.specs.Tails.{PiecesLaw, bytes_of};
+ghost use Rattle.flow_scan.specs.NextEnds.{NoEndAfter};
+ghost use Rattle.flow_scan.specs.Tails.{AreHitsBehind, Continues, PiecesLaw, bytes_of};
 
 use crate::carry::carry;
 use crate::compiled::{Compiled, least_law};
@@ -19,10 +20,34 @@ use std::alloc::Global;
 pub fn scan_all(alloc: Global, compiled: &Compiled, text: &[u8]) -> Result<Vec<Hit>, Fault>
     ensures ok { IfOk result (λ hits. IsHits compiled.now.literals text.now hits.items) }
     ensures refused { IsOkUnless result OutOfMemory }
+
+    // Where nothing ends in the text, it takes no memory.
+    ensures quiet { NoEndAfter compiled.now.literals text.now 0 → IsOk result }
+{
+    let _carry = compiled.carry();
+    let hits = scan_behind(alloc, compiled, text, 0)?;
+    Ok(hits)
+}
+
+/// The hits of a text that end behind a place of it, in order: they go on where the hits of its
+/// bytes up to there end. The only refusal is `OutOfMemory`.
+pub fn scan_behind(
+    alloc: Global,
+    compiled: &Compiled,
+    text: &[u8],
+    from: usize,
+) -> Result<Vec<Hit>, Fault>
+    requires { from ≤ length text.now }
+    ensures ok { IfOk result (λ hits. AreHitsBehind compiled.now.literals text.now from from hits.items) }
+    ensures continues { IfOk result (λ hits. Continues compiled.now.literals text.now from hits.items) }
+    ensures refused { IsOkUnless result OutOfMemory }
+
+    // Where nothing ends behind the place, it takes no memory.
+    ensures quiet { NoEndAfter compiled.now.literals text.now from → IsOk result }
 {
     let _carry = compiled.carry();
     let mut hits = Vec::new(alloc);
-    add_hits(compiled, text, 0, 0, &mut hits)?;
+    add_hits(compiled, text, from, from as u64, usize::MAX, &mut hits)?;
     Ok(hits)
 }
 

@@ -73,12 +73,14 @@ impl Seam {
         self.ahead = front;
     }
 
-    /// Takes the piece that was offered as a part of the stream.
-    pub(crate) fn commit(&mut self, piece: &[u8])
-        requires { self.old.front ≡ take self.old.carry piece.now }
-        ensures { self.new ≡ record self.old { tail = last_bytes self.old.carry (self.old.tail ++ piece.now); front = [] } }
+    /// Takes so many bytes of the piece that was offered as a part of the stream.
+    pub(crate) fn commit(&mut self, piece: &[u8], count: usize)
+        requires offered { self.old.front ≡ take self.old.carry piece.now }
+        requires within { count ≤ length piece.now }
+        ensures { self.new ≡ record self.old { tail = last_bytes self.old.carry (self.old.tail ++ take count piece.now); front = [] } }
     {
-        self.held = keep_last(&mut self.room, self.carry, self.held, piece);
+        let (front, _) = piece.split_at(count);
+        self.held = keep_last(&mut self.room, self.carry, self.held, front);
         self.ahead = 0;
     }
 

@@ -1,12 +1,12 @@
 //! Where literals end in a text, and the hits there.
-ghost use Rattle.std.specs.Prelude.{◌≡◌, ℕ, ◌+◌, ◌-◌, ◌^◌, ◌<◌, ◌≤◌, IsOk, MatchOption, OnOk, List, length};
+ghost use Rattle.std.specs.Prelude.{◌≡◌, ℕ, ◌+◌, ◌-◌, ◌^◌, ◌<◌, ◌≤◌, IfOk, IsOk, MatchOption, OnOk, List, length};
 ghost use Rattle.lit_base.specs.Occurrences.{IsFirstEnding};
 ghost use Rattle.flow_scan.specs.NextEnds.{IsNextEnd, NoEndAfter, NoEndUpTo};
 ghost use Rattle.flow_scan.specs.HitsAt.{Extends, GainsHitsAt};
-ghost use Rattle.flow_scan.specs.Tails.{GainsHitsBehind};
+ghost use Rattle.flow_scan.specs.Tails.{StopsAt};
 
 use crate::compiled::Compiled;
-use crate::endings::{Backoff, next_ending};
+use crate::endings::{Backoff, next_verified};
 use crate::hit::Hit;
 use lane_filter::Candidates;
 use lit_base::LitList;
@@ -25,7 +25,7 @@ pub fn next_end(compiled: &Compiled, text: &[u8], from: usize) -> Option<usize>
         return None;
     }
     let mut candidates = Candidates::new(compiled.sieve(), text, start);
-    match next_ending(list, text, &mut candidates, &mut Backoff::new()) {
+    match next_verified(list, text, &mut candidates, &mut Backoff::new()) {
         Some((end, _)) => Some(end),
         None => None,
     }
@@ -43,28 +43,34 @@ fn skip_short_ends(list: &LitList, from: usize) -> usize
     from.max(list.shortest().saturating_sub(1))
 }
 
-/// Adds the hits that end in the text behind `from`, where this place counts as `at`. Memory is
-/// refused only after a hit was found, and then the hits before it were added.
+/// Adds the hits that end in the text behind `from`, where this place counts as `at`, up to the first
+/// end by which `out` gained at least `most` of them. The answer is that end, or the text's length.
+/// Memory is refused only after a hit was found, and then the hits before it were added.
 pub(crate) fn add_hits(
     compiled: &Compiled,
     text: &[u8],
     from: usize,
     at: u64,
+    most: usize,
     out: &mut Vec<Hit>,
-) -> Result<(), AllocError>
+) -> Result<usize, AllocError>
     requires inside { from ≤ length text.now }
     requires room { at + (length text.now - from) < 2 ^ 64 }
-    ensures ok { OnOk result (GainsHitsBehind compiled.now.literals text.now from at out.old.items out.new.items) }
+    ensures ok { IfOk result (λ stop. StopsAt compiled.now.literals text.now from at most stop out.old.items out.new.items) }
     ensures kept { Extends out.old.items out.new.items }
     ensures quiet { NoEndAfter compiled.now.literals text.now from → IsOk result }
 {
     let list = compiled.list();
     let mut candidates = Candidates::new(compiled.sieve(), text, from);
     let mut backoff = Backoff::new();
-    while let Some((end, first)) = next_ending(list, text, &mut candidates, &mut backoff) {
+    let before = out.len();
+    while let Some((end, first)) = next_verified(list, text, &mut candidates, &mut backoff) {
         add_hits_at(list, text, end, first, at + (end - from) as u64, out)?;
+        if out.len() - before >= most {
+            return Ok(end);
+        }
     }
-    Ok(())
+    Ok(text.len())
 }
 
 /// Adds the hits at one place of the text, which counts as `at`, `first` being the first literal
@@ -80,6 +86,7 @@ fn add_hits_at(
     requires inside { end ≤ length text.now }
     requires first { IsFirstEnding list.now text.now 0 end first }
     ensures ok { OnOk result (GainsHitsAt list.now text.now end at out.old.items out.new.items) }
+    ensures few { OnOk result (length out.new.items ≤ length out.old.items + length list.now.texts) }
     ensures kept { Extends out.old.items out.new.items }
 {
     out.push(hit_of(list, first, at))?;

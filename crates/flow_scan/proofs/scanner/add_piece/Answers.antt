@@ -1,41 +1,59 @@
 -- The hits at the seam, and behind them those of the piece in place.
-use Rattle.std.proofs.Common.{◌+◌, ◌++◌, length, take, arith}
+use Rattle.std.proofs.Common.{◌≡◌, ◌+◌, ◌-◌, ◌++◌, length, take, arith}
 use Rattle.std.proofs.lemmas.Bool.{false≢true}
-use Rattle.flow_scan.specs.Tails.{GainsHitsBehind, carry_of}
-use Rattle.flow_scan.proofs.HitLists.{gained_both}
-use Rattle.flow_scan.proofs.TailSteps.{added_in_place, quiet_front, quiet_rest}
+use Rattle.std.proofs.lemmas.List.{length-append, length-take}
+use Rattle.flow_scan.specs.Tails.{StopsAt, carry_of}
+use Rattle.flow_scan.proofs.HitLists.{gained_both, gained_more}
+use Rattle.flow_scan.proofs.TailSteps.{quiet_front, quiet_rest}
+use Rattle.flow_scan.proofs.Stops.{stopped_in_front, stopped_in_place}
 use Rattle.flow_scan.proofs.scanner.add_piece.Goals as goal
+use Rattle.flow_scan.proofs.scanner.add_piece.Goals.{In_ok-stop}
 
-pub returns-in_err-add_hits-clause-quiet : goal.returns-in_err-add_hits-clause-quiet
-returns-in_err-add_hits-clause-quiet c = λ none.
+pub returns-in_err-stop-clause-quiet : goal.returns-in_err-stop-clause-quiet
+returns-in_err-stop-clause-quiet c = λ none.
     let l = c.args.compiled.now.literals in
-    absurd (false≢true (c.in_err-add_hits.ensures.quiet
+    absurd (false≢true (c.in_err-stop.ensures.quiet
     (rw (c.text.ensures, c.tail_len.ensures, c.requires.front) (quiet_front l c.args.seam.now.tail c.args.piece.now c.args.seam.now.carry none))))
 
-pub returns-in_err-add_hits-2-clause-kept : goal.returns-in_err-add_hits-2-clause-kept
-returns-in_err-add_hits-2-clause-kept c =
-    let first = c.in_ok-add_hits.ensures.kept in
-    let second = c.in_err-add_hits-2.ensures.kept in
+pub returns-in_err-in_place-clause-kept : goal.returns-in_err-in_place-clause-kept
+returns-in_err-in_place-clause-kept c =
+    let first = c.in_ok-stop.ensures.kept in
+    let second = c.in_err-in_place.ensures.kept in
     (first.0 ++ second.0, gained_both c.args.out.now.items c.add_hits.new.out.items c.add_hits-2.new.out.items first.0 second.0 first.1 second.1)
 
-pub returns-in_err-add_hits-2-clause-quiet : goal.returns-in_err-add_hits-2-clause-quiet
-returns-in_err-add_hits-2-clause-quiet c = λ none.
-    absurd (false≢true (c.in_err-add_hits-2.ensures.quiet
+pub returns-in_err-in_place-clause-quiet : goal.returns-in_err-in_place-clause-quiet
+returns-in_err-in_place-clause-quiet c = λ none.
+    absurd (false≢true (c.in_err-in_place.ensures.quiet
     (quiet_rest c.args.compiled.now.literals c.args.seam.now.tail c.args.piece.now c.carry-carry.result none)))
+
+-- the search from the tail on
+at_seam : (c : In_ok-stop) → StopsAt c.args.compiled.now.literals (c.args.seam.now.tail ++ take c.args.seam.now.carry c.args.piece.now) (length c.args.seam.now.tail) c.args.at c.args.most c.in_ok-stop.stop c.args.out.now.items c.add_hits.new.out.items
+at_seam c = rw (c.text.ensures, c.tail_len.ensures, c.requires.front) at c.in_ok-stop.ensures.ok
+
+pub returns-then-gained-most-clause-ok : goal.returns-then-gained-most-clause-ok
+returns-then-gained-most-clause-ok c =
+    let kept = c.in_ok-stop.ensures.kept in
+    let more = gained_more c.args.out.now.items c.add_hits.new.out.items kept.0 kept.1 in
+    rw c.tail_len-then-gained-most.ensures (stopped_in_front c.args.compiled.now.literals c.args.seam.now.tail c.args.piece.now c.args.seam.now.carry c.args.at c.args.most c.in_ok-stop.stop c.args.out.now.items c.add_hits.new.out.items
+    (at_seam (goal.at.returns-then-gained-most-clause-ok c).In_ok-stop) (λ _. omega (arith, more, c.if-gained-most.true, c.len.ensures, c.len-before.ensures, c.args.out.now.ok.0, c.add_hits.new.out.ok.0)))
+
+pub returns-then-piece-carry-clause-ok : goal.returns-then-piece-carry-clause-ok
+returns-then-piece-carry-clause-ok c =
+    let search = at_seam (goal.at.returns-then-piece-carry-clause-ok c).In_ok-stop in
+    let tail = c.args.seam.now.tail in
+    let piece = c.args.piece.now in
+    rw c.tail_len-then-piece-carry.ensures (stopped_in_front c.args.compiled.now.literals tail piece c.args.seam.now.carry c.args.at c.args.most c.in_ok-stop.stop c.args.out.now.items c.add_hits.new.out.items
+    search (λ sooner. search.enough (omega (arith, sooner, c.if-piece-carry.true, c.carry-carry.ensures.value, c.requires.carry, length-append tail (take c.args.seam.now.carry piece), length-take c.args.seam.now.carry piece))))
 
 pub returns-clause-ok : goal.returns-clause-ok
 returns-clause-ok c =
     let l = c.args.compiled.now.literals in
-    let tail = c.args.seam.now.tail in
-    let piece = c.args.piece.now in
-    let at = c.args.at in
-    let carry = c.carry-carry.ensures.value in
-    let first : GainsHitsBehind l (tail ++ take (carry_of l) piece) (length tail) at c.args.out.now.items c.add_hits.new.out.items =
-    rw (c.text.ensures, c.tail_len.ensures, c.requires.front, c.requires.carry) at c.in_ok-add_hits.ensures.ok in
-    let second : GainsHitsBehind l piece (carry_of l) (at + carry_of l) c.add_hits.new.out.items c.add_hits-2.new.out.items =
-    rw carry at c.in_ok-add_hits-2.ensures.ok in
-    record {
-      found = first.found ++ second.found;
-      grown = gained_both c.args.out.now.items c.add_hits.new.out.items c.add_hits-2.new.out.items first.found second.found first.grown second.grown;
-      added = added_in_place l tail piece at first.found second.found c.carry-carry.ensures.bounds (omega (arith, carry, c.if-piece-carry.false)) first.added second.added;
-    }
+    let old = c.args.out.now.items in
+    let middle = c.add_hits.new.out.items in
+    let new = c.add_hits-2.new.out.items in
+    let gained : c.len.result - c.len-before.result ≡ length middle - length old = omega (arith, c.len.ensures, c.len-before.ensures, c.args.out.now.ok.0, c.add_hits.new.out.ok.0) in
+    let first = rw c.requires.carry at (at_seam (goal.at.returns-clause-ok c).In_ok-stop) in
+    let second : StopsAt l c.args.piece.now (carry_of l) (c.args.at + carry_of l) (c.args.most - (length middle - length old)) c.in_ok-in_place.in_place middle new =
+    rw (c.carry-carry.ensures.value, gained) at c.in_ok-in_place.ensures.ok in
+    stopped_in_place l c.args.seam.now.tail c.args.piece.now c.args.at c.args.most c.in_ok-stop.stop c.in_ok-in_place.in_place old middle new c.carry-carry.ensures.bounds
+    first (omega (arith, gained, c.if-gained-most.false)) second

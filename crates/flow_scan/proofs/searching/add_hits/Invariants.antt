@@ -1,4 +1,4 @@
-use Rattle.std.proofs.Common.{◌≡◌, ℕ, ◌-◌, ◌≤◌, ◌++◌, List, length, take}
+use Rattle.std.proofs.Common.{◌≡◌, ℕ, ◌+◌, ◌-◌, ◌≤◌, ◌++◌, List, length, take}
 use Rattle.nib_mask.specs.Candidates.{CoversBy}
 use Rattle.lane_filter.specs.Sieves.{Passes}
 use Rattle.flow_scan.specs.Tails.{AreHitsBehind}
@@ -11,6 +11,7 @@ invariant-loop-end l = record {
   text : l.candidates.text ≡ l.text;
   ahead : l.from ≤ l.candidates.from;
   within : l.candidates.from ≤ length l.text;
+  few : length l.out.items ≤ length l.fn.out.items + l.most;
   found : List (ℕ × ℕ);
   grown : l.out.items ≡ l.fn.out.items ++ found;
   added : AreHitsBehind l.compiled.literals (take l.candidates.from l.text) l.from l.at found;

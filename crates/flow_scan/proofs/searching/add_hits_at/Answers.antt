@@ -1,5 +1,6 @@
 -- One literal after the other is added, until no other ends there.
-use Rattle.std.proofs.Common.{ℕ, List, [], ◌∷◌, ◌++◌, arith}
+use Rattle.std.proofs.Common.{ℕ, List, [], ◌∷◌, ◌++◌, length, ap, arith}
+use Rattle.std.proofs.lemmas.List.{length-append}
 use Rattle.std.proofs.lemmas.Option.{slice_get_within}
 use Rattle.flow_scan.proofs.HitLists.{gained_both, gained_one, hits_at_ended, hits_at_more, hits_at_none}
 use Rattle.flow_scan.proofs.searching.add_hits_at.Goals as goal
@@ -14,6 +15,7 @@ loop-place-init c =
       added = hits_at_more c.args.list.now c.args.text.now c.args.end c.args.at 0 c.args.first []
           (hits_at_none c.args.list.now c.args.text.now c.args.end c.args.at) first;
       counted = omega (arith, slice_get_within c.args.list.now.texts c.args.first first.occurs.literal first.occurs.stands);
+      few = omega arith;
     }
 
 pub loop-place-preserved : goal.loop-place-preserved
@@ -26,6 +28,7 @@ loop-place-preserved c =
           (gained_one c.loop-place.out.items c.push-in-Some.new.self.items c.hit_of-in-Some.result hit c.in_ok-push-2.ensures.items c.hit_of-in-Some.ensures);
       added = hits_at_more c.args.list.now c.args.text.now c.args.end c.args.at c.loop-place.from c.in-Some.place before.found before.added c.in-Some.ensures.first;
       counted = omega (arith, c.in-Some.ensures.within);
+      few = omega (arith, length-append before.found (hit ∷ []), before.few, c.in-Some.ensures.first.counted);
     }
 
 pub returns-clause-ok : goal.returns-clause-ok
@@ -36,3 +39,8 @@ returns-clause-ok c =
       grown = all.grown;
       added = hits_at_ended c.args.list.now c.args.text.now c.args.end c.args.at c.loop-place.from all.found all.added c.in_default.ensures.first;
     }
+
+pub returns-clause-few : goal.returns-clause-few
+returns-clause-few c =
+    let all = c.loop-place.invariant in
+    omega (arith, ap length all.grown, length-append c.args.out.now.items all.found, all.few, all.counted)

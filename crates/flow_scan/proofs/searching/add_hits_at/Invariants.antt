@@ -9,6 +9,7 @@ invariant-loop-place l = record {
   grown : l.out.items ≡ l.fn.out.items ++ found;
   added : AreHitsAtBefore l.list l.text l.end l.at l.from found;
   counted : l.from ≤ length l.list.texts;
+  few : length found ≤ l.from;
 }
 
 abbrev pub decreases-loop-place : goal.decreases-loop-place

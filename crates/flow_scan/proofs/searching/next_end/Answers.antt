@@ -3,8 +3,8 @@ use Rattle.std.proofs.Common.{arith}
 use Rattle.flow_scan.proofs.EndLemmas.{next_further, none_further}
 use Rattle.flow_scan.proofs.searching.next_end.Goals as goal
 
-pub next_ending-requires-clause-covers : goal.next_ending-requires-clause-covers
-next_ending-requires-clause-covers c = rw (c.list-list.ensures, c.new-candidates.ensures.sieve) c.sieve.ensures
+pub next_verified-requires-clause-covers : goal.next_verified-requires-clause-covers
+next_verified-requires-clause-covers c = rw (c.list-list.ensures, c.new-candidates.ensures.sieve) c.sieve.ensures
 
 pub returns-then-start-text : goal.returns-then-start-text
 returns-then-start-text c end after here =

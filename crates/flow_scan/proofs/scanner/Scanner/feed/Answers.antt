@@ -1,23 +1,22 @@
--- Memory is refused only where a literal ends in the piece.
-use Rattle.std.proofs.Common.{◌≡◌, ℕ, ◌++◌, List, length, Bool, true, not, Result, IsOk, is_ok, sym, ap, ◌∙◌, subst}
-use Rattle.std.proofs.lemmas.Bool.{false≢true}
-use Rattle.lit_base.specs.Literals.{Literals}
-use Rattle.flow_scan.specs.NextEnds.{NoEndAfter}
-use Rattle.flow_scan.specs.Scanners.{Scanning}
-use Rattle.flow_scan.specs.Seams.{Seaming}
+-- All of the piece is fed, since no list holds so many hits.
+use Rattle.std.proofs.Common.{◌≡◌, ◌<◌, length, take, ap, ◌∙◌, subst, arith}
+use Rattle.flow_scan.specs.Scanners.{fed}
+use Rattle.flow_scan.specs.Tails.{GainsHits}
+use Rattle.flow_scan.proofs.Stops.{all_fed}
 use Rattle.flow_scan.proofs.scanner.Scanner.feed.Goals as goal
+use Rattle.flow_scan.proofs.scanner.Scanner.feed.Goals.{In_ok-feed_until}
 
--- an answer is not both
-ok_not_err : {T E : Type 0} (r : Result T E) (b : Bool) → IsOk r → is_ok r ≡ not b → b ≡ true → ⊥
-ok_not_err r b ok negation err = false≢true (sym (negation ∙ ap not err) ∙ ok)
+whole : (c : In_ok-feed_until) → take c.in_ok-feed_until.field-0 c.args.piece.now ≡ c.args.piece.now
+whole c =
+    let s = c.args.self.now in
+    let new = c.feed_until.new.out in
+    let small : length new.items < 18446744073709551615 = omega (arith, new.ok.0, new.ok.1, new.small) in
+    all_fed s.plan.literals s.tail c.args.piece.now s.place _ c.in_ok-feed_until.field-0 c.args.out.now.items new.items small c.in_ok-feed_until.ensures.hits
 
-pub returns-then-is_err-clause-quiet : goal.returns-then-is_err-clause-quiet
-returns-then-is_err-clause-quiet c = λ none.
-    let piece = c.args.piece.now in
-    let tail : c.offer.new.self.tail ≡ c.args.self.now.tail = ap (λ (s : Seaming). s.tail) c.offer.ensures ∙ ap (λ (s : Scanning). s.tail) c.self.view_is in
-    let list : c.self.inside.compiled.now.literals ≡ c.args.self.now.plan.literals = ap (λ (s : Scanning). s.plan.literals) c.self.view_is in
-    let here : NoEndAfter c.self.inside.compiled.now.literals (c.offer.new.self.tail ++ piece) (length c.offer.new.self.tail) =
-    subst (λ (l : Literals). NoEndAfter l (c.offer.new.self.tail ++ piece) (length c.offer.new.self.tail)) (sym list)
-    (subst (λ (t : List ℕ). NoEndAfter c.args.self.now.plan.literals (t ++ piece) (length t)) (sym tail) none) in
-    let ok : IsOk c.add_piece.result = c.add_piece.ensures.quiet here in
-    absurd (ok_not_err c.add_piece.result c.is_err.result ok c.is_err.ensures.negation c.if-is_err.true)
+pub returns-clause-ok : goal.returns-clause-ok
+returns-clause-ok c = c.in_ok-feed_until.ensures.ok ∙ ap (fed c.args.self.now) (whole c)
+
+pub returns-clause-hits : goal.returns-clause-hits
+returns-clause-hits c =
+    let s = c.args.self.now in
+    subst (λ p. GainsHits s.plan.literals s.tail p s.place c.args.out.now.items c.feed_until.new.out.items) (whole c) c.in_ok-feed_until.ensures.hits.gained

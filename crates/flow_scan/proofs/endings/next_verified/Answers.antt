@@ -2,8 +2,8 @@
 use Rattle.std.proofs.Common.{◌≤◌, ◌∙◌, sym, subst, arith}
 use Rattle.flow_scan.specs.NextEnds.{NoEndUpTo}
 use Rattle.flow_scan.proofs.EndLemmas.{found_further, next_further, none_joined}
-use Rattle.flow_scan.proofs.endings.next_ending.Goals as goal
-use Rattle.flow_scan.proofs.endings.next_ending.Goals.{In-Err}
+use Rattle.flow_scan.proofs.endings.next_verified.Goals as goal
+use Rattle.flow_scan.proofs.endings.next_verified.Goals.{In-Err}
 
 pub next_sieved-requires-clause-covers : goal.next_sieved-requires-clause-covers
 next_sieved-requires-clause-covers c = rw c.crowds.invariant.sieve c.requires.covers

@@ -1,6 +1,6 @@
 use Rattle.std.proofs.Common.{◌≡◌, ◌-◌, ◌≤◌, length}
 use Rattle.flow_scan.specs.NextEnds.{NoEndUpTo}
-use Rattle.flow_scan.proofs.endings.next_ending.Given as goal
+use Rattle.flow_scan.proofs.endings.next_verified.Given as goal
 
 -- no literal ends at the places passed
 abbrev pub invariant-crowds : goal.invariant-crowds
