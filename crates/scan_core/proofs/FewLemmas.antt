@@ -1,0 +1,42 @@
+-- Edits of a list of optional elements that has all of them.
+use Rattle.std.proofs.Common.{◌≡◌, ℕ, zero, suc, ◌<◌, List, [], ◌∷◌, ◌++◌, length, get_or, set, take, drop, map, Option, Some, None, refl, sym, ap, ◌∙◌, arith}
+use Rattle.std.specs.List.{refill, remove}
+use Rattle.std.proofs.lemmas.List.{drop-map, length-set, map-append, map-set, take-map, take_at}
+use Rattle.std.proofs.lemmas.Option.{none-some}
+use Rattle.scan_core.specs.Fews.{somes}
+
+-- the elements of a list that has all of them
+pub somes-map : {T : Type 0} (xs : List T) → somes (map Some xs) ≡ xs
+somes-map [] = refl
+somes-map (x ∷ xs) = ap (λ ys. x ∷ ys) (somes-map xs)
+
+-- what a list with all of these has
+pub somes_all : {T : Type 0} (items : List (Option T)) (xs : List T) → items ≡ map Some xs → somes items ≡ xs
+somes_all items xs all = ap somes all ∙ somes-map xs
+
+-- it has all of its own
+pub all_somes : {T : Type 0} (items : List (Option T)) (xs : List T) → items ≡ map Some xs → items ≡ map Some (somes items)
+all_somes items xs all = all ∙ ap (map Some) (sym (somes_all items xs all))
+
+-- what is removed from images is removed from the elements
+pub remove-map : {X Y : Type 0} (f : X → Y) (xs : List X) (i : ℕ) → remove (map f xs) i ≡ map f (remove xs i)
+remove-map f xs i =
+    ap (λ ys. ys ++ drop (suc i) (map f xs)) (take-map f i xs)
+    ∙ ap (λ ys. map f (take i xs) ++ ys) (drop-map f (suc i) xs)
+    ∙ sym (map-append f (take i xs) (drop (suc i) xs))
+
+-- each of its places has an element
+pub some_at : {T : Type 0} (xs : List T) (i : ℕ) (d : Option T) → i < length xs → get_or (map Some xs) i d ≡ None → ⊥
+some_at [] i d within none = omega arith
+some_at (x ∷ xs) zero d within none = none-some x (sym none)
+some_at (x ∷ xs) (suc i) d within none = some_at xs i d (omega (arith, within)) none
+
+-- a write in place, as it comes back to the vector that lent the list
+pub set_refill : {T : Type 0} (items lent : List (Option T)) (xs : List T) (i : ℕ) (x : T) → lent ≡ items → items ≡ map Some xs → refill (length items) items (set lent i (Some x)) ≡ map Some (set xs i x)
+set_refill {T} items lent xs i x same all =
+    let written : List (Option T) = set items i (Some x) in
+    let len : length written ≡ length items = simp length-set in
+    ap (λ l. refill (length items) items (set l i (Some x))) same
+    ∙ take_at written (drop (length written) items) (length items) (omega (arith, len))
+    ∙ ap (λ l. set l i (Some x)) all
+    ∙ sym (map-set Some xs i x)

@@ -1,0 +1,9 @@
+pub mod BlockLemmas
+pub mod FewLemmas
+pub mod RefusalLemmas
+pub mod ServingLemmas
+pub mod StepLemmas
+pub mod StreamLemmas
+pub mod StreamLists
+pub mod TicketLemmas
+pub mod WorldLemmas

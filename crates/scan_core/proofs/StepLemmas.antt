@@ -1,0 +1,194 @@
+-- One case of a session's event each: how a request and its replies come to be a step.
+use Rattle.std.proofs.Common.{◌≡◌, ℕ, ◌+◌, ◌^◌, ◌<◌, ◌≤◌, List, [], ◌∷◌, ◌++◌, length, map, Option, Some, None, MatchOption, Contains, true, false, refl, sym, ap, ◌∙◌, subst, inl, inr, arith}
+use Rattle.std.specs.Prelude.{is_some, nat_eq, nat_le, nat_lt, if◌then◌else◌}
+use Rattle.std.specs.Map.{lookup, remove_entry, set_value}
+use Rattle.std.proofs.Math.ListN.{set}
+use Rattle.std.specs.List.{remove}
+use Rattle.std.proofs.lemmas.Bool.Decides.{nat_tests}
+use Rattle.std.proofs.lemmas.List.{length-map, map-append}
+use Rattle.lit_base.specs.declared.fold.Fold.{Fold}
+use Rattle.lit_base.specs.declared.limits.TheConstants.{MAX_LITERALS}
+use Rattle.lit_base.specs.NormalForm.{normal_form}
+use Rattle.plan_store.specs.Tickets.{Told}
+use Rattle.flow_scan.specs.Scanners.{fed, started}
+use Rattle.flow_scan.specs.Tails.{AreAdded}
+use Rattle.scan_wire.specs.Messages.{RequestParts, ReplyParts, Publish, Open, Feed, Close, ShowPlan, Published, Opened, Hits, Fed, Closed, Plan, Refused}
+use Rattle.scan_core.specs.declared.refusal.Refusal.{Refusal}
+use Rattle.scan_core.specs.declared.refusal.Refusal.TheVariants.{StreamInUse, StreamQuota, NoSuchPlan, NoSuchStream, StreamTooLong, TooManyLiterals}
+use Rattle.scan_core.specs.declared.limits.TheConstants.{MAX_STREAMS}
+use Rattle.scan_wire.specs.declared.message.TheConstants.{MAX_HITS}
+use Rattle.scan_core.specs.Blocks.{AreBlocks}
+use Rattle.scan_core.specs.Publishing.{IsPlanFor}
+use Rattle.scan_core.specs.Refusals.{crowd_refusal, earlier, publish_refusal, raw_refusal}
+use Rattle.scan_core.specs.Sessions.{Bound, IsEvent, Serving, by_tails, entry_of, parts_of}
+use Rattle.scan_core.specs.Steps.{Entry, IsAccepted, IsSound, IsStep, Outcome, Reading, SessionParts, closed, fed_replies, moved, opened, plan_reply, published, refusal_of, refused, refused_reply, shown, stream_at, stream_of, stream_refusal}
+use Rattle.scan_core.specs.Streams.{MovesTo, StandsAt}
+use Rattle.scan_core.proofs.StreamLemmas.{lookup_at, remove_at, set_at}
+
+-- a request with a refusal is refused so
+pub step_refused : {S : Type 0} (reading : Reading S) (before : SessionParts S) (request : RequestParts) (refusal : Refusal) → refusal_of reading before request ≡ Some refusal → IsStep reading before request (refused before request refusal)
+step_refused {S} reading before request refusal is =
+    let P : Option Refusal → Type 0 = λ o. MatchOption o (IsAccepted reading before request (refused before request refusal)) (λ r. refused before request refusal ≡ refused before request r) in
+    subst P (sym is) refl
+
+-- a request without one is accepted
+pub step_accepted : {S : Type 0} (reading : Reading S) (before : SessionParts S) (request : RequestParts) (outcome : Outcome S) → refusal_of reading before request ≡ None → IsAccepted reading before request outcome → IsStep reading before request outcome
+step_accepted {S} reading before request outcome none accepted =
+    let P : Option Refusal → Type 0 = λ o. MatchOption o (IsAccepted reading before request outcome) (λ r. outcome ≡ refused before request r) in
+    subst P (sym none) accepted
+
+-- a refused request is an event that changes nothing
+pub event_refused : (s : Serving) (request : RequestParts) (refusal : Refusal) (reply : ReplyParts) → refusal_of by_tails (parts_of s) request ≡ Some refusal → reply ≡ refused_reply (stream_of request) refusal → IsEvent s request (reply ∷ []) s
+event_refused s request refusal reply is told =
+    let P : ReplyParts → Type 0 = λ r. IsEvent s request (r ∷ []) s in
+    subst P (sym told) record { met = None; step = step_refused by_tails (parts_of s) request refusal is; store = refl }
+
+-- a number of plans told is a number of entries
+told_count : (s : Serving) (fold : Fold) (literals : List (List ℕ)) → publish_refusal (length (parts_of s).told) fold literals ≡ publish_refusal (length s.told) fold literals
+told_count s fold literals = ap (λ n. publish_refusal n fold literals) (length-map s.told entry_of)
+
+-- a Publish that is refused by its literals
+pub published_raw : (s : Serving) (fold : Fold) (literals : List (List ℕ)) (refusal : Refusal) (reply : ReplyParts) → Some refusal ≡ raw_refusal (length s.told) literals → reply ≡ refused_reply 0 refusal → IsEvent s (Publish fold literals) (reply ∷ []) s
+published_raw s fold literals refusal reply raw told =
+    event_refused s (Publish fold literals) refusal reply (told_count s fold literals ∙ ap (λ o. earlier o (crowd_refusal (normal_form fold literals))) (sym raw)) told
+
+-- a Publish of too many literals
+pub published_crowd : (s : Serving) (fold : Fold) (literals : List (List ℕ)) (reply : ReplyParts) → None ≡ raw_refusal (length s.told) literals → MAX_LITERALS < length (normal_form fold literals) → reply ≡ refused_reply 0 TooManyLiterals → IsEvent s (Publish fold literals) (reply ∷ []) s
+published_crowd s fold literals reply raw many told =
+    let crowd : crowd_refusal (normal_form fold literals) ≡ Some TooManyLiterals = grind (arith, nat_tests) in
+    event_refused s (Publish fold literals) TooManyLiterals reply
+    (told_count s fold literals ∙ ap (λ o. earlier o (crowd_refusal (normal_form fold literals))) (sym raw) ∙ crowd) told
+
+-- a Publish that is stored
+pub published_entry : (s : Serving) (fold : Fold) (literals : List (List ℕ)) (ticket : Told) (reply : ReplyParts) (new : Serving) → None ≡ raw_refusal (length s.told) literals → IsPlanFor fold literals ticket.plan → reply ≡ Published ticket.number → new ≡ record s { told = s.told ++ ticket ∷ [] } → IsEvent s (Publish fold literals) (reply ∷ []) new
+published_entry s fold literals ticket reply new raw planned told after =
+    let few = planned.few in
+    let crowd : crowd_refusal (normal_form fold literals) ≡ None = grind (arith, nat_tests) in
+    let none : refusal_of by_tails (parts_of s) (Publish fold literals) ≡ None =
+    told_count s fold literals ∙ ap (λ o. earlier o (crowd_refusal (normal_form fold literals))) (sym raw) ∙ crowd in
+    let outcome : Outcome Bound = record { replies = reply ∷ []; met = Some (entry_of ticket); after = parts_of new } in
+    let parts : parts_of new ≡ (published (parts_of s) (entry_of ticket)).after =
+    ap parts_of after ∙ ap (λ entries. record { told = entries; streams = s.streams }) (map-append entry_of s.told (ticket ∷ [])) in
+    let is : outcome ≡ published (parts_of s) (entry_of ticket) =
+    λ i. record { replies = told i ∷ []; met = Some (entry_of ticket); after = parts i } in
+    record {
+      met = Some (entry_of ticket);
+      step = step_accepted by_tails (parts_of s) (Publish fold literals) outcome none
+          record { entry = entry_of ticket; plan = planned.planned; sound = planned.sound; is = is };
+      store = ap (λ (n : Serving). n.store) after;
+    }
+
+-- a request of a stream that is not open
+pub no_stream : (s : Serving) (stream : ℕ) (refusal : Bound → Option Refusal) → lookup (nat_eq stream) s.streams ≡ None → stream_refusal (stream_at stream (parts_of s)) refusal ≡ Some NoSuchStream
+no_stream s stream refusal none = ap (λ o. stream_refusal o refusal) none
+
+-- and of one that is
+pub a_stream : (s : Serving) (stream place : ℕ) (refusal : Bound → Option Refusal) (at : StandsAt stream s.streams place) → stream_refusal (stream_at stream (parts_of s)) refusal ≡ refusal at.state
+a_stream s stream place refusal at = ap (λ o. stream_refusal o refusal) (lookup_at stream s.streams place at)
+
+-- a Close
+pub closed_stream : (s : Serving) (stream place : ℕ) (new : Serving) → StandsAt stream s.streams place → new ≡ record s { streams = remove s.streams place } → IsEvent s (Close stream) (Closed stream ∷ []) new
+closed_stream s stream place new at after =
+    let outcome : Outcome Bound = record { replies = Closed stream ∷ []; met = None; after = parts_of new } in
+    let parts : parts_of new ≡ (closed (parts_of s) stream).after =
+    ap parts_of after ∙ ap (λ streams. record { told = map entry_of s.told; streams = streams }) (remove_at stream s.streams place at) in
+    let is : outcome ≡ closed (parts_of s) stream = ap (λ parts. record { replies = Closed stream ∷ []; met = None; after = parts }) parts in
+    record {
+      met = None;
+      step = step_accepted by_tails (parts_of s) (Close stream) outcome (a_stream s stream place (λ state. None) at) is;
+      store = ap (λ (n : Serving). n.store) after;
+    }
+
+-- a ShowPlan
+pub shown_plan : (s : Serving) (stream place : ℕ) (reply : ReplyParts) → (at : StandsAt stream s.streams place) → reply ≡ plan_reply stream at.state.scan.plan → IsEvent s (ShowPlan stream) (reply ∷ []) s
+shown_plan s stream place reply at told =
+    let P : ReplyParts → Type 0 = λ r. IsEvent s (ShowPlan stream) (r ∷ []) s in
+    subst P (sym told) record {
+      met = None;
+      step = step_accepted by_tails (parts_of s) (ShowPlan stream) (shown (parts_of s) stream at.state.scan.plan) (a_stream s stream place (λ state. None) at) (at.state, lookup_at stream s.streams place at, refl);
+      store = refl;
+    }
+
+-- a Feed
+pub fed_stream : (s : Serving) (stream place : ℕ) (piece : List ℕ) (hits : List (ℕ × ℕ)) (blocks : List (List (ℕ × ℕ))) (next : ℕ × Bound) (new : Serving) → (at : StandsAt stream s.streams place) → MovesTo (stream, at.state) piece [] hits next → AreBlocks MAX_HITS hits blocks → new ≡ record s { streams = set s.streams place next } → IsEvent s (Feed stream piece) (fed_replies stream blocks next.1.scan.place) new
+fed_stream s stream place piece hits blocks next new at moves cut after =
+    let old = at.state in
+    let state : next.1 ≡ record old { scan = fed old.scan piece } = ap (λ (n : ℕ × Bound). n.1) moves.state in
+    let number : next.0 ≡ stream = ap (λ (n : ℕ × Bound). n.0) moves.state in
+    let reached : next.1.scan.place ≡ old.scan.place + length piece = ap (λ (b : Bound). b.scan.place) state in
+    let fits = moves.fits in
+    let room : nat_le (2 ^ 64) (old.scan.place + length piece) ≡ false = grind (arith, nat_tests) in
+    let none : refusal_of by_tails (parts_of s) (Feed stream piece) ≡ None =
+    a_stream s stream place (λ state. if nat_le (2 ^ 64) (state.scan.place + length piece) then Some StreamTooLong else None) at
+    ∙ ap (λ b. if b then Some StreamTooLong else None) room in
+    let added : AreAdded old.scan.plan.literals old.scan.tail piece old.scan.place hits =
+    subst (AreAdded old.scan.plan.literals old.scan.tail piece old.scan.place) (sym moves.hits.grown) moves.hits.added in
+    let streams : set s.streams place next ≡ set_value (nat_eq stream) s.streams next.1 =
+    ap (λ n. set s.streams place (n, next.1)) number ∙ set_at stream s.streams place next.1 at in
+    let parts : parts_of new ≡ (moved (parts_of s) stream blocks (old.scan.place + length piece) next.1).after =
+    ap parts_of after ∙ ap (λ streams. record { told = map entry_of s.told; streams = streams }) streams in
+    let outcome : Outcome Bound = record { replies = fed_replies stream blocks next.1.scan.place; met = None; after = parts_of new } in
+    let is : outcome ≡ moved (parts_of s) stream blocks (old.scan.place + length piece) next.1 =
+    λ i. record { replies = fed_replies stream blocks (reached i); met = None; after = parts i } in
+    record {
+      met = None;
+      step = step_accepted by_tails (parts_of s) (Feed stream piece) outcome none
+          (old, lookup_at stream s.streams place at, record { hits = hits; blocks = blocks; next = next.1; moves = (state, added); cut = cut; is = is });
+      store = ap (λ (n : Serving). n.store) after;
+    }
+
+-- a Feed of a stream that would be too long
+pub fed_too_long : (s : Serving) (stream place : ℕ) (piece : List ℕ) → (at : StandsAt stream s.streams place) → 2 ^ 64 ≤ at.state.scan.place + length piece → refusal_of by_tails (parts_of s) (Feed stream piece) ≡ Some StreamTooLong
+fed_too_long s stream place piece at long =
+    let over : nat_le (2 ^ 64) (at.state.scan.place + length piece) ≡ true = grind (arith, nat_tests) in
+    a_stream s stream place (λ state. if nat_le (2 ^ 64) (state.scan.place + length piece) then Some StreamTooLong else None) at
+    ∙ ap (λ b. if b then Some StreamTooLong else None) over
+
+-- an Open of an open stream
+pub opened_twice : (s : Serving) (stream number place : ℕ) → StandsAt stream s.streams place → refusal_of by_tails (parts_of s) (Open stream number) ≡ Some StreamInUse
+opened_twice s stream number place at =
+    ap (λ o. if is_some o then Some StreamInUse else if nat_le MAX_STREAMS (length s.streams) then Some StreamQuota else None) (lookup_at stream s.streams place at)
+
+-- an Open beside too many streams
+pub opened_many : (s : Serving) (stream number : ℕ) → lookup (nat_eq stream) s.streams ≡ None → MAX_STREAMS ≤ length s.streams → refusal_of by_tails (parts_of s) (Open stream number) ≡ Some StreamQuota
+opened_many s stream number none many =
+    let full : nat_le MAX_STREAMS (length s.streams) ≡ true = grind (arith, nat_tests) in
+    ap (λ o. if is_some o then Some StreamInUse else if nat_le MAX_STREAMS (length s.streams) then Some StreamQuota else None) none
+    ∙ ap (λ b. if b then Some StreamQuota else None) full
+
+-- an Open that meets no refusal by itself
+pub opened_free : (s : Serving) (stream number : ℕ) → lookup (nat_eq stream) s.streams ≡ None → length s.streams < MAX_STREAMS → refusal_of by_tails (parts_of s) (Open stream number) ≡ None
+opened_free s stream number none few =
+    let room : nat_le MAX_STREAMS (length s.streams) ≡ false = grind (arith, nat_tests) in
+    ap (λ o. if is_some o then Some StreamInUse else if nat_le MAX_STREAMS (length s.streams) then Some StreamQuota else None) none
+    ∙ ap (λ b. if b then Some StreamQuota else None) room
+
+-- an Open that finds an entry
+pub opened_stream : (s : Serving) (stream number : ℕ) (ticket : Told) (reply : ReplyParts) (new : Serving) → refusal_of by_tails (parts_of s) (Open stream number) ≡ None → IsSound ticket.plan → ticket.number ≡ number → reply ≡ Opened stream → new ≡ record s { streams = s.streams ++ (stream, record { ticket = ticket; scan = started ticket.plan 0 }) ∷ [] } → IsEvent s (Open stream number) (reply ∷ []) new
+opened_stream s stream number ticket reply new none sound asked told after =
+    let state : Bound = record { ticket = ticket; scan = started ticket.plan 0 } in
+    let outcome : Outcome Bound = record { replies = reply ∷ []; met = Some (entry_of ticket); after = parts_of new } in
+    let is : outcome ≡ opened (parts_of s) stream (entry_of ticket) state =
+    λ i. record { replies = told i ∷ []; met = Some (entry_of ticket); after = parts_of (after i) } in
+    record {
+      met = Some (entry_of ticket);
+      step = step_accepted by_tails (parts_of s) (Open stream number) outcome none
+          (inl record { entry = entry_of ticket; state = state; asked = asked; sound = sound; begins = (refl, refl); is = is });
+      store = ap (λ (n : Serving). n.store) after;
+    }
+
+-- the numbers of the entries are those of the tickets
+numbers_told : (tickets : List Told) → map (λ (entry : Entry). entry.number) (map entry_of tickets) ≡ map (λ (ticket : Told). ticket.number) tickets
+numbers_told [] = refl
+numbers_told (ticket ∷ tickets) = ap (λ ns. ticket.number ∷ ns) (numbers_told tickets)
+
+-- an Open that finds none
+pub opened_none : (s : Serving) (stream number : ℕ) (reply : ReplyParts) → refusal_of by_tails (parts_of s) (Open stream number) ≡ None → ¬ Contains (map (λ (ticket : Told). ticket.number) s.told) number → reply ≡ refused_reply stream NoSuchPlan → IsEvent s (Open stream number) (reply ∷ []) s
+opened_none s stream number reply none stranger told =
+    let P : ReplyParts → Type 0 = λ r. IsEvent s (Open stream number) (r ∷ []) s in
+    subst P (sym told) record {
+      met = None;
+      step = step_accepted by_tails (parts_of s) (Open stream number) (refused (parts_of s) (Open stream number) NoSuchPlan) none
+          (inr record { stranger = subst (λ ns. ¬ Contains ns number) (sym (numbers_told s.told)) stranger; is = refl });
+      store = refl;
+    }

@@ -1,0 +1,60 @@
+use Rattle.std.proofs.Common.{◌≡◌, ℕ, ◌<◌, ◌++◌, ◌∷◌, [], List, length, map, None, Contains, refl, sym, ap, ◌∙◌, subst, arith}
+use Rattle.std.specs.Prelude.{is_some, nat_eq}
+use Rattle.std.specs.Map.{lookup}
+use Rattle.std.proofs.lemmas.List.Elements.{All-push}
+use Rattle.plan_store.specs.Tickets.{IsOf, Told}
+use Rattle.flow_scan.specs.Scanners.{started}
+use Rattle.scan_wire.specs.Messages.{Open, Opened, reply_parts}
+use Rattle.scan_core.specs.declared.limits.TheConstants.{MAX_STREAMS}
+use Rattle.scan_core.specs.declared.refusal.Refusal.TheVariants.{StreamInUse}
+use Rattle.scan_core.specs.Sessions.{Bound, IsBound, IsEvent, Serving}
+use Rattle.scan_core.specs.Streams.{StandsAt}
+use Rattle.scan_core.proofs.ServingLemmas.{found, found_none}
+use Rattle.scan_core.proofs.StepLemmas.{event_refused, opened_free, opened_none, opened_stream, opened_twice}
+use Rattle.scan_core.proofs.session.Session.open.Goals as goal
+
+pub returns-then-is_some-clause-ok : goal.returns-then-is_some-clause-ok
+returns-then-is_some-clause-ok c =
+    let request = Open c.args.stream c.args.number in
+    let reply = reply_parts c.reply.result in
+    let s : Serving = record { store = c.self.inside.store.now; told = c.self.inside.told; streams = c.self.inside.streams } in
+    let at = found c.find_stream.result (lookup (nat_eq c.args.stream) s.streams ≡ None) (StandsAt c.args.stream s.streams) c.find_stream.ensures (sym c.is_some.ensures ∙ c.if-is_some.true) in
+    subst (λ (t : Serving). IsEvent t request (reply ∷ []) t) c.self.view_is
+    (event_refused s request StreamInUse reply (opened_twice s c.args.stream c.args.number at.0 at.1) c.reply.ensures)
+
+pub returns-in_default-clause-ok : goal.returns-in_default-clause-ok
+returns-in_default-clause-ok c =
+    let request = Open c.args.stream c.args.number in
+    let reply = reply_parts c.reply-in_default.result in
+    let s : Serving = record { store = c.self.inside.store.now; told = c.self.inside.told; streams = c.self.inside.streams } in
+    let free = found_none c.find_stream.result (lookup (nat_eq c.args.stream) s.streams ≡ None) (StandsAt c.args.stream s.streams) c.find_stream.ensures (sym c.is_some.ensures ∙ c.if-is_some.false) in
+    let few : length s.streams < MAX_STREAMS = omega (arith, c.len.ensures.len, c.if-len-ge-MAX_STREAMS.false) in
+    let stranger : ¬ Contains (map (λ (ticket : Told). ticket.number) s.told) c.args.number =
+    subst (λ (t : Serving). ¬ Contains (map (λ (ticket : Told). ticket.number) t.told) c.args.number) (sym c.self.view_is) c.in_default.ensures.stranger in
+    subst (λ (t : Serving). IsEvent t request (reply ∷ []) t) c.self.view_is
+    (opened_none s c.args.stream c.args.number reply (opened_free s c.args.stream c.args.number free few) stranger c.reply-in_default.ensures)
+
+pub invariant_of-self-2 : goal.invariant_of-self-2
+invariant_of-self-2 c =
+    let store = c.self.inside.store.now in
+    let ticket = c.in-Some.ticket in
+    let Here : ℕ × Bound → Type 0 = λ stream. IsBound store stream.1 in
+    let here : IsOf store ticket = subst (λ (t : Serving). IsOf t.store ticket) (sym c.self.view_is) c.in-Some.ensures.here in
+    let bound : Here (c.args.stream, record { ticket = ticket; scan = started ticket.plan 0 }) = record { here = here; plan = refl } in
+    record {
+      told = c.self.invariant.told;
+      streams = rw c.push.ensures (All-push Here c.self.inside.streams c.in_ok-open.field-0 c.self.invariant.streams (subst Here (sym c.in_ok-open.ensures.ok) bound));
+    }
+
+pub returns-clause-ok : goal.returns-clause-ok
+returns-clause-ok c =
+    let request = Open c.args.stream c.args.number in
+    let s : Serving = record { store = c.self.inside.store.now; told = c.self.inside.told; streams = c.self.inside.streams } in
+    let new : Serving = record s { streams = c.push.new.self } in
+    let free = found_none c.find_stream.result (lookup (nat_eq c.args.stream) s.streams ≡ None) (StandsAt c.args.stream s.streams) c.find_stream.ensures (sym c.is_some.ensures ∙ c.if-is_some.false) in
+    let few : length s.streams < MAX_STREAMS = omega (arith, c.len.ensures.len, c.if-len-ge-MAX_STREAMS.false) in
+    let grown : c.push.new.self ≡ s.streams ++ (c.args.stream, record { ticket = c.in-Some.ticket; scan = started c.in-Some.ticket.plan 0 }) ∷ [] =
+    c.push.ensures ∙ ap (λ (item : ℕ × Bound). s.streams ++ item ∷ []) c.in_ok-open.ensures.ok in
+    subst (λ (t : Serving). IsEvent t request (Opened c.args.stream ∷ []) new) c.self.view_is
+    (opened_stream s c.args.stream c.args.number c.in-Some.ticket (Opened c.args.stream) new (opened_free s c.args.stream c.args.number free few)
+    c.in_ok-open.ensures.sound c.in-Some.ensures.number refl (ap (λ (streams : List (ℕ × Bound)). record s { streams = streams }) grown))

@@ -1,0 +1,7 @@
+-- Long lists told in blocks.
+use Rattle.std.specs.Prelude.{◌≡◌, ◌≢◌, ℕ, List, [], ◌∷◌, take, drop}
+
+-- the blocks of a list: each has as many elements as a block may have, but the last, and none is empty
+abbrev pub AreBlocks : {X : Type 0} → ℕ → List X → List (List X) → Type 0
+AreBlocks most xs [] = xs ≡ []
+AreBlocks most xs (block ∷ blocks) = (xs ≢ []) × (block ≡ take most xs) × AreBlocks most (drop most xs) blocks

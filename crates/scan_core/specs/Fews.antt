@@ -1,0 +1,7 @@
+-- The elements of a list of optional ones.
+use Rattle.std.specs.Prelude.{List, [], ◌∷◌, Option, Some, None}
+
+abbrev pub somes : {T : Type 0} → List (Option T) → List T
+somes [] = []
+somes (None ∷ items) = somes items
+somes (Some item ∷ items) = item ∷ somes items

@@ -1,0 +1,9 @@
+pub mod Blocks
+pub mod Refusals
+pub mod Steps
+pub mod Worlds
+pub mod Sessions
+pub mod Fews
+pub mod Streams
+pub mod Answers
+pub mod Publishing

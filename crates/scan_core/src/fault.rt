@@ -1,0 +1,29 @@
+//! Why a request is given up.
+ghost use Rattle.std.specs.Prelude.{◌≡◌};
+ghost use Rattle.scan_core.specs.declared.fault.Fault.TheVariants.{OutOfMemory};
+
+use std::alloc::{AllocError, AllocFailed};
+use thiserror::Error;
+
+/// Why a request is given up.
+#[derive(Clone, Copy, Debug, PartialEq, Eq, Error)]
+pub enum Fault {
+    #[error("out of memory")]
+    OutOfMemory,
+}
+
+impl From<AllocError> for Fault {
+    ghost from_gives = { λ _ e. e ≡ OutOfMemory };
+
+    fn from(_e: AllocError) -> Fault {
+        Fault::OutOfMemory
+    }
+}
+
+impl<T: Drop> From<AllocFailed<T>> for Fault {
+    ghost from_gives = { λ _ e. e ≡ OutOfMemory };
+
+    fn from(_e: AllocFailed<T>) -> Fault {
+        Fault::OutOfMemory
+    }
+}

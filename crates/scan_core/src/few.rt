@@ -1,0 +1,85 @@
+//! Short lists that take no memory.
+ghost use Rattle.std.specs.Prelude.{◌≡◌, ◌<◌, ◌≤◌, [], ◌∷◌, ◌++◌, length, remove, slice_index_or, slice_set};
+
+use arrayvec::ArrayVec;
+use std::marker::Model;
+
+/// Elements that a short list has room for.
+pub(crate) const ROOM: usize = 64;
+
+/// A list of at most `ROOM` elements, in place.
+#[derive(Drop)]
+pub(crate) struct Few<T> {
+    items: ArrayVec<Option<T>, ROOM>,
+}
+
+/// A contract sees the list.
+impl<T> Model for Few<T> {
+    ghost use Rattle.std.specs.Prelude.{◌≡◌, List, map, Some};
+    ghost use Rattle.std.specs.Coded.{coded_list};
+    ghost use Rattle.scan_core.specs.Fews.{somes};
+
+    ghost Value = { List T };
+
+    ghost coded = { coded_list T.code };
+
+    ghost view = { λ f. somes f.items.items };
+
+    ghost invariant = { λ f. f.items.items ≡ map Some (somes f.items.items) };
+}
+
+impl<T> Few<T> {
+    /// A list of no elements.
+    pub(crate) fn new() -> Few<T>
+        ensures { result ≡ [] }
+    {
+        Few {
+            items: ArrayVec::new(),
+        }
+    }
+
+    /// How many elements there are.
+    pub(crate) fn len(&self) -> usize
+        ensures len { result ≡ length self.now }
+        ensures few { result ≤ ROOM }
+    {
+        self.items.len()
+    }
+
+    /// The element at a place.
+    pub(crate) fn get(&self, place: usize) -> &T
+        requires { place < length self.now }
+        ensures { result.now ≡ slice_index_or self.now place result.now }
+    {
+        match &self.items[place] {
+            Some(item) => item,
+            None => unreachable!(),
+        }
+    }
+}
+
+impl<T: Drop> Few<T> {
+    /// Adds an element at the end.
+    pub(crate) fn push(&mut self, item: T)
+        requires { length self.old < ROOM }
+        ensures { self.new ≡ self.old ++ item ∷ [] }
+    {
+        self.items.push(Some(item));
+    }
+
+    /// Puts an element in the place of another.
+    pub(crate) fn set(&mut self, place: usize, item: T)
+        requires { place < length self.old }
+        ensures { self.new ≡ slice_set self.old place item }
+    {
+        self.items[place] = Some(item);
+    }
+
+    /// Takes the element at a place out.
+    pub(crate) fn remove(&mut self, place: usize)
+        requires { place < length self.old }
+        ensures { self.new ≡ remove self.old place }
+    {
+        self.items.remove(place);
+    }
+}

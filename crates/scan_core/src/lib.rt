@@ -1,0 +1,20 @@
+//! A session of the scan server: requests in, replies out, one event at a time over a store of plans
+//! that all sessions share.
+#![tactic(auto)]
+
+mod answering;
+mod fault;
+mod few;
+mod limits;
+mod publishing;
+mod refusal;
+mod session;
+mod stream;
+mod tickets;
+mod world;
+
+pub use fault::Fault;
+pub use limits::{MAX_PLANS, MAX_STREAMS};
+pub use refusal::Refusal;
+pub use session::Session;
+pub use world::world_law;

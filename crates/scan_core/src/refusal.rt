@@ -1,0 +1,124 @@
+//! Why a request is refused.
+ghost use Rattle.std.specs.Prelude.{◌≡◌, ◌<◌, ◌^◌, length};
+ghost use Rattle.scan_wire.specs.Messages.{reply_parts, texts_of};
+ghost use Rattle.scan_core.specs.Refusals.{code_of, detail_of, first_refusal, literal_refusal, raw_refusal};
+ghost use Rattle.scan_core.specs.Steps.{refused_reply};
+
+use crate::limits::MAX_PLANS;
+use lit_base::{MAX_LITERAL_LEN, MAX_PATTERNS};
+use scan_wire::Reply;
+
+/// Why a request is refused. The reply tells the code and the detail, and nothing changes.
+#[derive(Clone, Copy, Debug, PartialEq, Eq)]
+pub enum Refusal {
+    /// A Publish of more literals than `MAX_PATTERNS`.
+    TooManyPatterns,
+    /// A literal longer than `MAX_LITERAL_LEN`, at this place of a Publish.
+    LiteralTooLong { place: u16 },
+    /// A literal without bytes, at this place of a Publish.
+    EmptyLiteral { place: u16 },
+    /// A Publish of no literal.
+    NoLiterals,
+    /// More literals in the normal form than a plan may have.
+    TooManyLiterals,
+    /// An Open of an open stream.
+    StreamInUse,
+    /// A request of a stream that is not open.
+    NoSuchStream,
+    /// An Open of a number under which no plan was found.
+    NoSuchPlan,
+    /// A Publish behind `MAX_PLANS` of this session.
+    PlanQuota,
+    /// An Open beside `MAX_STREAMS` streams of this session.
+    StreamQuota,
+    /// A Feed by which the stream's place would pass 2^64 - 1.
+    StreamTooLong,
+}
+
+impl Refusal {
+    /// The number of the refusal, the same in every crate.
+    pub fn code(self) -> u8
+        ensures { result ≡ code_of self }
+    {
+        match self {
+            Refusal::TooManyPatterns => 2,
+            Refusal::LiteralTooLong { .. } => 3,
+            Refusal::EmptyLiteral { .. } => 4,
+            Refusal::NoLiterals => 5,
+            Refusal::TooManyLiterals => 6,
+            Refusal::StreamInUse => 12,
+            Refusal::NoSuchStream => 13,
+            Refusal::NoSuchPlan => 14,
+            Refusal::PlanQuota => 15,
+            Refusal::StreamQuota => 16,
+            Refusal::StreamTooLong => 20,
+        }
+    }
+
+    /// The place of the literal that is refused by itself, and else 0.
+    pub fn detail(self) -> u16
+        ensures { result ≡ detail_of self }
+    {
+        match self {
+            Refusal::LiteralTooLong { place } | Refusal::EmptyLiteral { place } => place,
+            _ => 0,
+        }
+    }
+
+    /// The reply to a request of the stream. A Publish has stream 0.
+    pub(crate) fn reply(self, stream: u32) -> Reply
+        ensures { reply_parts result ≡ refused_reply stream self }
+    {
+        Reply::Refused {
+            stream,
+            code: self.code(),
+            detail: self.detail(),
+        }
+    }
+}
+
+/// Why literals are refused before their normal form is made, in a session that was told so many
+/// plans.
+pub(crate) fn refusal_of_literals(told: usize, literals: &[Vec<u8>]) -> Option<Refusal>
+    ensures { result ≡ raw_refusal told (texts_of literals.now) }
+{
+    if told >= MAX_PLANS {
+        return Some(Refusal::PlanQuota);
+    }
+    if literals.is_empty() {
+        return Some(Refusal::NoLiterals);
+    }
+    if literals.len() > MAX_PATTERNS {
+        return Some(Refusal::TooManyPatterns);
+    }
+    first_refused(literals)
+}
+
+/// Why the first literal is refused that is refused by itself.
+fn first_refused(literals: &[Vec<u8>]) -> Option<Refusal>
+    requires { length literals.now < 2 ^ 16 }
+    ensures { result ≡ first_refusal 0 (texts_of literals.now) }
+{
+    let mut place = 0;
+    for literal in literals {
+        let refusal = refusal_of_literal(place, literal);
+        if refusal.is_some() {
+            return refusal;
+        }
+        place += 1;
+    }
+    None
+}
+
+/// Why a literal at a place is refused by itself.
+fn refusal_of_literal(place: u16, literal: &[u8]) -> Option<Refusal>
+    ensures { result ≡ literal_refusal place literal.now }
+{
+    if literal.is_empty() {
+        return Some(Refusal::EmptyLiteral { place });
+    }
+    if literal.len() > MAX_LITERAL_LEN {
+        return Some(Refusal::LiteralTooLong { place });
+    }
+    None
+}

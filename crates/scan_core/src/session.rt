@@ -1,0 +1,209 @@
+//! A session: what one client has published and opened, and how it is answered.
+ghost use Rattle.std.specs.Prelude.{◌≡◌, ◌∷◌, [], IfNone, IfOk, IfSome, IsOkUnless, OnErr, OnOk, Contains, map};
+ghost use Rattle.plan_store.specs.Tickets.{IsOf};
+ghost use Rattle.scan_wire.specs.Messages.{Close, Feed, Open, Publish, ShowPlan, reply_parts, request_parts, texts_of};
+ghost use Rattle.scan_core.specs.Sessions.{GainsEvent, IsEvent};
+ghost use Rattle.scan_core.specs.declared.fault.Fault.TheVariants.{OutOfMemory};
+
+use crate::answering::push_answer;
+use crate::fault::Fault;
+use crate::few::Few;
+use crate::limits::MAX_STREAMS;
+use crate::publishing::planned;
+use crate::refusal::{Refusal, refusal_of_literals};
+use crate::stream::{Stream, find_stream};
+use crate::tickets::find_told;
+use lit_base::Fold;
+use plan_store::{PlanStore, Ticket};
+use scan_wire::{Reply, Request};
+use std::alloc::Global;
+use std::marker::Model;
+use std::sync::Wait;
+
+/// What one client has published and opened. All sessions of a store see its plans.
+#[derive(Drop)]
+pub struct Session<'s> {
+    store: &'s PlanStore,
+    told: Few<Ticket>,
+    streams: Few<Stream<'s>>,
+}
+
+/// A contract sees the store, the tickets told and the open streams.
+impl<'s> Model for Session<'s> {
+    ghost use Rattle.scan_core.specs.Sessions.{IsServing, Serving};
+
+    ghost Value = { Serving };
+
+    ghost view = { λ s. record { store = s.store.now; told = s.told; streams = s.streams } };
+
+    ghost invariant = { λ s. IsServing record { store = s.store.now; told = s.told; streams = s.streams } };
+}
+
+impl<'s> Session<'s> {
+    /// A session that was told nothing and has no open stream. It takes no memory.
+    pub fn new(store: &'s PlanStore) -> Session<'s>
+        ensures { result ≡ record { store = store.entry.now; told = []; streams = [] } }
+    {
+        Session {
+            store,
+            told: Few::new(),
+            streams: Few::new(),
+        }
+    }
+
+    /// Answers one request: `out` gains its replies. A Publish stores the plan of its literals, an Open
+    /// binds a stream to the plan of a number, a Feed tells the hits of a piece in blocks that are full
+    /// but for the last, and the place, a Close forgets a stream, and a ShowPlan tells its plan. What is
+    /// refused gets one Refused reply, and changes nothing.
+    ///
+    /// Only a Publish may wait for another thread. The only fault is `OutOfMemory`: session and `out` are
+    /// then as they were, and the request is given up. It comes also where the literals of a Publish have
+    /// more bytes together than a list may have, as those of no frame have.
+    pub fn handle(
+        &mut self,
+        rt: &impl Wait,
+        alloc: Global,
+        request: Request,
+        out: &mut Vec<Reply>,
+    ) -> Result<(), Fault>
+        ensures ok { OnOk result (GainsEvent self.old (request_parts request) out.old.items out.new.items self.new) }
+        ensures same { OnErr result (self.new ≡ self.old) }
+        ensures same_replies { OnErr result (out.new.items ≡ out.old.items) }
+        ensures fault { IsOkUnless result OutOfMemory }
+    {
+        match request {
+            Request::Publish { fold, literals } => {
+                out.reserve(1)?;
+                let reply = self.publish(rt, alloc, fold, &literals)?;
+                out.push_reserved(reply);
+                Ok(())
+            }
+            Request::Open { stream, number } => {
+                out.reserve(1)?;
+                let reply = self.open(alloc, stream, number)?;
+                out.push_reserved(reply);
+                Ok(())
+            }
+            Request::Feed { stream, bytes } => self.feed(alloc, stream, &bytes, out),
+            Request::Close { stream } => {
+                out.reserve(1)?;
+                out.push_reserved(self.close(stream));
+                Ok(())
+            }
+            Request::ShowPlan { stream } => {
+                let reply = self.show_plan(stream)?;
+                out.push(reply)?;
+                Ok(())
+            }
+        }
+    }
+
+    /// The reply to a Publish, whose plan is stored. Behind the one step that shows it to all sessions
+    /// nothing can fail.
+    fn publish(
+        &mut self,
+        rt: &impl Wait,
+        alloc: Global,
+        fold: Fold,
+        literals: &[Vec<u8>],
+    ) -> Result<Reply, Fault>
+        ensures ok { IfOk result (λ reply. IsEvent self.old (Publish fold (texts_of literals.now)) (reply_parts reply ∷ []) self.new) }
+        ensures same { OnErr result (self.new ≡ self.old) }
+        ensures fault { IsOkUnless result OutOfMemory }
+    {
+        if let Some(refusal) = refusal_of_literals(self.told.len(), literals) {
+            return Ok(refusal.reply(0));
+        }
+        let Some(plan) = planned(alloc, fold, literals)? else {
+            return Ok(Refusal::TooManyLiterals.reply(0));
+        };
+        let Ok(ticket) = self.store.publish(rt, plan) else {
+            return Err(Fault::OutOfMemory);
+        };
+        let number = self.store.number(&ticket);
+        self.told.push(ticket);
+        Ok(Reply::Published { number })
+    }
+
+    /// The reply to an Open, which binds the stream to the plan of the number.
+    fn open(&mut self, alloc: Global, stream: u32, number: u64) -> Result<Reply, Fault>
+        ensures ok { IfOk result (λ reply. IsEvent self.old (Open stream number) (reply_parts reply ∷ []) self.new) }
+        ensures same { OnErr result (self.new ≡ self.old) }
+        ensures fault { IsOkUnless result OutOfMemory }
+    {
+        if find_stream(&self.streams, stream).is_some() {
+            return Ok(Refusal::StreamInUse.reply(stream));
+        }
+        if self.streams.len() >= MAX_STREAMS {
+            return Ok(Refusal::StreamQuota.reply(stream));
+        }
+        let Some(ticket) = self.ticket_of(number) else {
+            return Ok(Refusal::NoSuchPlan.reply(stream));
+        };
+        self.streams
+            .push(Stream::open(alloc, self.store, stream, ticket)?);
+        Ok(Reply::Opened { stream })
+    }
+
+    /// A ticket of a number: one that this session was told, or else one of another session.
+    fn ticket_of(&self, number: u64) -> Option<Ticket>
+        ensures here { IfSome result (λ ticket. IsOf self.now.store ticket) }
+        ensures number { IfSome result (λ ticket. ticket.number ≡ number) }
+        ensures stranger { IfNone result (¬ Contains (map (λ ticket. ticket.number) self.now.told) number) }
+    {
+        let told = find_told(self.store, &self.told, number);
+        if told.is_some() {
+            return told;
+        }
+        self.store.find(number)
+    }
+
+    /// Answers a Feed: `out` gains the hits of the piece in blocks, and the place.
+    fn feed(
+        &mut self,
+        alloc: Global,
+        stream: u32,
+        piece: &[u8],
+        out: &mut Vec<Reply>,
+    ) -> Result<(), Fault>
+        ensures ok { OnOk result (GainsEvent self.old (Feed stream piece.now) out.old.items out.new.items self.new) }
+        ensures same { OnErr result (self.new ≡ self.old) }
+        ensures same_replies { OnErr result (out.new.items ≡ out.old.items) }
+        ensures fault { IsOkUnless result OutOfMemory }
+    {
+        let Some(place) = find_stream(&self.streams, stream) else {
+            out.push(Refusal::NoSuchStream.reply(stream))?;
+            return Ok(());
+        };
+        let mut hits = Vec::new(alloc);
+        let Some(next) = self.streams.get(place).fed(piece, &mut hits)? else {
+            out.push(Refusal::StreamTooLong.reply(stream))?;
+            return Ok(());
+        };
+        push_answer(stream, &hits, next.place(), out)?;
+        self.streams.set(place, next);
+        Ok(())
+    }
+
+    /// The reply to a Close, which forgets the stream.
+    fn close(&mut self, stream: u32) -> Reply
+        ensures { IsEvent self.old (Close stream) (reply_parts result ∷ []) self.new }
+    {
+        let Some(place) = find_stream(&self.streams, stream) else {
+            return Refusal::NoSuchStream.reply(stream);
+        };
+        self.streams.remove(place);
+        Reply::Closed { stream }
+    }
+
+    /// The reply to a ShowPlan.
+    fn show_plan(&self, stream: u32) -> Result<Reply, Fault>
+        ensures ok { IfOk result (λ reply. IsEvent self.now (ShowPlan stream) (reply_parts reply ∷ []) self.now) }
+        ensures fault { IsOkUnless result OutOfMemory }
+    {
+        let Some(place) = find_stream(&self.streams, stream) else {
+            return Ok(Refusal::NoSuchStream.reply(stream));
+        };
+        self.streams.get(place).plan_reply()
+    }
+}

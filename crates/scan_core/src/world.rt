@@ -1,0 +1,10 @@
+//! What holds of all sessions of a store together.
+ghost use Rattle.scan_core.specs.Worlds.{WorldLaw};
+
+/// The law of all runs of any number of sessions over one set of entries: a number has one plan
+/// throughout, an entry stays, and the replies to an accepted Feed are, but for the stream's number
+/// that they carry, a function of two things alone: the plan under the number in the last accepted
+/// Open of that session and stream, and the pieces of its accepted Feeds since.
+pub fn world_law()
+    ensures { WorldLaw }
+{}
