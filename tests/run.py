@@ -174,6 +174,18 @@ PLANS = [
     ({}, ["plan", "--help"], b"", b"", b"Prints the certificate...", 2),
 ]
 
+# Certificates of the three literals with other numbers, and what the check says.
+CHECKS = [
+    (THREE.replace(b"2 1036", b"2 1037"), b"not certified: step 2 0 2\n"),
+    (THREE.replace(b"2 1036", b"2 1560"), b"not certified: end row 2 0\n"),
+    (THREE.replace(b"4 934 583 232", b"4 934 583 18446744073709551615"), b"not certified: end row 4 2\n"),
+    (THREE.replace(b"1 1559", b"1 0"), b"optimal 934\n"),
+    (plain_plan.spelled(([1, 2, 3], 934, [[0] * 3] * 8)), b"not certified: total\n"),
+    (plain_plan.spelled(([1, 1, 3], 934, [[0] * 3] * 8)), b"not certified: ends\n"),
+    (plain_plan.spelled(([1, 2, 4], 934, [[0] * 3] * 8)), b"not certified: ends\n"),
+    (plain_plan.spelled(([2, 3, 3], 934, [[0] * 3] * 8)), b"not certified: ends\n"),
+]
+
 
 def run(words, stdin=b"", **how):
     """Runs a program, litgrep unless another is named; answers its status, output and messages."""
@@ -340,6 +352,9 @@ def plans():
     for files, words, stdin, stdout, stderr, status in PLANS:
         got = started(run_in_folder(files, words, stdin, program=LITPLAN), stderr)
         yield f"litplan {words!r:.40} on {stdin!r:.20}", got, (status, stdout, stderr)
+    for text, said in CHECKS:
+        got = run_in_folder({"c": text}, ["check", "-", "c"], b"cat\ndog\nhorse", program=LITPLAN)
+        yield f"a check of {text!r:.200}", got, (int(said != b"optimal 934\n"), said, b"")
     with open("/dev/full", "wb") as full:
         got = run(["plan", "-"], b"cat\n", program=LITPLAN, stdout=full)
         yield "litplan on a full device", got, (2, None, REFUSED % 18)

@@ -1,4 +1,4 @@
-//! Texts of certificates read and written, bad lines, and devices that fail.
+//! Texts of certificates read and written, bad lines, and reads that fail.
 use super::*;
 use crate::write_cert;
 use arrayvec::ArrayVec;
@@ -229,27 +229,4 @@ fn tells_each_refused_read(rt: HostRuntime) {
     for call in 0..9 {
         assert!(rt; is_refusal_told(rt.alloc(), call), "at call {call}");
     }
-}
-
-/// Whether the writer of the certificate for three literals, by 50 bytes, answers a refusal of this
-/// call and has written what came before, or has written all where it makes fewer calls.
-fn is_written_up_to(alloc: Global, call: usize) -> Result<bool, Fault> {
-    let certificate = read_cert(alloc, &mut CutIn::whole(TEXT))?;
-    let mut room = [0; 300];
-    let mut out = CutOut::failing_at(&mut room, call as u64).with_step(50);
-    let answer = write_cert(alloc, &certificate, &mut out);
-    let (wanted, len) = if call < TEXT.len().div_ceil(50) {
-        (Err(Fault::WriteFault), 50 * call)
-    } else {
-        (Ok(()), TEXT.len())
-    };
-    Ok(answer == wanted && TEXT.get(..len) == Some(out.written()))
-}
-
-#[test]
-fn tells_each_refused_write(rt: HostRuntime) -> Result<(), Fail> {
-    for call in 0..TEXT.len().div_ceil(50) + 2 {
-        assert!(rt; is_written_up_to(rt.alloc(), call)?, "at call {call}");
-    }
-    Ok(())
 }
