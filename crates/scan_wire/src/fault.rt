@@ -1,3 +1,4 @@
+//! What is wrong with a frame, and when a growth was refused.
 ghost use Rattle.std.specs.Prelude.{◌≡◌};
 ghost use Rattle.scan_wire.specs.Faults.{cause_number, number_of};
 

@@ -1,3 +1,4 @@
+//! Frames byte by byte.
 ghost use Rattle.std.specs.Prelude.{IfOk};
 ghost use Rattle.scan_wire.specs.Frames.{FitsReply};
 ghost use Rattle.scan_wire.specs.Messages.{reply_parts};

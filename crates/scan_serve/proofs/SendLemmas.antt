@@ -1,0 +1,70 @@
+-- Bytes that wait to be written, in more than one step.
+use Rattle.std.proofs.Common.{◌≡◌, ℕ, List, [], ◌++◌, Option, Result, Ok, Err, OnErr, refl, sym, ap, subst, ◌∙◌, append_assoc, take, drop}
+use Rattle.std.proofs.lemmas.List.{append-nil, take-append-drop}
+use Rattle.std.specs.Io.KnownBytes.{Appends}
+use Rattle.std.proofs.KnownBytes.{Appends-nil, Appends-trans}
+use Rattle.byte_io.specs.Transfers.{AppendsPrefix}
+use Rattle.scan_serve.specs.Sending.{Sends, SendsFront}
+
+-- a text waits, and nothing is written
+pub sends_added : (v : Option (List ℕ)) (a text b : List ℕ) → b ≡ a ++ text → Sends v v a b text
+sends_added v a text b is = record { done = []; written = Appends-nil v; text_is = sym is }
+
+-- nothing happens
+pub sends_none : (v : Option (List ℕ)) (a : List ℕ) → Sends v v a a []
+sends_none v a = sends_added v a [] a (sym (append-nil a))
+
+-- all that waits is written
+pub sends_flushed : (v w : Option (List ℕ)) (a b : List ℕ) → Appends v w a → b ≡ [] → Sends v w a b []
+sends_flushed v w a b written none = record { done = a; written = written; text_is = ap (λ (x : List ℕ). a ++ x) (sym none) }
+
+-- one after the other
+pub sends_then : (u v w : Option (List ℕ)) (a b c x y : List ℕ) → Sends u v a b x → Sends v w b c y → Sends u w a c (x ++ y)
+sends_then u v w a b c x y p q = record {
+  done = p.done ++ q.done;
+  written = Appends-trans u v w p.done q.done p.written q.written;
+  text_is = sym (append_assoc a x y) ∙ ap (λ (z : List ℕ). z ++ y) p.text_is ∙ append_assoc p.done b y
+      ∙ ap (λ (z : List ℕ). p.done ++ z) q.text_is ∙ sym (append_assoc p.done q.done c);
+}
+
+-- then a front
+pub sends_then_front : (u v w : Option (List ℕ)) (a b x y : List ℕ) → Sends u v a b x → SendsFront v w b y → SendsFront u w a (x ++ y)
+sends_then_front u v w a b x y p q = record {
+  done = p.done ++ q.done;
+  lost = q.lost;
+  written = Appends-trans u v w p.done q.done p.written q.written;
+  text_is = sym (append_assoc a x y) ∙ ap (λ (z : List ℕ). z ++ y) p.text_is ∙ append_assoc p.done b y
+      ∙ ap (λ (z : List ℕ). p.done ++ z) q.text_is ∙ sym (append_assoc p.done q.done q.lost);
+}
+
+-- nothing is written of a text
+pub front_none : (v : Option (List ℕ)) (a text : List ℕ) → SendsFront v v a text
+front_none v a text = record { done = []; lost = a ++ text; written = Appends-nil v; text_is = refl }
+
+-- the write of all that waits failed
+pub front_failed : (v w : Option (List ℕ)) (a : List ℕ) → AppendsPrefix v w a → SendsFront v w a []
+front_failed v w a p = record { done = take p.count a; lost = drop p.count a; written = p.text; text_is = append-nil a ∙ sym (take-append-drop p.count a) }
+
+-- another text that is the same
+pub sends_is : (v w : Option (List ℕ)) (a b x y : List ℕ) → x ≡ y → Sends v w a b x → Sends v w a b y
+sends_is v w a b x y e s = subst (λ (z : List ℕ). Sends v w a b z) e s
+
+pub front_is : (v w : Option (List ℕ)) (a x y : List ℕ) → x ≡ y → SendsFront v w a x → SendsFront v w a y
+front_is v w a x y e s = subst (λ (z : List ℕ). SendsFront v w a z) e s
+
+-- where nothing waited and nothing waits, the text is written
+pub sends_all : (v w : Option (List ℕ)) (x : List ℕ) → Sends v w [] [] x → Appends v w x
+sends_all v w x s = subst (λ (z : List ℕ). Appends v w z) (sym (append-nil s.done) ∙ sym s.text_is) s.written
+
+-- a text, and then what waits is written
+pub sends_then_flushed : (u v w : Option (List ℕ)) (a b c x : List ℕ) → Sends u v a b x → Sends v w b c [] → Sends u w a c x
+sends_then_flushed u v w a b c x p q = sends_is u w a c _ _ (append-nil x) (sends_then u v w a b c x [] p q)
+
+-- a text, and then a front of what waits is written
+pub sends_then_failed : (u v w : Option (List ℕ)) (a b x : List ℕ) → Sends u v a b x → SendsFront v w b [] → SendsFront u w a x
+sends_then_failed u v w a b x p q = front_is u w a _ _ (append-nil x) (sends_then_front u v w a b x [] p q)
+
+-- what holds where a call failed, said of more
+pub err_weaker : {T E P Q : Type 0} (r : Result T E) → (P → Q) → OnErr r P → OnErr r Q
+err_weaker (Ok x) f p = tt
+err_weaker (Err e) f p = f p

@@ -1,0 +1,4 @@
+pub mod Sending
+pub mod Stops
+pub mod Answering
+pub mod Serving

@@ -1,0 +1,31 @@
+//! What answers requests.
+ghost use Rattle.std.specs.Prelude.{◌≡◌, ℕ, List, IsTrue, OnErr, OnOk};
+ghost use Rattle.scan_wire.specs.Messages.{ReplyParts, RequestParts, lent_parts};
+ghost use Rattle.scan_serve.specs.Answering.{Answered, Stopped};
+
+use crate::outbox::Outbox;
+use crate::stop::Stop;
+use byte_io::ByteOut;
+use scan_wire::Lent;
+
+/// What answers requests.
+pub trait Answer {
+    /// How one request is answered: the state before, the request, the replies, the state after.
+    ghost step: { Self → RequestParts → List ReplyParts → Self → Type 0 };
+
+    /// Answers a request. Its replies go to the outbox, which writes them as it fills.
+    ///
+    /// After an `Err` a front of what waited and of the replies is written, and what answers and the
+    /// outbox are of no use any more.
+    fn answer<W: ByteOut>(
+        &mut self,
+        request: Lent<'_>,
+        outbox: &mut Outbox,
+        out: &mut W,
+    ) -> Result<(), Stop>
+        ensures ok { OnOk result (Answered step self.old self.new (lent_parts request.entry)
+            (W.written out.old) (W.written out.new) outbox.old outbox.new) }
+        ensures err { OnErr result (Stopped step self.old (lent_parts request.entry)
+            (W.written out.old) (W.written out.new) outbox.old) }
+        ensures fault { result ≡ Err Stop.WriteFault → IsTrue (W.has_failed out.new) };
+}

@@ -1,0 +1,18 @@
+//! How serving ends.
+
+/// How serving a stream ended.
+#[derive(Clone, Copy, Debug, PartialEq, Eq)]
+pub enum Ended {
+    /// The input ended between frames, and everything was answered.
+    Clean,
+    /// The input ended inside a frame. All frames before it were answered.
+    Truncated,
+    /// A frame was bad. All frames before it were answered, and then its refusal was written.
+    Bad,
+    /// A read failed. All whole frames were answered.
+    ReadFault,
+    /// A write failed. A front of the replies was written.
+    WriteFault,
+    /// A growth was refused. A front of the replies was written.
+    OutOfMemory,
+}

@@ -1,0 +1,90 @@
+//! The frames that were read, answered in order.
+ghost use Rattle.std.specs.Prelude.{◌≡◌, ◌≢◌, ◌+◌, ◌<◌, ◌≤◌, drop, length, IfErr, IfOk, IsTrue, MatchOption, OnOk, ⊤};
+ghost use Rattle.scan_wire.specs.Causes.{HasCause, Waits};
+ghost use Rattle.scan_wire.specs.Messages.{lent_parts};
+ghost use Rattle.scan_wire.specs.Reading.{StartsWith};
+ghost use Rattle.scan_serve.specs.Answering.{AnswersAll, AnswersFront};
+ghost use Rattle.scan_serve.specs.Stops.{OnHalt};
+
+use crate::answer::Answer;
+use crate::outbox::Outbox;
+use crate::stop::{Halt, Stop};
+use byte_io::ByteOut;
+use scan_wire::{Fault, Lent, next};
+use std::alloc::Global;
+
+/// The request at the front, where its frame is whole, and how many bytes that has.
+fn request_at(alloc: Global, bytes: &[u8]) -> Result<Option<(Lent<'_>, usize)>, Halt>
+    ensures found { IfOk result (λ request. MatchOption request
+        (Waits bytes.now × (length bytes.now < 65545))
+        (λ x. StartsWith bytes.now (lent_parts x.0) x.1)) }
+    ensures halt { IfErr result (OnHalt (λ cause. HasCause cause bytes.now) ⊤) }
+    ensures fault { result ≢ Err (Halt.Stopped Stop.WriteFault) }
+{
+    match next(alloc, bytes) {
+        Ok(request) => Ok(request),
+        Err(Fault::BadFrame { cause }) => Err(Halt::Bad(cause)),
+        Err(Fault::OutOfMemory) => Err(Halt::Stopped(Stop::OutOfMemory)),
+    }
+}
+
+/// Answers the request at the place, where its frame is whole, and tells how many bytes that has.
+fn answer_one<S: Answer, W: ByteOut>(
+    alloc: Global,
+    session: &mut S,
+    bytes: &[u8],
+    place: usize,
+    outbox: &mut Outbox,
+    out: &mut W,
+) -> Result<Option<usize>, Halt>
+    requires { place ≤ length bytes.now }
+    ensures found { IfOk result (λ found. MatchOption found
+        (Waits (drop place bytes.now) × (length (drop place bytes.now) < 65545)
+        × AnswersAll S.step session.old session.new bytes.now place place
+        (W.written out.old) (W.written out.new) outbox.old outbox.new)
+        (λ len. (0 < len) × AnswersAll S.step session.old session.new bytes.now place (place + len)
+        (W.written out.old) (W.written out.new) outbox.old outbox.new)) }
+    ensures halt { IfErr result (OnHalt
+        (λ cause. HasCause cause (drop place bytes.now)
+        × AnswersAll S.step session.old session.new bytes.now place place
+        (W.written out.old) (W.written out.new) outbox.old outbox.new)
+        (AnswersFront S.step session.old bytes.now place
+        (W.written out.old) (W.written out.new) outbox.old)) }
+    ensures fault { result ≡ Err (Halt.Stopped Stop.WriteFault) → IsTrue (W.has_failed out.new) }
+{
+    let (_, rest) = bytes.split_at(place);
+    let Some((request, len)) = request_at(alloc, rest)? else {
+        return Ok(None);
+    };
+    session.answer(request, outbox, out)?;
+    Ok(Some(len))
+}
+
+/// Answers the requests from the place on, as far as their frames are whole, and moves the place
+/// behind them.
+pub fn answer_all<S: Answer, W: ByteOut>(
+    alloc: Global,
+    session: &mut S,
+    bytes: &[u8],
+    place: &mut usize,
+    outbox: &mut Outbox,
+    out: &mut W,
+) -> Result<(), Halt>
+    requires { place.old ≤ length bytes.now }
+    ensures ok { OnOk result (Waits (drop place.new bytes.now)
+        × (length (drop place.new bytes.now) < 65545)
+        × AnswersAll S.step session.old session.new bytes.now place.old place.new
+        (W.written out.old) (W.written out.new) outbox.old outbox.new) }
+    ensures halt { IfErr result (OnHalt
+        (λ cause. HasCause cause (drop place.new bytes.now)
+        × AnswersAll S.step session.old session.new bytes.now place.old place.new
+        (W.written out.old) (W.written out.new) outbox.old outbox.new)
+        (AnswersFront S.step session.old bytes.now place.old
+        (W.written out.old) (W.written out.new) outbox.old)) }
+    ensures fault { result ≡ Err (Halt.Stopped Stop.WriteFault) → IsTrue (W.has_failed out.new) }
+{
+    while let Some(len) = answer_one(alloc, session, bytes, *place, outbox, out)? {
+        *place += len;
+    }
+    Ok(())
+}

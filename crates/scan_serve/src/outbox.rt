@@ -1,0 +1,110 @@
+//! Replies on their way.
+ghost use Rattle.std.specs.Prelude.{◌≡◌, [], length, IsTrue, OnErr, OnOk};
+ghost use Rattle.std.specs.Io.KnownBytes.{Appends};
+ghost use Rattle.scan_wire.specs.Frames.{FitsReply, IsBlock, reply_text};
+ghost use Rattle.scan_wire.specs.Messages.{Hits, reply_parts};
+ghost use Rattle.scan_serve.specs.Sending.{Sends, SendsFront};
+
+use crate::stop::Stop;
+use byte_io::{ByteOut, Failed, write_all};
+use flow_scan::Hit;
+use scan_wire::{Reply, append_hits, append_reply};
+use std::alloc::Global;
+use std::marker::Model;
+
+/// So many bytes wait at most before they are written.
+const FULL: usize = 65_536;
+
+/// The texts of replies that are not yet written. One buffer is used for all of them.
+#[derive(Drop)]
+pub struct Outbox {
+    bytes: Vec<u8>,
+}
+
+impl Model for Outbox {
+    ghost use Rattle.std.specs.Prelude.{ℕ, List};
+
+    ghost Value = { List ℕ };
+
+    ghost view = { λ o. o.bytes.items };
+}
+
+impl Outbox {
+    /// An outbox in which nothing waits. It takes no memory.
+    pub fn new(alloc: Global) -> Outbox
+        ensures { result ≡ [] }
+    {
+        Outbox {
+            bytes: Vec::new(alloc),
+        }
+    }
+
+    /// Adds a reply, and writes all that waits once that is much.
+    ///
+    /// After an `Err` a front of all was written, and the outbox is of no use any more.
+    pub fn push<W: ByteOut>(&mut self, out: &mut W, reply: &Reply) -> Result<(), Stop>
+        requires { FitsReply (reply_parts reply.now) }
+        ensures ok { OnOk result (Sends (W.written out.old) (W.written out.new)
+            self.old self.new (reply_text (reply_parts reply.now))) }
+        ensures err { OnErr result (SendsFront (W.written out.old) (W.written out.new)
+            self.old (reply_text (reply_parts reply.now))) }
+        ensures fault { result ≡ Err Stop.WriteFault → IsTrue (W.has_failed out.new) }
+    {
+        let Ok(()) = append_reply(&mut self.bytes, reply) else {
+            return Err(Stop::OutOfMemory);
+        };
+        self.flush_full(out)
+    }
+
+    /// Adds a reply that tells these hits, and writes all that waits once that is much.
+    ///
+    /// After an `Err` a front of all was written, and the outbox is of no use any more.
+    pub fn push_hits<W: ByteOut>(
+        &mut self,
+        out: &mut W,
+        stream: u32,
+        hits: &[Hit],
+    ) -> Result<(), Stop>
+        requires { IsBlock (length hits.now) }
+        ensures ok { OnOk result (Sends (W.written out.old) (W.written out.new)
+            self.old self.new (reply_text (Hits stream hits.now))) }
+        ensures err { OnErr result (SendsFront (W.written out.old) (W.written out.new)
+            self.old (reply_text (Hits stream hits.now))) }
+        ensures fault { result ≡ Err Stop.WriteFault → IsTrue (W.has_failed out.new) }
+    {
+        let Ok(()) = append_hits(&mut self.bytes, stream, hits) else {
+            return Err(Stop::OutOfMemory);
+        };
+        self.flush_full(out)
+    }
+
+    /// Writes all that waits, where that is much.
+    fn flush_full<W: ByteOut>(&mut self, out: &mut W) -> Result<(), Stop>
+        ensures ok { OnOk result (Sends (W.written out.old) (W.written out.new) self.old self.new []) }
+        ensures err { OnErr result (SendsFront (W.written out.old) (W.written out.new) self.old []) }
+        ensures fault { result ≡ Err Stop.WriteFault → IsTrue (W.has_failed out.new) }
+    {
+        if self.bytes.len() < FULL {
+            return Ok(());
+        }
+        self.flush(out)
+    }
+
+    /// Writes all that waits.
+    ///
+    /// After an `Err` a front of it was written, and the outbox is of no use any more.
+    pub fn flush<W: ByteOut>(&mut self, out: &mut W) -> Result<(), Stop>
+        ensures empty { OnOk result (self.new ≡ []) }
+        ensures ok { OnOk result (Sends (W.written out.old) (W.written out.new) self.old self.new []) }
+        ensures err { OnErr result (SendsFront (W.written out.old) (W.written out.new) self.old []) }
+        ensures fault { result ≡ Err Stop.WriteFault → IsTrue (W.has_failed out.new) }
+    {
+        match write_all(out, &self.bytes) {
+            Ok(()) => {
+                self.bytes.clear();
+                Ok(())
+            }
+            Err(Failed) => Err(Stop::WriteFault),
+        }
+    }
+}
