@@ -5,7 +5,6 @@ import os
 import random
 import re
 import select
-import socket
 import subprocess
 import sys
 import tempfile
@@ -195,7 +194,8 @@ def run(words, stdin=b"", **how):
         how["stdin"] = stdin
     how.setdefault("stdout", subprocess.PIPE)
     program = how.pop("program", LITGREP)
-    done = subprocess.run([program] + words, stderr=subprocess.PIPE, timeout=60, **how)
+    how.setdefault("stderr", subprocess.PIPE)
+    done = subprocess.run([program] + words, timeout=60, **how)
     return done.returncode, done.stdout, done.stderr
 
 
@@ -253,6 +253,8 @@ def edges():
     """Streams that are odd: full, closed, long, a folder, no words at all."""
     lines = b"".join(line + b"\n" for line in MANY.split(b"\n") if b"7 cat" in line)
     yield "a long input", run(["7 cat"], MANY), (0, lines, b"")
+    mebibyte = b"x" * (1 << 20) + b" cat\n"
+    yield "a line of a mebibyte", run(["cat"], mebibyte + b"dog\n"), (0, mebibyte, b"")
     with open("/dev/full", "wb") as full:
         yield "a full device", run(["cat"], b"cat\n", stdout=full), (2, None, b"")
     no_output, no_input = {"preexec_fn": lambda: os.close(1)}, {"preexec_fn": lambda: os.close(0)}
@@ -293,31 +295,27 @@ def at_once(program, shown):
     return got == shown
 
 
-def gathered():
-    """What small files give is written together, in its place among messages, and not held where input is waited for."""
-    files = {f"{number:03}": b"cat\ndog\n" for number in range(100)}
+def prompt():
+    """What an input gives is written in its place among messages, and before more input is waited for."""
     with tempfile.TemporaryDirectory() as folder:
-        lay_out(folder, dict(files, f=b"cat\n", long=b"cat\n" * 20000))
+        lay_out(folder, {"f": b"cat\n", "000": b"cat\ndog\n", "long": b"cat\n" * 20000, "d": None})
         pipes = {"cwd": folder, "stdin": subprocess.PIPE, "stdout": subprocess.PIPE}
-        near, far = socket.socketpair(socket.AF_UNIX, socket.SOCK_SEQPACKET)
-        status = run(["-l", "cat"] + sorted(files), cwd=folder, stdout=far)
-        whole = "".join(name + "\n" for name in sorted(files)).encode()
-        yield "100 small files in one write", (near.recv(1 << 20), *status), (whole, 0, None, b"")
-        near.close(), far.close()
-        mixed = subprocess.run([LITGREP, "cat", "f", "none", "000"], cwd=folder, stdout=subprocess.PIPE, stderr=subprocess.STDOUT, timeout=60)
-        yield "messages in their place", mixed.stdout, b"f:cat\nlitgrep: none: cannot be read\n000:cat\n"
+        mixed = run(["cat", "f", "none", "000"], cwd=folder, stderr=subprocess.STDOUT)
+        yield "messages in their place", mixed[1], b"f:cat\nlitgrep: none: cannot be read\n000:cat\n"
+        mixed = run(["-c", "cat", "f", "d", "000"], cwd=folder, stderr=subprocess.STDOUT)
+        yield "a message behind its file's count", mixed[1], b"f:1\nd:0\nlitgrep: d: cannot be read\n000:1\n"
         with subprocess.Popen([LITGREP, "cat", "f", "-", "000"], **pipes) as program:
             yield "a file before standard input", at_once(program, b"f:cat\n"), True
             program.stdin.close()
             yield "a file behind it", (program.stdout.read(), program.wait(30)), (b"000:cat\n", 0)
         os.mkfifo(os.path.join(folder, "pipe"))
-        with subprocess.Popen([LITGREP, "cat", "pipe"], **pipes) as program, open(os.path.join(folder, "pipe"), "wb", 0) as pipe:
-            pipe.write(b"cat\n")
-            select.select([program.stdout], [], [], 1)
-            pipe.write(b"2 cat\n")
-            yield "a named pipe before its end", at_once(program, b"cat\n2 cat\n"), True
-            pipe.write(b"3 cat\n")
-            yield "and its next line", at_once(program, b"3 cat\n"), True
+        with subprocess.Popen([LITGREP, "cat", "f", "pipe"], **pipes) as program:
+            yield "a file before a named pipe that nobody opened", at_once(program, b"f:cat\n"), True
+            with open(os.path.join(folder, "pipe"), "wb", 0) as pipe:
+                pipe.write(b"cat\n")
+                yield "the first line of a named pipe", at_once(program, b"pipe:cat\n"), True
+                pipe.write(b"2 cat\n")
+                yield "and the second", at_once(program, b"pipe:2 cat\n"), True
         yield "lines of a long file", run(["cat", "f", "long"], cwd=folder), (0, b"f:cat\n" + b"long:cat\n" * 20000, b"")
 
 
@@ -473,7 +471,7 @@ def refused_growths():
 
 def main():
     passed = failed = 0
-    for part in (greps, options, usages, edges, streams, gathered, own_outputs, plans, random_greps, random_plans, refused_growths):
+    for part in (greps, options, usages, edges, streams, prompt, own_outputs, plans, random_greps, random_plans, refused_growths):
         for name, got, want in part():
             if got == want:
                 passed += 1

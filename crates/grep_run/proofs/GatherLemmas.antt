@@ -9,7 +9,7 @@ use Rattle.byte_io.proofs.OpenerLemmas.{after_all-one, short-after}
 use Rattle.lit_base.specs.declared.fault.Fault.{Fault}
 use Rattle.lit_base.specs.declared.fault.Fault.TheVariants.{OutOfMemory}
 use Rattle.line_pick.specs.Matching.{StandsFor}
-use Rattle.grep_run.specs.declared.needles.Needles.{Needles}
+use Rattle.grep_run.specs.declared.compiled_patterns.CompiledPatterns.{CompiledPatterns}
 use Rattle.grep_run.specs.declared.options.GrepOptions.{GrepOptions}
 use Rattle.grep_run.specs.declared.patterns.NoPatterns.{NoPatterns}
 use Rattle.grep_run.specs.declared.patterns.NoPatterns.TheVariants.{Unreadable, Refused}
@@ -110,16 +110,16 @@ all-read (Some fault) files e = (cc)
 files-asked : (o : GrepOptions) (s : Sources) → lists_refusal [] (lists_of o) ≡ None → files_asked o s ≡ files_read (patterns_in (lists_of o)) (pattern_files o s)
 files-asked o s e = all-read (lists_refusal [] (lists_of o)) _ e
 
-pub patterns-had : (o : GrepOptions) (s left : Sources) (patterns : List (List ℕ)) (needles : Needles) → lists_refusal [] (lists_of o) ≡ None
-    → TakesAllFiles (patterns_in (lists_of o)) patterns s left (pattern_files o s) → literals_refusal o.fold patterns ≡ None → StandsFor o.fold patterns needles.plan needles.has_empty
-    → HasPatterns o s left needles
-patterns-had o s left patterns needles none p few stands = record {
+pub patterns-had : (o : GrepOptions) (s left : Sources) (patterns : List (List ℕ)) (compiled : CompiledPatterns) → lists_refusal [] (lists_of o) ≡ None
+    → TakesAllFiles (patterns_in (lists_of o)) patterns s left (pattern_files o s) → literals_refusal o.fold patterns ≡ None → StandsFor o.fold patterns compiled.plan compiled.has_empty
+    → HasPatterns o s left compiled
+patterns-had o s left patterns compiled none p few stands = record {
   message =
       none-refused (lists_refusal [] (lists_of o)) _ none
       ∙ behind-none _ _ p.message
       ∙ ap (λ ps. option_map patterns_refused (literals_refusal o.fold ps)) (sym p.patterns)
       ∙ ap (option_map patterns_refused) few;
-  stands = subst (λ ps. StandsFor o.fold ps needles.plan needles.has_empty) p.patterns stands;
+  stands = subst (λ ps. StandsFor o.fold ps compiled.plan compiled.has_empty) p.patterns stands;
   after = p.after ∙ ap (λ fs. after_all (asks fs) s) (sym (files-asked o s none));
 }
 
@@ -153,9 +153,9 @@ files-stop known mid left old now name all {here} {rest} why e before step =
     FilesSoFar-stop name rest l why so_far taken.0 taken.1)
 
 -- all patterns are had
-pub had-all : (o : GrepOptions) (known left : Option Sources) (start patterns : List (List ℕ)) (needles : Needles) → lists_refusal [] (lists_of o) ≡ None → start ≡ patterns_in (lists_of o)
-    → Told known left (λ s l. AreShort s → TakesAllFiles start patterns s l (pattern_files o s)) → literals_refusal o.fold patterns ≡ None → StandsFor o.fold patterns needles.plan needles.has_empty
-    → Told known left (λ s l. AreShort s → HasPatterns o s l needles)
-had-all o known left start patterns needles none e taken few stands =
-    Told-weaker known left _ (λ s l. AreShort s → HasPatterns o s l needles) taken (λ s l t short.
-    patterns-had o s l patterns needles none (subst (λ ps. TakesAllFiles ps patterns s l (pattern_files o s)) e (t short)) few stands)
+pub had-all : (o : GrepOptions) (known left : Option Sources) (start patterns : List (List ℕ)) (compiled : CompiledPatterns) → lists_refusal [] (lists_of o) ≡ None → start ≡ patterns_in (lists_of o)
+    → Told known left (λ s l. AreShort s → TakesAllFiles start patterns s l (pattern_files o s)) → literals_refusal o.fold patterns ≡ None → StandsFor o.fold patterns compiled.plan compiled.has_empty
+    → Told known left (λ s l. AreShort s → HasPatterns o s l compiled)
+had-all o known left start patterns compiled none e taken few stands =
+    Told-weaker known left _ (λ s l. AreShort s → HasPatterns o s l compiled) taken (λ s l t short.
+    patterns-had o s l patterns compiled none (subst (λ ps. TakesAllFiles ps patterns s l (pattern_files o s)) e (t short)) few stands)

@@ -1,5 +1,4 @@
-pub mod FrontLemmas
-pub mod OutputLemmas
+pub mod WriterLemmas
 pub mod GatherLemmas
 pub mod RefusalLemmas
 pub mod SearchLemmas

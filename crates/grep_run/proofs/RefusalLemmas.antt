@@ -1,18 +1,17 @@
 -- What is written where there are no patterns.
-use Rattle.std.proofs.Common.{◌≡◌, ◌≢◌, ℕ, List, [], Option, Result, Ok, Err, OnOk, OnErr}
-use Rattle.std.specs.Io.KnownBytes.{Appends}
+use Rattle.std.proofs.Common.{◌≡◌, ◌≢◌, ℕ, List, [], Result, Ok, Err, OnOk, OnErr}
 use Rattle.std.specs.Borrow.{Bor}
 use Rattle.lit_base.specs.declared.fault.Fault.{Fault}
 use Rattle.lit_base.specs.declared.fault.Fault.TheVariants.{OutOfMemory}
 use Rattle.grep_run.specs.declared.patterns.NoPatterns.TheVariants.{Unreadable, Refused}
 use Rattle.grep_run.specs.declared.status.Stop.{Stop}
-use Rattle.grep_run.specs.Fronts.{AppendsFront}
 use Rattle.grep_run.specs.Gathering.{Refuses}
 use Rattle.grep_run.specs.Messages.{patterns_refused, unreadable}
+use Rattle.grep_run.specs.Writers.{Writer, Writes, WritesFront}
 
 -- a message was written, or a front of it
-pub Refuses-file : {T : Type 0} (name : Bor (List ℕ)) (r : Result T Stop) (err_old err_new : Option (List ℕ))
-    → OnOk r (Appends err_old err_new (unreadable name.now)) → OnErr r (AppendsFront err_old err_new (unreadable name.now)) → Refuses (Unreadable name) r err_old err_new
+pub Refuses-file : {T : Type 0} (name : Bor (List ℕ)) (r : Result T Stop) (err_old err_new : Writer)
+    → OnOk r (Writes err_old err_new (unreadable name.now)) → OnErr r (WritesFront err_old err_new (unreadable name.now)) → Refuses (Unreadable name) r err_old err_new
 Refuses-file name (Ok x) a b whole front = record { memory = λ e. (cc); told = whole }
 Refuses-file name (Err e) a b whole front = record { front = front; untold = λ same. (cc) }
 
@@ -20,8 +19,8 @@ fault-same : (fault other : Fault) → Refused fault ≡ Refused other → fault
 fault-same fault other e = (cc)
 
 -- for want of memory nothing was
-pub Refuses-fault : {T : Type 0} (fault : Fault) (r : Result T Stop) (err_old err_new : Option (List ℕ)) → OnOk r (fault ≢ OutOfMemory)
-    → OnOk r (Appends err_old err_new (patterns_refused fault)) → OnErr r (AppendsFront err_old err_new (patterns_refused fault)) → (fault ≡ OutOfMemory → Appends err_old err_new [])
+pub Refuses-fault : {T : Type 0} (fault : Fault) (r : Result T Stop) (err_old err_new : Writer) → OnOk r (fault ≢ OutOfMemory)
+    → OnOk r (Writes err_old err_new (patterns_refused fault)) → OnErr r (WritesFront err_old err_new (patterns_refused fault)) → (fault ≡ OutOfMemory → Writes err_old err_new [])
     → Refuses (Refused fault) r err_old err_new
 Refuses-fault fault (Ok x) a b other whole front nothing = record { memory = λ e. other (fault-same fault OutOfMemory e); told = whole }
 Refuses-fault fault (Err e) a b other whole front nothing = record { front = front; untold = λ e. nothing (fault-same fault OutOfMemory e) }

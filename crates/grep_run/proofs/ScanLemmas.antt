@@ -1,5 +1,6 @@
 -- One input, piece by piece: where picker and block stand, and what they come to.
 use Rattle.std.proofs.Common.{◌≡◌, ◌≢◌, ℕ, ◌+◌, ◌-◌, ◌^◌, ◌≤◌, ◌<◌, Bool, true, false, ◌||◌, ◌&&◌, not, cond, List, [], ◌∷◌, ◌++◌, eqb, flat_map, length, min, Option, None, Some, Ok, Err, refl, sym, ap, ◌∙◌, subst, append_assoc, append-nil, length-append, length-take-le, take, arith}
+use Rattle.byte_io.specs.Sources.{Content, IsShort, coming_of}
 use Rattle.std.proofs.Math.Bool.{and-false}
 use Rattle.std.proofs.lemmas.Bool.{lt-ltb}
 use Rattle.std.proofs.lemmas.List.Concat.{flat_map-append}
@@ -7,11 +8,9 @@ use Rattle.std.proofs.lemmas.List.FromFn.{length-enumerate_from}
 use Rattle.std.proofs.lemmas.List.Sums.{count_by-le-length, length-filter}
 use Rattle.std.specs.List.{enumerate_from}
 use Rattle.std.specs.Prelude.{nat_lt}
-use Rattle.std.specs.Io.KnownBytes.{Appends}
 use Rattle.byte_io.specs.Devices.{Coming, EndsHere, Ending, Faulty, MayFail, ReadGives, Told}
 use Rattle.byte_io.specs.Devices as Devices
 use Rattle.byte_io.specs.declared.device.Failed.{Failed}
-use Rattle.byte_io.specs.Sources.{Content, IsShort, coming_of}
 use Rattle.lit_base.specs.Lines.{ended_lines, last_line, lines, open_rest}
 use Rattle.lit_base.proofs.EndedLemmas.{ended_lines-append, ended_lines-none, lines-ended_open, open_rest-append}
 use Rattle.line_pick.proofs.Crossing.{length-ended_lines}
@@ -27,19 +26,17 @@ use Rattle.line_pick.specs.declared.sink.Next.{Next}
 use Rattle.line_pick.specs.declared.sink.Next.TheVariants.{More, Stop}
 use Rattle.grep_run.specs.declared.block.Block.{Block}
 use Rattle.grep_run.specs.declared.options.GrepOptions.{GrepOptions}
-use Rattle.grep_run.specs.declared.scanning.End.TheVariants.{Clean, Fault}
+use Rattle.grep_run.specs.declared.request.End.TheVariants.{Clean, Fault}
 use Rattle.grep_run.specs.Blocks.{block_in, block_of, has_any, is_trouble, lines_of, message_in}
-use Rattle.grep_run.specs.declared.scanning.Found.{Found}
+use Rattle.grep_run.specs.declared.request.Found.{Found}
 use Rattle.grep_run.specs.Messages.{unreadable}
-use Rattle.grep_run.specs.Fronts.{AppendsFront}
 use Rattle.grep_run.specs.Growing.{IsSameBlock, TakesLine, added_line, ending_of}
-use Rattle.grep_run.specs.Scanning.{FeedsPiece, tested_by, HasFed, HasRead, HasTaken, IsHalted, StandsBehind, ended_in, is_fault}
-use Rattle.grep_run.specs.declared.scanning.End.{End}
-use Rattle.grep_run.specs.Outputs.{Grows, GrowsFront, Output, output_of}
-use Rattle.grep_run.specs.Searching.{IsCut, IsScanned, IsSearched}
+use Rattle.grep_run.specs.Scanning.{FeedsPiece, picked_by, HasFed, HasRead, HasTaken, IsHalted, StandsBehind, ended_in, is_fault}
+use Rattle.grep_run.specs.declared.request.End.{End}
+use Rattle.grep_run.specs.Searching.{IsCut, IsSearched}
+use Rattle.grep_run.specs.Writers.{Writer, Writes, WritesFront}
 use Rattle.grep_run.proofs.BlockLemmas.{HasMore, any-behind, block-parts, ending-any, lent-more, lent-stop, lent-stop-text, wants-none}
-use Rattle.grep_run.proofs.FrontLemmas.{AppendsFront-none}
-use Rattle.grep_run.proofs.OutputLemmas.{Grows-held, Grows-kept, Grows-trans, GrowsFront-behind, GrowsFront-grown, GrowsFront-more}
+use Rattle.grep_run.proofs.WriterLemmas.{Writes-nil, Writes-trans, WritesFront-all, WritesFront-behind, WritesFront-more, WritesFront-none}
 
 -- the selected lines of a text and of what follows it
 module _ (test : List ℕ → Bool) (text more : List ℕ) (p : Picking) (f : HasFed test text p) where
@@ -71,21 +68,26 @@ fed-more test text piece p new f e = subst (HasFed test (text ++ piece)) (sym e)
   state = f.state;
 })
 
--- more lines were taken, which are held
-grown-more : (o : GrepOptions) (name : List ℕ) (before_lines more all : List (ℕ × List ℕ)) (old mid : Block) (before : Output) (now : Option (List ℕ)) → HasTaken o name before_lines old before now
-    → HasMore o name more old mid → all ≡ before_lines ++ more → Grows before (output_of now mid) (flat_map (added_line o name) all)
-grown-more o name before_lines more all old mid before now t m e =
-    subst (Grows before (output_of now mid)) (sym (flat_map-append (added_line o name) before_lines more) ∙ ap (flat_map (added_line o name)) (sym e))
-    (Grows-trans before (output_of now old) (output_of now mid) (flat_map (added_line o name) before_lines) (flat_map (added_line o name) more) t.grown (Grows-held now old mid (flat_map (added_line o name) more) m.text))
+-- what a block holds that held nothing, behind lines that it took
+held-lines : (o : GrepOptions) (name : List ℕ) (before_lines more : List (ℕ × List ℕ)) (old mid : Block) (before now : Writer) → HasTaken o name before_lines old before now → HasMore o name more old mid
+    → mid.text.items ≡ flat_map (added_line o name) more
+held-lines o name before_lines more old mid before now t m = m.text ∙ ap (λ held. held ++ flat_map (added_line o name) more) t.empty
 
--- and then are passed on
-taken-more : (o : GrepOptions) (name : List ℕ) (before_lines more all : List (ℕ × List ℕ)) (old mid new : Block) (before : Output) (now after : Option (List ℕ)) → HasTaken o name before_lines old before now
-    → HasMore o name more old mid → all ≡ before_lines ++ more → Grows (output_of now mid) (output_of after new) [] → IsSameBlock mid new → HasTaken o name all new before after
-taken-more o name before_lines more all old mid new before now after t m e passed same = record {
+-- what all lines add, by those before and those behind
+added-all : (o : GrepOptions) (name : List ℕ) (before_lines more all : List (ℕ × List ℕ)) → all ≡ before_lines ++ more
+    → flat_map (added_line o name) all ≡ flat_map (added_line o name) before_lines ++ flat_map (added_line o name) more
+added-all o name before_lines more all e = ap (flat_map (added_line o name)) e ∙ flat_map-append (added_line o name) before_lines more
+
+-- more lines were taken, and written
+taken-more : (o : GrepOptions) (name : List ℕ) (before_lines more all : List (ℕ × List ℕ)) (old mid new : Block) (before now after : Writer) → HasTaken o name before_lines old before now
+    → HasMore o name more old mid → all ≡ before_lines ++ more → Writes now after mid.text.items → new.text.items ≡ [] → IsSameBlock mid new → HasTaken o name all new before after
+taken-more o name before_lines more all old mid new before now after t m e passed none same = record {
   options = same.options ∙ m.options;
   called = same.name ∙ m.called;
   count = same.count ∙ m.count (length before_lines) t.count ∙ ap (λ n. min n (2 ^ 64 - 1)) (sym (length-append before_lines more)) ∙ ap (λ ls. min (length ls) (2 ^ 64 - 1)) (sym e);
-  grown = Grows-kept before (output_of now mid) (output_of after new) (flat_map (added_line o name) all) (grown-more o name before_lines more all old mid before now t m e) passed;
+  written = subst (Writes before after) (sym (added-all o name before_lines more all e))
+      (Writes-trans before now after _ _ t.written (subst (Writes now after) (held-lines o name before_lines more old mid before now t m) passed));
+  empty = none;
   unwanted = λ stop. e ∙ ap (λ ls. ls ++ more) (t.unwanted stop) ∙ m.unwanted stop;
 }
 
@@ -93,43 +95,43 @@ taken-more o name before_lines more all old mid new before now after t m e passe
 lent-stopped : {s t : Block} {lines : List (ℕ × List ℕ)} → Lends TakesLine s lines (Ok Stop) t → Lent TakesLine s lines (Ok Stop) t
 lent-stopped (Whole h) = h
 
-module _ {o : GrepOptions} {test : List ℕ → Bool} {name text : List ℕ} (piece : List ℕ) {p : Picking} (new_p : Picking) {b : Block} (mid : Block) {before : Output} (now : Option (List ℕ))
+module _ {o : GrepOptions} {test : List ℕ → Bool} {name text : List ℕ} (piece : List ℕ) {p : Picking} (new_p : Picking) {b : Block} (mid : Block) {before : Writer} (now : Writer)
     (s : StandsBehind o test name text p b before now) where
-  -- a piece whose lines are all taken and passed on
-  pub fed-on : (new : Block) (after : Option (List ℕ)) → Feeds TakesLine p piece b (Ok More) new_p mid → Grows (output_of now mid) (output_of after new) [] → IsSameBlock mid new
+  -- those of a piece stand behind those before
+  piece-lines : ended_in test (text ++ piece) ≡ ended_in test text ++ picked p (ended_lines (p.held ++ piece))
+  piece-lines = ended-more test text piece p s.fed
+
+  -- a piece whose lines are all taken and written
+  pub fed-on : (new : Block) (after : Writer) → Feeds TakesLine p piece b (Ok More) new_p mid → Writes now after mid.text.items → new.text.items ≡ [] → IsSameBlock mid new
       → StandsBehind o test name (text ++ piece) new_p new before after
-  fed-on new after f passed same = record {
+  fed-on new after f passed none same = record {
     fed = fed-more test text piece p new_p s.fed (f.more refl);
     taken = taken-more o name (ended_in test text) (picked p (ended_lines (p.held ++ piece))) (ended_in test (text ++ piece)) b mid new before now after s.taken
-        (lent-more o name (Lent-from_Lends f.lent) s.taken.options s.taken.called) (ended-more test text piece p s.fed) passed same;
+        (lent-more o name (Lent-from_Lends f.lent) s.taken.options s.taken.called) piece-lines passed none same;
   }
 
   -- all that lines of both add
   all-added : flat_map (added_line o name) (ended_in test (text ++ piece)) ≡ flat_map (added_line o name) (ended_in test text) ++ flat_map (added_line o name) (picked p (ended_lines (p.held ++ piece)))
-  all-added = ap (flat_map (added_line o name)) (ended-more test text piece p s.fed) ∙ flat_map-append (added_line o name) (ended_in test text) (picked p (ended_lines (p.held ++ piece)))
+  all-added = added-all o name (ended_in test text) (picked p (ended_lines (p.held ++ piece))) (ended_in test (text ++ piece)) piece-lines
 
   -- where their writing is cut, a front of all is written
-  pub fed-cut : (after : Option (List ℕ)) → Feeds TakesLine p piece b (Ok More) new_p mid → GrowsFront (output_of now mid) after []
-      → GrowsFront before after (flat_map (added_line o name) (ended_in test (text ++ piece)))
+  pub fed-cut : (after : Writer) → Feeds TakesLine p piece b (Ok More) new_p mid → WritesFront now after mid.text.items
+      → WritesFront before after (flat_map (added_line o name) (ended_in test (text ++ piece)))
   fed-cut after f cut =
-      let all = flat_map (added_line o name) (ended_in test (text ++ piece)) in
       let m = lent-more o name (Lent-from_Lends f.lent) s.taken.options s.taken.called in
-      let grown = grown-more o name (ended_in test text) (picked p (ended_lines (p.held ++ piece))) (ended_in test (text ++ piece)) b mid before now s.taken m (ended-more test text piece p s.fed) in
-      subst (GrowsFront before after) (append-nil all) (GrowsFront-behind before (output_of now mid) after all [] [] grown cut)
+      subst (WritesFront before after) (sym all-added)
+      (WritesFront-behind before now after _ _ s.taken.written (subst (WritesFront now after) (held-lines o name (ended_in test text) (picked p (ended_lines (p.held ++ piece))) b mid before now s.taken m) cut))
 
   -- where memory runs out, what was written is a front of all
-  pub fed-starved : GrowsFront before now (flat_map (added_line o name) (ended_in test (text ++ piece)))
-  fed-starved = subst (GrowsFront before now) (sym all-added)
-      (GrowsFront-more before now (flat_map (added_line o name) (ended_in test text)) (flat_map (added_line o name) (picked p (ended_lines (p.held ++ piece)))) (GrowsFront-grown before (output_of now b) (flat_map (added_line o name) (ended_in test text)) s.taken.grown))
+  pub fed-starved : WritesFront before now (flat_map (added_line o name) (ended_in test (text ++ piece)))
+  fed-starved = subst (WritesFront before now) (sym all-added)
+      (WritesFront-more before now (flat_map (added_line o name) (ended_in test text)) (flat_map (added_line o name) (picked p (ended_lines (p.held ++ piece)))) (WritesFront-all before now _ s.taken.written))
 
   -- where no line is wanted any more, one was taken
   stopped-lines : Feeds TakesLine p piece b (Ok Stop) new_p mid → Lent TakesLine b (picked p (ended_lines (p.held ++ piece))) (Ok Stop) mid
   stopped-lines f = lent-stopped f.lent
 
   -- which adds nothing
-  halted-grown : flat_map (added_line o name) (ended_in test text) ≡ [] → mid.text.items ≡ b.text.items ++ [] → Grows before (output_of now mid) []
-  halted-grown none same = Grows-kept before (output_of now b) (output_of now mid) [] (subst (Grows before (output_of now b)) none s.taken.grown) (Grows-held now b mid [] same)
-
   pub fed-halted : Feeds TakesLine p piece b (Ok Stop) new_p mid → IsHalted o name (ended_in test (text ++ piece)) mid before now
   fed-halted f =
       let h = lent-stop o name (stopped-lines f) s.taken.options s.taken.called in
@@ -138,9 +140,10 @@ module _ {o : GrepOptions} {test : List ℕ → Bool} {name text : List ℕ} (pi
         options = h.options;
         called = h.called;
         stop = h.stop;
-        some = subst (λ ls. 0 < length ls) (sym (ended-more test text piece p s.fed)) (omega (arith, h.some, length-append (ended_in test text) (picked p (ended_lines (p.held ++ piece)))));
+        some = subst (λ ls. 0 < length ls) (sym piece-lines) (omega (arith, h.some, length-append (ended_in test text) (picked p (ended_lines (p.held ++ piece)))));
         count = h.count;
-        grown = halted-grown (ap (flat_map (added_line o name)) none) (lent-stop-text o name (stopped-lines f) s.taken.options s.taken.called);
+        written = subst (Writes before now) (ap (flat_map (added_line o name)) none) s.taken.written;
+        empty = lent-stop-text o name (stopped-lines f) s.taken.options s.taken.called ∙ ap (λ (held : List ℕ). held ++ []) s.taken.empty;
       }
 
   -- too many bytes
@@ -162,23 +165,28 @@ few-lines : (text : List ℕ) → length (lines text) ≤ length text + 1
 few-lines text = omega (arith, ap length (lines-ended_open text), length-append (ended_lines text) (last_line (open_rest text)), few-ended text, few-last (open_rest text))
 
 -- the block of a content, where all its lines have come and are written or held
-pub read-whole : (o : GrepOptions) (test : List ℕ → Bool) (name : List ℕ) (c : Content) (b : Block) (before : Output) (out : Option (List ℕ)) (texts : List (List ℕ)) → lines_of c ≡ texts → length texts < 2 ^ 64 - 1
-    → b.options.now ≡ o → b.name.now ≡ name → b.count ≡ min (length (numbered test 0 texts)) (2 ^ 64 - 1) → Grows before (output_of out b) (flat_map (added_line o name) (numbered test 0 texts))
+pub read-whole : (o : GrepOptions) (test : List ℕ → Bool) (name : List ℕ) (c : Content) (b : Block) (before out : Writer) (texts : List (List ℕ)) (came held : List (ℕ × List ℕ)) → lines_of c ≡ texts → length texts < 2 ^ 64 - 1
+    → numbered test 0 texts ≡ came ++ held → b.options.now ≡ o → b.name.now ≡ name → b.count ≡ min (length (numbered test 0 texts)) (2 ^ 64 - 1)
+    → Writes before out (flat_map (added_line o name) came) → b.text.items ≡ flat_map (added_line o name) held
     → (end : End) → is_fault end ≡ is_trouble o test (Some c) → HasRead o test name c end b before out
-read-whole o test name c b before out texts e few options named count grown end error =
+read-whole o test name c b before out texts came held e few parts options named count written text end error =
     let exact : b.count ≡ length (numbered test 0 texts) = omega (arith, count, few-numbered test texts) in
     record {
       options = options;
       called = named;
-      lines = flat_map (added_line o name) (numbered test 0 texts);
-      whole = ap (λ n. flat_map (added_line o name) (numbered test 0 texts) ++ ending_of o name n) exact ∙ block-parts o name (numbered test 0 texts) ∙ ap (λ ls. block_of o name (numbered test 0 ls)) (sym e);
-      grown = grown;
+      lines = flat_map (added_line o name) came;
+      written = written;
+      whole =
+          ap (λ t. flat_map (added_line o name) came ++ (t ++ ending_of o name b.count)) text
+          ∙ sym (append_assoc (flat_map (added_line o name) came) (flat_map (added_line o name) held) (ending_of o name b.count))
+          ∙ ap (λ t. t ++ ending_of o name b.count) (sym (added-all o name came held (numbered test 0 texts) parts))
+          ∙ ap (λ n. flat_map (added_line o name) (numbered test 0 texts) ++ ending_of o name n) exact ∙ block-parts o name (numbered test 0 texts) ∙ ap (λ ls. block_of o name (numbered test 0 ls)) (sym e);
       any = ap (nat_lt 0) exact ∙ ap (λ ls. has_any (numbered test 0 ls)) (sym e);
       error = error;
     }
 
 -- the block of a content, where no line is wanted behind those that came
-pub read-halted : (o : GrepOptions) (test : List ℕ → Bool) (name : List ℕ) (c : Content) (b : Block) (before : Output) (out : Option (List ℕ)) (came more : List (ℕ × List ℕ)) → numbered test 0 (lines_of c) ≡ came ++ more
+pub read-halted : (o : GrepOptions) (test : List ℕ → Bool) (name : List ℕ) (c : Content) (b : Block) (before out : Writer) (came more : List (ℕ × List ℕ)) → numbered test 0 (lines_of c) ≡ came ++ more
     → IsHalted o name came b before out → HasRead o test name c Clean b before out
 read-halted o test name c b before out came more e h =
     let wanted : (o.quiet || o.list) ≡ true = wants-none o.quiet o.list h.stop in
@@ -188,29 +196,29 @@ read-halted o test name c b before out came more e h =
       options = h.options;
       called = h.called;
       lines = [];
-      whole = ending-any o name b.count (numbered test 0 (lines_of c)) wanted both;
-      grown = h.grown;
+      written = h.written;
+      whole = ap (λ t. t ++ ending_of o name b.count) h.empty ∙ ending-any o name b.count (numbered test 0 (lines_of c)) wanted both;
       any = both;
       error = sym (ap (λ w. c.is_faulty && not (w && has_any (numbered test 0 (lines_of c)))) wanted ∙ ap (λ a. c.is_faulty && not a) any ∙ and-false c.is_faulty);
     }
 
 -- what was written is a front of the block
-pub read-front : (o : GrepOptions) (test : List ℕ → Bool) (name : List ℕ) (c : Content) (before : Output) (out : Option (List ℕ)) (came more : List (ℕ × List ℕ)) → numbered test 0 (lines_of c) ≡ came ++ more
-    → GrowsFront before out (flat_map (added_line o name) came) → GrowsFront before out (block_in o test name (Some c))
+pub read-front : (o : GrepOptions) (test : List ℕ → Bool) (name : List ℕ) (c : Content) (before out : Writer) (came more : List (ℕ × List ℕ)) → numbered test 0 (lines_of c) ≡ came ++ more
+    → WritesFront before out (flat_map (added_line o name) came) → WritesFront before out (block_in o test name (Some c))
 read-front o test name c before out came more e p =
     let all = numbered test 0 (lines_of c) in
     let tail = flat_map (added_line o name) more ++ ending_of o name (length all) in
     let parts : block_of o name all ≡ flat_map (added_line o name) came ++ tail =
-    sym (block-parts o name all) ∙ ap (λ ls. flat_map (added_line o name) ls ++ ending_of o name (length all)) e ∙ ap (λ t. t ++ ending_of o name (length all)) (flat_map-append (added_line o name) came more)
+    sym (block-parts o name all) ∙ ap (λ t. t ++ ending_of o name (length all)) (added-all o name came more all e)
     ∙ append_assoc (flat_map (added_line o name) came) (flat_map (added_line o name) more) (ending_of o name (length all)) in
-    subst (GrowsFront before out) (sym parts) (GrowsFront-more before out (flat_map (added_line o name) came) tail p)
+    subst (WritesFront before out) (sym parts) (WritesFront-more before out (flat_map (added_line o name) came) tail p)
 
 -- what is answered is known
 pub feeds-as : {p new_p : Picking} {b new_b : Block} {piece : List ℕ} {answer known : Next} → answer ≡ known → Feeds TakesLine p piece b (Ok answer) new_p new_b → Feeds TakesLine p piece b (Ok known) new_p new_b
 feeds-as {p} {new_p} {b} {new_b} {piece} e f = subst (λ n. Feeds TakesLine p piece b (Ok n) new_p new_b) e f
 
 -- the last line of a content was taken, or none stands there
-module _ {o : GrepOptions} {test : List ℕ → Bool} {name : List ℕ} (c : Content) {p : Picking} (new_p : Picking) {b : Block} (new : Block) {before : Output} {now : Option (List ℕ)}
+module _ {o : GrepOptions} {test : List ℕ → Bool} {name : List ℕ} (c : Content) {p : Picking} (new_p : Picking) {b : Block} (new : Block) {before now : Writer}
     (clean : c.is_faulty ≡ false) (short : IsShort c) (s : StandsBehind o test name c.text p b before now) where
   -- its lines
   clean-lines : lines_of c ≡ lines c.text
@@ -227,9 +235,9 @@ module _ {o : GrepOptions} {test : List ℕ → Bool} {name : List ℕ} (c : Con
   ended-whole f =
       let m = lent-more o name f.lent s.taken.options s.taken.called in
       let all : numbered test 0 (lines c.text) ≡ ended_in test c.text ++ picked p (last_line p.held) = all-lines test c.text [] p s.fed in
-      read-whole o test name c new before now (lines c.text) clean-lines (omega (arith, few-lines c.text)) m.options m.called
+      read-whole o test name c new before now (lines c.text) (ended_in test c.text) (picked p (last_line p.held)) clean-lines (omega (arith, few-lines c.text)) all m.options m.called
       (m.count (length (ended_in test c.text)) s.taken.count ∙ ap (λ n. min n (2 ^ 64 - 1)) (sym (length-append (ended_in test c.text) (picked p (last_line p.held)))) ∙ ap (λ ls. min (length ls) (2 ^ 64 - 1)) (sym all))
-      (grown-more o name (ended_in test c.text) (picked p (last_line p.held)) (numbered test 0 (lines c.text)) b new before now s.taken m all) Clean clean-error
+      s.taken.written (held-lines o name (ended_in test c.text) (picked p (last_line p.held)) b new before now s.taken m) Clean clean-error
 
   pub ended-halted : Finishes TakesLine p b (Ok Stop) new_p new → HasRead o test name c Clean new before now
   ended-halted f =
@@ -241,16 +249,15 @@ module _ {o : GrepOptions} {test : List ℕ → Bool} {name : List ℕ} (c : Con
         stop = h.stop;
         some = omega (arith, h.some, length-append (ended_in test c.text) (picked p (last_line p.held)));
         count = h.count;
-        grown = Grows-kept before (output_of now b) (output_of now new) [] (subst (Grows before (output_of now b)) (ap (flat_map (added_line o name)) none) s.taken.grown)
-            (Grows-held now b new [] (lent-stop-text o name f.lent s.taken.options s.taken.called));
+        written = subst (Writes before now) (ap (flat_map (added_line o name)) none) s.taken.written;
+        empty = lent-stop-text o name f.lent s.taken.options s.taken.called ∙ ap (λ (held : List ℕ). held ++ []) s.taken.empty;
       })
 
-  pub ended-starved : GrowsFront before now (block_in o test name (Some c))
-  ended-starved = read-front o test name c before now (ended_in test c.text) (picked p (last_line p.held)) clean-numbered
-      (GrowsFront-grown before (output_of now b) (flat_map (added_line o name) (ended_in test c.text)) s.taken.grown)
+  pub ended-starved : WritesFront before now (block_in o test name (Some c))
+  ended-starved = read-front o test name c before now (ended_in test c.text) (picked p (last_line p.held)) clean-numbered (WritesFront-all before now _ s.taken.written)
 
 -- whether lines come to an end at the last one
-pub ended-any : {o : GrepOptions} {test : List ℕ → Bool} {name : List ℕ} (c : Content) {p : Picking} (new_p : Picking) {b : Block} (new : Block) {before : Output} {now : Option (List ℕ)} (answer : Next)
+pub ended-any : {o : GrepOptions} {test : List ℕ → Bool} {name : List ℕ} (c : Content) {p : Picking} (new_p : Picking) {b : Block} (new : Block) {before now : Writer} (answer : Next)
     → c.is_faulty ≡ false → IsShort c → StandsBehind o test name c.text p b before now → Finishes TakesLine p b (Ok answer) new_p new → HasRead o test name c Clean new before now
 ended-any c new_p new More clean short s f = ended-whole c new_p new clean short s f
 ended-any c new_p new Stop clean short s f = ended-halted c new_p new clean short s f
@@ -262,12 +269,12 @@ not-ended false true came none = ap (λ ls. not (has_any ls)) (none refl)
 not-ended false false came none = refl
 
 -- a content whose reading ended in a fault behind all its bytes
-pub read-fault : {o : GrepOptions} {test : List ℕ → Bool} {name : List ℕ} (c : Content) {p : Picking} {b : Block} {before : Output} {now : Option (List ℕ)} → c.is_faulty ≡ true → IsShort c
+pub read-fault : {o : GrepOptions} {test : List ℕ → Bool} {name : List ℕ} (c : Content) {p : Picking} {b : Block} {before now : Writer} → c.is_faulty ≡ true → IsShort c
     → StandsBehind o test name c.text p b before now → HasRead o test name c Fault b before now
 read-fault {o} {test} {name} c {p} {b} {before} {now} faulty short s =
     let lines-are : lines_of c ≡ ended_lines c.text = ap (λ f. cond f (ended_lines c.text) (lines c.text)) faulty in
-    read-whole o test name c b before now (ended_lines c.text) lines-are (omega (arith, few-ended c.text)) s.taken.options s.taken.called s.taken.count
-    s.taken.grown
+    read-whole o test name c b before now (ended_lines c.text) (ended_in test c.text) [] lines-are (omega (arith, few-ended c.text)) (sym (append-nil (ended_in test c.text))) s.taken.options s.taken.called s.taken.count
+    s.taken.written s.taken.empty
     Fault (sym (ap (λ f. f && not ((o.quiet || o.list) && has_any (numbered test 0 (lines_of c)))) faulty ∙ ap (λ ls. not ((o.quiet || o.list) && has_any (numbered test 0 ls))) lines-are
     ∙ not-ended o.quiet o.list (ended_in test c.text) s.taken.unwanted))
 
@@ -280,7 +287,7 @@ told-at : {T : Type 0} (a b : Option T) (P : T → T → Type 0) (x : T) → Tol
 told-at a b P x t e = known-step b P x (subst (λ k. Told k b P) e t)
 
 -- the bytes so far of a content are dealt with, and these are left
-pub record ReadSoFar (o : GrepOptions) (test : List ℕ → Bool) (name : List ℕ) (c : Content) (coming : Option Coming) (p : Picking) (b : Block) (turn : ℕ) (before : Output) (now : Option (List ℕ)) : Type 0 where
+pub record ReadSoFar (o : GrepOptions) (test : List ℕ → Bool) (name : List ℕ) (c : Content) (coming : Option Coming) (p : Picking) (b : Block) (turn : ℕ) (before now : Writer) : Type 0 where
   pub done : List ℕ
   pub rest : List ℕ
   pub parts : c.text ≡ done ++ rest
@@ -315,7 +322,7 @@ clean-ending : (is_faulty : Bool) (text : List ℕ) → EndsHere (coming_of (rec
 clean-ending true text h = absurd (h.ending refl)
 clean-ending false text h = (refl, h.text)
 
-module _ {o : GrepOptions} {test : List ℕ → Bool} {name : List ℕ} {c : Content} {coming : Option Coming} {p : Picking} {b : Block} {turn : ℕ} {before : Output} {now : Option (List ℕ)}
+module _ {o : GrepOptions} {test : List ℕ → Bool} {name : List ℕ} {c : Content} {coming : Option Coming} {p : Picking} {b : Block} {turn : ℕ} {before now : Writer}
     (later : Option Coming) (buf : List ℕ) (r : ReadSoFar o test name c coming p b turn before now) where
   -- where nothing is left, all bytes are behind
   all-done : r.rest ≡ [] → StandsBehind o test name c.text p b before now
@@ -342,7 +349,7 @@ module _ {o : GrepOptions} {test : List ℕ → Bool} {name : List ℕ} {c : Con
       (step.0.text, (step.1.1.0.text, step.1.0 ∙ ap Some (same-coming step.0 c.is_faulty step.1.1.0.ending)))
 
   -- one piece more
-  pub so_far-more : (count : ℕ) (new_p : Picking) (new : Block) (after : Option (List ℕ)) → Told coming later (λ x y. ReadGives x y (Ok count) buf) → 0 < count → count ≤ length buf
+  pub so_far-more : (count : ℕ) (new_p : Picking) (new : Block) (after : Writer) → Told coming later (λ x y. ReadGives x y (Ok count) buf) → 0 < count → count ≤ length buf
       → StandsBehind o test name (r.done ++ take count buf) new_p new before after → ReadSoFar o test name c later new_p new (turn + 1) before after
   so_far-more count new_p new after t some within s =
       let found = so_far-rest count t in
@@ -360,7 +367,7 @@ module _ {o : GrepOptions} {test : List ℕ → Bool} {name : List ℕ} {c : Con
   front-of-all piece rest e = lines-front test c (r.done ++ piece) rest (r.parts ∙ ap (λ x. r.done ++ x) e ∙ sym (append_assoc r.done piece rest))
 
   -- a piece behind which no line is wanted
-  pub so_far-halted : (count : ℕ) (new : Block) (after : Option (List ℕ)) → Told coming later (λ x y. ReadGives x y (Ok count) buf)
+  pub so_far-halted : (count : ℕ) (new : Block) (after : Writer) → Told coming later (λ x y. ReadGives x y (Ok count) buf)
       → IsHalted o name (ended_in test (r.done ++ take count buf)) new before after → HasRead o test name c Clean new before after
   so_far-halted count new after t h =
       let found = so_far-rest count t in
@@ -368,8 +375,8 @@ module _ {o : GrepOptions} {test : List ℕ → Bool} {name : List ℕ} {c : Con
       read-halted o test name c new before after (ended_in test (r.done ++ take count buf)) front.0 front.1 h
 
   -- a piece that was cut
-  pub so_far-cut : (count : ℕ) (after : Option (List ℕ)) → Told coming later (λ x y. ReadGives x y (Ok count) buf)
-      → GrowsFront before after (flat_map (added_line o name) (ended_in test (r.done ++ take count buf))) → GrowsFront before after (block_in o test name (Some c))
+  pub so_far-cut : (count : ℕ) (after : Writer) → Told coming later (λ x y. ReadGives x y (Ok count) buf)
+      → WritesFront before after (flat_map (added_line o name) (ended_in test (r.done ++ take count buf))) → WritesFront before after (block_in o test name (Some c))
   so_far-cut count after t cut =
       let found = so_far-rest count t in
       let front = front-of-all (take count buf) found.0 found.1.0 in
@@ -382,7 +389,7 @@ module _ {o : GrepOptions} {test : List ℕ → Bool} {name : List ℕ} {c : Con
       absurd (omega (arith, ap length r.parts, length-append r.done r.rest, ap length found.1.0, length-append (take count buf) found.0))
 
   -- a piece that is the last one
-  pub so_far-ended : (count : ℕ) (end : End) (piece : List ℕ) (new_p : Picking) (new : Block) (after : Option (List ℕ)) → Told coming later (λ x y. ReadGives x y (Ok count) buf) → IsShort c → piece ≡ take count buf
+  pub so_far-ended : (count : ℕ) (end : End) (piece : List ℕ) (new_p : Picking) (new : Block) (after : Writer) → Told coming later (λ x y. ReadGives x y (Ok count) buf) → IsShort c → piece ≡ take count buf
       → FeedsPiece o test name r.done piece (Ok (Some end)) new_p new before after → HasRead o test name c end new before after
   so_far-ended count Clean piece new_p new after t short e f = so_far-halted count new after t (subst (λ x. IsHalted o name (ended_in test (r.done ++ x)) new before after) e f)
   so_far-ended count Fault piece new_p new after t short e f = so_far-long count t short (subst (λ x. 2 ^ 64 ≤ length r.done + length x) e f)
@@ -392,7 +399,7 @@ module _ {o : GrepOptions} {test : List ℕ → Bool} {name : List ℕ} {c : Con
   so_far-turns short many = absurd (omega (arith, r.turns, ap length r.parts, length-append r.done r.rest))
 
 -- a picker before any text
-pub fed-none : (test : List ℕ → Bool) (p : Picking) → tested_by p ≡ test → p.held ≡ [] → p.lines ≡ 0 → p.bytes ≡ 0 → p.state ≡ Running → HasFed test [] p
+pub fed-none : (test : List ℕ → Bool) (p : Picking) → picked_by p ≡ test → p.held ≡ [] → p.lines ≡ 0 → p.bytes ≡ 0 → p.state ≡ Running → HasFed test [] p
 fed-none test p tests held none_lines none_bytes state = record {
   tests = tests;
   held = held ∙ sym open_rest-nil;
@@ -402,74 +409,50 @@ fed-none test p tests held none_lines none_bytes state = record {
 }
 
 -- at first picker and block stand before the content
-pub begin-stands : {o : GrepOptions} {test : List ℕ → Bool} {name : List ℕ} {p : Picking} {begun b : Block} (before : Output) (out : Option (List ℕ)) → HasFed test [] p
-    → begun.options.now ≡ o → begun.name.now ≡ name → begun.count ≡ 0 → IsSameBlock begun b → Grows before (output_of out b) [] → StandsBehind o test name [] p b before out
-begin-stands {o} {test} {name} {p} {begun} {b} before out f options called count same grown =
+pub begin-stands : {o : GrepOptions} {test : List ℕ → Bool} {name : List ℕ} {p : Picking} {b : Block} (out : Writer) → HasFed test [] p
+    → b.options.now ≡ o → b.name.now ≡ name → b.count ≡ 0 → b.text.items ≡ [] → StandsBehind o test name [] p b out out
+begin-stands {o} {test} {name} {p} {b} out f options called count empty =
     let none : ended_in test [] ≡ [] = ap (numbered test 0) (ended_lines-none [] (All-nil (λ b. b ≢ 10))) in
     record {
       fed = f;
       taken = record {
-        options = same.options ∙ options;
-        called = same.name ∙ called;
-        count = same.count ∙ count ∙ ap (λ ls. min (length ls) (2 ^ 64 - 1)) (sym none);
-        grown = subst (Grows before (output_of out b)) (sym (ap (flat_map (added_line o name)) none)) grown;
+        options = options;
+        called = called;
+        count = count ∙ ap (λ ls. min (length ls) (2 ^ 64 - 1)) (sym none);
+        written = subst (Writes out out) (sym (ap (flat_map (added_line o name)) none)) (Writes-nil out);
+        empty = empty;
         unwanted = λ stop. none;
       };
     }
 
--- what was held before an input is passed on
-pub passed : (old begun new : Block) (before now : Option (List ℕ)) → begun.text.items ≡ old.text.items → Grows (output_of before begun) (output_of now new) [] → Grows (output_of before old) (output_of now new) []
-passed old begun new before now same p = record { front = p.front; parts = ap (λ t. t ++ []) (sym same) ∙ p.parts; grown = p.grown }
+-- where the block was cut there is no message
+pub search-cut : (o : GrepOptions) (test : List ℕ → Bool) (name : List ℕ) (source : Option Content) (out_old out_new err : Writer)
+    → WritesFront out_old out_new (block_in o test name source) → IsCut o test name source out_old out_new err err
+search-cut o test name source out_old out_new err p = record { output = p; messages = WritesFront-none err (message_in o test name source) }
 
--- or a front of it
-pub passed-cut : (o : GrepOptions) (test : List ℕ → Bool) (name : List ℕ) (c : Content) (old begun : Block) (before now : Option (List ℕ)) → begun.text.items ≡ old.text.items → GrowsFront (output_of before begun) now []
-    → GrowsFront (output_of before old) now (block_in o test name (Some c))
-passed-cut o test name c old begun before now same p =
-    GrowsFront-more (output_of before old) now [] (block_in o test name (Some c)) (subst (λ t. AppendsFront before now (t ++ [])) same p)
+module _ {o : GrepOptions} {test : List ℕ → Bool} {name : List ℕ} {c : Content} {end : End} {b : Block} {before now : Writer} (h : HasRead o test name c end b before now) (after : Writer) where
+  -- what is written at the end, by the options and the name of all
+  abbrev ended : List ℕ
+  ended = b.text.items ++ ending_of b.options.now b.name.now b.count
 
-module _ {o : GrepOptions} {test : List ℕ → Bool} {name : List ℕ} {c : Content} {end : End} {b : Block} {before : Output} {now : Option (List ℕ)} (h : HasRead o test name c end b before now) where
-  -- the lines with the end of the block, by the options and the name of all
-  end-same : h.lines ++ ending_of b.options.now b.name.now b.count ≡ block_of o name (numbered test 0 (lines_of c))
-  end-same = ap (λ p. h.lines ++ ending_of p b.name.now b.count) h.options ∙ ap (λ n. h.lines ++ ending_of o n b.count) h.called ∙ h.whole
+  end-same : h.lines ++ ended ≡ block_of o name (numbered test 0 (lines_of c))
+  end-same = ap (λ p. h.lines ++ (b.text.items ++ ending_of p b.name.now b.count)) h.options ∙ ap (λ n. h.lines ++ (b.text.items ++ ending_of o n b.count)) h.called ∙ h.whole
 
   -- the block that was read, with its end
-  pub finished-cut : (after : Option (List ℕ)) → GrowsFront (output_of now b) after (ending_of b.options.now b.name.now b.count) → GrowsFront before after (block_in o test name (Some c))
-  finished-cut after cut =
-      let ending = ending_of b.options.now b.name.now b.count in
-      subst (GrowsFront before after) (ap (λ t. h.lines ++ t) (append-nil ending) ∙ end-same) (GrowsFront-behind before (output_of now b) after h.lines ending [] h.grown cut)
+  pub finished-cut : (err : Writer) → WritesFront now after ended → IsCut o test name (Some c) before after err err
+  finished-cut err cut = search-cut o test name (Some c) before after err (subst (WritesFront before after) end-same (WritesFront-behind before now after h.lines ended h.written cut))
 
-  pub finished : (after : Output) (is_selected is_error : Bool) (count : ℕ) → Grows (output_of now b) after (ending_of b.options.now b.name.now b.count) → count ≡ b.count → is_selected ≡ nat_lt 0 count → is_error ≡ is_fault end
-      → IsScanned o test name c (record { is_selected = is_selected; is_error = is_error }) before after
-  finished after is_selected is_error count grown same selected error = record {
-    output = subst (Grows before after) end-same (Grows-trans before (output_of now b) after h.lines (ending_of b.options.now b.name.now b.count) h.grown grown);
-    selected = selected ∙ ap (nat_lt 0) same ∙ h.any;
-    error = error ∙ h.error;
-  }
+  finished : Writes now after ended → Writes before after (block_in o test name (Some c))
+  finished all = subst (Writes before after) end-same (Writes-trans before now after h.lines ended h.written all)
 
--- where the block was cut there is no message
-pub search-cut : (o : GrepOptions) (test : List ℕ → Bool) (name : List ℕ) (source : Option Content) (out_old : Output) (out_new err : Option (List ℕ))
-    → GrowsFront out_old out_new (block_in o test name source) → IsCut o test name source out_old out_new err err
-search-cut o test name source out_old out_new err p = record { output = p; messages = AppendsFront-none err (message_in o test name source) }
+  module _ (is_selected is_error : Bool) (err_old err_new : Writer) (all : Writes now after ended) (selected : is_selected ≡ nat_lt 0 b.count) (error : is_error ≡ is_fault end) where
+    same-message : cond (is_error && not o.silent) (unreadable name) [] ≡ message_in o test name (Some c)
+    same-message = ap (λ f. cond (f && not o.silent) (unreadable name) []) (error ∙ h.error)
 
--- the message of an input that was scanned
-same-message : (o : GrepOptions) (test : List ℕ → Bool) (name : List ℕ) (c : Content) (found : Found) {out_old out_new : Output} → IsScanned o test name c found out_old out_new
-    → cond (found.is_error && not o.silent) (unreadable name) [] ≡ message_in o test name (Some c)
-same-message o test name c found p = ap (λ b. cond (b && not o.silent) (unreadable name) []) p.error
+    -- a front of the message was written
+    pub message-cut : WritesFront err_old err_new (cond (is_error && not o.silent) (unreadable name) []) → IsCut o test name (Some c) before after err_old err_new
+    message-cut q = record { output = WritesFront-all before after _ (finished all); messages = subst (WritesFront err_old err_new) same-message q }
 
--- a front of the message was written
-pub search-message-cut : (o : GrepOptions) (test : List ℕ → Bool) (name : List ℕ) (c : Content) (found : Found) (out_old out_mid : Output) (out_new err_old err_new : Option (List ℕ)) → IsScanned o test name c found out_old out_mid
-    → GrowsFront out_mid out_new [] → AppendsFront err_old err_new (cond (found.is_error && not o.silent) (unreadable name) []) → IsCut o test name (Some c) out_old out_new err_old err_new
-search-message-cut o test name c found out_old out_mid out_new err_old err_new p cut q = record {
-  output = subst (GrowsFront out_old out_new) (append-nil (block_in o test name (Some c))) (GrowsFront-behind out_old out_mid out_new (block_in o test name (Some c)) [] [] p.output cut);
-  messages = subst (AppendsFront err_old err_new) (same-message o test name c found p) q;
-}
-
--- the message was written, if there is one
-pub search-message : (o : GrepOptions) (test : List ℕ → Bool) (name : List ℕ) (c : Content) (found : Found) (out_old out_mid out_new : Output) (err_old err_new : Option (List ℕ)) → IsScanned o test name c found out_old out_mid
-    → Grows out_mid out_new [] → Appends err_old err_new (cond (found.is_error && not o.silent) (unreadable name) []) → IsSearched o test name (Some c) found out_old out_new err_old err_new
-search-message o test name c found out_old out_mid out_new err_old err_new p grown q = record {
-  output = Grows-kept out_old out_mid out_new (block_in o test name (Some c)) p.output grown;
-  messages = subst (Appends err_old err_new) (same-message o test name c found p) q;
-  selected = p.selected;
-  error = p.error;
-}
+    -- the message was written, if there is one
+    pub message-whole : Writes err_old err_new (cond (is_error && not o.silent) (unreadable name) []) → IsSearched o test name (Some c) (record { is_selected = is_selected; is_error = is_error }) before after err_old err_new
+    message-whole q = record { output = finished all; messages = subst (Writes err_old err_new) same-message q; selected = selected ∙ h.any; error = error ∙ h.error }

@@ -1,149 +1,136 @@
 -- Inputs one after another: what is written, what is found, and what is asked for.
-use Rattle.std.proofs.Common.{◌≡◌, ℕ, ◌+◌, ◌<◌, String, string_bytes, length, get_or, drop, Bool, true, false, ◌||◌, ◌&&◌, cond, List, [], ◌∷◌, ◌++◌, map, flat_map, Option, refl, sym, ap, ◌∙◌, subst, append_assoc, append-nil}
-use Rattle.std.specs.List.{list_any}
-use Rattle.std.proofs.Math.Bool.{or-false, or_assoc}
-use Rattle.std.proofs.lemmas.List.{drop_more}
-use Rattle.std.specs.Io.KnownBytes.{Appends}
-use Rattle.std.proofs.KnownBytes.{Appends-nil, Appends-trans}
-use Rattle.byte_io.specs.Devices.{Told}
+use Rattle.std.proofs.Common.{◌≡◌, ℕ, ◌+◌, ◌<◌, String, string_bytes, length, get_or, drop, Bool, true, false, ◌||◌, ◌&&◌, cond, List, [], ◌∷◌, ◌++◌, map, flat_map, Option, Result, refl, sym, ap, ◌∙◌, subst, append_assoc, append-nil, arith}
 use Rattle.byte_io.specs.Sources.{AreShort, Ask, Sources, after, after_all, ask_of, taken_by}
+use Rattle.std.specs.List.{list_any}
+use Rattle.std.proofs.Math.Bool.{or-false}
+use Rattle.std.proofs.lemmas.List.{drop_more, map-append}
+use Rattle.std.proofs.lemmas.List.Concat.{flat_map-append}
+use Rattle.std.proofs.lemmas.List.Folds.{list_any-append}
+use Rattle.byte_io.specs.Devices.{Told}
 use Rattle.byte_io.proofs.ToldLemmas.{Told-none, Told-then}
-use Rattle.byte_io.proofs.OpenerLemmas.{after_all-one, short-after}
 use Rattle.grep_run.specs.declared.options.GrepOptions.{GrepOptions}
-use Rattle.grep_run.specs.declared.scanning.Found.{Found}
+use Rattle.grep_run.specs.declared.request.Found.{Found}
+use Rattle.grep_run.specs.declared.request.Request.{Request}
+use Rattle.grep_run.specs.declared.status.Stop.{Stop}
 use Rattle.grep_run.specs.Blocks.{block, block_in, has_selected, is_error, message, message_in}
-use Rattle.grep_run.specs.Fronts.{AppendsFront}
 use Rattle.grep_run.specs.Grep.{answer_to, asks, searched}
-use Rattle.grep_run.specs.Outputs.{Grows, GrowsFront, Output}
-use Rattle.grep_run.specs.Running.{AsksFront}
-use Rattle.grep_run.specs.Searching.{AreCut, AreSearched, IsCut, IsSearched}
+use Rattle.grep_run.specs.Searching.{AreSearched, IsCut, IsSearched, SearchesAsk, StopsAt}
 use Rattle.grep_run.specs.Sources.{Input, found, name_of}
-use Rattle.grep_run.proofs.FrontLemmas.{AppendsFront-behind}
-use Rattle.grep_run.proofs.OutputLemmas.{Grows-nil, Grows-trans, GrowsFront-behind}
+use Rattle.grep_run.specs.Writers.{Writer, Writes, WritesFront}
+use Rattle.byte_io.proofs.OpenerLemmas.{after_all-one, short-after}
+use Rattle.grep_run.proofs.WriterLemmas.{Writes-nil, Writes-trans, WritesFront-none}
 
--- the asks before those that are left are made, and their inputs searched
-pub record InputsSoFar (o : GrepOptions) (test : List ℕ → Bool) (all rest : List Ask) (s left : Sources) (is_selected has_error : Bool) (out_old out_new : Output) (err_old err_new : Option (List ℕ)) : Type 0 where
-  pub written : List ℕ
-  pub output : flat_map (block o test) (searched o test (found all s)) ≡ written ++ flat_map (block o test) (searched o test (found rest left))
-  pub out_grown : Grows out_old out_new written
-  pub told : List ℕ
-  pub messages : flat_map (message o test) (searched o test (found all s)) ≡ told ++ flat_map (message o test) (searched o test (found rest left))
-  pub err_grown : Appends err_old err_new told
-  pub selected : list_any (has_selected test) (searched o test (found all s)) ≡ (is_selected || list_any (has_selected test) (searched o test (found rest left)))
-  pub error : list_any (is_error o test) (searched o test (found all s)) ≡ (has_error || list_any (is_error o test) (searched o test (found rest left)))
-  pub made : List Ask
-  pub front : asks (searched o test (found all s)) ≡ made ++ asks (searched o test (found rest left))
-  pub after : left ≡ after_all made s
+-- what one input more gives
+flat_map-one : {X : Type 0} (f : X → List ℕ) (xs : List X) (x : X) → flat_map f (xs ++ x ∷ []) ≡ flat_map f xs ++ f x
+flat_map-one f xs x = flat_map-append f xs (x ∷ []) ∙ ap (λ t. flat_map f xs ++ t) (append-nil (f x))
+
+list_any-one : {X : Type 0} (p : X → Bool) (xs : List X) (x : X) → list_any p (xs ++ x ∷ []) ≡ (list_any p xs || p x)
+list_any-one p xs x = list_any-append p xs (x ∷ []) ∙ ap (λ b. list_any p xs || b) (or-false (p x))
+
+-- the asks before those that are left are made, and these inputs, which they found, are searched
+pub record InputsSoFar (o : GrepOptions) (test : List ℕ → Bool) (all rest : List Ask) (s left : Sources) (what : Found) (out_old out_new err_old err_new : Writer) : Type 0 where
+  pub done : List Input
+  pub front : searched o test (found all s) ≡ done ++ searched o test (found rest left)
+  pub asked : left ≡ after_all (asks done) s
   pub short : AreShort left
+  pub so_far : AreSearched (answer_to o test done) what out_old out_new err_old err_new
 
 -- at first none is
-pub InputsSoFar-none : (o : GrepOptions) (test : List ℕ → Bool) (all : List Ask) (s : Sources) (out : Output) (err : Option (List ℕ)) → AreShort s
-    → InputsSoFar o test all all s s false false out out err err
-InputsSoFar-none o test all s out err short = record {
-  written = [];
-  output = refl;
-  out_grown = Grows-nil out;
-  told = [];
-  messages = refl;
-  err_grown = Appends-nil err;
-  selected = refl;
-  error = refl;
-  made = [];
+pub InputsSoFar-none : (o : GrepOptions) (test : List ℕ → Bool) (all : List Ask) (s : Sources) (what : Found) (out err : Writer) → what.is_selected ≡ false → what.is_error ≡ false → AreShort s
+    → InputsSoFar o test all all s s what out out err err
+InputsSoFar-none o test all s what out err selected error short = record {
+  done = [];
   front = refl;
-  after = refl;
+  asked = refl;
   short = short;
+  so_far = record { output = Writes-nil out; messages = Writes-nil err; selected = selected; error = error };
 }
 
--- an input that is not the last
-pub InputsSoFar-more : {o : GrepOptions} {test : List ℕ → Bool} {all : List Ask} {s mid : Sources} {is_selected has_error : Bool} {out_old out_mid : Output} {err_old err_mid : Option (List ℕ)}
-    (ask : Ask) (rest : List Ask) (left : Sources) (one : Found) (out_new : Output) (err_new : Option (List ℕ))
-    → InputsSoFar o test all (ask ∷ rest) s mid is_selected has_error out_old out_mid err_old err_mid → left ≡ after ask mid
-    → IsSearched o test (name_of ask) (taken_by ask mid) one out_mid out_new err_mid err_new → (o.quiet && one.is_selected) ≡ false
-    → InputsSoFar o test all rest s left (is_selected || one.is_selected) (has_error || one.is_error) out_old out_new err_old err_new
-InputsSoFar-more {o} {test} {all} {s} {mid} {is_selected} {has_error} {out_old} {out_mid} {err_old} {err_mid} ask rest left one out_new err_new p e q goes =
-    let next : Input = record { ask = ask; source = taken_by ask mid } in
-    let behind : List Input = searched o test (found rest (after ask mid)) in
-    let ends : (o.quiet && has_selected test next) ≡ false = ap (λ b. o.quiet && b) (sym q.selected) ∙ goes in
-    let here : searched o test (found (ask ∷ rest) mid) ≡ next ∷ behind = ap (λ b. next ∷ cond b [] behind) ends in
-    let there : behind ≡ searched o test (found rest left) = ap (λ m. searched o test (found rest m)) (sym e) in
-    let block_here : List ℕ = block_in o test (name_of ask) (taken_by ask mid) in
-    let message_here : List ℕ = message_in o test (name_of ask) (taken_by ask mid) in
-    record {
-      written = p.written ++ block_here;
-      output = p.output ∙ ap (λ is. p.written ++ flat_map (block o test) is) here ∙ sym (append_assoc p.written block_here (flat_map (block o test) behind)) ∙ ap (λ is. (p.written ++ block_here) ++ flat_map (block o test) is) there;
-      out_grown = Grows-trans out_old out_mid out_new p.written block_here p.out_grown q.output;
-      told = p.told ++ message_here;
-      messages = p.messages ∙ ap (λ is. p.told ++ flat_map (message o test) is) here ∙ sym (append_assoc p.told message_here (flat_map (message o test) behind)) ∙ ap (λ is. (p.told ++ message_here) ++ flat_map (message o test) is) there;
-      err_grown = Appends-trans err_old err_mid err_new p.told message_here p.err_grown q.messages;
-      selected = p.selected ∙ ap (λ is. is_selected || list_any (has_selected test) is) here ∙ ap (λ b. is_selected || (b || list_any (has_selected test) behind)) (sym q.selected)
-          ∙ sym (or_assoc is_selected one.is_selected _) ∙ ap (λ is. (is_selected || one.is_selected) || list_any (has_selected test) is) there;
-      error = p.error ∙ ap (λ is. has_error || list_any (is_error o test) is) here ∙ ap (λ b. has_error || (b || list_any (is_error o test) behind)) (sym q.error)
-          ∙ sym (or_assoc has_error one.is_error _) ∙ ap (λ is. (has_error || one.is_error) || list_any (is_error o test) is) there;
-      made = p.made ++ ask ∷ [];
-      front = p.front ∙ ap (λ is. p.made ++ asks is) here ∙ sym (append_assoc p.made (ask ∷ []) (asks behind)) ∙ ap (λ is. (p.made ++ ask ∷ []) ++ asks is) there;
-      after = e ∙ ap (after ask) p.after ∙ sym (after_all-one p.made ask s);
-      short = subst AreShort (sym e) (short-after ask mid p.short);
+module _ {o : GrepOptions} {test : List ℕ → Bool} {all : List Ask} {s mid : Sources} {what : Found} {out_old out_mid err_old err_mid : Writer} (ask : Ask) (rest : List Ask) (left : Sources)
+    (p : InputsSoFar o test all (ask ∷ rest) s mid what out_old out_mid err_old err_mid) (e : left ≡ after ask mid) where
+  -- what the next ask finds
+  abbrev next : Input
+  next = record { ask = ask; source = taken_by ask mid }
+
+  -- what those after it find, if they are made
+  abbrev behind : List Input
+  behind = searched o test (found rest (after ask mid))
+
+  -- and with it all asks so far
+  asked-one : left ≡ after_all (asks (p.done ++ next ∷ [])) s
+  asked-one =
+      e ∙ ap (after ask) p.asked ∙ sym (after_all-one (asks p.done) ask s)
+      ∙ ap (λ made. after_all made s) (sym (map-append (λ (i : Input). i.ask) p.done (next ∷ [])))
+
+  module _ (one more : Found) (out_new err_new : Writer) (q : IsSearched o test (name_of ask) (taken_by ask mid) one out_mid out_new err_mid err_new)
+      (selected : more.is_selected ≡ (what.is_selected || one.is_selected)) (error : more.is_error ≡ (what.is_error || one.is_error)) where
+    so_far-one : AreSearched (answer_to o test (p.done ++ next ∷ [])) more out_old out_new err_old err_new
+    so_far-one = record {
+      output = subst (Writes out_old out_new) (sym (flat_map-one (block o test) p.done next)) (Writes-trans out_old out_mid out_new (flat_map (block o test) p.done) (block o test next) p.so_far.output q.output);
+      messages = subst (Writes err_old err_new) (sym (flat_map-one (message o test) p.done next)) (Writes-trans err_old err_mid err_new (flat_map (message o test) p.done) (message o test next) p.so_far.messages q.messages);
+      selected = selected ∙ ap (λ b. b || one.is_selected) p.so_far.selected ∙ ap (λ b. list_any (has_selected test) p.done || b) q.selected ∙ sym (list_any-one (has_selected test) p.done next);
+      error = error ∙ ap (λ b. b || one.is_error) p.so_far.error ∙ ap (λ b. list_any (is_error o test) p.done || b) q.error ∙ sym (list_any-one (is_error o test) p.done next);
     }
 
+    -- an input that is not the last
+    pub InputsSoFar-more : (o.quiet && one.is_selected) ≡ false → InputsSoFar o test all rest s left more out_old out_new err_old err_new
+    InputsSoFar-more goes =
+        let ends : (o.quiet && has_selected test next) ≡ false = ap (λ b. o.quiet && b) (sym q.selected) ∙ goes in
+        let here : searched o test (found (ask ∷ rest) mid) ≡ next ∷ behind = ap (λ b. next ∷ cond b [] behind) ends in
+        let there : behind ≡ searched o test (found rest left) = ap (λ m. searched o test (found rest m)) (sym e) in
+        record {
+          done = p.done ++ next ∷ [];
+          front = p.front ∙ ap (λ is. p.done ++ is) here ∙ sym (append_assoc p.done (next ∷ []) behind) ∙ ap (λ is. (p.done ++ next ∷ []) ++ is) there;
+          asked = asked-one;
+          short = subst AreShort (sym e) (short-after ask mid p.short);
+          so_far = so_far-one;
+        }
+
+    -- under -q a selected line makes its input the last
+    pub InputsSoFar-last : (o.quiet && one.is_selected) ≡ true
+        → (left ≡ after_all (asks (searched o test (found all s))) s) × AreSearched (answer_to o test (searched o test (found all s))) more out_old out_new err_old err_new
+    InputsSoFar-last ends =
+        let stops : (o.quiet && has_selected test next) ≡ true = ap (λ b. o.quiet && b) (sym q.selected) ∙ ends in
+        let here : searched o test (found all s) ≡ p.done ++ next ∷ [] = p.front ∙ ap (λ b. p.done ++ (next ∷ cond b [] behind)) stops in (
+          asked-one ∙ ap (λ is. after_all (asks is) s) (sym here),
+          subst (λ is. AreSearched (answer_to o test is) more out_old out_new err_old err_new) (sym here) so_far-one,
+        )
+
+  -- where it is cut, fronts of both its texts are written
+  pub InputsSoFar-cut : (out_new err_new : Writer) → IsCut o test (name_of ask) (taken_by ask mid) out_mid out_new err_mid err_new → StopsAt o test (searched o test (found all s)) s left out_old out_new err_old err_new
+  InputsSoFar-cut out_new err_new q = record {
+    done = p.done;
+    last = next ∷ [];
+    rest = cond (o.quiet && has_selected test next) [] behind;
+    parts = p.front;
+    one = omega arith;
+    asked = asked-one;
+    output = record { between = out_mid; whole = p.so_far.output; front = subst (WritesFront out_mid out_new) (sym (append-nil (block o test next))) q.output };
+    messages = record { between = err_mid; whole = p.so_far.messages; front = subst (WritesFront err_mid err_new) (sym (append-nil (message o test next))) q.messages };
+  }
+
 -- where no input is left, all are searched
-pub InputsSoFar-all : {o : GrepOptions} {test : List ℕ → Bool} {all : List Ask} {s left : Sources} {out_old out_new : Output} {err_old err_new : Option (List ℕ)} (what : Found)
-    → InputsSoFar o test all [] s left what.is_selected what.is_error out_old out_new err_old err_new
-    → (left ≡ after_all (asks (searched o test (found all s))) s) × AreSearched o (answer_to o test (searched o test (found all s))) what out_old out_new err_old err_new
-InputsSoFar-all {o} {test} {all} {s} {left} {out_old} {out_new} {err_old} {err_new} what p = (
-  p.after ∙ ap (λ made. after_all made s) (sym (p.front ∙ append-nil p.made)),
-  record {
-    output = subst (Grows out_old out_new) (sym (p.output ∙ append-nil p.written)) p.out_grown;
-    messages = subst (Appends err_old err_new) (sym (p.messages ∙ append-nil p.told)) p.err_grown;
-    selected = sym (p.selected ∙ or-false what.is_selected);
-    error = sym (p.error ∙ or-false what.is_error);
-  },
-)
-
--- under -q a selected line makes its input the last
-pub InputsSoFar-last : {o : GrepOptions} {test : List ℕ → Bool} {all : List Ask} {s mid : Sources} {is_selected has_error : Bool} {out_old out_mid : Output} {err_old err_mid : Option (List ℕ)}
-    (ask : Ask) (rest : List Ask) (left : Sources) (one what : Found) (out_new : Output) (err_new : Option (List ℕ))
-    → InputsSoFar o test all (ask ∷ rest) s mid is_selected has_error out_old out_mid err_old err_mid → left ≡ after ask mid
-    → IsSearched o test (name_of ask) (taken_by ask mid) one out_mid out_new err_mid err_new → (o.quiet && one.is_selected) ≡ true
-    → what.is_selected ≡ (is_selected || one.is_selected) → what.is_error ≡ (has_error || one.is_error)
-    → (left ≡ after_all (asks (searched o test (found all s))) s) × AreSearched o (answer_to o test (searched o test (found all s))) what out_old out_new err_old err_new
-InputsSoFar-last {o} {test} {all} {s} {mid} {is_selected} {has_error} {out_old} {out_mid} {err_old} {err_mid} ask rest left one what out_new err_new p e q ends selected error =
-    let next : Input = record { ask = ask; source = taken_by ask mid } in
-    let behind : List Input = searched o test (found rest (after ask mid)) in
-    let stops : (o.quiet && has_selected test next) ≡ true = ap (λ b. o.quiet && b) (sym q.selected) ∙ ends in
-    let here : searched o test (found (ask ∷ rest) mid) ≡ next ∷ [] = ap (λ b. next ∷ cond b [] behind) stops in
-    let block_here : List ℕ = block_in o test (name_of ask) (taken_by ask mid) in
-    let message_here : List ℕ = message_in o test (name_of ask) (taken_by ask mid) in (
-      e ∙ ap (after ask) p.after ∙ sym (after_all-one p.made ask s) ∙ ap (λ made. after_all made s) (sym (p.front ∙ ap (λ is. p.made ++ asks is) here)),
-      record {
-        output = subst (Grows out_old out_new) (sym (p.output ∙ ap (λ is. p.written ++ flat_map (block o test) is) here ∙ ap (λ t. p.written ++ t) (append-nil block_here)))
-            (Grows-trans out_old out_mid out_new p.written block_here p.out_grown q.output);
-        messages = subst (Appends err_old err_new) (sym (p.messages ∙ ap (λ is. p.told ++ flat_map (message o test) is) here ∙ ap (λ t. p.told ++ t) (append-nil message_here)))
-            (Appends-trans err_old err_mid err_new p.told message_here p.err_grown q.messages);
-        selected = selected ∙ ap (λ b. is_selected || b) (q.selected ∙ sym (or-false (has_selected test next))) ∙ sym (p.selected ∙ ap (λ is. is_selected || list_any (has_selected test) is) here);
-        error = error ∙ ap (λ b. has_error || b) (q.error ∙ sym (or-false (is_error o test next))) ∙ sym (p.error ∙ ap (λ is. has_error || list_any (is_error o test) is) here);
-      },
+pub InputsSoFar-all : {o : GrepOptions} {test : List ℕ → Bool} {all : List Ask} {s left : Sources} {out_old out_new err_old err_new : Writer} (what : Found)
+    → InputsSoFar o test all [] s left what out_old out_new err_old err_new
+    → (left ≡ after_all (asks (searched o test (found all s))) s) × AreSearched (answer_to o test (searched o test (found all s))) what out_old out_new err_old err_new
+InputsSoFar-all {o} {test} {all} {s} {left} {out_old} {out_new} {err_old} {err_new} what p =
+    let here : searched o test (found all s) ≡ p.done = p.front ∙ append-nil p.done in (
+      p.asked ∙ ap (λ is. after_all (asks is) s) (sym here),
+      subst (λ is. AreSearched (answer_to o test is) what out_old out_new err_old err_new) (sym here) p.so_far,
     )
 
--- where it is cut, fronts of both texts are written
-pub InputsSoFar-cut : {o : GrepOptions} {test : List ℕ → Bool} {all : List Ask} {s mid : Sources} {is_selected has_error : Bool} {out_old out_mid : Output} {err_old err_mid : Option (List ℕ)}
-    (ask : Ask) (rest : List Ask) (left : Sources) (out_new err_new : Option (List ℕ))
-    → InputsSoFar o test all (ask ∷ rest) s mid is_selected has_error out_old out_mid err_old err_mid → left ≡ after ask mid
-    → IsCut o test (name_of ask) (taken_by ask mid) out_mid out_new err_mid err_new
-    → AsksFront (asks (searched o test (found all s))) s left × AreCut (answer_to o test (searched o test (found all s))) out_old out_new err_old err_new
-InputsSoFar-cut {o} {test} {all} {s} {mid} {is_selected} {has_error} {out_old} {out_mid} {err_old} {err_mid} ask rest left out_new err_new p e q =
-    let next : Input = record { ask = ask; source = taken_by ask mid } in
-    let more : List Input = cond (o.quiet && has_selected test next) [] (searched o test (found rest (after ask mid))) in (
-      record {
-        made = p.made ++ ask ∷ [];
-        rest = asks more;
-        parts = p.front ∙ sym (append_assoc p.made (ask ∷ []) (asks more));
-        after = e ∙ ap (after ask) p.after ∙ sym (after_all-one p.made ask s);
-      },
-      record {
-        output = subst (GrowsFront out_old out_new) (sym p.output) (GrowsFront-behind out_old out_mid out_new p.written (block_in o test (name_of ask) (taken_by ask mid)) (flat_map (block o test) more) p.out_grown q.output);
-        messages = subst (AppendsFront err_old err_new) (sym p.messages) (AppendsFront-behind err_mid err_new p.told (flat_map (message o test) more) p.err_grown q.messages);
-      },
-    )
+-- where nothing is asked for, nothing is written
+pub StopsAt-none : (o : GrepOptions) (test : List ℕ → Bool) (inputs : List Input) (s : Sources) (out err : Writer) → StopsAt o test inputs s s out out err err
+StopsAt-none o test inputs s out err = record {
+  done = [];
+  last = [];
+  rest = inputs;
+  parts = refl;
+  one = omega arith;
+  asked = refl;
+  output = record { between = out; whole = Writes-nil out; front = WritesFront-none out [] };
+  messages = record { between = err; whole = Writes-nil err; front = WritesFront-none err [] };
+}
 
 -- the asks for the operands from a place on
 pub operands-at : {Z : Type 0} (operands items : List (String Z)) (place : ℕ) (operand : String Z) (text : List ℕ) → items ≡ operands → place < length items → operand ≡ get_or items place operand → text ≡ string_bytes operand
@@ -153,43 +140,49 @@ operands-at operands items place operand text e inside there same =
     ap (λ fs. map ask_of (map string_bytes fs)) (drop_more operands place operand (subst (λ xs. place < length xs) e inside))
     ∙ ap (λ n. ask_of n ∷ map ask_of (map string_bytes (drop (place + 1) operands))) (sym (same ∙ ap string_bytes at))
 
-module _ (o : GrepOptions) (test : List ℕ → Bool) (known mid left : Option Sources) (all here rest : List Ask) (ask : Ask) (so : Found)
-    (out_old out_mid out_new : Output) (err_old err_mid err_new : Option (List ℕ)) (e : here ≡ ask ∷ rest)
-    (before : Told known mid (λ s m. AreShort s → InputsSoFar o test all here s m so.is_selected so.is_error out_old out_mid err_old err_mid)) where
+module _ (o : GrepOptions) (test : List ℕ → Bool) (known mid left : Option Sources) (all here rest : List Ask) (ask : Ask) (what : Found)
+    (out_old out_mid out_new err_old err_mid err_new : Writer) (e : here ≡ ask ∷ rest)
+    (before : Told known mid (λ s m. AreShort s → InputsSoFar o test all here s m what out_old out_mid err_old err_mid)) where
   -- the state before the next ask
-  so_far : (s m : Sources) → InputsSoFar o test all here s m so.is_selected so.is_error out_old out_mid err_old err_mid → InputsSoFar o test all (ask ∷ rest) s m so.is_selected so.is_error out_old out_mid err_old err_mid
-  so_far s m p = subst (λ asks. InputsSoFar o test all asks s m so.is_selected so.is_error out_old out_mid err_old err_mid) e p
+  so_far : (s m : Sources) → InputsSoFar o test all here s m what out_old out_mid err_old err_mid → InputsSoFar o test all (ask ∷ rest) s m what out_old out_mid err_old err_mid
+  so_far s m p = subst (λ asks. InputsSoFar o test all asks s m what out_old out_mid err_old err_mid) e p
 
   -- the loop goes on
-  pub inputs-more : (one what : Found) → Told mid left (λ m l. AreShort m → (l ≡ after ask m) × IsSearched o test (name_of ask) (taken_by ask m) one out_mid out_new err_mid err_new)
-      → (o.quiet && one.is_selected) ≡ false → what.is_selected ≡ (so.is_selected || one.is_selected) → what.is_error ≡ (so.is_error || one.is_error)
-      → Told known left (λ s l. AreShort s → InputsSoFar o test all rest s l what.is_selected what.is_error out_old out_new err_old err_new)
-  inputs-more one what step goes selected error =
-      Told-then known mid left _ _ (λ s l. AreShort s → InputsSoFar o test all rest s l what.is_selected what.is_error out_old out_new err_old err_new) before step (λ s m l p q short.
+  pub inputs-more : (one more : Found) → Told mid left (λ m l. AreShort m → (l ≡ after ask m) × IsSearched o test (name_of ask) (taken_by ask m) one out_mid out_new err_mid err_new)
+      → (o.quiet && one.is_selected) ≡ false → more.is_selected ≡ (what.is_selected || one.is_selected) → more.is_error ≡ (what.is_error || one.is_error)
+      → Told known left (λ s l. AreShort s → InputsSoFar o test all rest s l more out_old out_new err_old err_new)
+  inputs-more one more step goes selected error =
+      Told-then known mid left _ _ (λ s l. AreShort s → InputsSoFar o test all rest s l more out_old out_new err_old err_new) before step (λ s m l p q short.
       let now = so_far s m (p short) in
       let taken = q now.short in
-      rw (selected, error) (InputsSoFar-more ask rest l one out_new err_new now taken.0 taken.1 goes))
+      InputsSoFar-more ask rest l now taken.0 one more out_new err_new taken.1 selected error goes)
 
   -- it ends under -q
-  pub inputs-last : (one what : Found) → Told mid left (λ m l. AreShort m → (l ≡ after ask m) × IsSearched o test (name_of ask) (taken_by ask m) one out_mid out_new err_mid err_new)
-      → (o.quiet && one.is_selected) ≡ true → what.is_selected ≡ (so.is_selected || one.is_selected) → what.is_error ≡ (so.is_error || one.is_error)
-      → Told known left (λ s l. AreShort s → (l ≡ after_all (asks (searched o test (found all s))) s) × AreSearched o (answer_to o test (searched o test (found all s))) what out_old out_new err_old err_new)
-  inputs-last one what step ends selected error =
-      Told-then known mid left _ _ (λ s l. AreShort s → (l ≡ after_all (asks (searched o test (found all s))) s) × AreSearched o (answer_to o test (searched o test (found all s))) what out_old out_new err_old err_new) before step (λ s m l p q short.
+  pub inputs-last : (one more : Found) → Told mid left (λ m l. AreShort m → (l ≡ after ask m) × IsSearched o test (name_of ask) (taken_by ask m) one out_mid out_new err_mid err_new)
+      → (o.quiet && one.is_selected) ≡ true → more.is_selected ≡ (what.is_selected || one.is_selected) → more.is_error ≡ (what.is_error || one.is_error)
+      → Told known left (λ s l. AreShort s → (l ≡ after_all (asks (searched o test (found all s))) s) × AreSearched (answer_to o test (searched o test (found all s))) more out_old out_new err_old err_new)
+  inputs-last one more step ends selected error =
+      Told-then known mid left _ _ (λ s l. AreShort s → (l ≡ after_all (asks (searched o test (found all s))) s) × AreSearched (answer_to o test (searched o test (found all s))) more out_old out_new err_old err_new) before step (λ s m l p q short.
       let now = so_far s m (p short) in
       let taken = q now.short in
-      InputsSoFar-last ask rest l one what out_new err_new now taken.0 taken.1 ends selected error)
+      InputsSoFar-last ask rest l now taken.0 one more out_new err_new taken.1 selected error ends)
 
   -- it stops
-  pub inputs-cut : Told mid left (λ m l. AreShort m → (l ≡ after ask m) × IsCut o test (name_of ask) (taken_by ask m) out_mid out_new.written err_mid err_new)
-      → Told known left (λ s l. AreShort s → AsksFront (asks (searched o test (found all s))) s l × AreCut (answer_to o test (searched o test (found all s))) out_old out_new.written err_old err_new)
+  pub inputs-cut : Told mid left (λ m l. AreShort m → (l ≡ after ask m) × IsCut o test (name_of ask) (taken_by ask m) out_mid out_new err_mid err_new)
+      → Told known left (λ s l. AreShort s → StopsAt o test (searched o test (found all s)) s l out_old out_new err_old err_new)
   inputs-cut step =
-      Told-then known mid left _ _ (λ s l. AreShort s → AsksFront (asks (searched o test (found all s))) s l × AreCut (answer_to o test (searched o test (found all s))) out_old out_new.written err_old err_new) before step (λ s m l p q short.
+      Told-then known mid left _ _ (λ s l. AreShort s → StopsAt o test (searched o test (found all s)) s l out_old out_new err_old err_new) before step (λ s m l p q short.
       let now = so_far s m (p short) in
       let taken = q now.short in
-      InputsSoFar-cut ask rest l out_new.written err_new now taken.0 taken.1)
+      InputsSoFar-cut ask rest l now taken.0 out_new err_new taken.1)
 
 -- at first no input is searched
-pub inputs-none : (o : GrepOptions) (test : List ℕ → Bool) (known : Option Sources) (all : List Ask) (out : Output) (err : Option (List ℕ))
-    → Told known known (λ s l. AreShort s → InputsSoFar o test all all s l false false out out err err)
-inputs-none o test known all out err = Told-none known (λ s l. AreShort s → InputsSoFar o test all all s l false false out out err err) (λ s short. InputsSoFar-none o test all s out err short)
+pub inputs-none : (o : GrepOptions) (test : List ℕ → Bool) (known : Option Sources) (all : List Ask) (what : Found) (out err : Writer) → what.is_selected ≡ false → what.is_error ≡ false
+    → Told known known (λ s l. AreShort s → InputsSoFar o test all all s l what out out err err)
+inputs-none o test known all what out err selected error =
+    Told-none known (λ s l. AreShort s → InputsSoFar o test all all s l what out out err err) (λ s short. InputsSoFar-none o test all s what out err selected error short)
+
+-- a searcher that keeps its request searches by it
+pub at-request : (known left : Option Sources) (r kept : Request) (ask : Ask) (result : Result Found Stop) (out_old out_new err_old err_new : Writer) → kept ≡ r
+    → Told known left (SearchesAsk kept ask result out_old out_new err_old err_new) → Told known left (SearchesAsk r ask result out_old out_new err_old err_new)
+at-request known left r kept ask result out_old out_new err_old err_new same p = subst (λ request. Told known left (SearchesAsk request ask result out_old out_new err_old err_new)) same p

@@ -1,20 +1,18 @@
 -- What gathering patterns answers, against the patterns and the messages of pattern files.
 use Rattle.std.specs.Prelude.{◌≡◌, ◌≢◌, ℕ, List, [], ◌++◌, flat_map, Option, Some, None, Result, Ok, Err}
-use Rattle.std.specs.Io.KnownBytes.{Appends}
 use Rattle.byte_io.specs.Sources.{Content, Sources, after_all}
 use Rattle.lit_base.specs.declared.fault.Fault.TheVariants.{OutOfMemory}
 use Rattle.line_pick.specs.Matching.{StandsFor}
-use Rattle.grep_run.specs.declared.needles.Needles.{Needles}
+use Rattle.grep_run.specs.declared.compiled_patterns.CompiledPatterns.{CompiledPatterns}
 use Rattle.grep_run.specs.declared.options.GrepOptions.{GrepOptions}
 use Rattle.grep_run.specs.declared.patterns.NoPatterns.{NoPatterns}
 use Rattle.grep_run.specs.declared.patterns.NoPatterns.TheVariants.{Unreadable, Refused}
 use Rattle.grep_run.specs.declared.status.Stop.{Stop}
-use Rattle.grep_run.specs.Fronts.{AppendsFront}
-use Rattle.grep_run.specs.Grep.{asks, behind_files}
+use Rattle.grep_run.specs.Grep.{AsksFront, asks, behind_files}
 use Rattle.grep_run.specs.Messages.{patterns_refused, unreadable}
-use Rattle.grep_run.specs.Patterns.{content_message, files_asked, files_message, files_read, patterns_from, patterns_message, patterns_of}
-use Rattle.grep_run.specs.Running.{AsksFront}
+use Rattle.grep_run.specs.Patterns.{content_message, files_asked, files_message, files_read, patterns_from, patterns_message, all_patterns}
 use Rattle.grep_run.specs.Sources.{Input}
+use Rattle.grep_run.specs.Writers.{Writer, Writes, WritesFront}
 
 -- the message is on this, or memory ran out before
 abbrev pub Explains : NoPatterns → Option (List ℕ) → Type 0
@@ -42,9 +40,9 @@ TakesFiles old new s left files (Ok _) = TakesAllFiles old new s left files
 TakesFiles old new s left files (Err why) = StopsAtFile old s left files why
 
 -- all patterns of the options: what stands for them is had, or a message says why not
-pub record HasPatterns (o : GrepOptions) (s left : Sources) (needles : Needles) : Type 0 where
+pub record HasPatterns (o : GrepOptions) (s left : Sources) (compiled : CompiledPatterns) : Type 0 where
   pub message : patterns_message o s ≡ None
-  pub stands : StandsFor o.fold (patterns_of o s) needles.plan needles.has_empty
+  pub stands : StandsFor o.fold (all_patterns o s) compiled.plan compiled.has_empty
   pub after : left ≡ behind_files o s
 
 pub record LacksPatterns (o : GrepOptions) (s left : Sources) (why : NoPatterns) : Type 0 where
@@ -52,8 +50,8 @@ pub record LacksPatterns (o : GrepOptions) (s left : Sources) (why : NoPatterns)
   pub front : AsksFront (asks (files_asked o s)) s left
   pub after : why ≢ Refused OutOfMemory → left ≡ behind_files o s
 
-abbrev pub TakesPatterns : GrepOptions → Sources → Sources → Result Needles NoPatterns → Type 0
-TakesPatterns o s left (Ok needles) = HasPatterns o s left needles
+abbrev pub TakesPatterns : GrepOptions → Sources → Sources → Result CompiledPatterns NoPatterns → Type 0
+TakesPatterns o s left (Ok compiled) = HasPatterns o s left compiled
 TakesPatterns o s left (Err why) = LacksPatterns o s left why
 
 -- what is written where there are no patterns: the message, or a front of it where that is stopped; nothing for want of memory
@@ -61,14 +59,14 @@ abbrev pub text_of : NoPatterns → List ℕ
 text_of (Unreadable name) = unreadable name.now
 text_of (Refused fault) = patterns_refused fault
 
-pub record IsRefusal (why : NoPatterns) (err_old err_new : Option (List ℕ)) : Type 0 where
+pub record IsRefusal (why : NoPatterns) (err_old err_new : Writer) : Type 0 where
   pub memory : why ≢ Refused OutOfMemory
-  pub told : Appends err_old err_new (text_of why)
+  pub told : Writes err_old err_new (text_of why)
 
-pub record IsRefusalCut (why : NoPatterns) (err_old err_new : Option (List ℕ)) : Type 0 where
-  pub front : AppendsFront err_old err_new (text_of why)
-  pub untold : why ≡ Refused OutOfMemory → Appends err_old err_new []
+pub record IsRefusalCut (why : NoPatterns) (err_old err_new : Writer) : Type 0 where
+  pub front : WritesFront err_old err_new (text_of why)
+  pub untold : why ≡ Refused OutOfMemory → Writes err_old err_new []
 
-abbrev pub Refuses : {T : Type 0} → NoPatterns → Result T Stop → Option (List ℕ) → Option (List ℕ) → Type 0
+abbrev pub Refuses : {T : Type 0} → NoPatterns → Result T Stop → Writer → Writer → Type 0
 Refuses why (Ok _) = IsRefusal why
 Refuses why (Err stop) = IsRefusalCut why

@@ -1,13 +1,13 @@
 -- What grep writes and answers, for options and sources. POSIX.1-2017 `grep`: STDOUT, STDERR, EXIT STATUS and CONSEQUENCES OF ERRORS.
-use Rattle.std.specs.Prelude.{ℕ, ◌&&◌, Bool, true, false, List, [], ◌∷◌, ◌++◌, map, flat_map, if◌then◌else◌, Option, Some, None}
-use Rattle.std.specs.List.{list_any}
+use Rattle.std.specs.Prelude.{◌≡◌, ℕ, ◌&&◌, Bool, true, false, List, [], ◌∷◌, ◌++◌, map, flat_map, if◌then◌else◌, Option, Some, None}
 use Rattle.byte_io.specs.Sources.{Ask, Sources, after_all}
+use Rattle.std.specs.List.{list_any}
 use Rattle.grep_run.specs.declared.options.GrepOptions.{GrepOptions}
 use Rattle.grep_run.specs.declared.status.Status.{Status}
 use Rattle.grep_run.specs.declared.status.Status.TheVariants.{Selected, NoneSelected, Trouble}
 use Rattle.grep_run.specs.Blocks.{block, has_selected, is_error, message, selects}
 use Rattle.grep_run.specs.Options.{searched_of}
-use Rattle.grep_run.specs.Patterns.{files_asked, patterns_message, patterns_of}
+use Rattle.grep_run.specs.Patterns.{files_asked, patterns_message, all_patterns}
 use Rattle.grep_run.specs.Sources.{Input, found}
 
 -- what grep writes, whether a line was selected, and whether there was an error
@@ -60,11 +60,11 @@ behind_files o s = after_all (asks (files_asked o s)) s
 
 -- the inputs of a run whose patterns are had
 abbrev pub inputs_of : GrepOptions → Sources → List Input
-inputs_of o s = searched o (selects o (patterns_of o s)) (found (searched_of o) (behind_files o s))
+inputs_of o s = searched o (selects o (all_patterns o s)) (found (searched_of o) (behind_files o s))
 
 abbrev pub answer_where : Option (List ℕ) → GrepOptions → Sources → Answer
 answer_where (Some text) o s = refused_with text
-answer_where None o s = answer_to o (selects o (patterns_of o s)) (inputs_of o s)
+answer_where None o s = answer_to o (selects o (all_patterns o s)) (inputs_of o s)
 
 -- grep
 abbrev pub grep : GrepOptions → Sources → Answer
@@ -81,3 +81,10 @@ asks_of o s = asks_where (patterns_message o s) o s
 -- the sources that it leaves
 abbrev pub left_of : GrepOptions → Sources → Sources
 left_of o s = after_all (asks_of o s) s
+
+-- some of the asks were made, from their front
+pub record AsksFront (all : List Ask) (s left : Sources) : Type 0 where
+  pub made : List Ask
+  pub rest : List Ask
+  pub parts : all ≡ made ++ rest
+  pub after : left ≡ after_all made s

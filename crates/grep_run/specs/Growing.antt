@@ -29,7 +29,6 @@ pub record IsSameBlock (old new : Block) : Type 0 where
   pub options : new.options.now ≡ old.options.now
   pub name : new.name.now ≡ old.name.now
   pub count : new.count ≡ old.count
-  pub standard : new.is_standard ≡ old.is_standard
 
 -- a line comes to a block: it is counted and added
 pub record AddsLine (old : Block) (number : ℕ) (line : List ℕ) (answer : Next) (new : Block) : Type 0 where
@@ -38,8 +37,6 @@ pub record AddsLine (old : Block) (number : ℕ) (line : List ℕ) (answer : Nex
   pub next : answer ≡ next_of old.options.now
   pub options : new.options.now ≡ old.options.now
   pub name : new.name.now ≡ old.name.now
-  pub standard : new.is_standard ≡ old.is_standard
-  pub come : new.has_come ≡ old.has_come
 
 -- and only memory may fail
 abbrev pub TakesLine : Block → ℕ → List ℕ → Result Next Fault → Block → Type 0

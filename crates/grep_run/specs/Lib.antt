@@ -1,14 +1,14 @@
 pub mod Blocks
-pub mod Fronts
 pub mod Gathering
 pub mod Grep
 pub mod Growing
 pub mod Messages
 pub mod Options
-pub mod Outputs
 pub mod Patterns
+pub mod Requests
 pub mod Running
 pub mod Scanning
 pub mod Searching
 pub mod Sources
 pub mod Statuses
+pub mod Writers

@@ -71,15 +71,15 @@ abbrev pub pattern_files : GrepOptions → Sources → List Input
 pattern_files o s = found (files_of o) s
 
 -- all patterns: those of the lists, and then those of the files
-abbrev pub patterns_of : GrepOptions → Sources → List (List ℕ)
-patterns_of o s = patterns_in (lists_of o) ++ flat_map (λ file. patterns_from file.source) (pattern_files o s)
+abbrev pub all_patterns : GrepOptions → Sources → List (List ℕ)
+all_patterns o s = patterns_in (lists_of o) ++ flat_map (λ file. patterns_from file.source) (pattern_files o s)
 
 -- the message on the patterns: on the first list that is refused, else on the first file that gives none, else on too many literals
 abbrev pub patterns_message : GrepOptions → Sources → Option (List ℕ)
 patterns_message o s =
     first_of (option_map patterns_refused (lists_refusal [] (lists_of o)))
     (first_of (files_message (patterns_in (lists_of o)) (pattern_files o s))
-    (option_map patterns_refused (literals_refusal o.fold (patterns_of o s))))
+    (option_map patterns_refused (literals_refusal o.fold (all_patterns o s))))
 
 -- the pattern files that are asked for: none where a list is refused, else those up to the first that gives no patterns
 abbrev pub files_asked : GrepOptions → Sources → List Input

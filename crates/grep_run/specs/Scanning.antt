@@ -8,22 +8,17 @@ use Rattle.line_pick.specs.Picking.{Picking}
 use Rattle.line_pick.specs.declared.sink.Next.TheVariants.{Stop}
 use Rattle.line_pick.specs.declared.state.State.TheVariants.{Running}
 use Rattle.grep_run.specs.declared.block.Block.{Block}
-use Rattle.grep_run.specs.declared.needles.Needles.{Needles}
 use Rattle.grep_run.specs.declared.options.GrepOptions.{GrepOptions}
-use Rattle.grep_run.specs.declared.scanning.End.{End}
-use Rattle.grep_run.specs.declared.scanning.End.TheVariants.{Clean, Fault}
+use Rattle.grep_run.specs.declared.request.End.{End}
+use Rattle.grep_run.specs.declared.request.End.TheVariants.{Clean, Fault}
 use Rattle.grep_run.specs.declared.status.Stop.{Stop as Halt}
 use Rattle.grep_run.specs.Blocks.{block_in, block_of, has_any, is_trouble, lines_of}
 use Rattle.grep_run.specs.Growing.{added_line, ending_of, next_of}
-use Rattle.grep_run.specs.Outputs.{Grows, GrowsFront, Output, output_of}
-
--- the test for a selected line, by what stands for the patterns
-abbrev pub test_of : GrepOptions → Needles → List ℕ → Bool
-test_of o needles = picks_of needles.plan needles.has_empty (record { invert = o.invert; whole = o.whole })
+use Rattle.grep_run.specs.Writers.{Writer, Writes, WritesFront}
 
 -- the test of a picker
-abbrev pub tested_by : Picking → List ℕ → Bool
-tested_by p = picks_of p.plan p.has_empty p.rule
+abbrev pub picked_by : Picking → List ℕ → Bool
+picked_by p = picks_of p.plan p.has_empty p.rule
 
 -- the selected lines that newlines end in a text
 abbrev pub ended_in : (List ℕ → Bool) → List ℕ → List (ℕ × List ℕ)
@@ -31,40 +26,42 @@ ended_in test text = numbered test 0 (ended_lines text)
 
 -- the picker, with this test, has been fed the text
 pub record HasFed (test : List ℕ → Bool) (text : List ℕ) (p : Picking) : Type 0 where
-  pub tests : tested_by p ≡ test
+  pub tests : picked_by p ≡ test
   pub held : p.held ≡ open_rest text
   pub lines : p.lines ≡ length (ended_lines text)
   pub bytes : p.bytes ≡ length text
   pub state : p.state ≡ Running
 
--- the block has taken these lines, and they are written or held; where none is wanted behind the first, there was none
-pub record HasTaken (o : GrepOptions) (name : List ℕ) (selected : List (ℕ × List ℕ)) (b : Block) (before : Output) (out : Option (List ℕ)) : Type 0 where
+-- the block has taken these lines, and they are written; where none is wanted behind the first, there was none
+pub record HasTaken (o : GrepOptions) (name : List ℕ) (selected : List (ℕ × List ℕ)) (b : Block) (before out : Writer) : Type 0 where
   pub options : b.options.now ≡ o
   pub called : b.name.now ≡ name
   pub count : b.count ≡ min (length selected) (2 ^ 64 - 1)
-  pub grown : Grows before (output_of out b) (flat_map (added_line o name) selected)
+  pub written : Writes before out (flat_map (added_line o name) selected)
+  pub empty : b.text.items ≡ []
   pub unwanted : next_of o ≡ Stop → selected ≡ []
 
 -- the block has taken a line, and none is wanted any more
-pub record IsHalted (o : GrepOptions) (name : List ℕ) (selected : List (ℕ × List ℕ)) (b : Block) (before : Output) (out : Option (List ℕ)) : Type 0 where
+pub record IsHalted (o : GrepOptions) (name : List ℕ) (selected : List (ℕ × List ℕ)) (b : Block) (before out : Writer) : Type 0 where
   pub options : b.options.now ≡ o
   pub called : b.name.now ≡ name
   pub stop : next_of o ≡ Stop
   pub some : 0 < length selected
   pub count : 0 < b.count
-  pub grown : Grows before (output_of out b) []
+  pub written : Writes before out []
+  pub empty : b.text.items ≡ []
 
 -- picker and block stand behind the text
-pub record StandsBehind (o : GrepOptions) (test : List ℕ → Bool) (name text : List ℕ) (p : Picking) (b : Block) (before : Output) (out : Option (List ℕ)) : Type 0 where
+pub record StandsBehind (o : GrepOptions) (test : List ℕ → Bool) (name text : List ℕ) (p : Picking) (b : Block) (before out : Writer) : Type 0 where
   pub fed : HasFed test text p
   pub taken : HasTaken o name (ended_in test text) b before out
 
 -- a piece was fed behind a text: picker and block stand behind both; no line is wanted any more; there are too many bytes; or it was cut
-abbrev pub FeedsPiece : GrepOptions → (List ℕ → Bool) → List ℕ → List ℕ → List ℕ → Result (Option End) Halt → Picking → Block → Output → Option (List ℕ) → Type 0
+abbrev pub FeedsPiece : GrepOptions → (List ℕ → Bool) → List ℕ → List ℕ → List ℕ → Result (Option End) Halt → Picking → Block → Writer → Writer → Type 0
 FeedsPiece o test name text piece (Ok None) p b before out = StandsBehind o test name (text ++ piece) p b before out
 FeedsPiece o test name text piece (Ok (Some Clean)) p b before out = IsHalted o name (ended_in test (text ++ piece)) b before out
 FeedsPiece o test name text piece (Ok (Some Fault)) p b before out = 2 ^ 64 ≤ length text + length piece
-FeedsPiece o test name text piece (Err stop) p b before out = GrowsFront before out (flat_map (added_line o name) (ended_in test (text ++ piece)))
+FeedsPiece o test name text piece (Err stop) p b before out = WritesFront before out (flat_map (added_line o name) (ended_in test (text ++ piece)))
 
 -- whether reading ended in a fault
 abbrev pub is_fault : End → Bool
@@ -72,15 +69,15 @@ is_fault Clean = false
 is_fault Fault = true
 
 -- all lines of a content came that are wanted: what is written and held is the block, but for its end
-pub record HasRead (o : GrepOptions) (test : List ℕ → Bool) (name : List ℕ) (c : Content) (end : End) (b : Block) (before : Output) (out : Option (List ℕ)) : Type 0 where
+pub record HasRead (o : GrepOptions) (test : List ℕ → Bool) (name : List ℕ) (c : Content) (end : End) (b : Block) (before out : Writer) : Type 0 where
   pub options : b.options.now ≡ o
   pub called : b.name.now ≡ name
   pub lines : List ℕ
-  pub whole : lines ++ ending_of o name b.count ≡ block_of o name (numbered test 0 (lines_of c))
-  pub grown : Grows before (output_of out b) lines
+  pub written : Writes before out lines
+  pub whole : lines ++ (b.text.items ++ ending_of o name b.count) ≡ block_of o name (numbered test 0 (lines_of c))
   pub any : nat_lt 0 b.count ≡ has_any (numbered test 0 (lines_of c))
   pub error : is_fault end ≡ is_trouble o test (Some c)
 
-abbrev pub ReadsLines : GrepOptions → (List ℕ → Bool) → List ℕ → Content → Result End Halt → Block → Output → Option (List ℕ) → Type 0
+abbrev pub ReadsLines : GrepOptions → (List ℕ → Bool) → List ℕ → Content → Result End Halt → Block → Writer → Writer → Type 0
 ReadsLines o test name c (Ok end) b before out = HasRead o test name c end b before out
-ReadsLines o test name c (Err stop) b before out = GrowsFront before out (block_in o test name (Some c))
+ReadsLines o test name c (Err stop) b before out = WritesFront before out (block_in o test name (Some c))

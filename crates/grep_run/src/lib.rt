@@ -3,14 +3,15 @@
 #![tactic(auto)]
 
 mod block;
+mod compiled_patterns;
 mod message;
 mod names;
-mod needles;
 mod options;
 mod patterns;
+mod request;
 mod running;
 mod scanning;
-mod searching;
+mod searcher;
 mod status;
 
 pub use byte_io::{Missing, Opener};

@@ -1,8 +1,7 @@
 //! Messages on standard error, each a line behind the program's name.
 ghost use Rattle.std.specs.Prelude.{◌≡◌, ◌||◌, IfOk, OnErr, OnOk, string_bytes};
-ghost use Rattle.std.specs.Io.KnownBytes.{Appends};
-ghost use Rattle.grep_run.specs.Fronts.{AppendsFront, is_write_fault};
 ghost use Rattle.grep_run.specs.Messages.{out_of_memory, patterns_refused, unreadable};
+ghost use Rattle.grep_run.specs.Writers.{Writes, WritesFront, is_write_fault, writer};
 
 use crate::status::Stop;
 use lit_base::{ByteOut, Fault, write_all};
@@ -11,8 +10,8 @@ use std::alloc::{AllocError, Global};
 /// Says that a file cannot be opened or read. After an error some of the message may be written,
 /// from its front.
 pub fn say_unreadable<E: ByteOut>(alloc: Global, name: &str, err: &mut E) -> Result<(), Stop>
-    ensures ok { OnOk result (Appends (E.written err.old) (E.written err.new) (unreadable name.now)) }
-    ensures err { OnErr result (AppendsFront (E.written err.old) (E.written err.new) (unreadable name.now)) }
+    ensures ok { OnOk result (Writes (writer E.written E.has_failed err.old) (writer E.written E.has_failed err.new) (unreadable name.now)) }
+    ensures err { OnErr result (WritesFront (writer E.written E.has_failed err.old) (writer E.written E.has_failed err.new) (unreadable name.now)) }
     ensures flag { E.has_failed err.new ≡ (E.has_failed err.old || is_write_fault result) }
 {
     let text = unreadable_text(alloc, name)?;
@@ -22,8 +21,8 @@ pub fn say_unreadable<E: ByteOut>(alloc: Global, name: &str, err: &mut E) -> Res
 /// Says that the patterns are refused, and by which refusal. After an error some of the message may
 /// be written, from its front.
 pub fn say_refused<E: ByteOut>(alloc: Global, fault: Fault, err: &mut E) -> Result<(), Stop>
-    ensures ok { OnOk result (Appends (E.written err.old) (E.written err.new) (patterns_refused fault)) }
-    ensures err { OnErr result (AppendsFront (E.written err.old) (E.written err.new) (patterns_refused fault)) }
+    ensures ok { OnOk result (Writes (writer E.written E.has_failed err.old) (writer E.written E.has_failed err.new) (patterns_refused fault)) }
+    ensures err { OnErr result (WritesFront (writer E.written E.has_failed err.old) (writer E.written E.has_failed err.new) (patterns_refused fault)) }
     ensures flag { E.has_failed err.new ≡ (E.has_failed err.old || is_write_fault result) }
 {
     let text = refused_text(alloc, fault)?;
@@ -46,8 +45,8 @@ fn refused_text(alloc: Global, fault: Fault) -> Result<String, AllocError>
 /// Says that memory ran out. It takes none itself. After an error some of the message may be
 /// written, from its front.
 pub fn say_out_of_memory<E: ByteOut>(err: &mut E) -> Result<(), Stop>
-    ensures ok { OnOk result (Appends (E.written err.old) (E.written err.new) out_of_memory) }
-    ensures err { OnErr result (AppendsFront (E.written err.old) (E.written err.new) out_of_memory) }
+    ensures ok { OnOk result (Writes (writer E.written E.has_failed err.old) (writer E.written E.has_failed err.new) out_of_memory) }
+    ensures err { OnErr result (WritesFront (writer E.written E.has_failed err.old) (writer E.written E.has_failed err.new) out_of_memory) }
     ensures fault { OnErr result (result ≡ Err Stop.WriteFault) }
     ensures flag { E.has_failed err.new ≡ (E.has_failed err.old || is_write_fault result) }
 {
@@ -56,8 +55,8 @@ pub fn say_out_of_memory<E: ByteOut>(err: &mut E) -> Result<(), Stop>
 
 /// Writes the whole text. After an error some of it may be written, from its front.
 pub fn write_whole<W: ByteOut>(text: &[u8], out: &mut W) -> Result<(), Stop>
-    ensures ok { OnOk result (Appends (W.written out.old) (W.written out.new) text.now) }
-    ensures err { OnErr result (AppendsFront (W.written out.old) (W.written out.new) text.now) }
+    ensures ok { OnOk result (Writes (writer W.written W.has_failed out.old) (writer W.written W.has_failed out.new) text.now) }
+    ensures err { OnErr result (WritesFront (writer W.written W.has_failed out.old) (writer W.written W.has_failed out.new) text.now) }
     ensures fault { OnErr result (result ≡ Err Stop.WriteFault) }
     ensures flag { W.has_failed out.new ≡ (W.has_failed out.old || is_write_fault result) }
 {

@@ -1,14 +1,14 @@
 //! The patterns of a run.
 ghost use Rattle.std.specs.Prelude.{◌≡◌, [], All, IfOk, OnOk, Some, map, string_bytes};
-ghost use Rattle.byte_io.specs.Devices.{Told};
 ghost use Rattle.byte_io.specs.Sources.{AreShort, Content, IsShort, Named, after, coming_of, source_of};
+ghost use Rattle.byte_io.specs.Devices.{Told};
 ghost use Rattle.lit_base.specs.Lines.{IsOnePiece};
 ghost use Rattle.grep_run.specs.Gathering.{TakesFile, TakesFiles, TakesPatterns};
 ghost use Rattle.grep_run.specs.Options.{asks_for};
 ghost use Rattle.grep_run.specs.Patterns.{RefusesAs, lists_refusal, patterns_in};
 ghost use Rattle.grep_run.specs.Sources.{found};
 
-use crate::needles::Needles;
+use crate::compiled_patterns::CompiledPatterns;
 use crate::options::GrepOptions;
 use byte_io::Opener;
 use lit_base::{ByteIn, Fault, MAX_TEXT_LEN, RawList, ReadError, lines_law, read_to_end};
@@ -39,13 +39,13 @@ pub fn gathered<'a, O: Opener>(
     alloc: Global,
     options: &'a GrepOptions,
     opener: &mut O,
-) -> Result<Needles, NoPatterns<'a>>
+) -> Result<CompiledPatterns, NoPatterns<'a>>
     ensures { Told (O.sources opener.old) (O.sources opener.new) (λ s left. AreShort s
         → TakesPatterns options.now s left result) }
 {
     let mut patterns = listed(alloc, options.lists.as_slice())?;
     add_files(alloc, options.files.as_slice(), opener, &mut patterns)?;
-    Ok(Needles::new(alloc, &patterns, options.fold)?)
+    Ok(CompiledPatterns::new(alloc, &patterns, options.fold)?)
 }
 
 /// The patterns of all pattern lists, in order. A list that `RawList::add_text_list` refuses is refused

@@ -1,19 +1,18 @@
 //! A run of grep.
 ghost use Rattle.std.specs.Prelude.{◌≡◌, ◌≢◌, ◌||◌, ◌&&◌, [], IfOk, OnErr, OnOk, if◌then◌else◌};
-ghost use Rattle.std.specs.Io.KnownBytes.{Appends};
-ghost use Rattle.byte_io.specs.Devices.{Told};
 ghost use Rattle.byte_io.specs.Sources.{AreShort};
-ghost use Rattle.grep_run.specs.Fronts.{AppendsFront, is_write_fault};
+ghost use Rattle.byte_io.specs.Devices.{Told};
 ghost use Rattle.grep_run.specs.Gathering.{Refuses};
 ghost use Rattle.grep_run.specs.Grep.{status_where};
 ghost use Rattle.grep_run.specs.Messages.{patterns_refused};
-ghost use Rattle.grep_run.specs.Running.{Answers, Ends};
+ghost use Rattle.grep_run.specs.Running.{RunsTo, Ends};
+ghost use Rattle.grep_run.specs.Writers.{Writes, WritesFront, is_write_fault, writer};
 
 use crate::message::{say_out_of_memory, say_refused, say_unreadable};
 use crate::options::GrepOptions;
 use crate::patterns::{NoPatterns, gathered};
-use crate::scanning::{Found, Request};
-use crate::searching::search_all;
+use crate::request::{Found, Request};
+use crate::searcher::search_all;
 use crate::status::{Status, Stop};
 use byte_io::Opener;
 use lit_base::{ByteOut, Fault};
@@ -31,8 +30,9 @@ pub fn run<O: Opener, W: ByteOut, E: ByteOut>(
     err: &mut E,
 ) -> Status
     ensures ends { Told (O.sources opener.old) (O.sources opener.new) (λ s left. AreShort s
-        → Ends options.now s left result (W.has_failed out.new || E.has_failed err.new)
-        (W.written out.old) (W.written out.new) (E.written err.old) (E.written err.new)) }
+        → Ends options.now s left result
+        (writer W.written W.has_failed out.old) (writer W.written W.has_failed out.new)
+        (writer E.written E.has_failed err.old) (writer E.written E.has_failed err.new)) }
 
     // Whatever the opener tells, a write that failed is told.
     ensures fault { result ≢ Status.Trouble
@@ -57,21 +57,22 @@ pub fn answer<O: Opener, W: ByteOut, E: ByteOut>(
     err: &mut E,
 ) -> Result<Status, Stop>
     ensures answer { Told (O.sources opener.old) (O.sources opener.new) (λ s left. AreShort s
-        → Answers options.now s left result
-        (W.written out.old) (W.written out.new) (E.written err.old) (E.written err.new)) }
+        → RunsTo options.now s left result
+        (writer W.written W.has_failed out.old) (writer W.written W.has_failed out.new)
+        (writer E.written E.has_failed err.old) (writer E.written E.has_failed err.new)) }
 
     // A write fault is answered only where a write failed, and a write that failed is answered so.
     ensures flag { (W.has_failed out.new || E.has_failed err.new)
         ≡ (W.has_failed out.old || E.has_failed err.old || is_write_fault result) }
 {
     match gathered(alloc, options, opener) {
-        Ok(needles) => {
+        Ok(patterns) => {
             let request = Request {
                 alloc,
                 options,
-                needles: &needles,
+                patterns: &patterns,
             };
-            let found = search_all(&request, opener, out, err)?;
+            let found = search_all(request, opener, out, err)?;
             Ok(status_of(options.quiet, found))
         }
         Err(why) => refuse(alloc, why, err),
@@ -81,7 +82,7 @@ pub fn answer<O: Opener, W: ByteOut, E: ByteOut>(
 /// Says why there are no patterns.
 fn refuse<E: ByteOut>(alloc: Global, why: NoPatterns<'_>, err: &mut E) -> Result<Status, Stop>
     ensures status { IfOk result (λ status. status ≡ Status.Trouble) }
-    ensures told { Refuses why.entry result (E.written err.old) (E.written err.new) }
+    ensures told { Refuses why.entry result (writer E.written E.has_failed err.old) (writer E.written E.has_failed err.new) }
     ensures flag { E.has_failed err.new ≡ (E.has_failed err.old || is_write_fault result) }
 {
     say(alloc, why, err)?;
@@ -90,7 +91,7 @@ fn refuse<E: ByteOut>(alloc: Global, why: NoPatterns<'_>, err: &mut E) -> Result
 
 /// The message on that, unless it is want of memory.
 fn say<E: ByteOut>(alloc: Global, why: NoPatterns<'_>, err: &mut E) -> Result<(), Stop>
-    ensures told { Refuses why.entry result (E.written err.old) (E.written err.new) }
+    ensures told { Refuses why.entry result (writer E.written E.has_failed err.old) (writer E.written E.has_failed err.new) }
     ensures flag { E.has_failed err.new ≡ (E.has_failed err.old || is_write_fault result) }
 {
     match why {
@@ -102,9 +103,9 @@ fn say<E: ByteOut>(alloc: Global, why: NoPatterns<'_>, err: &mut E) -> Result<()
 /// The message on a refusal of the patterns, unless it is want of memory.
 fn say_fault<E: ByteOut>(alloc: Global, fault: Fault, err: &mut E) -> Result<(), Stop>
     ensures other { OnOk result (fault ≢ Fault.OutOfMemory) }
-    ensures ok { OnOk result (Appends (E.written err.old) (E.written err.new) (patterns_refused fault)) }
-    ensures stopped { OnErr result (AppendsFront (E.written err.old) (E.written err.new) (patterns_refused fault)) }
-    ensures untold { fault ≡ Fault.OutOfMemory → Appends (E.written err.old) (E.written err.new) [] }
+    ensures ok { OnOk result (Writes (writer E.written E.has_failed err.old) (writer E.written E.has_failed err.new) (patterns_refused fault)) }
+    ensures stopped { OnErr result (WritesFront (writer E.written E.has_failed err.old) (writer E.written E.has_failed err.new) (patterns_refused fault)) }
+    ensures untold { fault ≡ Fault.OutOfMemory → Writes (writer E.written E.has_failed err.old) (writer E.written E.has_failed err.new) [] }
     ensures flag { E.has_failed err.new ≡ (E.has_failed err.old || is_write_fault result) }
 {
     match fault {

@@ -2,6 +2,7 @@
 use Rattle.std.proofs.Common.{◌≡◌, ◌<◌, [], refl, rules, arith, Ok, subst, take}
 use Rattle.std.proofs.lemmas.Result.{err_from_is_err_and}
 use Rattle.grep_run.specs.Scanning.{FeedsPiece}
+use Rattle.grep_run.specs.Writers.{writer}
 use Rattle.grep_run.proofs.ScanLemmas.{so_far-cut, so_far-end, so_far-ended, so_far-fault, so_far-more, so_far-turns}
 use Rattle.grep_run.proofs.scanning.read_lines.Goals as goal
 
@@ -25,7 +26,7 @@ pub returns-in-Some-clause-answer : goal.returns-in-Some-clause-answer
 returns-in-Some-clause-answer g d = λ o test name c before s e short.
     let r = d.loop-turn.invariant.reading o test name c before s e in
     so_far-ended _ d.read_some.new.buf r d.in-Ok.count d.in-Some.end _ d.feed.new.picker d.feed.new.block _ d.in-Ok.ensures.bytes short refl
-    (subst (λ x. FeedsPiece o test name r.done (take d.in-Ok.count d.read_some.new.buf) (Ok x) d.feed.new.picker d.feed.new.block before (g.W.ByteOut.written d.feed.new.out)) d.in-Some.is (d.in_ok-end-in-Ok.ensures.answer o test name r.done _ r.stands))
+    (subst (λ x. FeedsPiece o test name r.done (take d.in-Ok.count d.read_some.new.buf) (Ok x) d.feed.new.picker d.feed.new.block before (writer g.W.ByteOut.written g.W.ByteOut.has_failed d.feed.new.out)) d.in-Some.is (d.in_ok-end-in-Ok.ensures.answer o test name r.done _ r.stands))
 
 pub loop-turn-preserved : goal.loop-turn-preserved
 loop-turn-preserved g d = record {
@@ -33,7 +34,7 @@ loop-turn-preserved g d = record {
       let r = d.loop-turn.invariant.reading o test name c before s e in
       let some : 0 < d.in-Ok.count = search rules in
       so_far-more _ d.read_some.new.buf r d.in-Ok.count d.feed.new.picker d.feed.new.block _ d.in-Ok.ensures.bytes some d.in-Ok.ensures.within
-      (subst (λ x. FeedsPiece o test name r.done (take d.in-Ok.count d.read_some.new.buf) (Ok x) d.feed.new.picker d.feed.new.block before (g.W.ByteOut.written d.feed.new.out)) d.in-None.is (d.in_ok-end-in-Ok.ensures.answer o test name r.done _ r.stands));
+      (subst (λ x. FeedsPiece o test name r.done (take d.in-Ok.count d.read_some.new.buf) (Ok x) d.feed.new.picker d.feed.new.block before (writer g.W.ByteOut.written g.W.ByteOut.has_failed d.feed.new.out)) d.in-None.is (d.in_ok-end-in-Ok.ensures.answer o test name r.done _ r.stands));
   room = omega (arith, d.loop-turn.invariant.room);
   flag = search rules;
 }

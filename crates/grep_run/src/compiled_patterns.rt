@@ -1,4 +1,4 @@
-//! What lines are compared with.
+//! Patterns made ready for search: a plan of their literals, and whether one of them is null.
 ghost use Rattle.std.specs.Prelude.{◌≡◌, ◌≢◌, All, IfErr, IfOk, IfSome};
 ghost use Rattle.lit_base.specs.Lines.{IsOnePiece};
 ghost use Rattle.line_pick.specs.Matching.{AreInLines, StandsFor, literals_of};
@@ -10,27 +10,27 @@ use list_plan::compile;
 use lit_base::{Fault, Fold, LitList, RawList};
 use std::alloc::Global;
 
-/// What stands for patterns: the plan of their literals, where there are some, and whether one of them
-/// is null.
+/// What stands for patterns in a search: the plan of their literals, where there are some, and whether
+/// one of them is null.
 #[derive(Debug, Drop)]
-pub struct Needles {
+pub struct CompiledPatterns {
     pub plan: Option<Compiled>,
     pub has_empty: bool,
     ghost apart: { AreInLines plan },
 }
 
-impl Needles {
+impl CompiledPatterns {
     /// What stands for these patterns, none of which holds a newline. Refusals: `TooManyLiterals`,
     /// and `OutOfMemory`, which may come before.
-    pub fn new(alloc: Global, patterns: &RawList, fold: Fold) -> Result<Needles, Fault>
+    pub fn new(alloc: Global, patterns: &RawList, fold: Fold) -> Result<CompiledPatterns, Fault>
         requires { All IsOnePiece patterns.now }
-        ensures ok { IfOk result (λ needles. StandsFor fold patterns.now needles.plan needles.has_empty) }
+        ensures ok { IfOk result (λ compiled. StandsFor fold patterns.now compiled.plan compiled.has_empty) }
         ensures refusal { RefusesAs (literals_refusal fold patterns.now) result }
     {
         let (list, normal) = LitList::normal(alloc, patterns, fold)?;
         let plan = planned(alloc, list)?;
         standing_law();
-        Ok(Needles {
+        Ok(CompiledPatterns {
             plan,
             has_empty: normal.has_empty,
         })

@@ -1,7 +1,7 @@
 -- What stands for patterns without newlines holds none.
 use Rattle.std.proofs.Common.{rules}
 use Rattle.line_pick.specs.Matching.{StandsFor}
-use Rattle.grep_run.proofs.needles.Needles.new.Goals as goal
+use Rattle.grep_run.proofs.compiled_patterns.CompiledPatterns.new.Goals as goal
 
 pub invariant_of-result : goal.invariant_of-result
 invariant_of-result c =

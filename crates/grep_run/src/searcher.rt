@@ -1,0 +1,206 @@
+//! Inputs searched one after another: their blocks, their messages, and what was found.
+ghost use Rattle.std.specs.Prelude.{◌≡◌, ℕ, ◌<◌, ◌≤◌, ◌||◌, ◌&&◌, Bool, List, [], IfOk, None, OnErr, OnOk, Some, if◌then◌else◌, map, not, string_bytes, vec_len};
+ghost use Rattle.byte_io.specs.Sources.{Content, IsShort, ask_of, coming_of};
+ghost use Rattle.byte_io.specs.Devices.{Told};
+ghost use Rattle.grep_run.specs.Messages.{unreadable};
+ghost use Rattle.grep_run.specs.Options.{searched_of};
+ghost use Rattle.grep_run.specs.Requests.{test_of};
+ghost use Rattle.grep_run.specs.Searching.{Searches, SearchesAsk, SearchesAsks};
+ghost use Rattle.grep_run.specs.declared.searcher.TheConstants.{LEAST_READ_SIZE, READ_SIZE};
+ghost use Rattle.grep_run.specs.Writers.{Writer, Writes, WritesFront, is_write_fault, writer};
+
+use crate::block::Block;
+use crate::message::say_unreadable;
+use crate::names::shown_name;
+use crate::options::GrepOptions;
+use crate::request::{Found, Request};
+use crate::scanning::{picker_for, read_lines};
+use crate::status::Stop;
+use byte_io::{ByteIn, ByteOut, Opener, open_operand};
+use std::alloc::AllocError;
+
+/// How many bytes are read at once, at most. Pieces of a quarter of that made a run that shows
+/// numbers take 1.05 times as long: each is written for itself.
+const READ_SIZE: usize = 128 * 1024;
+
+/// How many bytes are read at once, at least.
+const LEAST_READ_SIZE: usize = 1024;
+
+/// How many bytes may be held of names, numbers and newlines, before the lines of a piece are written.
+/// The lines themselves take no more than the piece.
+const MOST_HELD: usize = 4 * 1024 * 1024;
+
+/// What a line takes beside its name and itself: a number, a colon behind each, and its newline.
+const NUMBER_SIZE: usize = 23;
+
+/// Searches the inputs of the operands in order, or standard input alone where there is none. Under -q
+/// the first selected line ends it.
+pub fn search_all<O: Opener, W: ByteOut, E: ByteOut>(
+    request: Request<'_>,
+    opener: &mut O,
+    out: &mut W,
+    err: &mut E,
+) -> Result<Found, Stop>
+    ensures answer { Told (O.sources opener.old) (O.sources opener.new)
+        (SearchesAsks request.entry (searched_of request.entry.options.now) result
+        (writer W.written W.has_failed out.old) (writer W.written W.has_failed out.new)
+        (writer E.written E.has_failed err.old) (writer E.written E.has_failed err.new)) }
+    ensures flag { (W.has_failed out.new || E.has_failed err.new)
+        ≡ (W.has_failed out.old || E.has_failed err.old || is_write_fault result) }
+{
+    let mut searcher = Searcher::new(request)?;
+    if request.options.operands.as_slice().is_empty() {
+        return searcher.search_operand("-", opener, out, err);
+    }
+    searcher.search_operands(opener, out, err)
+}
+
+/// How many bytes are read at once: fewer where long names are shown, so that what is held stays small
+/// also where all lines are empty.
+fn read_size(options: &GrepOptions) -> usize
+    ensures least { LEAST_READ_SIZE ≤ result }
+    ensures most { result ≤ READ_SIZE }
+{
+    let line = longest_name(options).saturating_add(NUMBER_SIZE);
+    (MOST_HELD / line).clamp(LEAST_READ_SIZE, READ_SIZE)
+}
+
+/// How long the longest name is that lines are shown behind.
+fn longest_name(options: &GrepOptions) -> usize {
+    let mut longest = 0;
+    if options.operands.len() > 1 {
+        for operand in options.operands.as_slice() {
+            longest = longest.max(shown_name(operand.as_str()).len());
+        }
+    }
+    longest
+}
+
+/// What searches inputs one after another, all by one piece of memory to read and one to write.
+#[derive(Drop)]
+struct Searcher<'a> {
+    request: Request<'a>,
+    block: Block<'a>,
+    piece: Vec<u8>,
+    ghost room: { 0 < vec_len piece },
+}
+
+impl<'a> Searcher<'a> {
+    fn new(request: Request<'a>) -> Result<Searcher<'a>, AllocError>
+        ensures { IfOk result (λ searcher. searcher.request ≡ request.entry) }
+    {
+        let piece = vec![in request.alloc; 0u8; read_size(request.options)]?;
+        let block = Block::new(request.alloc, request.options);
+        Ok(Searcher {
+            request,
+            block,
+            piece,
+        })
+    }
+
+    /// Searches the inputs of all operands.
+    fn search_operands<O: Opener, W: ByteOut, E: ByteOut>(
+        &mut self,
+        opener: &mut O,
+        out: &mut W,
+        err: &mut E,
+    ) -> Result<Found, Stop>
+        ensures answer { Told (O.sources opener.old) (O.sources opener.new)
+            (SearchesAsks self.old.request (map ask_of (map string_bytes self.old.request.options.now.operands.items)) result
+            (writer W.written W.has_failed out.old) (writer W.written W.has_failed out.new)
+            (writer E.written E.has_failed err.old) (writer E.written E.has_failed err.new)) }
+        ensures flag { (W.has_failed out.new || E.has_failed err.new)
+            ≡ (W.has_failed out.old || E.has_failed err.old || is_write_fault result) }
+    {
+        let options = self.request.options;
+        let mut all = Found::nothing();
+        for operand in options.operands.as_slice() {
+            let one = self.search_operand(operand.as_str(), opener, out, err)?;
+            all = all.with(one);
+            if options.quiet && one.is_selected {
+                return Ok(all);
+            }
+        }
+        Ok(all)
+    }
+
+    /// Opens the input of an operand, and searches it.
+    fn search_operand<O: Opener, W: ByteOut, E: ByteOut>(
+        &mut self,
+        operand: &'a str,
+        opener: &mut O,
+        out: &mut W,
+        err: &mut E,
+    ) -> Result<Found, Stop>
+        ensures answer { Told (O.sources opener.old) (O.sources opener.new)
+            (SearchesAsk self.old.request (ask_of operand.now) result
+            (writer W.written W.has_failed out.old) (writer W.written W.has_failed out.new)
+            (writer E.written E.has_failed err.old) (writer E.written E.has_failed err.new)) }
+        ensures same { self.new.request ≡ self.old.request }
+        ensures flag { (W.has_failed out.new || E.has_failed err.new)
+            ≡ (W.has_failed out.old || E.has_failed err.old || is_write_fault result) }
+    {
+        let name = shown_name(operand);
+        match open_operand(opener, operand) {
+            Ok(mut input) => self.search_input(name, &mut input, out, err),
+            Err(_) => self.pass_over(name, err),
+        }
+    }
+
+    /// Searches one input, which messages and prefixes call by this name. All that it gives is written
+    /// before the next one is opened, since that may be long in coming.
+    fn search_input<I: ByteIn, W: ByteOut, E: ByteOut>(
+        &mut self,
+        name: &'a str,
+        input: &mut I,
+        out: &mut W,
+        err: &mut E,
+    ) -> Result<Found, Stop>
+        ensures answer { (c : Content) → I.coming input.old ≡ Some (coming_of c) → IsShort c
+            → Searches self.old.request.options.now (test_of self.old.request) name.now (Some c) result
+            (writer W.written W.has_failed out.old) (writer W.written W.has_failed out.new)
+            (writer E.written E.has_failed err.old) (writer E.written E.has_failed err.new) }
+        ensures same { self.new.request ≡ self.old.request }
+        ensures flag { (W.has_failed out.new || E.has_failed err.new)
+            ≡ (W.has_failed out.old || E.has_failed err.old || is_write_fault result) }
+    {
+        self.block.begin(self.request.options, name);
+        let mut picker = picker_for(&self.request);
+        let piece = self.piece.as_mut_slice();
+        let end = read_lines(&mut picker, input, &mut self.block, piece, out)?;
+        self.block.finish(out)?;
+        let found = Found {
+            is_selected: self.block.count > 0,
+            is_error: end.is_fault(),
+        };
+        self.report(name, found.is_error, err)?;
+        Ok(found)
+    }
+
+    /// Says that an input cannot be opened.
+    fn pass_over<E: ByteOut>(&self, name: &str, err: &mut E) -> Result<Found, Stop>
+        ensures answer { (out : Writer) → Searches self.now.request.options.now (test_of self.now.request) name.now None result
+            out out (writer E.written E.has_failed err.old) (writer E.written E.has_failed err.new) }
+        ensures flag { E.has_failed err.new ≡ (E.has_failed err.old || is_write_fault result) }
+    {
+        self.report(name, true, err)?;
+        Ok(Found {
+            is_selected: false,
+            is_error: true,
+        })
+    }
+
+    /// Says of an error that an input cannot be opened or read, unless -s drops it.
+    fn report<E: ByteOut>(&self, name: &str, is_error: bool, err: &mut E) -> Result<(), Stop>
+        ensures ok { OnOk result (Writes (writer E.written E.has_failed err.old) (writer E.written E.has_failed err.new)
+            (if is_error && not self.now.request.options.now.silent then unreadable name.now else [])) }
+        ensures cut { OnErr result (WritesFront (writer E.written E.has_failed err.old) (writer E.written E.has_failed err.new)
+            (if is_error && not self.now.request.options.now.silent then unreadable name.now else [])) }
+        ensures flag { E.has_failed err.new ≡ (E.has_failed err.old || is_write_fault result) }
+    {
+        if is_error && !self.request.options.silent {
+            return say_unreadable(self.request.alloc, name, err);
+        }
+        Ok(())
+    }
+}
