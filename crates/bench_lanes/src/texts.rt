@@ -62,7 +62,7 @@ pub fn quiet_text(alloc: Global, len: usize) -> Result<Vec<u8>, AllocError>
     Ok(text)
 }
 
-/// The same with a literal now and then.
+/// A quiet text with a literal now and then.
 pub fn rare_text(alloc: Global, len: usize, list: &LitList) -> Result<Vec<u8>, AllocError>
     ensures { IfOk result (λ text. length text.items ≡ len) }
 {

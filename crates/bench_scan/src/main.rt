@@ -83,7 +83,7 @@ fn scan(alloc: Global, compiled: &Compiled, text: &[u8], mode: Mode) -> Result<u
     }
 }
 
-/// The same in pieces, the hits of each let go before the next.
+/// How many hits a text has, fed in pieces, the hits of each let go before the next.
 fn scan_pieces(alloc: Global, compiled: &Compiled, text: &[u8]) -> Result<usize> {
     let mut scanner = Scanner::new(alloc, compiled)?;
     let mut out: Vec<Hit> = Vec::new(alloc);

@@ -1,3 +1,4 @@
+//! Searches and scans beside plain ones, and what no clause says.
 mod plain;
 mod single;
 mod table;

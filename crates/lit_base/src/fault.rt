@@ -1,3 +1,4 @@
+//! Why a list is refused.
 ghost use Rattle.std.specs.Prelude.{◌≡◌};
 ghost use Rattle.lit_base.specs.Faults.{number_of};
 ghost use Rattle.lit_base.specs.declared.fault.Fault.TheVariants.{OutOfMemory};

@@ -1,3 +1,4 @@
+//! Folding: the bytes that a comparison takes for one.
 ghost use Rattle.std.specs.Prelude.{◌≡◌};
 ghost use Rattle.lit_base.specs.Folding.{folded};
 

@@ -76,7 +76,7 @@ fn is_folded(fold: Fold, text: &[u8], literal: &[u8]) -> bool
     }
 }
 
-/// What `is_folded` tells, byte by byte.
+/// Whether a text is folded, byte by byte.
 fn is_folded_by_bytes(fold: Fold, text: &[u8], literal: &[u8]) -> bool
     ensures { IsTrue result ↔ (folded_text fold text.now ≡ literal.now) }
 {

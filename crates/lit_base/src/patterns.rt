@@ -1,3 +1,4 @@
+//! The patterns of pattern lists and pattern files.
 ghost use Rattle.std.specs.Prelude.{◌≡◌, ◌++◌, ◌∷◌, [], if◌then◌else◌};
 ghost use Rattle.std.specs.Iterator.{YieldsFirstRef, item_count};
 ghost use Rattle.lit_base.specs.Lines.{pieces, lines};

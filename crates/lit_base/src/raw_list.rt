@@ -1,3 +1,4 @@
+//! Patterns as they are given, within the limits.
 ghost use Rattle.std.specs.Prelude.{◌≡◌, ◌≢◌, ℕ, ◌+◌, ◌<◌, ◌≤◌, ◌++◌, ◌∷◌, [], length, map, sum_by, take, slice_index_or, IfOk, OnOk, OnErr, MatchResult, IsTrue, ◌↔◌};
 ghost use Rattle.lit_base.specs.Faults.{RefusedBy};
 ghost use Rattle.lit_base.specs.Lines.{pieces, lines};

@@ -5,7 +5,7 @@ pub const USAGE: &str = "\
 litgrep [-F] [-c | -l | -q] [-insvx] LIST [FILE]...
        litgrep [-F] [-c | -l | -q] [-insvx] (-e LIST | -f FILE)... [FILE]...";
 
-/// What `litgrep` does, its options in the order of POSIX, its limits and its statuses.
+/// A description of `litgrep`: its options in the order of POSIX, its limits and its statuses.
 pub const HELP: &str = "\
 litgrep writes the lines that contain one of many literals: grep -F of
 POSIX.1-2017, in the POSIX locale.

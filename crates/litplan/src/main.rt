@@ -13,5 +13,10 @@ use system::serve;
 fn main(rt: HostRuntime) -> ExitCode {
     let mut out = ToWrite::new(rt.stdout());
     let mut err = ToWrite::new(rt.stderr());
-    ExitCode::from(serve(&rt, &mut SystemFiles::new(&rt, rt.stdin()), &mut out, &mut err))
+    ExitCode::from(serve(
+        &rt,
+        &mut SystemFiles::new(&rt, rt.stdin()),
+        &mut out,
+        &mut err,
+    ))
 }

@@ -14,7 +14,7 @@ use std::alloc::Global;
 use std::io;
 use std::rt::Env;
 
-/// What `--version` tells of each program.
+/// The version of each program, as `--version` tells it.
 pub const VERSION: &str = "0.1.0";
 
 /// The words after the program's name.

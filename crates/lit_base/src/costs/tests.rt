@@ -1,3 +1,4 @@
+//! Costs in figures.
 use super::*;
 use crate::fault::Fault;
 use crate::fold::Fold;

@@ -1,3 +1,4 @@
+//! The limits in figures.
 use super::limits_law;
 use crate::limits::{MAX_LIST_LEN, MAX_LITERAL_LEN, MAX_LITERALS, MAX_PATTERNS, MAX_TEXT_LEN};
 use std::test::Fail;

@@ -1,3 +1,4 @@
+//! Which lists are refused, in figures.
 use super::*;
 use std::test::Fail;
 
