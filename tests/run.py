@@ -142,6 +142,8 @@ PLANS = [
     ({}, ["plan", "-"], b"horse\ncat\ndog\n", THREE, b"", 0),
     ({"words": b"dog\nhorse\ncat\n\ncat"}, ["plan", "words"], b"", THREE, b"", 0),
     ({}, ["plan", "-i", "-"], b"Cat\ncat\n", CAT, b"", 0),
+    ({}, ["plan", "--ignore-case", "-"], b"Cat\ncat\n", CAT, b"", 0),
+    ({}, ["--version"], b"", b"", b"litplan 0.1.0\n", 2),
     ({}, ["plan", "-"], b"\n", b"", REFUSED % 5, 2),
     ({}, ["plan", "-"], b"", b"", REFUSED % 5, 2),
     ({}, ["plan", "-"], b"".join(b"%d\n" % n for n in range(1025)), b"", REFUSED % 6, 2),
@@ -244,7 +246,13 @@ def options():
 def usages():
     """The usage behind a refusal of words names the program and its operands."""
     lists = "Usage: litgrep [-F] [-c | -l | -q] [-insvx] LIST [FILE]..."
-    for program, words, usage in ((LITGREP, ["-z"], lists),):
+    plan, check = "litplan plan [-i] FILE", "litplan check [-i] FILE CERT"
+    for program, words, usage in (
+        (LITGREP, ["-z"], lists),
+        (LITPLAN, ["-z"], f"Usage: {plan}\n       {check}"),
+        (LITPLAN, ["plan"], f"Usage: {plan}\n"),
+        (LITPLAN, ["check", "f"], f"Usage: {check}\n"),
+    ):
         text = run(words, program=program)[2].decode()
         yield f"usage of {words}", text if usage not in text else usage, usage
 

@@ -2,10 +2,11 @@
 ghost use Rattle.std.specs.Prelude.{◌≡◌, ◌≢◌, ◌||◌, OnOk};
 
 use crate::message::{OUT_OF_MEMORY, Trouble, WRITE_FAULT, say, say_out_of_memory, say_text};
-use crate::words::{NoRequest, Request, requested};
+use crate::words::{Request, requested};
 use byte_io::{ByteIn, ByteOut, Failed, Files, ReadError, read_to_end, write_all};
 use lit_base::{Fold, LitList, MAX_TEXT_LEN, RawList};
-use lit_cert::{Fault, Reason, check, read_cert, write_cert};
+use lit_cert::{Fault as CertificateFault, Reason, check, read_cert, write_cert};
+use program_words::Fault;
 use run_planner::plan;
 use std::alloc::{AllocError, Global};
 
@@ -27,14 +28,19 @@ pub fn command<F: Files, W: ByteOut, E: ByteOut>(
 {
     match requested(alloc, words) {
         Ok(request) => served(alloc, &request, files, out, err),
-        Err(none) => {
-            let _ = match &none {
-                NoRequest::Usage { text } => say_text(text.as_str(), err),
-                NoRequest::OutOfMemory => say_out_of_memory(err),
-            };
-            2
-        }
+        Err(fault) => refuse(&fault, err),
     }
+}
+
+/// Says what is wrong with the words. Where that cannot be written, the status alone tells it.
+pub fn refuse<E: ByteOut>(fault: &Fault, err: &mut E) -> u8
+    ensures { result ≡ 2 }
+{
+    let _ = match fault {
+        Fault::Usage { text } => say_text(text.as_str(), err),
+        Fault::OutOfMemory => say_out_of_memory(err),
+    };
+    2
 }
 
 fn served<F: Files, W: ByteOut, E: ByteOut>(
@@ -111,7 +117,7 @@ fn checked<'a, F: Files, W: ByteOut>(
             Ok(()) => told(optimal(alloc, certificate.cost), 0, out),
             Err(reason) => told(not_certified(alloc, reason), 1, out),
         },
-        Err(Fault::ReadFault) => Err(Trouble::Unusable(certificate)),
+        Err(CertificateFault::ReadFault) => Err(Trouble::Unusable(certificate)),
         Err(fault) => Err(Trouble::Refused(fault.number())),
     }
 }

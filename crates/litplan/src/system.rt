@@ -1,10 +1,9 @@
 //! The system's words.
 ghost use Rattle.std.specs.Prelude.{◌≡◌, ◌≢◌, ◌||◌};
 
-use crate::command::command;
-use crate::message::{say_out_of_memory, say_text};
+use crate::command::{command, refuse};
 use byte_io::{ByteOut, Files};
-use std::io;
+use program_words::words;
 use std::rt::Env;
 
 /// Serves the words of the command line, and answers the status.
@@ -17,21 +16,8 @@ pub fn serve<R: Env + AllocGlobal, F: Files, W: ByteOut, E: ByteOut>(
     ensures { result ≢ 2
         → (W.has_failed out.new || E.has_failed err.new) ≡ (W.has_failed out.old || E.has_failed err.old) }
 {
-    match words(rt) {
+    match words(rt, "litplan") {
         Ok(words) => command(rt.alloc(), &words, files, out, err),
-        Err(error) => {
-            let _ = if error.kind() == io::ErrorKind::OutOfMemory {
-                say_out_of_memory(err)
-            } else {
-                say_text("litplan: a word is not UTF-8\n", err)
-            };
-            2
-        }
+        Err(fault) => refuse(&fault, err),
     }
-}
-
-/// The words after the program's name.
-fn words<R: Env + AllocGlobal>(rt: &R) -> io::Result<Vec<String>> {
-    let words = std::env::args(rt)?;
-    Ok(words.skip(1).collect(rt.alloc())?)
 }

@@ -1,7 +1,7 @@
 //! The words of the command line, read with clap.
-use clap::error::ErrorKind;
-use clap::{Arg, ArgAction, ArgMatches, Command, Error};
+use clap::{Arg, ArgAction, ArgMatches, Command};
 use lit_base::Fold;
+use program_words::{Fault, VERSION, matches_of};
 use std::alloc::{AllocError, Global};
 
 /// What the words ask for.
@@ -20,30 +20,18 @@ pub enum Request {
     },
 }
 
-/// Why the words ask for nothing.
-#[derive(Debug, Drop)]
-pub enum NoRequest {
-    /// They are no command: clap's text, help included.
-    Usage { text: String },
-    OutOfMemory,
-}
-
-impl From<AllocError> for NoRequest {
-    fn from(_error: AllocError) -> NoRequest {
-        NoRequest::OutOfMemory
-    }
-}
-
 /// What the words after the program's name ask for.
-pub fn requested(alloc: Global, words: &[String]) -> Result<Request, NoRequest> {
-    match litplan(alloc)?.try_get_matches_from(words) {
-        Ok(matches) => request_of(alloc, &matches),
-        Err(error) => Err(refusal(alloc, &error)),
-    }
+///
+/// # Errors
+/// - `Usage` where they are no command, help and version included, with clap's text.
+/// - `OutOfMemory` where a growth was refused.
+pub fn requested(alloc: Global, words: &[String]) -> Result<Request, Fault> {
+    let matches = matches_of(alloc, litplan(alloc)?, words)?;
+    request_of(alloc, &matches)
 }
 
 /// The request that clap's matches tell.
-fn request_of(alloc: Global, matches: &ArgMatches<'_>) -> Result<Request, NoRequest> {
+fn request_of(alloc: Global, matches: &ArgMatches<'_>) -> Result<Request, Fault> {
     match matches.subcommand() {
         Some(("plan", found)) => Ok(Request::Plan {
             fold: fold_of(found),
@@ -54,7 +42,7 @@ fn request_of(alloc: Global, matches: &ArgMatches<'_>) -> Result<Request, NoRequ
             file: value(alloc, found, "file")?,
             certificate: value(alloc, found, "certificate")?,
         }),
-        _ => Err(usage(String::from_str(alloc, "litplan: no command given\n"))),
+        _ => Err(Fault::usage(String::from_str(alloc, "litplan: no command given\n"))),
     }
 }
 
@@ -74,7 +62,9 @@ fn value(alloc: Global, matches: &ArgMatches<'_>, id: &str) -> Result<String, Al
 /// What litplan takes.
 fn litplan<'a>(alloc: Global) -> Result<Command<'a>, AllocError> {
     Command::new(alloc, "litplan")
+        .version(VERSION)
         .about("Plans how literals are grouped, and certifies that no grouping is cheaper")
+        .override_usage("litplan plan [-i] FILE\n       litplan check [-i] FILE CERT")
         .no_binary_name(true)
         .subcommand_required(true)
         .subcommand(plan(alloc)?)?
@@ -84,6 +74,7 @@ fn litplan<'a>(alloc: Global) -> Result<Command<'a>, AllocError> {
 fn plan<'a>(alloc: Global) -> Result<Command<'a>, AllocError> {
     Command::new(alloc, "plan")
         .about("Prints the certificate of the cheapest grouping of a file's patterns")
+        .override_usage("litplan plan [-i] FILE")
         .after_help(PLAN_HELP)
         .arg(fold(alloc))?
         .arg(file(alloc))
@@ -97,6 +88,7 @@ fn check<'a>(alloc: Global) -> Result<Command<'a>, AllocError> {
         .help("A file with a certificate, as `plan` prints it");
     Command::new(alloc, "check")
         .about("Says whether a certificate shows that no grouping of a file's patterns is cheaper")
+        .override_usage("litplan check [-i] FILE CERT")
         .after_help(CHECK_HELP)
         .arg(fold(alloc))?
         .arg(file(alloc))?
@@ -106,6 +98,7 @@ fn check<'a>(alloc: Global) -> Result<Command<'a>, AllocError> {
 fn fold<'a>(alloc: Global) -> Arg<'a> {
     Arg::new(alloc, "fold")
         .short('i')
+        .long("ignore-case")
         .action(ArgAction::Count)
         .help("Take A to Z for a to z, so that patterns that differ in case are one")
 }
@@ -131,19 +124,3 @@ Whoever wrote the certificate is not trusted. Status 2 with a message where a fi
 Example: plan a file, and check the plan
   litplan plan words > words.cert
   litplan check words words.cert";
-
-/// The text that clap has for the words, or want of memory.
-fn refusal(alloc: Global, error: &Error) -> NoRequest {
-    if error.kind() == ErrorKind::OutOfMemory {
-        return NoRequest::OutOfMemory;
-    }
-    usage(error.to_string(alloc))
-}
-
-/// The refusal with this text, if there was memory for it.
-fn usage(text: Result<String, AllocError>) -> NoRequest {
-    match text {
-        Ok(text) => NoRequest::Usage { text },
-        Err(_) => NoRequest::OutOfMemory,
-    }
-}
