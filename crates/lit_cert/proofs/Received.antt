@@ -1,10 +1,10 @@
 -- What a device gave, and what was made of it.
 use Rattle.std.proofs.Common.{◌≡◌, ◌≢◌, ℕ, ◌^◌, ◌<◌, List, [], ◌++◌, length, Option, Some, None, Result, Ok, Err, refl, sym, ap, subst, ◌∙◌, arith}
 use Rattle.std.specs.Option.{IfSome}
-use Rattle.std.specs.Result.{IfOk, IfErr}
+use Rattle.std.specs.Result.{IfOk, IfErr, OnOk}
 use Rattle.std.proofs.lemmas.List.{append_cancel_left, append-nil}
 use Rattle.std.proofs.lemmas.Result.{IfErr-at_err}
-use Rattle.byte_io.specs.Devices.{Coming, Clean, Gives, EndsHere, Told}
+use Rattle.byte_io.specs.Devices.{Coming, Clean, Faulty, Gives, EndsHere, Told}
 use Rattle.byte_io.specs.Transfers.{ReadsInto, ReadsAll}
 use Rattle.lit_cert.specs.declared.fault.Fault.{Fault}
 use Rattle.lit_cert.specs.declared.fault.Fault.TheVariants.{OutOfMemory, BadCertText, ReadFault, WriteFault}
@@ -59,12 +59,23 @@ bad_whole limit (Some x) before text r empty all wrong =
     let whole = subst (λ (b : List ℕ). ReadsAll limit b text x) empty all in
     subst (λ (t : List ℕ). IsFirstBad 8 t line) whole.text (bad_line_of text r line wrong is)
 
+-- no fault follows what was read to its end
+pub ending_whole : (limit : ℕ) (old : Option Coming) (before text : List ℕ) (r : Answer) → IfSome old (ReadsAll limit before text) → IfSome old (λ x. OnOk r (x.ending ≢ Faulty))
+ending_whole limit None before text r all = tt
+ending_whole limit (Some x) before text (Ok c) all = all.ending
+ending_whole limit (Some x) before text (Err e) all = tt
+
 -- the front of too many bytes is no certificate's text
 pub found_long : (old new : Option Coming) (before text : List ℕ) (r : Answer) → IsLong 8 text → ReadsInto old new before text → Spells text r → Told old new (λ x y. IfOk r (λ c. HasText 8 c × (x.text ≡ spelling 8 c) × EndsHere y))
 found_long None new before text r long reads found = tt
 found_long (Some x) None before text r long reads found = absurd reads.given
 found_long (Some x) (Some y) before text (Ok c) long reads found = absurd (none_spells 8 text c eight long found.0 found.1)
 found_long (Some x) (Some y) before text (Err e) long reads found = tt
+
+pub ending_long : (old : Option Coming) (text : List ℕ) (r : Answer) → IsLong 8 text → Spells text r → IfSome old (λ x. OnOk r (x.ending ≢ Faulty))
+ending_long None text r long found = tt
+ending_long (Some x) text (Ok c) long found = absurd (none_spells 8 text c eight long found.0 found.1)
+ending_long (Some x) text (Err e) long found = tt
 
 -- and its first bad line is that of all bytes
 pub bad_long : (old new : Option Coming) (before text : List ℕ) (r : Answer) → before ≡ [] → IsLong 8 text → ReadsInto old new before text → IfErr r (IsBadText 8 text) → IfSome old (λ x. (line : ℕ) → r ≡ Err (BadCertText line) → IsFirstBad 8 x.text line)

@@ -1,6 +1,6 @@
 //! Certificates read from a device.
-ghost use Rattle.std.specs.Prelude.{◌≡◌, ◌≢◌, ℕ, ◌+◌, ◌^◌, ◌<◌, ◌≤◌, length, IsTrue, IfOk, IfErr, IfSome};
-ghost use Rattle.byte_io.specs.Devices.{Clean, EndsHere, Told};
+ghost use Rattle.std.specs.Prelude.{◌≡◌, ◌≢◌, ℕ, ◌+◌, ◌^◌, ◌<◌, ◌≤◌, length, IsTrue, IfOk, IfErr, IfSome, OnOk};
+ghost use Rattle.byte_io.specs.Devices.{Clean, EndsHere, Faulty, Told};
 ghost use Rattle.lit_cert.specs.Certificates.{CertificateParts};
 ghost use Rattle.lit_cert.specs.Faults.{IsReadersFault};
 ghost use Rattle.lit_cert.specs.Spelling.{HasText, spelling};
@@ -28,6 +28,7 @@ pub fn read_cert<R: ByteIn>(alloc: Global, input: &mut R) -> Result<Certificate,
     // What is read is spelled so, and nothing follows it.
     ensures found { Told (R.coming input.old) (R.coming input.new) (λ old new.
         IfOk result (λ c. HasText 8 c × (old.text ≡ spelling 8 c) × EndsHere new)) }
+    ensures ending { IfSome (R.coming input.old) (λ old. OnOk result (old.ending ≢ Faulty)) }
     // What is spelled so is read, unless memory runs out.
     ensures only { IfSome (R.coming input.old) (λ old.
         old.ending ≡ Clean → (c : CertificateParts) → HasText 8 c → old.text ≡ spelling 8 c →
@@ -41,7 +42,9 @@ pub fn read_cert<R: ByteIn>(alloc: Global, input: &mut R) -> Result<Certificate,
         (line : ℕ) → IsFirstBad 8 old.text line →
         result ≢ Err Fault.OutOfMemory → result ≡ Err (Fault.BadCertText line)) }
 
-    // A fault is told only where a read failed.
+    // A fault is told only where a read failed, and none is where the end comes cleanly.
+    ensures clean { IfSome (R.coming input.old) (λ old.
+        old.ending ≡ Clean → length old.text < 2 ^ 40 → result ≢ Err Fault.ReadFault) }
     ensures fault { result ≡ Err Fault.ReadFault → IsTrue (R.has_failed input.new) }
     ensures flag { result ≢ Err Fault.ReadFault → R.has_failed input.new ≡ R.has_failed input.old }
     ensures faults { IfErr result IsReadersFault }
@@ -55,6 +58,7 @@ pub fn read_cert<R: ByteIn>(alloc: Global, input: &mut R) -> Result<Certificate,
 fn read_longest<R: ByteIn>(alloc: Global, input: &mut R) -> Result<Certificate, Fault>
     ensures found { Told (R.coming input.old) (R.coming input.new) (λ old new.
         IfOk result (λ c. HasText 8 c × (old.text ≡ spelling 8 c) × EndsHere new)) }
+    ensures ending { IfSome (R.coming input.old) (λ old. OnOk result (old.ending ≢ Faulty)) }
     ensures bad_line { IfSome (R.coming input.old) (λ old.
         (line : ℕ) → result ≡ Err (Fault.BadCertText line) → IsFirstBad 8 old.text line) }
     ensures fault { result ≡ Err Fault.ReadFault → IsTrue (R.has_failed input.new) }

@@ -1,0 +1,4 @@
+pub mod AnswerLemmas
+pub mod EndLemmas
+pub mod ListLemmas
+pub mod SayLemmas

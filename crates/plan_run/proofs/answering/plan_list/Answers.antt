@@ -1,0 +1,15 @@
+-- The list's plan has a text, and is the answer.
+use Rattle.std.proofs.Common.{refl}
+use Rattle.plan_run.specs.Answers.{IsPlanAnswer, Planned}
+use Rattle.plan_run.specs.declared.status.Status.TheVariants.{Done}
+use Rattle.plan_run.proofs.AnswerLemmas.{shaped, tells-text}
+use Rattle.plan_run.proofs.answering.plan_list.Goals as goal
+
+pub tell_certificate-requires : goal.tell_certificate-requires
+tell_certificate-requires g c = record { shape = shaped c.args.list.now c.in-Ok.certificate c.in-Ok.ensures.certified c.normal_law.ensures.few }
+
+pub returns-in-Ok-clause-answer : goal.returns-in-Ok-clause-answer
+returns-in-Ok-clause-answer g c =
+    tells-text (IsPlanAnswer c.args.list.now) _ Done c.tell_certificate.result _ _
+    (Planned c.in-Ok.certificate (record { first = c.in-Ok.ensures.first; cost = c.in-Ok.ensures.cost; potentials = c.in-Ok.ensures.potentials }) refl)
+    c.tell_certificate.ensures.text

@@ -1,0 +1,81 @@
+-- What a request has to answer, for the files that there are.
+use Rattle.std.specs.Prelude.{◌≡◌, ℕ, Bool, true, false, List, [], ◌∷◌, length, if◌then◌else◌, is_some, Option, Some, None, MatchOption, string_bytes}
+use Rattle.byte_io.specs.Sources.{Ask, Content, Named, Sources, after, ask_of, taken_by}
+use Rattle.list_plan.specs.Planned.{IsPlanned}
+use Rattle.lit_base.specs.Literals.{Literals}
+use Rattle.lit_base.specs.declared.fold.Fold.{Fold}
+use Rattle.lit_cert.specs.Certificates.{CertificateParts}
+use Rattle.lit_cert.specs.Certified.{IsCertified, IsFirstFailure}
+use Rattle.lit_cert.specs.Reading.{IsFirstBad}
+use Rattle.lit_cert.specs.Spelling.{HasText, spelling}
+use Rattle.lit_cert.specs.declared.reason.Reason.{Reason}
+use Rattle.plan_run.specs.declared.request.Request.{Request}
+use Rattle.plan_run.specs.declared.request.Request.TheVariants.{Plan, Check}
+use Rattle.plan_run.specs.declared.status.Status.{Status}
+use Rattle.plan_run.specs.declared.status.Status.TheVariants.{Done, NotCertified, Trouble}
+use Rattle.plan_run.specs.Lists.{list_in, list_message}
+use Rattle.plan_run.specs.Messages.{not_certified, optimal, refused, unusable}
+
+-- a text on standard output, a message, and a status
+pub record Answer : Type 0 where
+  pub output : List ℕ
+  pub message : List ℕ
+  pub status : Status
+
+-- a text alone
+abbrev pub told : List ℕ → Status → Answer
+told text status = record { output = text; message = []; status = status }
+
+-- a message alone
+abbrev pub refused_with : List ℕ → Answer
+refused_with text = record { output = []; message = text; status = Trouble }
+
+-- on a list that is to be planned: its certificate, or that there is nothing to plan
+pub data IsPlanAnswer (list : Literals) (a : Answer) : Type 0 where
+  Empty : length list.texts ≡ 0 → a ≡ refused_with (refused 5) → IsPlanAnswer list a
+  Planned : (c : CertificateParts) → IsPlanned list c → a ≡ told (spelling 8 c) Done → IsPlanAnswer list a
+
+-- on a list and a certificate: that it holds, or the first condition that fails
+pub data IsVerdict (list : Literals) (c : CertificateParts) (a : Answer) : Type 0 where
+  Holds : IsCertified 8 list c → a ≡ told (optimal c.cost) Done → IsVerdict list c a
+  Fails : (reason : Reason) → IsFirstFailure 8 list c reason → a ≡ told (not_certified reason) NotCertified → IsVerdict list c a
+
+-- on a list and what stands under the certificate's name: a message where nothing does, where reading it fails, or where it
+-- is no certificate's text; else the verdict. Where reading fails behind a wrong line, either message is right
+pub data IsCheckAnswer (list : Literals) (name : List ℕ) (source : Option Content) (a : Answer) : Type 0 where
+  Missing : source ≡ None → a ≡ refused_with (unusable name) → IsCheckAnswer list name source a
+  Unread : (c : Content) → source ≡ Some c → c.is_faulty ≡ true → a ≡ refused_with (unusable name) → IsCheckAnswer list name source a
+  Wrong : (c : Content) (line : ℕ) → source ≡ Some c → IsFirstBad 8 c.text line → a ≡ refused_with (refused 9) → IsCheckAnswer list name source a
+  Judged : (c : Content) (certificate : CertificateParts) → source ≡ Some c → c.is_faulty ≡ false → HasText 8 certificate
+      → c.text ≡ spelling 8 certificate → IsVerdict list certificate a → IsCheckAnswer list name source a
+
+-- the message on a file of patterns that gives no list; else what the list has to answer
+abbrev pub AnswersList : Fold → List ℕ → Option Content → (Literals → Answer → Type 0) → Answer → Type 0
+AnswersList fold name source P a =
+    MatchOption (list_message fold name source) (P (list_in fold source) a) (λ message. a ≡ refused_with message)
+
+-- what stands under the certificate's name, once the file of patterns is read
+abbrev pub certificate_source : List ℕ → List ℕ → Sources → Option Content
+certificate_source file certificate s = taken_by (Named certificate) (after (ask_of file) s)
+
+-- to plan, and to check
+abbrev pub AnswersPlan : Fold → List ℕ → Sources → Answer → Type 0
+AnswersPlan fold file s = AnswersList fold file (taken_by (ask_of file) s) IsPlanAnswer
+
+abbrev pub AnswersCheck : Fold → List ℕ → List ℕ → Sources → Answer → Type 0
+AnswersCheck fold file certificate s =
+    AnswersList fold file (taken_by (ask_of file) s) (λ list. IsCheckAnswer list certificate (certificate_source file certificate s))
+
+-- what a request has to answer
+abbrev pub IsAnswerTo : Request → Sources → Answer → Type 0
+IsAnswerTo (Plan fold file) s a = AnswersPlan fold (string_bytes file) s a
+IsAnswerTo (Check fold file certificate) s a = AnswersCheck fold (string_bytes file) (string_bytes certificate) s a
+
+-- what is asked for, in order: the file of patterns, and the certificate once there is a list
+abbrev pub check_asks : Fold → List ℕ → List ℕ → Sources → List Ask
+check_asks fold file certificate s =
+    ask_of file ∷ (if is_some (list_message fold file (taken_by (ask_of file) s)) then [] else Named certificate ∷ [])
+
+abbrev pub asks_of : Request → Sources → List Ask
+asks_of (Plan fold file) s = ask_of (string_bytes file) ∷ []
+asks_of (Check fold file certificate) s = check_asks fold (string_bytes file) (string_bytes certificate) s

@@ -1,0 +1,5 @@
+pub mod Answers
+pub mod Lists
+pub mod Messages
+pub mod Running
+pub mod Statuses

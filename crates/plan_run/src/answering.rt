@@ -1,0 +1,70 @@
+//! Answering each request.
+ghost use Rattle.std.specs.Prelude.{◌≡◌, ◌||◌, ◌∷◌, []};
+ghost use Rattle.byte_io.specs.Devices.{Told};
+ghost use Rattle.byte_io.specs.Sources.{AreShort, ask_of};
+ghost use Rattle.plan_run.specs.Answers.{AnswersCheck, AnswersPlan, IsPlanAnswer, check_asks};
+ghost use Rattle.plan_run.specs.Running.{Asks, Tells, is_write_fault};
+
+use crate::judging::check_list;
+use crate::reading::list_of;
+use crate::status::Status;
+use crate::stop::{Refusal, Stop};
+use crate::telling::tell_certificate;
+use byte_io::{ByteOut, Files};
+use lit_base::{Fold, LitList};
+use run_planner::{Fault, plan};
+use std::alloc::Global;
+
+/// Writes the certificate of the plan of a file's patterns.
+pub fn answer_plan<'a, F: Files, W: ByteOut>(
+    alloc: Global,
+    fold: Fold,
+    file: &'a str,
+    files: &mut F,
+    out: &mut W,
+) -> Result<Status, Stop<'a>>
+    ensures answer { Told (F.sources files.old) (F.sources files.new) (λ s left. AreShort s
+        → Asks result (ask_of file.now ∷ []) s left
+        × Tells (AnswersPlan fold file.now s) result (W.written out.old) (W.written out.new)) }
+    ensures flag { W.has_failed out.new ≡ (W.has_failed out.old || is_write_fault result) }
+{
+    match list_of(alloc, fold, file, files) {
+        Ok(list) => plan_list(alloc, &list, out),
+        Err(stop) => Err(stop),
+    }
+}
+
+/// Says whether a file's certificate shows that no grouping of a file's patterns is cheaper.
+pub fn answer_check<'a, F: Files, W: ByteOut>(
+    alloc: Global,
+    fold: Fold,
+    file: &'a str,
+    certificate: &'a str,
+    files: &mut F,
+    out: &mut W,
+) -> Result<Status, Stop<'a>>
+    ensures answer { Told (F.sources files.old) (F.sources files.new) (λ s left. AreShort s
+        → Asks result (check_asks fold file.now certificate.now s) s left
+        × Tells (AnswersCheck fold file.now certificate.now s) result (W.written out.old) (W.written out.new)) }
+    ensures flag { W.has_failed out.new ≡ (W.has_failed out.old || is_write_fault result) }
+{
+    match list_of(alloc, fold, file, files) {
+        Ok(list) => check_list(alloc, &list, certificate, files, out),
+        Err(stop) => Err(stop),
+    }
+}
+
+/// Writes the certificate of the list's plan.
+fn plan_list<'a, W: ByteOut>(alloc: Global, list: &LitList, out: &mut W) -> Result<Status, Stop<'a>>
+    ensures answer { Tells (IsPlanAnswer list.now) result (W.written out.old) (W.written out.new) }
+    ensures flag { W.has_failed out.new ≡ (W.has_failed out.old || is_write_fault result) }
+{
+    match plan(alloc, list) {
+        Ok(certificate) => {
+            list.normal_law();
+            tell_certificate(alloc, &certificate, out)
+        }
+        Err(Fault::NoLiterals) => Err(Stop::Refused(Refusal::NoLiterals)),
+        Err(Fault::OutOfMemory) => Err(Stop::OutOfMemory),
+    }
+}

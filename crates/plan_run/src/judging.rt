@@ -1,0 +1,97 @@
+//! Checking a certificate.
+ghost use Rattle.std.specs.Prelude.{◌≡◌, ◌||◌, IfOk, Some, string_bytes};
+ghost use Rattle.byte_io.specs.Devices.{Told};
+ghost use Rattle.byte_io.specs.Sources.{AreShort, Content, IsShort, Named, after, coming_of, taken_by};
+ghost use Rattle.plan_run.specs.Answers.{IsCheckAnswer, IsVerdict};
+ghost use Rattle.plan_run.specs.Messages.{not_certified, optimal};
+ghost use Rattle.plan_run.specs.Running.{Tells, is_write_fault};
+
+use crate::status::Status;
+use crate::stop::{Refusal, Stop};
+use crate::telling::tell;
+use byte_io::{ByteIn, ByteOut, Files};
+use lit_base::LitList;
+use lit_cert::{Certificate, Fault, Reason, check, read_cert};
+use std::alloc::{AllocError, Global};
+
+/// Says whether the certificate of a file shows that no grouping of the list is cheaper.
+pub fn check_list<'a, F: Files, W: ByteOut>(
+    alloc: Global,
+    list: &LitList,
+    name: &'a str,
+    files: &mut F,
+    out: &mut W,
+) -> Result<Status, Stop<'a>>
+    ensures answer { Told (F.sources files.old) (F.sources files.new) (λ s left. AreShort s
+        → (left ≡ after (Named name.now) s)
+        × Tells (IsCheckAnswer list.now name.now (taken_by (Named name.now) s)) result (W.written out.old) (W.written out.new)) }
+    ensures flag { W.has_failed out.new ≡ (W.has_failed out.old || is_write_fault result) }
+{
+    match files.open_named(name) {
+        Ok(mut input) => judge(alloc, list, name, &mut input, out),
+        Err(_) => Err(Stop::Refused(Refusal::Unusable(name))),
+    }
+}
+
+/// The verdict on the certificate of a file that is open.
+fn judge<'a, I: ByteIn, W: ByteOut>(
+    alloc: Global,
+    list: &LitList,
+    name: &'a str,
+    input: &mut I,
+    out: &mut W,
+) -> Result<Status, Stop<'a>>
+    ensures answer { (c : Content) → I.coming input.old ≡ Some (coming_of c) → IsShort c
+        → Tells (IsCheckAnswer list.now name.now (Some c)) result (W.written out.old) (W.written out.new) }
+    ensures flag { W.has_failed out.new ≡ (W.has_failed out.old || is_write_fault result) }
+{
+    match read_cert(alloc, input) {
+        Ok(certificate) => verdict(alloc, list, &certificate, out),
+        Err(Fault::BadCertText { line }) => Err(Stop::Refused(Refusal::NoCertificate { line })),
+        Err(Fault::OutOfMemory) => Err(Stop::OutOfMemory),
+        Err(Fault::ReadFault) => Err(Stop::Refused(Refusal::Unusable(name))),
+        Err(Fault::WriteFault) => unreachable!(),
+    }
+}
+
+/// The verdict on a certificate.
+fn verdict<'a, W: ByteOut>(
+    alloc: Global,
+    list: &LitList,
+    certificate: &Certificate,
+    out: &mut W,
+) -> Result<Status, Stop<'a>>
+    ensures answer { Tells (IsVerdict list.now certificate.now) result (W.written out.old) (W.written out.new) }
+    ensures flag { W.has_failed out.new ≡ (W.has_failed out.old || is_write_fault result) }
+{
+    match check(list, certificate) {
+        Ok(()) => {
+            let text = optimal(alloc, certificate.cost)?;
+            tell(text.as_str(), Status::Done, out)
+        }
+        Err(reason) => {
+            let text = not_certified(alloc, reason)?;
+            tell(text.as_str(), Status::NotCertified, out)
+        }
+    }
+}
+
+/// The verdict that a certificate of this cost holds.
+fn optimal(alloc: Global, cost: u64) -> Result<String, AllocError>
+    ensures { IfOk result (λ text. string_bytes text ≡ optimal cost) }
+{
+    format!(in alloc; "optimal {cost}\n")
+}
+
+/// The verdict that a certificate does not hold: this condition fails.
+fn not_certified(alloc: Global, reason: Reason) -> Result<String, AllocError>
+    ensures { IfOk result (λ text. string_bytes text ≡ not_certified reason) }
+{
+    match reason {
+        Reason::Length => format!(in alloc; "not certified: length\n"),
+        Reason::Ends => format!(in alloc; "not certified: ends\n"),
+        Reason::Total => format!(in alloc; "not certified: total\n"),
+        Reason::EndRow { r, p } => format!(in alloc; "not certified: end row {r} {p}\n"),
+        Reason::Step { r, p, q } => format!(in alloc; "not certified: step {r} {p} {q}\n"),
+    }
+}

@@ -1,0 +1,55 @@
+//! Messages on standard error, each a line behind the program's name.
+ghost use Rattle.std.specs.Prelude.{◌≡◌, IfOk, string_bytes};
+ghost use Rattle.plan_run.specs.Messages.{message_on, refused};
+ghost use Rattle.plan_run.specs.Running.{Says, SaysStop};
+
+use crate::stop::{Refusal, Stop};
+use byte_io::{ByteOut, write_all};
+use std::alloc::{AllocError, Global};
+
+/// Says why a run stopped. Where there is no memory for a message, that is said in its place. A
+/// message that cannot be written is not written again: the status alone tells it.
+pub fn say<E: ByteOut>(alloc: Global, stop: Stop<'_>, err: &mut E)
+    ensures { SaysStop stop.entry (E.has_failed err.new) (E.written err.old) (E.written err.new) }
+{
+    match stop {
+        Stop::Refused(refusal) => say_refusal(alloc, refusal, err),
+        Stop::WriteFault => say_text("litplan: refused (18)\n", err),
+        Stop::OutOfMemory => say_text("litplan: refused (1)\n", err),
+    }
+}
+
+fn say_refusal<E: ByteOut>(alloc: Global, refusal: Refusal<'_>, err: &mut E)
+    ensures { SaysStop (Stop.Refused refusal.entry) (E.has_failed err.new) (E.written err.old) (E.written err.new) }
+{
+    match message_of(alloc, refusal) {
+        Ok(message) => say_text(message.as_str(), err),
+        Err(_) => say_text("litplan: refused (1)\n", err),
+    }
+}
+
+/// Writes a text, as far as that is possible.
+pub fn say_text<E: ByteOut>(text: &str, err: &mut E)
+    ensures { Says (E.has_failed err.new) (E.written err.old) (E.written err.new) text.now }
+{
+    let _ = write_all(err, text.as_bytes());
+}
+
+/// The message on a refusal.
+fn message_of(alloc: Global, refusal: Refusal<'_>) -> Result<String, AllocError>
+    ensures { IfOk result (λ text. string_bytes text ≡ message_on refusal.entry) }
+{
+    match refusal {
+        Refusal::Unusable(name) => format!(in alloc; "litplan: {name}: cannot be used\n"),
+        Refusal::Patterns(fault) => refused(alloc, fault.number()),
+        Refusal::NoLiterals => refused(alloc, 5),
+        Refusal::NoCertificate { .. } => refused(alloc, 9),
+    }
+}
+
+/// The message on a refusal of this number.
+fn refused(alloc: Global, number: u8) -> Result<String, AllocError>
+    ensures { IfOk result (λ text. string_bytes text ≡ refused number) }
+{
+    format!(in alloc; "litplan: refused ({number})\n")
+}

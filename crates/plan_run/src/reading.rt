@@ -1,0 +1,66 @@
+//! Reading a file of patterns.
+ghost use Rattle.std.specs.Prelude.{◌≡◌, ◌≢◌, IfErr, IfOk, MatchResult, None, Some, false};
+ghost use Rattle.byte_io.specs.Devices.{Told};
+ghost use Rattle.byte_io.specs.Sources.{AreShort, Content, IsShort, after, ask_of, coming_of, taken_by};
+ghost use Rattle.plan_run.specs.Lists.{list_refusal, literals_of};
+ghost use Rattle.plan_run.specs.Running.{TakesList, is_write};
+
+use crate::stop::{Refusal, Stop};
+use byte_io::{ByteIn, Files, ReadError, open_operand, read_to_end};
+use lit_base::{Fault, Fold, LitList, MAX_TEXT_LEN, RawList};
+use std::alloc::Global;
+
+/// The list of a file of patterns, which is read to its end unless it is too large; `-` is standard
+/// input.
+pub fn list_of<'a, F: Files>(
+    alloc: Global,
+    fold: Fold,
+    file: &'a str,
+    files: &mut F,
+) -> Result<LitList, Stop<'a>>
+    ensures list { Told (F.sources files.old) (F.sources files.new) (λ s left. AreShort s
+        → (left ≡ after (ask_of file.now) s) × TakesList fold file.now (taken_by (ask_of file.now) s) result) }
+    ensures unwritten { IfErr result (λ stop. is_write stop ≡ false) }
+{
+    match open_operand(files, file) {
+        Ok(mut input) => list_from(alloc, fold, file, &mut input),
+        Err(_) => Err(Stop::Refused(Refusal::Unusable(file))),
+    }
+}
+
+/// The list of a file of patterns that is open.
+fn list_from<'a, I: ByteIn>(
+    alloc: Global,
+    fold: Fold,
+    file: &'a str,
+    input: &mut I,
+) -> Result<LitList, Stop<'a>>
+    ensures list { (c : Content) → I.coming input.old ≡ Some (coming_of c) → IsShort c
+        → TakesList fold file.now (Some c) result }
+    ensures unwritten { IfErr result (λ stop. is_write stop ≡ false) }
+{
+    let mut text = Vec::new(alloc);
+    match read_to_end(input, MAX_TEXT_LEN, &mut text) {
+        Ok(()) => match listed(alloc, fold, text.as_slice()) {
+            Ok(list) => Ok(list),
+            Err(Fault::OutOfMemory) => Err(Stop::OutOfMemory),
+            Err(fault) => Err(Stop::Refused(Refusal::Patterns(fault))),
+        },
+        Err(ReadError::Failed) => Err(Stop::Refused(Refusal::Unusable(file))),
+        Err(ReadError::TooLong) => Err(Stop::Refused(Refusal::Patterns(Fault::ListTooLarge))),
+        Err(ReadError::OutOfMemory) => Err(Stop::OutOfMemory),
+    }
+}
+
+/// The list of a text's lines.
+fn listed(alloc: Global, fold: Fold, text: &[u8]) -> Result<LitList, Fault>
+    ensures ok { IfOk result (λ list. list ≡ record { folding = fold; texts = literals_of fold text.now }) }
+    ensures refusal { MatchResult result
+        (λ _. list_refusal fold text.now ≡ None)
+        (λ fault. fault ≢ Fault.OutOfMemory → list_refusal fold text.now ≡ Some fault) }
+{
+    let mut patterns = RawList::new(alloc);
+    patterns.add_file_bytes(text)?;
+    let (list, _) = LitList::normal(alloc, &patterns, fold)?;
+    Ok(list)
+}

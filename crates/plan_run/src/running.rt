@@ -1,0 +1,71 @@
+//! A run of litplan.
+ghost use Rattle.std.specs.Prelude.{◌≡◌, ◌≢◌, ◌||◌};
+ghost use Rattle.byte_io.specs.Devices.{Told};
+ghost use Rattle.byte_io.specs.Sources.{AreShort};
+ghost use Rattle.plan_run.specs.Running.{Answers, Ends, is_write_fault};
+
+use crate::answering::{answer_check, answer_plan};
+use crate::message::say;
+use crate::request::Request;
+use crate::status::Status;
+use crate::stop::Stop;
+use byte_io::{ByteOut, Files};
+use std::alloc::Global;
+
+/// Serves a request: its answer goes to `out`, its message to `err`.
+///
+/// A write to `out` that fails ends the run with its message and `Trouble`; so does want of memory. A
+/// write to `err` that fails ends it with no further message.
+pub fn run<F: Files, W: ByteOut, E: ByteOut>(
+    alloc: Global,
+    request: &Request,
+    files: &mut F,
+    out: &mut W,
+    err: &mut E,
+) -> Status
+    ensures ends { Told (F.sources files.old) (F.sources files.new) (λ s left. AreShort s
+        → Ends request.now s left result (W.has_failed out.new) (E.has_failed err.new)
+        (W.written out.old) (W.written out.new) (E.written err.old) (E.written err.new)) }
+
+    // Whatever the files tell, a write that failed is told.
+    ensures fault { result ≢ Status.Trouble
+        → (W.has_failed out.new || E.has_failed err.new) ≡ (W.has_failed out.old || E.has_failed err.old) }
+{
+    match answer(alloc, request, files, out) {
+        Ok(status) => status,
+        Err(stop) => {
+            say(alloc, stop, err);
+            Status::Trouble
+        }
+    }
+}
+
+/// Answers a request as far as writes and memory allow, and says nothing.
+pub fn answer<'a, F: Files, W: ByteOut>(
+    alloc: Global,
+    request: &'a Request,
+    files: &mut F,
+    out: &mut W,
+) -> Result<Status, Stop<'a>>
+    ensures answer { Told (F.sources files.old) (F.sources files.new) (λ s left. AreShort s
+        → Answers request.now s left result (W.written out.old) (W.written out.new)) }
+
+    // A write fault is answered only where a write failed, and a write that failed is answered so.
+    ensures flag { W.has_failed out.new ≡ (W.has_failed out.old || is_write_fault result) }
+{
+    match request {
+        Request::Plan { fold, file } => answer_plan(alloc, *fold, file.as_str(), files, out),
+        Request::Check {
+            fold,
+            file,
+            certificate,
+        } => answer_check(
+            alloc,
+            *fold,
+            file.as_str(),
+            certificate.as_str(),
+            files,
+            out,
+        ),
+    }
+}

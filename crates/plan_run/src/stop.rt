@@ -1,0 +1,38 @@
+//! Why a run stops before its answer is written.
+ghost use Rattle.std.specs.Prelude.{◌≡◌};
+ghost use Rattle.plan_run.specs.declared.stop.Stop.TheVariants.{OutOfMemory};
+
+use lit_base::Fault;
+use std::alloc::AllocError;
+
+/// Why a request has a message in place of an answer.
+#[derive(Clone, Copy, Debug)]
+pub enum Refusal<'a> {
+    /// The file of this name cannot be opened or read.
+    Unusable(&'a str),
+    /// The patterns of the file are refused.
+    Patterns(Fault),
+    /// There is no literal to plan.
+    NoLiterals,
+    /// What stands for the certificate is no certificate's text: this line is the first wrong one.
+    NoCertificate { line: u32 },
+}
+
+/// Why a run stops before its answer is written.
+#[derive(Clone, Copy, Debug)]
+pub enum Stop<'a> {
+    /// The request has a message in place of an answer.
+    Refused(Refusal<'a>),
+    /// A write to standard output failed.
+    WriteFault,
+    /// A growth was refused.
+    OutOfMemory,
+}
+
+impl From<AllocError> for Stop<'_> {
+    ghost from_gives = { λ _ e. e ≡ OutOfMemory };
+
+    fn from(_error: AllocError) -> Self {
+        Stop::OutOfMemory
+    }
+}
