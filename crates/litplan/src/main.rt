@@ -2,21 +2,15 @@
 #![tactic(auto)]
 
 mod command;
-mod message;
-mod system;
 mod words;
 
 use byte_io::{SystemFiles, ToWrite};
+use command::serve;
 use std::process::ExitCode;
-use system::serve;
 
 fn main(rt: HostRuntime) -> ExitCode {
+    let mut files = SystemFiles::new(&rt, rt.stdin());
     let mut out = ToWrite::new(rt.stdout());
     let mut err = ToWrite::new(rt.stderr());
-    ExitCode::from(serve(
-        &rt,
-        &mut SystemFiles::new(&rt, rt.stdin()),
-        &mut out,
-        &mut err,
-    ))
+    ExitCode::from(serve(&rt, &mut files, &mut out, &mut err).code())
 }

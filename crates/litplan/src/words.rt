@@ -1,24 +1,9 @@
 //! The words of the command line, read with clap.
 use clap::{Arg, ArgAction, ArgMatches, Command};
 use lit_base::Fold;
+use plan_run::Request;
 use program_words::{Fault, VERSION, matches_of};
 use std::alloc::{AllocError, Global};
-
-/// What the words ask for.
-#[derive(Debug, Drop)]
-pub enum Request {
-    /// Plan the patterns of a file.
-    Plan {
-        fold: Fold,
-        file: String,
-    },
-    /// Check a certificate against the patterns of a file.
-    Check {
-        fold: Fold,
-        file: String,
-        certificate: String,
-    },
-}
 
 /// What the words after the program's name ask for.
 ///

@@ -28,7 +28,8 @@ fn flags_in(alloc: Global, word: &str) -> Result<u64, Fault> {
         .version(VERSION)
         .no_binary_name(true)
         .arg(flag)?;
-    let words = vec![in alloc; String::from_str(alloc, word)?]?;
+    let mut words = Vec::new(alloc);
+    words.push(String::from_str(alloc, word)?)?;
     let matches = matches_of(alloc, command, words.as_slice())?;
     Ok(u64::from(matches.get_count("flag")))
 }
