@@ -1,7 +1,7 @@
 //! What no clause says: the texts that clap gives.
 use crate::{Fault, VERSION, matches_of};
 use clap::{Arg, ArgAction, Command};
-use std::alloc::Global;
+use std::alloc::{AllocError, Global};
 use std::test::Fail;
 
 #[test]
@@ -29,7 +29,9 @@ fn flags_in(alloc: Global, word: &str) -> Result<u64, Fault> {
         .no_binary_name(true)
         .arg(flag)?;
     let mut words = Vec::new(alloc);
-    words.push(String::from_str(alloc, word)?)?;
+    if let Err(error) = words.push(String::from_str(alloc, word)?) {
+        return Err(AllocError::from(error).into());
+    }
     let matches = matches_of(alloc, command, words.as_slice())?;
     Ok(u64::from(matches.get_count("flag")))
 }
