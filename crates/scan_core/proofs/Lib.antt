@@ -1,4 +1,5 @@
 pub mod BlockLemmas
+pub mod CarriedLemmas
 pub mod FewLemmas
 pub mod RefusalLemmas
 pub mod ServingLemmas

@@ -7,3 +7,4 @@ pub mod Fews
 pub mod Streams
 pub mod Answers
 pub mod Publishing
+pub mod Carried

@@ -17,4 +17,4 @@ pub use fault::Fault;
 pub use limits::{MAX_PLANS, MAX_STREAMS};
 pub use refusal::Refusal;
 pub use session::Session;
-pub use world::world_law;
+pub use world::{event_law, world_law};

@@ -1,5 +1,12 @@
 //! What holds of all sessions of a store together.
+ghost use Rattle.scan_core.specs.Carried.{EventLaw};
 ghost use Rattle.scan_core.specs.Worlds.{WorldLaw};
+
+/// The law that what a session does by what its scanners keep, it does by all bytes that its streams
+/// were fed: with the same replies, and by the same entry.
+pub fn event_law()
+    ensures { EventLaw }
+{}
 
 /// The law of all runs of any number of sessions over one set of entries: a number has one plan
 /// throughout, an entry stays, and the replies to an accepted Feed are, but for the stream's number
