@@ -5,6 +5,7 @@ import os
 import random
 import re
 import select
+import socket
 import subprocess
 import sys
 import tempfile
