@@ -16,6 +16,3 @@ pub use request::Request;
 pub use running::{answer, run};
 pub use status::Status;
 pub use stop::{Refusal, Stop};
-
-#[cfg(test)]
-mod tests;
