@@ -1,11 +1,8 @@
 //! A certificate by the plain table: every potential from every run that begins at its place.
 use arrayvec::ArrayVec;
-use lit_base::{LitList, cost};
+use lit_base::{BUCKETS, LitList, cost};
 use lit_cert::Certificate;
 use std::alloc::{AllocError, Global};
-
-/// How many rows of potentials there are.
-const ROWS: usize = 8;
 
 /// What the run from `start` up to `end` costs; far more than any where there is no such run.
 fn run_cost(list: &LitList, start: usize, end: usize) -> u64 {
@@ -30,7 +27,7 @@ fn potential(list: &LitList, before: &[u64], start: usize) -> u64 {
 fn potentials(alloc: Global, list: &LitList) -> Result<Vec<u64>, AllocError> {
     let mut all = Vec::new(alloc);
     let mut before: Vec<u64> = Vec::new(alloc);
-    for _ in 0..ROWS {
+    for _ in 0..BUCKETS {
         let mut row = Vec::new(alloc);
         for start in 0..list.len() {
             row.push(potential(list, &before, start))?;
@@ -58,10 +55,10 @@ pub fn certificate_of(alloc: Global, list: &LitList) -> Result<Certificate, Allo
     let row = |r: usize| potentials
         .get(r * count..(r + 1) * count)
         .unwrap_or_default();
-    let cost = row(ROWS - 1).first().copied().unwrap_or(0);
+    let cost = row(BUCKETS - 1).first().copied().unwrap_or(0);
     let mut ends = ArrayVec::new();
     let mut start = 0;
-    for r in (0..ROWS).rev() {
+    for r in (0..BUCKETS).rev() {
         let here = row(r).get(start).copied().unwrap_or(0);
         let before = if r == 0 { &[] } else { row(r - 1) };
         start = reached(list, before, start, here);

@@ -5,12 +5,13 @@ ghost use Rattle.lit_base.specs.Costs.{weight, cost, group_cost, run_cost};
 ghost use Rattle.lit_base.specs.Cuts.{CutsFrom, IsCut, cut_price};
 ghost use Rattle.lit_base.specs.Assignments.{IsAssignment, bucket, assign_price};
 
+use crate::limits::BUCKETS;
 use crate::lit_list::LitList;
 use arrayvec::ArrayVec;
 
 /// The ends of a cut's runs, in order: a run holds the places from the end before it, 0 for the
 /// first, up to but not including its own end.
-pub type Ends = ArrayVec<u16, 8>;
+pub type Ends = ArrayVec<u16, BUCKETS>;
 
 /// The weights of the shortest lengths from one byte to seven.
 const WEIGHTS: [u64; 7] = [4096, 512, 151, 64, 32, 18, 11];
@@ -81,7 +82,7 @@ fn cuts_from(start: usize, count: usize, ends: &[u16]) -> bool
 pub fn is_assignment(list: &LitList, numbers: &[u8]) -> bool
     ensures { IsTrue result ↔ IsAssignment 8 (length list.now.texts) numbers.now }
 {
-    numbers.len() == list.len() && numbers.iter().all(|number| *number < 8)
+    numbers.len() == list.len() && numbers.iter().all(|number| usize::from(*number) < BUCKETS)
 }
 
 /// What a cut costs: the sum of its runs' costs.
@@ -106,7 +107,7 @@ pub fn assign_cost(list: &LitList, numbers: &[u8]) -> u64
     ensures { result ≡ assign_price 8 (lengths list.now) numbers.now }
 {
     let mut price = 0;
-    for number in 0..8 {
+    for number in 0..BUCKETS as u8 {
         price += bucket_cost(list, numbers, number);
     }
     price

@@ -24,7 +24,9 @@ pub use costs::{Ends, assign_cost, cost, cut_cost, is_assignment, is_cut, weight
 pub use fault::Fault;
 pub use fold::{Fold, fold_byte};
 pub use laws::{assignment_law, cut_law, limits_law, potentials_law, run_cost_law};
-pub use limits::{MAX_LIST_LEN, MAX_LITERAL_LEN, MAX_LITERALS, MAX_PATTERNS, MAX_TEXT_LEN};
+pub use limits::{
+    BUCKETS, MAX_LIST_LEN, MAX_LITERAL_LEN, MAX_LITERALS, MAX_PATTERNS, MAX_TEXT_LEN,
+};
 pub use lines::{Lines, ended_law, lines_law, matching_law};
 pub use lit_list::{LitList, Normal};
 pub use normal_form::normal_form_law;

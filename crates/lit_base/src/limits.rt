@@ -1,4 +1,4 @@
-//! The limits of lists, which refuse by number what passes them and never cut it.
+//! The limits of lists, which refuse by number what passes them and never cut it, and that of plans.
 
 /// Raw patterns in a list, at most.
 pub const MAX_PATTERNS: usize = 4096;
@@ -14,3 +14,6 @@ pub const MAX_TEXT_LEN: usize = 1_052_672;
 
 /// Literals in a normal form, at most.
 pub const MAX_LITERALS: usize = 1024;
+
+/// Buckets of a plan, at most: one for each bit of a mask's bytes.
+pub const BUCKETS: usize = 8;

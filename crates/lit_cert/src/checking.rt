@@ -9,10 +9,7 @@ ghost use Rattle.lit_cert.specs.declared.reason.Reason.{Reason};
 use crate::certificate::Certificate;
 use crate::dividing::row_holds;
 use crate::reason::Reason;
-use lit_base::{LitList, assignment_law, cost, cut_cost, is_cut, potentials_law};
-
-/// How many rows of potentials there are: one for each number of runs.
-const ROWS: usize = 8;
+use lit_base::{BUCKETS, LitList, assignment_law, cost, cut_cost, is_cut, potentials_law};
 
 /// Whether the certificate shows that its runs are the cheapest: then no assignment of the literals
 /// to at most eight buckets costs less than the certificate says, and its runs cost exactly that.
@@ -41,8 +38,8 @@ pub fn certified_law(list: &LitList, certificate: &Certificate)
     ensures assignment { IsAssignment 8 (length list.now.texts) (assignment_of certificate.now.ends) }
     ensures reached { assign_price 8 (lengths list.now) (assignment_of certificate.now.ends) ≡ certificate.now.cost }
 {
-    potentials_law(list, ROWS, certificate.potentials.as_slice());
-    assignment_law(list, ROWS, certificate.ends.as_slice());
+    potentials_law(list, BUCKETS, certificate.potentials.as_slice());
+    assignment_law(list, BUCKETS, certificate.ends.as_slice());
 }
 
 /// Checks that the certificate is one for the literals, and tells what its runs cost.
@@ -52,7 +49,7 @@ fn check_priced(list: &LitList, certificate: &Certificate) -> Result<(), Reason>
         (λ reason. IsFirstFailure 8 list.now certificate.now reason) }
 {
     let n = list.len();
-    if n == 0 || certificate.potentials.len() != ROWS * n {
+    if n == 0 || certificate.potentials.len() != BUCKETS * n {
         return Err(Reason::Length);
     }
     if !is_cut(list, &certificate.ends) {
@@ -70,7 +67,7 @@ fn has_total(list: &LitList, certificate: &Certificate) -> bool
     requires cut { IsCut 8 (length list.now.texts) certificate.now.ends }
     ensures { IsTrue result ↔ HasTotal 8 list.now certificate.now }
 {
-    let bound = certificate.potentials[(ROWS - 1) * list.len()];
+    let bound = certificate.potentials[(BUCKETS - 1) * list.len()];
     cut_cost(list, &certificate.ends) == certificate.cost && bound == certificate.cost
 }
 
@@ -82,10 +79,10 @@ fn check_bounds(list: &LitList, certificate: &Certificate) -> Result<(), Reason>
         (λ reason. IsFirstFailure 8 list.now certificate.now reason) }
 {
     let potentials = certificate.potentials.as_slice();
-    if let Some((r, p)) = first_end_row(list, potentials, ROWS) {
+    if let Some((r, p)) = first_end_row(list, potentials, BUCKETS) {
         return Err(Reason::EndRow { r, p });
     }
-    if let Some((r, p, q)) = first_step_row(list, potentials, ROWS) {
+    if let Some((r, p, q)) = first_step_row(list, potentials, BUCKETS) {
         return Err(Reason::Step { r, p, q });
     }
     Ok(())

@@ -7,7 +7,7 @@ ghost use Rattle.lit_cert.specs.Reading.{NoLine, IsBadLine, AreNumbers, IsRow, H
 
 use crate::certificate::Certificate;
 use crate::fault::Fault;
-use lit_base::{Ends, MAX_LITERALS};
+use lit_base::{BUCKETS, Ends, MAX_LITERALS};
 use std::alloc::Global;
 
 /// The number that the word is, in decimal, with no sign and no leading zero.
@@ -140,7 +140,7 @@ fn rows(alloc: Global, text: &[u8], n: usize) -> Result<(Vec<u64>, &[u8]), Fault
 {
     let mut potentials = Vec::new(alloc);
     let mut left = text;
-    for r in 0..8 {
+    for r in 0..BUCKETS as u32 {
         let (numbers, rest) = row_line(alloc, left, r, n)?;
         potentials.extend_from_slice(&numbers[1..])?;
         left = rest;

@@ -8,7 +8,7 @@ ghost use Rattle.lit_cert.specs.Spelling.{IsShaped, ends_words, line_text, row_w
 
 use crate::certificate::Certificate;
 use crate::fault::Fault;
-use lit_base::{ByteOut, Ends, Failed, write_all};
+use lit_base::{BUCKETS, ByteOut, Ends, Failed, write_all};
 use std::alloc::{AllocError, Global};
 use std::fmt::Write;
 
@@ -43,13 +43,13 @@ fn text_of(alloc: Global, certificate: &Certificate) -> Result<String, AllocErro
     requires { IsShaped 8 certificate.now }
     ensures { IfOk result (λ text. string_bytes text ≡ spelling 8 certificate.now) }
 {
-    let n = certificate.potentials.len() / 8;
+    let n = certificate.potentials.len() / BUCKETS;
     let cost = certificate.cost;
     let mut text = String::new(alloc);
     write!(text, "litcert 1\nliterals {n}\n")?;
     push_ends(&mut text, &certificate.ends)?;
     write!(text, "cost {cost}\n")?;
-    for r in 0..8 {
+    for r in 0..BUCKETS {
         let row = &certificate.potentials[r * n..(r + 1) * n];
         push_row(&mut text, r + 1, row)?;
     }

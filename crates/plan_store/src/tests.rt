@@ -2,8 +2,8 @@
 //! that it is found by any thread, and that no other number is.
 use crate::PlanStore;
 use flow_scan::Compiled;
-use lit_base::{Ends, Fold, LitList, RawList, cost};
-use lit_cert::Certificate;
+use list_plan::compile;
+use lit_base::{Fold, LitList, RawList};
 use std::alloc::Global;
 use std::sync::Wait;
 use std::test::Fail;
@@ -41,25 +41,12 @@ fn finds_what_eight_threads_published(rt: HostRuntime) -> Result<(), Fail> {
     Ok(())
 }
 
-/// The certificate of one literal of two bytes.
-fn certificate(alloc: Global) -> Option<Certificate> {
-    let cost = cost(1, 2);
-    let mut ends = Ends::new();
-    ends.try_push(1).ok()?;
-    let potentials = vec![in alloc; cost; 8].ok()?;
-    Some(Certificate {
-        ends,
-        cost,
-        potentials,
-    })
-}
-
 /// The plan of one literal of two bytes.
 fn plan_of(alloc: Global, literal: (u8, u8)) -> Option<Compiled> {
     let mut raw = RawList::new(alloc);
     raw.push(&[literal.0, literal.1]).ok()?;
     let (list, _) = LitList::normal(alloc, &raw, Fold::No).ok()?;
-    Compiled::new(list, certificate(alloc)?).ok()
+    compile(alloc, list).ok()
 }
 
 /// The number under which the plan of a literal was stored, if the ticket shows that plan.

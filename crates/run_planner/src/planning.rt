@@ -15,12 +15,9 @@ use crate::fault::Fault;
 use crate::first_cut::first_cut;
 use crate::meter::{ListMeter, Meter};
 use crate::tail_row::fill_rows;
-use lit_base::LitList;
+use lit_base::{BUCKETS, LitList};
 use lit_cert::{Certificate, certified_law};
 use std::alloc::Global;
-
-/// Runs that a cut has at most: one for each bucket.
-const MOST: usize = 8;
 
 /// Plans the literals: the first of the cheapest cuts into at most eight runs, first by price, then
 /// by the number of runs, then by the ends; its price; and as potentials the least prices of cutting
@@ -75,10 +72,10 @@ pub fn plan_counted<M: Meter>(alloc: Global, n: u16, meter: &mut M) -> Result<Ce
     if n == 0 {
         return Err(Fault::NoLiterals);
     }
-    let mut potentials = vec![in alloc; 0; MOST * usize::from(n)]?;
-    fill_rows(meter, n, MOST, potentials.as_mut_slice());
-    let ends = first_cut(meter, n, potentials.as_slice(), MOST);
-    let cost = potentials[(MOST - 1) * usize::from(n)];
+    let mut potentials = vec![in alloc; 0; BUCKETS * usize::from(n)]?;
+    fill_rows(meter, n, BUCKETS, potentials.as_mut_slice());
+    let ends = first_cut(meter, n, potentials.as_slice(), BUCKETS);
+    let cost = potentials[(BUCKETS - 1) * usize::from(n)];
     Ok(Certificate {
         ends,
         cost,

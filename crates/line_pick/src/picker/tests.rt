@@ -1,10 +1,9 @@
 //! What no clause says: worked rows, and the texts of faults.
 use super::*;
 use crate::matcher::{is_in_lines, standing_law};
-use lit_base::{Ends, Fold, LitList, RawList, cost};
-use lit_cert::Certificate;
+use list_plan::compile;
+use lit_base::{Fold, LitList, RawList};
 use std::alloc::AllocError;
-use std::test::Fail;
 
 const PARTS: LineRule = LineRule {
     invert: false,
@@ -64,28 +63,12 @@ impl Sink for Kept {
     }
 }
 
-/// The certificate of one literal of this length.
-fn certificate_of_one(alloc: Global, len: usize) -> Result<Certificate, AllocError> {
-    let cost = cost(1, len.max(1));
-    let mut ends = Ends::new();
-    ends.push(1);
-    Ok(Certificate {
-        ends,
-        cost,
-        potentials: vec![in alloc; cost; 8]?,
-    })
-}
-
 /// The plan of one literal.
-fn plan_of_one(alloc: Global, literal: &[u8]) -> Result<Compiled, Fail> {
+fn plan_of_one(alloc: Global, literal: &[u8]) -> Option<Compiled> {
     let mut raw = RawList::new(alloc);
-    raw.push(literal)?;
-    let (list, _) = LitList::normal(alloc, &raw, Fold::No)?;
-    let certificate = certificate_of_one(alloc, literal.len())?;
-    match Compiled::new(list, certificate) {
-        Ok(compiled) => Ok(compiled),
-        Err(_) => Err(Fail::from("no plan")),
-    }
+    raw.push(literal).ok()?;
+    let (list, _) = LitList::normal(alloc, &raw, Fold::No).ok()?;
+    compile(alloc, list).ok()
 }
 
 /// A call of a picker, with a piece or at the end, and its answer with what the sink has kept then.
@@ -106,21 +89,37 @@ fn first_wrong(picker: &mut Picker<'_>, sink: &mut Kept, turns: &[Turn]) -> Opti
     None
 }
 
-/// The first wrong turn of a picker for this literal, with a sink of this mood.
+/// What stands for the first wrong turn where there is no picker.
+const NO_PICKER: Option<usize> = Some(usize::MAX);
+
+/// The first wrong turn of a picker by this plan, with a sink of this mood.
+fn first_wrong_by(
+    alloc: Global,
+    compiled: &Compiled,
+    rule: LineRule,
+    mood: Mood,
+    turns: &[Turn],
+) -> Option<usize> {
+    if !is_in_lines(compiled) {
+        return NO_PICKER;
+    }
+    let mut picker = Picker::new(alloc, Some(compiled), false, rule);
+    let mut sink = Kept::new(alloc, mood);
+    first_wrong(&mut picker, &mut sink, turns)
+}
+
+/// That of a picker for this literal.
 fn first_wrong_of(
     alloc: Global,
     literal: &[u8],
     rule: LineRule,
     mood: Mood,
     turns: &[Turn],
-) -> Result<Option<usize>, Fail> {
-    let compiled = plan_of_one(alloc, literal)?;
-    if !is_in_lines(&compiled) {
-        return Err(Fail::from("a literal holds a newline"));
+) -> Option<usize> {
+    match plan_of_one(alloc, literal) {
+        Some(compiled) => first_wrong_by(alloc, &compiled, rule, mood, turns),
+        None => NO_PICKER,
     }
-    let mut picker = Picker::new(alloc, Some(&compiled), false, rule);
-    let mut sink = Kept::new(alloc, mood);
-    Ok(first_wrong(&mut picker, &mut sink, turns))
 }
 
 /// Turns of which the sink gets the second line alone.
@@ -134,10 +133,9 @@ static IN_PIECES: [Turn; 6] = [
 ];
 
 #[test]
-fn compares_a_line_in_pieces_as_a_whole(rt: HostRuntime) -> Result<(), Fail> {
-    let wrong = first_wrong_of(rt.alloc(), b"cat", WHOLE, Mood::Takes, &IN_PIECES)?;
+fn compares_a_line_in_pieces_as_a_whole(rt: HostRuntime) {
+    let wrong = first_wrong_of(rt.alloc(), b"cat", WHOLE, Mood::Takes, &IN_PIECES);
     assert_eq!(rt; wrong, None);
-    Ok(())
 }
 
 /// Turns of which the sink gets the empty line alone.
@@ -161,10 +159,9 @@ static STOPPED: [Turn; 3] = [
 ];
 
 #[test]
-fn lends_nothing_after_a_stop(rt: HostRuntime) -> Result<(), Fail> {
-    let wrong = first_wrong_of(rt.alloc(), b"a", PARTS, Mood::StopsAt(3), &STOPPED)?;
+fn lends_nothing_after_a_stop(rt: HostRuntime) {
+    let wrong = first_wrong_of(rt.alloc(), b"a", PARTS, Mood::StopsAt(3), &STOPPED);
     assert_eq!(rt; wrong, None);
-    Ok(())
 }
 
 /// Turns that go on behind a line that cannot be written.
@@ -184,14 +181,13 @@ static UNKEPT: [Turn; 4] = [
 ];
 
 #[test]
-fn answers_a_fault_of_the_sink_again(rt: HostRuntime) -> Result<(), Fail> {
+fn answers_a_fault_of_the_sink_again(rt: HostRuntime) {
     let unwritten = Mood::FailsAt(2, Fault::WriteFault);
-    let wrong = first_wrong_of(rt.alloc(), b"a", PARTS, unwritten, &UNWRITTEN)?;
+    let wrong = first_wrong_of(rt.alloc(), b"a", PARTS, unwritten, &UNWRITTEN);
     assert_eq!(rt; wrong, None);
     let unkept = Mood::FailsAt(2, Fault::OutOfMemory);
-    let wrong = first_wrong_of(rt.alloc(), b"a", PARTS, unkept, &UNKEPT)?;
+    let wrong = first_wrong_of(rt.alloc(), b"a", PARTS, unkept, &UNKEPT);
     assert_eq!(rt; wrong, None);
-    Ok(())
 }
 
 /// Turns that go on behind the last place.
@@ -210,20 +206,24 @@ fn fails_where_the_stream_is_too_long(rt: HostRuntime) {
     assert_eq!(rt; first_wrong(&mut picker, &mut sink, &TOO_LONG), None);
 }
 
-/// Each fault with its number and text.
-static FAULTS: [(Fault, u8, &str); 3] = [
-    (Fault::OutOfMemory, 1, "out of memory"),
-    (Fault::WriteFault, 18, "a write failed"),
-    (Fault::StreamTooLong, 20, "the stream is too long"),
-];
+/// Whether a fault has this number and text.
+fn is_named(alloc: Global, fault: Fault, number: u8, text: &str) -> Option<bool> {
+    let shown = format!(in alloc; "{fault}").ok()?;
+    Some(fault.number() == number && shown.as_str() == text)
+}
 
 #[test]
-fn names_its_faults(rt: HostRuntime) -> Result<(), Fail> {
+fn names_its_faults(rt: HostRuntime) {
+    let alloc = rt.alloc();
     standing_law();
-    for (fault, number, text) in &FAULTS {
-        assert_eq!(rt; fault.number(), *number);
-        let shown = format!(in rt.alloc(); "{fault}")?;
-        assert_eq!(rt; shown.as_str(), *text);
-    }
-    Ok(())
+    assert_eq!(rt;
+        is_named(alloc, Fault::OutOfMemory, 1, "out of memory"),
+        Some(true)
+    );
+    assert_eq!(rt;
+        is_named(alloc, Fault::WriteFault, 18, "a write failed"),
+        Some(true)
+    );
+    let too_long = is_named(alloc, Fault::StreamTooLong, 20, "the stream is too long");
+    assert_eq!(rt; too_long, Some(true));
 }

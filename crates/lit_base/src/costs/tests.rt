@@ -1,10 +1,8 @@
 //! Costs in figures.
 use super::*;
-use crate::fault::Fault;
 use crate::fold::Fold;
 use crate::raw_list::RawList;
 use std::alloc::Global;
-use std::test::Fail;
 
 /// The weights by their shortest lengths, from 1 on, and what groups of one and of two literals cost.
 static TABLE: [(u64, u64, u64); 9] = [
@@ -31,13 +29,13 @@ fn weighs_and_prices_by_the_table(rt: HostRuntime) {
 }
 
 /// The normal form of the words of a text.
-fn list_of(alloc: Global, words: &str) -> Result<LitList, Fault> {
+fn list_of(alloc: Global, words: &str) -> Option<LitList> {
     let mut raw = RawList::new(alloc);
     for word in words.split(' ') {
-        raw.push(word.as_bytes())?;
+        raw.push(word.as_bytes()).ok()?;
     }
-    let (list, _) = LitList::normal(alloc, &raw, Fold::No)?;
-    Ok(list)
+    let (list, _) = LitList::normal(alloc, &raw, Fold::No).ok()?;
+    Some(list)
 }
 
 /// What the cut costs, if the ends are one.
@@ -53,9 +51,9 @@ fn price_of(list: &LitList, ends: &[u16]) -> Option<u64> {
 }
 
 /// What the words cost in these runs, if the ends are a cut of them.
-fn price_of_words(alloc: Global, words: &str, ends: &[u16]) -> Result<Option<u64>, Fault> {
+fn price_of_words(alloc: Global, words: &str, ends: &[u16]) -> Option<u64> {
     let list = list_of(alloc, words)?;
-    Ok(price_of(&list, ends))
+    price_of(&list, ends)
 }
 
 const NINE: &str =
@@ -80,12 +78,11 @@ static CUTS: [(&str, &[u16], Option<u64>); 14] = [
 ];
 
 #[test]
-fn prices_cuts(rt: HostRuntime) -> Result<(), Fail> {
+fn prices_cuts(rt: HostRuntime) {
     for (words, ends, wanted) in &CUTS {
-        let price = price_of_words(rt.alloc(), words, ends)?;
+        let price = price_of_words(rt.alloc(), words, ends);
         assert_eq!(rt; price, *wanted, "{words} cut at {ends:?}");
     }
-    Ok(())
 }
 
 /// What the literals cost in these buckets, if the numbers assign them.
@@ -110,31 +107,41 @@ fn price_of_animals(cat: u8, dog: u8, horse: u8) -> u64 {
     934
 }
 
-#[test]
-fn prices_every_assignment_of_three_literals(rt: HostRuntime) -> Result<(), Fail> {
-    let list = list_of(rt.alloc(), "cat dog horse")?;
+/// The first of the 512 assignments, as a number of three digits to the base 8, whose price is another.
+fn first_wrong(list: &LitList) -> Option<u16> {
     for number in 0..512_u16 {
         let [cat, dog, horse] = [number / 64, number / 8, number].map(|digits| (digits % 8) as u8);
-        let price = price_in_buckets(&list, &[cat, dog, horse]);
-        assert_eq!(rt; price, Some(price_of_animals(cat, dog, horse)), "{number}");
+        let wanted = price_of_animals(cat, dog, horse);
+        if price_in_buckets(list, &[cat, dog, horse]) != Some(wanted) {
+            return Some(number);
+        }
     }
-    Ok(())
+    None
 }
 
-/// Buckets of `a` and `the`, and what they cost.
-static BUCKETS: [(&[u8], Option<u64>); 5] = [
-    (&[0, 0], Some(16584)),
-    (&[7, 7], Some(16584)),
-    (&[0, 1], Some(4647)),
-    (&[0, 8], None),
-    (&[0], None),
-];
+/// That of a list of the three.
+fn first_wrong_of_animals(alloc: Global) -> Option<Option<u16>> {
+    let list = list_of(alloc, "cat dog horse")?;
+    Some(first_wrong(&list))
+}
 
 #[test]
-fn prices_a_bucket_by_its_shortest(rt: HostRuntime) -> Result<(), Fail> {
-    let list = list_of(rt.alloc(), "a the")?;
-    for (numbers, wanted) in &BUCKETS {
-        assert_eq!(rt; price_in_buckets(&list, numbers), *wanted, "{numbers:?}");
-    }
-    Ok(())
+fn prices_every_assignment_of_three_literals(rt: HostRuntime) {
+    assert_eq!(rt; first_wrong_of_animals(rt.alloc()), Some(None));
+}
+
+/// What `a` and `the` cost in these buckets, if the numbers assign them.
+fn price_of_two(alloc: Global, numbers: &[u8]) -> Option<Option<u64>> {
+    let list = list_of(alloc, "a the")?;
+    Some(price_in_buckets(&list, numbers))
+}
+
+#[test]
+fn prices_a_bucket_by_its_shortest(rt: HostRuntime) {
+    let alloc = rt.alloc();
+    assert_eq!(rt; price_of_two(alloc, &[0, 0]), Some(Some(16584)));
+    assert_eq!(rt; price_of_two(alloc, &[7, 7]), Some(Some(16584)));
+    assert_eq!(rt; price_of_two(alloc, &[0, 1]), Some(Some(4647)));
+    assert_eq!(rt; price_of_two(alloc, &[0, 8]), Some(None));
+    assert_eq!(rt; price_of_two(alloc, &[0]), Some(None));
 }
