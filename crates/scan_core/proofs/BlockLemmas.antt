@@ -1,9 +1,9 @@
 -- One more block of hits told, and all of them.
-use Rattle.std.proofs.Common.{◌≡◌, ◌≢◌, ℕ, List, [], ◌∷◌, ◌++◌, length, map, take, drop, min, refl, sym, ap, ◌∙◌, subst, append_assoc, append-nil}
-use Rattle.std.proofs.lemmas.List.{map-append}
+use Rattle.std.proofs.Common.{◌≡◌, ◌≢◌, ℕ, zero, suc, ◌<◌, ◌≤◌, List, [], ◌∷◌, ◌++◌, length, map, take, drop, refl, sym, ap, ◌∙◌, subst, append_assoc, arith}
+use Rattle.std.proofs.lemmas.List.{drop_at, length-append, length-drop, map-append, take_at}
 use Rattle.scan_wire.specs.Messages.{Hits, reply_parts}
 use Rattle.scan_wire.specs.declared.message.Reply.{Reply}
-use Rattle.scan_core.specs.Blocks.{AreBlocks}
+use Rattle.scan_core.specs.Blocks.{AreBlocks, AreFull, joined}
 use Rattle.scan_core.specs.Sessions.{replies_of}
 
 -- one reply more
@@ -24,3 +24,37 @@ pub blocks_go_on : (most : ℕ) (all rest others block : List (ℕ × ℕ)) (don
 blocks_go_on most all rest others block done some first behind goes more cut =
     subst (AreBlocks most all) (sym (append_assoc done (block ∷ []) more))
     (goes (block ∷ more) (some, first, subst (λ hs. AreBlocks most hs more) behind cut))
+
+-- full blocks, and then the blocks of what is left
+pub blocks_behind : {X : Type 0} (most : ℕ) (full blocks : List (List X)) (rest : List X) → 0 < most → AreFull most full → AreBlocks most rest blocks → AreBlocks most (joined full ++ rest) (full ++ blocks)
+blocks_behind most [] blocks rest some all cut = cut
+blocks_behind {X} most (block ∷ full) blocks rest some all cut =
+    let text : List X = block ++ (joined full ++ rest) in
+    let whole : joined (block ∷ full) ++ rest ≡ text = append_assoc block (joined full) rest in
+    let front : take most text ≡ block = ap (λ n. take n text) (sym all.0) ∙ take_at block (joined full ++ rest) (length block) refl in
+    let back : drop most text ≡ joined full ++ rest = ap (λ n. drop n text) (sym all.0) ∙ drop_at block (joined full ++ rest) (length block) refl in
+    let any : text ≢ [] = λ e. absurd (omega (arith, some, all.0, ap length e, length-append block (joined full ++ rest))) in
+    subst (λ xs. AreBlocks most xs (block ∷ full ++ blocks)) (sym whole)
+    (any, sym front, subst (λ xs. AreBlocks most xs (full ++ blocks)) (sym back) (blocks_behind most full blocks rest some all.1 cut))
+
+-- a list that is no longer than some number has blocks
+blocks_within : {X : Type 0} (most limit : ℕ) (xs : List X) → 0 < most → length xs ≤ limit → (blocks : List (List X)) × AreBlocks most xs blocks
+blocks_within most limit [] some short = ([], refl)
+blocks_within most zero (x ∷ xs) some short = absurd (omega (arith, short))
+blocks_within {X} most (suc limit) (x ∷ xs) some short =
+    let others = blocks_within most limit (drop most (x ∷ xs)) some (omega (arith, short, some, length-drop most (x ∷ xs))) in
+    (take most (x ∷ xs) ∷ others.0, ((λ e. absurd (omega (arith, ap length e))), refl, others.1))
+
+-- each list has blocks
+pub blocks_exist : {X : Type 0} (most : ℕ) (xs : List X) → 0 < most → (blocks : List (List X)) × AreBlocks most xs blocks
+blocks_exist most xs some = blocks_within most (length xs) xs some (omega arith)
+
+-- the elements of blocks and then others
+pub joined-append : {X : Type 0} (xs ys : List (List X)) → joined (xs ++ ys) ≡ joined xs ++ joined ys
+joined-append [] ys = refl
+joined-append (x ∷ xs) ys = ap (λ rest. x ++ rest) (joined-append xs ys) ∙ sym (append_assoc x (joined xs) (joined ys))
+
+-- full blocks and then others
+pub full-append : {X : Type 0} (most : ℕ) (xs ys : List (List X)) → AreFull most xs → AreFull most ys → AreFull most (xs ++ ys)
+full-append most [] ys full more = more
+full-append most (x ∷ xs) ys full more = (full.0, full-append most xs ys full.1 more)

@@ -1,7 +1,6 @@
 -- What a session does by what its scanners keep, it does by all bytes that its streams were fed.
-use Rattle.std.proofs.Common.{◌≡◌, ℕ, ◌+◌, ◌-◌, ◌^◌, ◌<◌, ◌≤◌, Bool, true, false, cond, List, [], ◌∷◌, ◌++◌, length, map, get_or, Option, Some, None, MatchOption, Contains, ◌⊎◌, inl, inr, refl, sym, ap, ◌∙◌, subst, arith, length-append}
+use Rattle.std.proofs.Common.{◌≡◌, ℕ, ◌+◌, ◌-◌, ◌^◌, ◌<◌, Bool, true, false, cond, List, [], ◌∷◌, ◌++◌, length, map, get_or, Option, Some, None, MatchOption, Contains, inl, inr, refl, sym, ap, ◌∙◌, subst, arith, length-append}
 use Rattle.std.specs.Prelude.{is_some, nat_eq, nat_le, if◌then◌else◌}
-use Rattle.std.specs.List.{slice_get}
 use Rattle.std.specs.Map.{lookup, remove_entry, set_value}
 use Rattle.std.proofs.lemmas.List.{get_or-map, length-map}
 use Rattle.std.proofs.lemmas.Option.{get_or_from_slice_get, none-some, same_Some, slice_get_within}
@@ -11,18 +10,18 @@ use Rattle.lit_base.proofs.LengthLemmas.{last_greatest}
 use Rattle.flow_scan.specs.Plans as plans
 use Rattle.flow_scan.specs.Tails.{AreAdded, HasBounds, carry_of, last_bytes, tail_after}
 use Rattle.flow_scan.proofs.TailSteps.{added_behind_all, last_of_last, last_of_short}
-use Rattle.scan_wire.specs.Messages.{RequestParts, ReplyParts, Publish, Open, Feed, Close, ShowPlan}
+use Rattle.scan_wire.specs.Messages.{RequestParts, Publish, Open, Feed, Close, ShowPlan}
 use Rattle.scan_core.specs.declared.limits.TheConstants.{MAX_STREAMS}
 use Rattle.scan_core.specs.declared.refusal.Refusal.{Refusal}
-use Rattle.scan_core.specs.declared.refusal.Refusal.TheVariants.{NoSuchPlan, StreamInUse, StreamQuota, StreamTooLong}
+use Rattle.scan_core.specs.declared.refusal.Refusal.TheVariants.{StreamInUse, StreamQuota, StreamTooLong}
 use Rattle.scan_core.specs.Carried.{AreCarried, EventLaw, IsCarried, IsEventOf, IsSeen}
 use Rattle.scan_core.specs.Refusals.{publish_refusal}
 use Rattle.scan_core.specs.Sessions.{Bound, by_tails}
-use Rattle.scan_core.specs.Steps.{Entry, IsAccepted, IsStep, Outcome, SessionParts, closed, moved, opened, published, refusal_of, refused, shown, stream_at, stream_refusal}
+use Rattle.scan_core.specs.Steps.{Entry, IsAccepted, Outcome, SessionParts, closed, moved, refusal_of, refused, shown, stream_at, stream_refusal}
 use Rattle.scan_core.specs.Worlds.{AreHitsPast, Streamed, by_bytes}
 
 -- Literals in normal form are no longer than the carry and one byte.
-bounds_of_normal : (l : Literals) → IsNormal l → HasBounds l
+pub bounds_of_normal : (l : Literals) → IsNormal l → HasBounds l
 bounds_of_normal l normal = record {
   some = λ place literal stands.
       subst (λ t. 0 < length t) (get_or_from_slice_get l.texts place literal literal stands) (normal.nonempty place literal (slice_get_within l.texts place literal stands));

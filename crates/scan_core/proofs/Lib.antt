@@ -1,6 +1,8 @@
 pub mod BlockLemmas
 pub mod CarriedLemmas
 pub mod FewLemmas
+pub mod FrontLemmas
+pub mod HitsExist
 pub mod RefusalLemmas
 pub mod ServingLemmas
 pub mod StepLemmas

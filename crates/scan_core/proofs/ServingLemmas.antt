@@ -1,5 +1,5 @@
 -- What holds of all streams of a session, with one fewer; and what a search for one tells.
-use Rattle.std.proofs.Common.{ℕ, ◌≡◌, Bool, true, false, ◌+◌, suc, List, ◌++◌, take, drop, All, Option, Some, None, MatchOption, sym}
+use Rattle.std.proofs.Common.{ℕ, ◌≡◌, true, false, suc, List, take, drop, All, Option, Some, None, MatchOption, sym}
 use Rattle.std.specs.Prelude.{is_some}
 use Rattle.std.specs.List.{remove}
 use Rattle.std.proofs.lemmas.Bool.{false≢true}

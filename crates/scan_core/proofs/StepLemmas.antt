@@ -1,7 +1,7 @@
 -- One case of a session's event each: how a request and its replies come to be a step.
 use Rattle.std.proofs.Common.{◌≡◌, ℕ, ◌+◌, ◌^◌, ◌<◌, ◌≤◌, List, [], ◌∷◌, ◌++◌, length, map, Option, Some, None, MatchOption, Contains, true, false, refl, sym, ap, ◌∙◌, subst, inl, inr, arith}
-use Rattle.std.specs.Prelude.{is_some, nat_eq, nat_le, nat_lt, if◌then◌else◌}
-use Rattle.std.specs.Map.{lookup, remove_entry, set_value}
+use Rattle.std.specs.Prelude.{is_some, nat_eq, nat_le, if◌then◌else◌}
+use Rattle.std.specs.Map.{lookup, set_value}
 use Rattle.std.proofs.Math.ListN.{set}
 use Rattle.std.specs.List.{remove}
 use Rattle.std.proofs.lemmas.Bool.Decides.{nat_tests}
@@ -12,7 +12,7 @@ use Rattle.lit_base.specs.NormalForm.{normal_form}
 use Rattle.plan_store.specs.Tickets.{Told}
 use Rattle.flow_scan.specs.Scanners.{fed, started}
 use Rattle.flow_scan.specs.Tails.{AreAdded}
-use Rattle.scan_wire.specs.Messages.{RequestParts, ReplyParts, Publish, Open, Feed, Close, ShowPlan, Published, Opened, Hits, Fed, Closed, Plan, Refused}
+use Rattle.scan_wire.specs.Messages.{RequestParts, ReplyParts, Publish, Open, Feed, Close, ShowPlan, Published, Opened, Closed}
 use Rattle.scan_core.specs.declared.refusal.Refusal.{Refusal}
 use Rattle.scan_core.specs.declared.refusal.Refusal.TheVariants.{StreamInUse, StreamQuota, NoSuchPlan, NoSuchStream, StreamTooLong, TooManyLiterals}
 use Rattle.scan_core.specs.declared.limits.TheConstants.{MAX_STREAMS}

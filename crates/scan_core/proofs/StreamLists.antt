@@ -1,10 +1,10 @@
 -- Streams by their numbers, of which no two are equal: what is looked up behind an opening, a move and a closing.
-use Rattle.std.proofs.Common.{◌≡◌, ◌≢◌, ℕ, Bool, true, false, cond, List, [], ◌∷◌, ◌++◌, Option, Some, None, ◌⊎◌, inl, inr, refl, sym, ap, ◌∙◌, subst}
+use Rattle.std.proofs.Common.{◌≡◌, ◌≢◌, ℕ, Bool, true, false, cond, List, [], ◌∷◌, ◌++◌, Some, None, inl, inr, refl, sym, ap, ◌∙◌, subst}
 use Rattle.std.specs.Prelude.{nat_eq}
 use Rattle.std.specs.Map.{lookup, remove_entry, set_value}
 use Rattle.std.proofs.lemmas.Bool.{eq-eqb, ne_eqb}
 use Rattle.std.proofs.lemmas.Bool.Decides.{eqb_tells}
-use Rattle.std.proofs.lemmas.Option.{none-some}
+use Rattle.std.proofs.lemmas.Option.{none-some, same_Some}
 
 -- no two streams have one number
 abbrev pub Apart : {S : Type 0} → List (ℕ × S) → Type 0
@@ -129,3 +129,23 @@ apart_pushed n (s ∷ ss) w none apart =
     let h = none_here n s ss none in
     let differs : s.0 ≢ n = λ e. elim (eqb_tells n s.0) [ inl t ↦ absurd (none-some s.1 (sym none ∙ found_head n s ss t.0)) | inr f ↦ f.1 (sym e) ] in
     (lookup_pushed_other s.0 n ss w differs ∙ apart.0, apart_pushed n ss w h.1 apart.1)
+
+-- a stream that is set to the state it has stays
+pub set_same : {S : Type 0} (n : ℕ) (ss : List (ℕ × S)) (v : S) → lookup (nat_eq n) ss ≡ Some v → set_value (nat_eq n) ss v ≡ ss
+set_same n [] v at = absurd (none-some v at)
+set_same n (s ∷ ss) v at = elim (eqb_tells n s.0) [
+  | inl t ↦
+      let same : s.1 ≡ v = same_Some s.1 v (sym (found_head n s ss t.0) ∙ at) in
+      set_here n s ss v t.0 ∙ ap (λ w. (s.0, w) ∷ ss) (sym same)
+  | inr f ↦ set_rest n s ss v f.0 ∙ ap (λ ts. s ∷ ts) (set_same n ss v (sym (found_rest n s ss f.0) ∙ at))
+]
+
+-- the later of two moves counts
+pub set_twice : {S : Type 0} (n : ℕ) (ss : List (ℕ × S)) (v w : S) → set_value (nat_eq n) (set_value (nat_eq n) ss v) w ≡ set_value (nat_eq n) ss w
+set_twice n [] v w = refl
+set_twice n (s ∷ ss) v w = elim (eqb_tells n s.0) [
+  | inl t ↦ ap (λ ts. set_value (nat_eq n) ts w) (set_here n s ss v t.0) ∙ set_here n (s.0, v) ss w t.0 ∙ sym (set_here n s ss w t.0)
+  | inr f ↦
+      ap (λ ts. set_value (nat_eq n) ts w) (set_rest n s ss v f.0) ∙ set_rest n s (set_value (nat_eq n) ss v) w f.0
+      ∙ ap (λ ts. s ∷ ts) (set_twice n ss v w) ∙ sym (set_rest n s ss w f.0)
+]

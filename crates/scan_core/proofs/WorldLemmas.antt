@@ -1,5 +1,5 @@
 -- What holds along every run of sessions over one set of entries.
-use Rattle.std.proofs.Common.{◌≡◌, ◌≢◌, ℕ, zero, suc, ◌+◌, ◌<◌, Bool, true, false, cond, List, [], ◌∷◌, ◌++◌, take, drop, length, get_or, map, Option, Some, None, MatchOption, Contains, IsTrue, ◌⊎◌, inl, inr, refl, sym, ap, ◌∙◌, subst, arith, append_assoc, append-nil}
+use Rattle.std.proofs.Common.{◌≡◌, ℕ, zero, suc, ◌+◌, ◌<◌, Bool, true, false, cond, List, [], ◌∷◌, ◌++◌, drop, length, get_or, Option, Some, None, MatchOption, Contains, ◌⊎◌, inl, inr, refl, sym, ap, ◌∙◌, subst, arith, append_assoc, append-nil}
 use Rattle.std.specs.Prelude.{fold, is_some, nat_eq, nat_le, option_map, ◌&&◌, if◌then◌else◌}
 use Rattle.std.specs.List.{concat}
 use Rattle.std.specs.Map.{lookup, remove_entry, set_value}
@@ -12,14 +12,14 @@ use Rattle.lit_base.specs.Occurrences.{hit_cmp}
 use Rattle.lit_base.proofs.SortedLists.{same_elements}
 use Rattle.flow_scan.specs.Plans as plans
 use Rattle.flow_scan.proofs.TailSteps.{concat_push}
-use Rattle.scan_wire.specs.Messages.{RequestParts, ReplyParts, Publish, Open, Feed, Close, ShowPlan, Published, Opened, Hits, Fed, Closed, Plan, Refused}
+use Rattle.scan_wire.specs.Messages.{RequestParts, ReplyParts, Publish, Open, Feed, Close, ShowPlan, Opened}
 use Rattle.scan_wire.specs.declared.message.TheConstants.{MAX_HITS}
 use Rattle.scan_core.specs.Blocks.{AreBlocks}
 use Rattle.scan_core.specs.declared.limits.TheConstants.{MAX_STREAMS}
 use Rattle.scan_core.specs.declared.refusal.Refusal.{Refusal}
-use Rattle.scan_core.specs.declared.refusal.Refusal.TheVariants.{StreamInUse, StreamQuota, NoSuchPlan}
-use Rattle.scan_core.specs.Steps.{Entry, IsAccepted, IsStep, Outcome, SessionParts, closed, fed_replies, moved, opened, published, refusal_of, refused, shown, stream_at}
-use Rattle.scan_core.specs.Worlds.{AnswersByPast, AreHitsPast, Event, FedAnswer, Happens, HasOnePlan, IsAnswer, IsFirst, MeetsEntries, Past, Runs, Streamed, World, WorldLaw, by_bytes, is_accepted, is_publish, past_after, past_event, past_of}
+use Rattle.scan_core.specs.declared.refusal.Refusal.TheVariants.{StreamInUse, StreamQuota}
+use Rattle.scan_core.specs.Steps.{Entry, IsAccepted, Outcome, SessionParts, closed, fed_replies, moved, opened, refusal_of, refused}
+use Rattle.scan_core.specs.Worlds.{AnswersByPast, AreHitsPast, Event, Happens, HasOnePlan, IsFirst, MeetsEntries, Past, Runs, Streamed, World, WorldLaw, by_bytes, is_accepted, is_publish, past_after, past_event, past_of}
 use Rattle.scan_core.proofs.StreamLists.{Apart, apart_pushed, apart_removed, apart_set, lookup_pushed, lookup_pushed_other, lookup_removed, lookup_removed_other, lookup_set, lookup_set_other, when_not, when_so}
 
 -- Entries

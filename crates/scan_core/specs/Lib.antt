@@ -8,3 +8,4 @@ pub mod Streams
 pub mod Answers
 pub mod Publishing
 pub mod Carried
+pub mod Fronts

@@ -1,12 +1,11 @@
 -- What a contract sees of a `Session`: its store, the tickets that it was told, and its open streams as their tickets and what their scanners keep.
-use Rattle.std.specs.Prelude.{◌≡◌, ℕ, ◌≤◌, List, [], ◌∷◌, ◌++◌, All, length, map, Option}
+use Rattle.std.specs.Prelude.{◌≡◌, ℕ, List, ◌++◌, All, map, Option}
 use Rattle.boxcar.specs.Table.{Shelves}
 use Rattle.plan_store.specs.Tickets.{IsOf, Told}
 use Rattle.flow_scan.specs.Scanners.{Scanning, fed, started}
 use Rattle.flow_scan.specs.Tails.{AreAdded}
 use Rattle.scan_wire.specs.Messages.{RequestParts, ReplyParts, reply_parts}
 use Rattle.scan_wire.specs.declared.message.Reply.{Reply}
-use Rattle.scan_core.specs.declared.limits.TheConstants.{MAX_PLANS, MAX_STREAMS}
 use Rattle.scan_core.specs.Steps.{Entry, IsStep, Reading, SessionParts}
 
 -- an open stream: the ticket of its plan, and its scan

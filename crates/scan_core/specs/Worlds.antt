@@ -1,5 +1,5 @@
 -- The world of a store's sessions: the plans that were published, and each session with all bytes that its streams were fed.
-use Rattle.std.specs.Prelude.{◌≡◌, ◌≢◌, ℕ, ◌+◌, ◌<◌, ◌==◌, ◌&&◌, ◌↔◌, Bool, true, false, not, IsTrue, List, [], ◌∷◌, ◌++◌, All, Contains, length, fold, option_map, Option, Some, None, if◌then◌else◌}
+use Rattle.std.specs.Prelude.{◌≡◌, ◌≢◌, ℕ, ◌+◌, ◌<◌, ◌==◌, ◌&&◌, ◌↔◌, Bool, true, false, IsTrue, List, [], ◌∷◌, ◌++◌, Contains, length, fold, option_map, Option, Some, None, if◌then◌else◌}
 use Rattle.std.specs.List.{concat}
 use Rattle.std.specs.List.Sorted.{IsStrictlySortedBy}
 use Rattle.lit_base.specs.Literals.{Literals}
@@ -8,7 +8,7 @@ use Rattle.flow_scan.specs.Plans as plans
 use Rattle.scan_wire.specs.Messages.{RequestParts, ReplyParts, Publish, Open, Feed, Close, ShowPlan, Published, Opened, Hits, Fed, Closed, Plan, Refused}
 use Rattle.scan_wire.specs.declared.message.TheConstants.{MAX_HITS}
 use Rattle.scan_core.specs.Blocks.{AreBlocks}
-use Rattle.scan_core.specs.Steps.{Entry, IsSound, IsStep, Outcome, Reading, SessionParts, fed_replies}
+use Rattle.scan_core.specs.Steps.{Entry, IsSound, IsStep, Reading, SessionParts, fed_replies}
 
 -- a stream as its client sees it: the plan it was opened with, and all bytes fed since
 pub record Streamed : Type 0 where

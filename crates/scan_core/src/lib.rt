@@ -18,3 +18,6 @@ pub use limits::{MAX_PLANS, MAX_STREAMS};
 pub use refusal::Refusal;
 pub use session::Session;
 pub use world::{event_law, world_law};
+
+#[cfg(test)]
+mod tests;

@@ -66,7 +66,7 @@ impl Refusal {
     }
 
     /// The reply to a request of the stream. A Publish has stream 0.
-    pub(crate) fn reply(self, stream: u32) -> Reply
+    pub fn reply(self, stream: u32) -> Reply
         ensures { reply_parts result ≡ refused_reply stream self }
     {
         Reply::Refused {

@@ -1,8 +1,10 @@
 //! A session: what one client has published and opened, and how it is answered.
-ghost use Rattle.std.specs.Prelude.{◌≡◌, ◌∷◌, [], IfNone, IfOk, IfSome, IsOkUnless, OnErr, OnOk, Contains, map};
+ghost use Rattle.std.specs.Prelude.{◌≡◌, ◌∷◌, [], IfErr, IfNone, IfOk, IfSome, None, Some, IsOkUnless, OnErr, OnOk, Contains, map};
 ghost use Rattle.plan_store.specs.Tickets.{IsOf};
 ghost use Rattle.scan_wire.specs.Messages.{Close, Feed, Open, Publish, ShowPlan, reply_parts, request_parts, texts_of};
-ghost use Rattle.scan_core.specs.Sessions.{GainsEvent, IsEvent};
+ghost use Rattle.scan_core.specs.Fronts.{FeedsFront, MayFeed};
+ghost use Rattle.scan_core.specs.Sessions.{GainsEvent, IsEvent, by_tails, parts_of};
+ghost use Rattle.scan_core.specs.Steps.{refusal_of};
 ghost use Rattle.scan_core.specs.declared.fault.Fault.TheVariants.{OutOfMemory};
 
 use crate::answering::push_answer;
@@ -13,6 +15,7 @@ use crate::publishing::planned;
 use crate::refusal::{Refusal, refusal_of_literals};
 use crate::stream::{Stream, find_stream};
 use crate::tickets::find_told;
+use flow_scan::Hit;
 use lit_base::Fold;
 use plan_store::{PlanStore, Ticket};
 use scan_wire::{Reply, Request};
@@ -99,8 +102,8 @@ impl<'s> Session<'s> {
     }
 
     /// The reply to a Publish, whose plan is stored. Behind the one step that shows it to all sessions
-    /// nothing can fail.
-    fn publish(
+    /// nothing can fail. It may wait for another thread. The only fault is `OutOfMemory`.
+    pub fn publish(
         &mut self,
         rt: &impl Wait,
         alloc: Global,
@@ -125,8 +128,9 @@ impl<'s> Session<'s> {
         Ok(Reply::Published { number })
     }
 
-    /// The reply to an Open, which binds the stream to the plan of the number.
-    fn open(&mut self, alloc: Global, stream: u32, number: u64) -> Result<Reply, Fault>
+    /// The reply to an Open, which binds the stream to the plan of the number. The only fault is
+    /// `OutOfMemory`.
+    pub fn open(&mut self, alloc: Global, stream: u32, number: u64) -> Result<Reply, Fault>
         ensures ok { IfOk result (λ reply. IsEvent self.old (Open stream number) (reply_parts reply ∷ []) self.new) }
         ensures same { OnErr result (self.new ≡ self.old) }
         ensures fault { IsOkUnless result OutOfMemory }
@@ -185,8 +189,44 @@ impl<'s> Session<'s> {
         Ok(())
     }
 
-    /// The reply to a Close, which forgets the stream.
-    fn close(&mut self, stream: u32) -> Reply
+    /// The place of a stream behind a piece, or why a Feed of it is refused. It takes no memory.
+    pub fn place_behind(&self, stream: u32, piece: &[u8]) -> Result<u64, Refusal>
+        ensures ok { IfOk result (λ place. MayFeed self.now stream piece.now place) }
+        ensures refused { IfErr result (λ refusal. refusal_of by_tails (parts_of self.now) (Feed stream piece.now) ≡ Some refusal) }
+    {
+        let Some(place) = find_stream(&self.streams, stream) else {
+            return Err(Refusal::NoSuchStream);
+        };
+        self.streams
+            .get(place)
+            .place_behind(piece)
+            .ok_or(Refusal::StreamTooLong)
+    }
+
+    /// Feeds a front of a piece to its stream, so that who answers a Feed need not hold all of its
+    /// hits: up to the first end by which `out` gained at least `most` of them, or the whole piece. The
+    /// answer is how many bytes were fed. The only fault is `OutOfMemory`.
+    pub fn feed_front(
+        &mut self,
+        stream: u32,
+        piece: &[u8],
+        most: usize,
+        out: &mut Vec<Hit>,
+    ) -> Result<usize, Fault>
+        requires { refusal_of by_tails (parts_of self.old) (Feed stream piece.now) ≡ None }
+        ensures ok { IfOk result (λ count. FeedsFront self.old stream piece.now most count out.old.items out.new.items self.new) }
+        ensures fault { IsOkUnless result OutOfMemory }
+    {
+        let Some(place) = find_stream(&self.streams, stream) else {
+            unreachable!()
+        };
+        let (next, count) = self.streams.get(place).fed_front(piece, most, out)?;
+        self.streams.set(place, next);
+        Ok(count)
+    }
+
+    /// The reply to a Close, which forgets the stream. It takes no memory.
+    pub fn close(&mut self, stream: u32) -> Reply
         ensures { IsEvent self.old (Close stream) (reply_parts result ∷ []) self.new }
     {
         let Some(place) = find_stream(&self.streams, stream) else {
@@ -196,8 +236,8 @@ impl<'s> Session<'s> {
         Reply::Closed { stream }
     }
 
-    /// The reply to a ShowPlan.
-    fn show_plan(&self, stream: u32) -> Result<Reply, Fault>
+    /// The reply to a ShowPlan. The only fault is `OutOfMemory`.
+    pub fn show_plan(&self, stream: u32) -> Result<Reply, Fault>
         ensures ok { IfOk result (λ reply. IsEvent self.now (ShowPlan stream) (reply_parts reply ∷ []) self.now) }
         ensures fault { IsOkUnless result OutOfMemory }
     {

@@ -5,6 +5,7 @@ ghost use Rattle.flow_scan.specs.Scanners.{fed, started};
 ghost use Rattle.flow_scan.specs.Tails.{GainsHits};
 ghost use Rattle.scan_wire.specs.Messages.{reply_parts};
 ghost use Rattle.scan_core.specs.Steps.{IsSound, plan_reply};
+ghost use Rattle.scan_core.specs.Fronts.{IsKept, MovesUpTo};
 ghost use Rattle.scan_core.specs.Streams.{StandsAt, MovesTo};
 ghost use Rattle.scan_core.specs.declared.fault.Fault.TheVariants.{OutOfMemory};
 ghost use Rattle.std.specs.Map.{lookup};
@@ -87,6 +88,44 @@ impl<'s> Stream<'s> {
             plan: self.plan,
             scanner,
         }))
+    }
+
+    /// The stream behind a front of a piece, and how many bytes that has: the piece is fed up to the
+    /// first end by which `out` gained at least `most` hits, or whole.
+    pub(crate) fn fed_front(
+        &self,
+        piece: &[u8],
+        most: usize,
+        out: &mut Vec<Hit>,
+    ) -> Result<(Stream<'s>, usize), Fault>
+        requires { self.now.1.scan.place + length piece.now < 2 ^ 64 }
+        ensures ok { IfOk result (λ next. MovesUpTo self.now piece.now most next.1 out.old.items out.new.items next.0) }
+        ensures fault { IsOkUnless result OutOfMemory }
+    {
+        let Ok(mut scanner) = self.scanner.copy() else {
+            return Err(Fault::OutOfMemory);
+        };
+        let Ok(count) = scanner.feed_until(piece, most, out) else {
+            return Err(Fault::OutOfMemory);
+        };
+        let next = Stream {
+            number: self.number,
+            ticket: self.ticket.again(),
+            plan: self.plan,
+            scanner,
+        };
+        Ok((next, count))
+    }
+
+    /// The place behind a piece; none where it would pass 2^64 - 1.
+    pub(crate) fn place_behind(&self, piece: &[u8]) -> Option<u64>
+        ensures place { MatchOption result
+            (2 ^ 64 ≤ self.now.1.scan.place + length piece.now)
+            (λ place. (place ≡ self.now.1.scan.place + length piece.now) × (place < 2 ^ 64)) }
+        ensures kept { IsKept self.now.1.scan }
+    {
+        self.plan.list().normal_law();
+        self.scanner.place().checked_add(piece.len() as u64)
     }
 
     /// How many bytes were fed.

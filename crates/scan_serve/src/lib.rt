@@ -17,3 +17,6 @@ pub use outbox::Outbox;
 pub use serving::serve;
 pub use stop::Stop;
 pub use window::Window;
+
+#[cfg(test)]
+mod tests;

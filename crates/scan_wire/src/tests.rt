@@ -101,14 +101,6 @@ fn empty_literals(alloc: Global, count: u16) -> Result<Vec<u8>, AllocError> {
     Ok(frame)
 }
 
-/// How many literals the Publish at the front has.
-fn published(alloc: Global, bytes: &[u8]) -> Option<usize> {
-    match next(alloc, bytes) {
-        Ok(Some((Lent::Publish { literals, .. }, _))) => Some(literals.len()),
-        _ => None,
-    }
-}
-
 /// Whether the front of the bytes is the Publish of `cat`.
 fn publishes_cat(alloc: Global, bytes: &[u8]) -> bool {
     match next(alloc, bytes) {
@@ -135,35 +127,41 @@ fn is_written(alloc: Global, reply: &Reply, text: &[u8]) -> Result<bool, Fail>
     Ok(written.as_slice() == text)
 }
 
+/// A request's kind and stream, and a number: of a Publish how many literals, of an Open the plan, of
+/// a Feed how many bytes.
+fn fields_of(request: &Lent<'_>) -> (u8, u32, u64) {
+    match request {
+        Lent::Publish { literals, .. } => (1, 0, literals.len() as u64),
+        Lent::Open { stream, number } => (2, *stream, *number),
+        Lent::Feed { stream, bytes } => (3, *stream, bytes.len() as u64),
+        Lent::Close { stream } => (4, *stream, 0),
+        Lent::ShowPlan { stream } => (5, *stream, 0),
+    }
+}
+
+/// Those of the request at the front, and how many bytes its frame has.
+fn read(alloc: Global, bytes: &[u8]) -> Option<((u8, u32, u64), usize)> {
+    match next(alloc, bytes) {
+        Ok(Some((request, len))) => Some((fields_of(&request), len)),
+        _ => None,
+    }
+}
+
+#[test]
+fn reads_a_publish_and_a_feed(rt: HostRuntime) {
+    let alloc = rt.alloc();
+    assert!(rt; publishes_cat(alloc, &FRAMES));
+    assert_eq!(rt; fed(alloc, &FEED), Some(b"concat".as_slice()));
+}
+
 #[test]
 fn reads_each_kind(rt: HostRuntime) {
     let alloc = rt.alloc();
-    assert!(rt; publishes_cat(alloc, &FRAMES));
-    assert!(rt;
-        matches!(
-            next(alloc, &FRAMES[17..]),
-            Ok(Some((
-                Lent::Open {
-                    stream: 7,
-                    number: 0
-                },
-                17
-            )))
-        )
-    );
-    assert_eq!(rt; fed(alloc, &FEED), Some(b"concat".as_slice()));
-    assert!(rt;
-        matches!(
-            next(alloc, &CLOSE),
-            Ok(Some((Lent::Close { stream: 7 }, 9)))
-        )
-    );
-    assert!(rt;
-        matches!(
-            next(alloc, &SHOW_PLAN),
-            Ok(Some((Lent::ShowPlan { stream: 7 }, 9)))
-        )
-    );
+    assert_eq!(rt; read(alloc, &FRAMES), Some(((1, 0, 1), 17)));
+    assert_eq!(rt; read(alloc, &FRAMES[17..]), Some(((2, 7, 0), 17)));
+    assert_eq!(rt; read(alloc, &FEED), Some(((3, 7, 6), 15)));
+    assert_eq!(rt; read(alloc, &CLOSE), Some(((4, 7, 0), 9)));
+    assert_eq!(rt; read(alloc, &SHOW_PLAN), Some(((5, 7, 0), 9)));
 }
 
 #[test]
@@ -194,43 +192,30 @@ fn tells_other_causes_of_whole_frames(rt: HostRuntime) {
     );
 }
 
+/// Whether the front of the bytes is a frame with a wrong payload.
+fn has_wrong_payload(alloc: Global, bytes: &[u8]) -> bool {
+    cause_of(alloc, bytes) == Some(Cause::Payload)
+}
+
 #[test]
-fn tells_wrong_payloads(rt: HostRuntime) {
+fn tells_wrong_payloads_of_a_publish(rt: HostRuntime) {
     let alloc = rt.alloc();
     // No flags, unknown flags, no count, a cut literal, a rest.
-    assert_eq!(rt;
-        cause_of(alloc, &[0, 0, 0, 5, 1, 0, 0, 0, 0]),
-        Some(Cause::Payload)
-    );
-    assert_eq!(rt;
-        cause_of(alloc, &[0, 0, 0, 8, 1, 0, 0, 0, 0, 2, 0, 0]),
-        Some(Cause::Payload)
-    );
-    assert_eq!(rt;
-        cause_of(alloc, &[0, 0, 0, 7, 1, 0, 0, 0, 0, 0, 0]),
-        Some(Cause::Payload)
-    );
-    assert_eq!(rt;
-        cause_of(alloc, &[0, 0, 0, 10, 1, 0, 0, 0, 0, 0, 0, 1, 0, 1]),
-        Some(Cause::Payload)
-    );
-    assert_eq!(rt;
-        cause_of(alloc, &[0, 0, 0, 9, 1, 0, 0, 0, 0, 0, 0, 0, 9]),
-        Some(Cause::Payload)
-    );
+    assert!(rt; has_wrong_payload(alloc, &[0, 0, 0, 5, 1, 0, 0, 0, 0]));
+    assert!(rt; has_wrong_payload(alloc, &[0, 0, 0, 8, 1, 0, 0, 0, 0, 2, 0, 0]));
+    assert!(rt; has_wrong_payload(alloc, &[0, 0, 0, 7, 1, 0, 0, 0, 0, 0, 0]));
+    assert!(rt; has_wrong_payload(alloc, &[0, 0, 0, 10, 1, 0, 0, 0, 0, 0, 0, 1, 0, 1]));
+    assert!(rt; has_wrong_payload(alloc, &[0, 0, 0, 9, 1, 0, 0, 0, 0, 0, 0, 0, 9]));
+}
+
+#[test]
+fn tells_other_wrong_payloads(rt: HostRuntime) {
+    let alloc = rt.alloc();
     // A number of seven bytes; something where nothing is wanted.
-    assert_eq!(rt;
-        cause_of(alloc, &[0, 0, 0, 12, 2, 0, 0, 0, 7, 0, 0, 0, 0, 0, 0, 0]),
-        Some(Cause::Payload)
-    );
-    assert_eq!(rt;
-        cause_of(alloc, &[0, 0, 0, 6, 4, 0, 0, 0, 7, 0]),
-        Some(Cause::Payload)
-    );
-    assert_eq!(rt;
-        cause_of(alloc, &[0, 0, 0, 6, 5, 0, 0, 0, 7, 0]),
-        Some(Cause::Payload)
-    );
+    let seven = [0, 0, 0, 12, 2, 0, 0, 0, 7, 0, 0, 0, 0, 0, 0, 0];
+    assert!(rt; has_wrong_payload(alloc, &seven));
+    assert!(rt; has_wrong_payload(alloc, &[0, 0, 0, 6, 4, 0, 0, 0, 7, 0]));
+    assert!(rt; has_wrong_payload(alloc, &[0, 0, 0, 6, 5, 0, 0, 0, 7, 0]));
 }
 
 #[test]
@@ -283,12 +268,17 @@ fn tells_a_bad_frame_for_good(rt: HostRuntime) -> Result<(), Fail> {
     Ok(())
 }
 
+/// How many literals are read of the Publish of so many empty ones.
+fn count_read(alloc: Global, count: u16) -> Option<u64> {
+    let frame = empty_literals(alloc, count).ok()?;
+    let ((_, _, literals), _) = read(alloc, &frame)?;
+    Some(literals)
+}
+
 #[test]
-fn reads_many_literals(rt: HostRuntime) -> Result<(), Fail> {
-    let alloc = rt.alloc();
-    assert_eq!(rt; published(alloc, &empty_literals(alloc, 0)?), Some(0));
-    assert_eq!(rt; published(alloc, &empty_literals(alloc, 4097)?), Some(4097));
-    Ok(())
+fn reads_many_literals(rt: HostRuntime) {
+    assert_eq!(rt; count_read(rt.alloc(), 0), Some(0));
+    assert_eq!(rt; count_read(rt.alloc(), 4097), Some(4097));
 }
 
 #[test]

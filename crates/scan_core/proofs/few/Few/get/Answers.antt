@@ -1,4 +1,4 @@
-use Rattle.std.proofs.Common.{◌≡◌, ◌<◌, List, length, get_or, map, Some, None, sym, ap, ◌∙◌, arith}
+use Rattle.std.proofs.Common.{◌≡◌, length, get_or, map, Some, None, sym, ap, ◌∙◌, arith}
 use Rattle.scan_core.specs.Fews.{somes}
 use Rattle.scan_core.proofs.FewLemmas.{some_at}
 use Rattle.scan_core.proofs.few.Few.get.Goals as goal

@@ -1,4 +1,4 @@
-use Rattle.std.proofs.Common.{◌≡◌, List, map, Option, Some, sym, ap, ◌∙◌}
+use Rattle.std.proofs.Common.{Some, ap, ◌∙◌}
 use Rattle.std.specs.List.{remove}
 use Rattle.scan_core.specs.Fews.{somes}
 use Rattle.scan_core.proofs.FewLemmas.{all_somes, remove-map, somes_all}

@@ -1,4 +1,4 @@
-use Rattle.std.proofs.Common.{◌≡◌, List, set, ap, ◌∙◌}
+use Rattle.std.proofs.Common.{set, ap, ◌∙◌}
 use Rattle.scan_core.specs.Fews.{somes}
 use Rattle.scan_core.proofs.FewLemmas.{all_somes, set_refill, somes_all}
 use Rattle.scan_core.proofs.few.Few.set.Goals as goal

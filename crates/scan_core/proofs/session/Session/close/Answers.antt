@@ -1,4 +1,4 @@
-use Rattle.std.proofs.Common.{◌≡◌, ℕ, ◌+◌, ◌∷◌, [], List, sym, ap, subst}
+use Rattle.std.proofs.Common.{ℕ, ◌∷◌, [], List, ap, subst}
 use Rattle.scan_wire.specs.Messages.{Close, Closed}
 use Rattle.scan_core.specs.Sessions.{Bound, IsBound, IsEvent, Serving}
 use Rattle.scan_core.proofs.ServingLemmas.{All-remove}

@@ -1,9 +1,9 @@
-use Rattle.std.proofs.Common.{◌≡◌, ℕ, ◌+◌, ◌^◌, ◌≤◌, ◌<◌, ◌++◌, ◌∷◌, [], List, length, get_or, set, None, Some, MatchOption, All, refl, sym, ap, ◌∙◌, subst, arith}
+use Rattle.std.proofs.Common.{◌≡◌, ℕ, ◌+◌, ◌^◌, ◌≤◌, ◌++◌, ◌∷◌, [], List, length, sym, ap, ◌∙◌, subst, arith}
 use Rattle.std.proofs.lemmas.List.Elements.{All-get_or, All-set}
 use Rattle.std.proofs.lemmas.Option.{MatchOption-at_none, MatchOption-at_some, get_or_from_slice_get, slice_get_within}
 use Rattle.scan_wire.specs.Messages.{Feed, reply_parts}
 use Rattle.scan_core.specs.declared.refusal.Refusal.TheVariants.{NoSuchStream, StreamTooLong}
-use Rattle.scan_core.specs.Sessions.{Bound, GainsEvent, IsBound, IsEvent, Serving, replies_of}
+use Rattle.scan_core.specs.Sessions.{Bound, IsBound, IsEvent, Serving, replies_of}
 use Rattle.scan_core.specs.Steps.{fed_replies}
 use Rattle.scan_core.specs.Streams.{MovesTo}
 use Rattle.scan_core.proofs.BlockLemmas.{replies_push}

@@ -1,8 +1,7 @@
-use Rattle.std.proofs.Common.{◌≡◌, ℕ, ◌∷◌, [], None, refl, ap, ◌∙◌, subst}
+use Rattle.std.proofs.Common.{◌≡◌, ℕ, ◌∷◌, [], None, ap, ◌∙◌, subst}
 use Rattle.std.proofs.lemmas.Option.{get_or_from_slice_get}
 use Rattle.std.proofs.lemmas.Result.{IfOk-weaker}
 use Rattle.scan_wire.specs.Messages.{ShowPlan, reply_parts}
-use Rattle.scan_wire.specs.declared.message.Reply.{Reply}
 use Rattle.scan_core.specs.declared.refusal.Refusal.TheVariants.{NoSuchStream}
 use Rattle.scan_core.specs.Sessions.{Bound, IsEvent, Serving}
 use Rattle.scan_core.specs.Steps.{plan_reply}

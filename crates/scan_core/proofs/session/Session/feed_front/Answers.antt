@@ -1,0 +1,39 @@
+use Rattle.std.proofs.Common.{◌≡◌, ℕ, ◌+◌, ◌^◌, ◌<◌, List, length, None, sym, ap, ◌∙◌, subst, arith}
+use Rattle.std.proofs.lemmas.Option.{get_or_from_slice_get, slice_get_within}
+use Rattle.scan_wire.specs.Messages.{Feed}
+use Rattle.scan_core.specs.Fronts.{FeedsFront, MovesUpTo}
+use Rattle.scan_core.specs.Sessions.{Bound, Serving, by_tails, parts_of}
+use Rattle.scan_core.specs.Steps.{refusal_of}
+use Rattle.scan_core.proofs.FrontLemmas.{feed_room, front_fed}
+use Rattle.scan_core.proofs.session.Session.feed_front.Goals as goal
+
+pub fed_front-requires : goal.fed_front-requires
+fed_front-requires c =
+    let piece = c.args.piece.now in
+    let s : Serving = record { store = c.self.inside.store.now; told = c.self.inside.told; streams = c.self.inside.streams } in
+    let at = c.in-Some.ensures in
+    let now = c.get.result.now in
+    let got : now ≡ (c.args.stream, at.state) = c.get.ensures ∙ get_or_from_slice_get s.streams c.in-Some.place (c.args.stream, at.state) now at.here in
+    let none = subst (λ (t : Serving). refusal_of by_tails (parts_of t) (Feed c.args.stream piece) ≡ None) (sym c.self.view_is) c.requires in
+    subst (λ (n : ℕ × Bound). n.1.scan.place + length piece < 2 ^ 64) (sym got) (feed_room s c.args.stream c.in-Some.place piece at none)
+
+pub set-requires : goal.set-requires
+set-requires c = (omega arith, slice_get_within c.self.inside.streams c.in-Some.place (c.args.stream, c.in-Some.ensures.state) c.in-Some.ensures.here)
+
+pub returns-clause-ok : goal.returns-clause-ok
+returns-clause-ok c =
+    let piece = c.args.piece.now in
+    let s : Serving = record { store = c.self.inside.store.now; told = c.self.inside.told; streams = c.self.inside.streams } in
+    let at = c.in-Some.ensures in
+    let now = c.get.result.now in
+    let next = c.in_ok-next.next in
+    let count = c.in_ok-next.count in
+    let old = c.args.out.now.items in
+    let hits = c.fed_front.new.out.items in
+    let got : now ≡ (c.args.stream, at.state) = c.get.ensures ∙ get_or_from_slice_get s.streams c.in-Some.place (c.args.stream, at.state) now at.here in
+    let moves : MovesUpTo (c.args.stream, at.state) piece c.args.most count old hits next =
+    subst (λ (n : ℕ × Bound). MovesUpTo n piece c.args.most count old hits next) got c.in_ok-next.ensures.ok in
+    let new : Serving = record s { streams = c.set.new.self } in
+    subst (λ (t : Serving). FeedsFront t c.args.stream piece c.args.most count old hits new) c.self.view_is
+    (front_fed s new c.args.stream c.in-Some.place piece c.args.most count old hits next at moves
+    (ap (λ (streams : List (ℕ × Bound)). record s { streams = streams }) c.set.ensures))

@@ -1,0 +1,420 @@
+//! What no clause says: that a request is answered where there is memory, that numbers begin at 0, and
+//! that a number of another session is found.
+use crate::session::Session;
+use lit_base::Fold;
+use plan_store::PlanStore;
+use scan_wire::{Reply, Request};
+use std::alloc::Global;
+use std::sync::Wait;
+
+/// What a client asks.
+#[derive(Clone, Copy)]
+enum Ask<'a> {
+    Publish(Fold, &'a [&'a [u8]]),
+    Open(u32, u64),
+    Feed(u32, &'a [u8]),
+    Close(u32),
+    ShowPlan(u32),
+}
+
+/// What a reply says: of hits how many, and the last place; of a plan its fold, count, cost, runs.
+#[derive(Clone, Copy, Debug, PartialEq, Eq)]
+enum Told {
+    Published(u64),
+    Opened(u32),
+    Hits(u32, usize, u64),
+    Fed(u32, u64),
+    Closed(u32),
+    Plan(u32, Fold, u16, u64, usize),
+    Refused(u32, u8, u16),
+}
+
+/// Up to three replies to one request.
+type Replies = [Option<Told>; 3];
+
+/// One reply.
+fn one(said: Told) -> Replies {
+    [Some(said), None, None]
+}
+
+/// Nothing but a refusal.
+fn refused(stream: u32, code: u8, detail: u16) -> Replies {
+    one(Told::Refused(stream, code, detail))
+}
+
+/// What a reply says.
+fn said(reply: &Reply) -> Told {
+    match reply {
+        Reply::Published { number } => Told::Published(*number),
+        Reply::Opened { stream } => Told::Opened(*stream),
+        Reply::Hits { stream, hits } => {
+            let last = hits.last().map_or(0, |hit| hit.end_at);
+            Told::Hits(*stream, hits.len(), last)
+        }
+        Reply::Fed { stream, place } => Told::Fed(*stream, *place),
+        Reply::Closed { stream } => Told::Closed(*stream),
+        Reply::Plan {
+            stream,
+            fold,
+            count,
+            cost,
+            ends,
+        } => Told::Plan(*stream, *fold, *count, *cost, ends.len()),
+        Reply::Refused {
+            stream,
+            code,
+            detail,
+        } => Told::Refused(*stream, *code, *detail),
+    }
+}
+
+/// What replies say, none of more than three.
+fn all_said(replies: &[Reply]) -> Replies {
+    match replies {
+        [first] => [Some(said(first)), None, None],
+        [first, second] => [Some(said(first)), Some(said(second)), None],
+        [first, second, third] => [Some(said(first)), Some(said(second)), Some(said(third))],
+        _ => [None; 3],
+    }
+}
+
+/// A copy of literals.
+fn copied(alloc: Global, literals: &[&[u8]]) -> Option<Vec<Vec<u8>>> {
+    let mut all = Vec::new(alloc);
+    for literal in literals {
+        all.push(Vec::from_slice(alloc, literal).ok()?).ok()?;
+    }
+    Some(all)
+}
+
+/// The request of what is asked.
+fn request_of(alloc: Global, ask: Ask<'_>) -> Option<Request> {
+    Some(match ask {
+        Ask::Publish(fold, literals) => Request::Publish {
+            fold,
+            literals: copied(alloc, literals)?,
+        },
+        Ask::Open(stream, number) => Request::Open { stream, number },
+        Ask::Feed(stream, bytes) => Request::Feed {
+            stream,
+            bytes: Vec::from_slice(alloc, bytes).ok()?,
+        },
+        Ask::Close(stream) => Request::Close { stream },
+        Ask::ShowPlan(stream) => Request::ShowPlan { stream },
+    })
+}
+
+/// What a session answers to a request; nothing, where memory ran out.
+fn answered<R: Wait>(
+    rt: &R,
+    alloc: Global,
+    session: &mut Session<'_>,
+    request: Request,
+) -> Replies {
+    let mut out = Vec::new(alloc);
+    match session.handle(rt, alloc, request, &mut out) {
+        Ok(()) => all_said(&out),
+        Err(_) => [None; 3],
+    }
+}
+
+/// What a session answers to what is asked.
+fn asked<R: Wait>(rt: &R, alloc: Global, session: &mut Session<'_>, ask: Ask<'_>) -> Replies {
+    match request_of(alloc, ask) {
+        Some(request) => answered(rt, alloc, session, request),
+        None => [None; 3],
+    }
+}
+
+/// What a session answers to the last of what is asked.
+fn last_answer<R: Wait>(
+    rt: &R,
+    alloc: Global,
+    session: &mut Session<'_>,
+    asks: &[Ask<'_>],
+) -> Replies {
+    let mut last = [None; 3];
+    for ask in asks {
+        last = asked(rt, alloc, session, *ask);
+    }
+    last
+}
+
+/// What a session of a new store answers to the last of what is asked.
+fn last_of<R: Wait>(rt: &R, alloc: Global, asks: &[Ask<'_>]) -> Replies {
+    match PlanStore::new(alloc) {
+        Ok(store) => last_answer(rt, alloc, &mut Session::new(&store), asks),
+        Err(_) => [None; 3],
+    }
+}
+
+const CAT: Ask = Ask::Publish(Fold::No, &[b"cat"]);
+
+const CONCAT: Ask = Ask::Feed(7, b"concat");
+
+const OPEN: Ask = Ask::Open(7, 0);
+
+/// The front of `concat`.
+const CONC: Ask = Ask::Feed(7, b"conc");
+
+/// The replies to `concat`, or to what completes it.
+const OF_CONCAT: Replies = [Some(Told::Hits(7, 1, 6)), Some(Told::Fed(7, 6)), None];
+
+const NOTHING: Ask = Ask::Feed(7, b"");
+
+#[test]
+fn tells_the_hits_of_a_stream(rt: HostRuntime) {
+    let alloc = rt.alloc();
+    assert_eq!(rt; last_of(&rt, alloc, &[CAT]), one(Told::Published(0)));
+    assert_eq!(rt; last_of(&rt, alloc, &[CAT, CAT]), one(Told::Published(1)));
+    assert_eq!(rt; last_of(&rt, alloc, &[CAT, OPEN]), one(Told::Opened(7)));
+    assert_eq!(rt; last_of(&rt, alloc, &[CAT, OPEN, CONCAT]), OF_CONCAT);
+}
+
+#[test]
+fn goes_on_with_a_stream(rt: HostRuntime) {
+    let alloc = rt.alloc();
+    let nothing = last_of(&rt, alloc, &[CAT, OPEN, CONCAT, NOTHING]);
+    assert_eq!(rt; nothing, one(Told::Fed(7, 6)));
+    let second = last_of(&rt, alloc, &[CAT, OPEN, CONC, Ask::Feed(7, b"at")]);
+    assert_eq!(rt; second, OF_CONCAT);
+}
+
+#[test]
+fn forgets_a_closed_stream(rt: HostRuntime) {
+    let alloc = rt.alloc();
+    let closed = last_of(&rt, alloc, &[CAT, OPEN, CONC, Ask::Close(7)]);
+    assert_eq!(rt; closed, one(Told::Closed(7)));
+    let nothing = last_of(&rt, alloc, &[CAT, OPEN, CONC, Ask::Close(7), OPEN, NOTHING]);
+    assert_eq!(rt; nothing, one(Told::Fed(7, 0)));
+}
+
+#[test]
+fn shows_the_plan_of_a_stream(rt: HostRuntime) {
+    let shown = last_of(&rt, rt.alloc(), &[CAT, OPEN, Ask::ShowPlan(7)]);
+    assert_eq!(rt; shown, one(Told::Plan(7, Fold::No, 1, 351, 1)));
+}
+
+#[test]
+fn refuses_streams(rt: HostRuntime) {
+    let alloc = rt.alloc();
+    assert_eq!(rt; last_of(&rt, alloc, &[CONCAT]), refused(7, 13, 0));
+    assert_eq!(rt; last_of(&rt, alloc, &[Ask::Close(7)]), refused(7, 13, 0));
+    assert_eq!(rt; last_of(&rt, alloc, &[Ask::ShowPlan(7)]), refused(7, 13, 0));
+    assert_eq!(rt; last_of(&rt, alloc, &[Ask::Open(7, 5)]), refused(7, 14, 0));
+    assert_eq!(rt;
+        last_of(&rt, alloc, &[CAT, OPEN, Ask::Open(7, 5)]),
+        refused(7, 12, 0)
+    );
+    assert_eq!(rt; last_of(&rt, alloc, &[CAT, OPEN, OPEN]), refused(7, 12, 0));
+}
+
+/// What a session of a new store answers to a Publish of these literals.
+fn published<R: Wait>(rt: &R, alloc: Global, literals: &[&[u8]]) -> Replies {
+    last_of(rt, alloc, &[Ask::Publish(Fold::No, literals)])
+}
+
+#[test]
+fn refuses_literals(rt: HostRuntime) {
+    let alloc = rt.alloc();
+    let (empty, letters): (&[u8], &[u8]) = (b"", &[b'a'; 4096]);
+    assert_eq!(rt; published(&rt, alloc, &[]), refused(0, 5, 0));
+    assert_eq!(rt; published(&rt, alloc, &[b"a", b""]), refused(0, 4, 1));
+    assert_eq!(rt; published(&rt, alloc, &[empty; 4097]), refused(0, 2, 0));
+    assert_eq!(rt;
+        published(&rt, alloc, &[&letters[1..]]),
+        one(Told::Published(0))
+    );
+    assert_eq!(rt; published(&rt, alloc, &[letters]), refused(0, 3, 0));
+}
+
+/// So many different literals of two bytes that are no letters, and these behind them.
+fn many(alloc: Global, count: u16, others: &[&[u8]]) -> Option<Vec<Vec<u8>>> {
+    let mut all = copied(alloc, others)?;
+    for number in 0..count {
+        let [high, low] = number.to_be_bytes();
+        let literal = [128 | high << 1 | low >> 7, 128 | low];
+        all.push(Vec::from_slice(alloc, &literal).ok()?).ok()?;
+    }
+    Some(all)
+}
+
+/// What a session of a new store answers to a Publish of many literals, and then to an Open and a
+/// ShowPlan.
+fn shown_of_many<R: Wait>(
+    rt: &R,
+    alloc: Global,
+    fold: Fold,
+    literals: Vec<Vec<u8>>,
+) -> Option<(Replies, Replies)> {
+    let store = PlanStore::new(alloc).ok()?;
+    let mut session = Session::new(&store);
+    let first = answered(rt, alloc, &mut session, Request::Publish { fold, literals });
+    let shown = last_answer(rt, alloc, &mut session, &[OPEN, Ask::ShowPlan(7)]);
+    Some((first, shown))
+}
+
+/// That of so many literals and these behind them.
+fn of_many<R: Wait>(
+    rt: &R,
+    alloc: Global,
+    count: u16,
+    others: &[&[u8]],
+) -> Option<(Replies, Replies)> {
+    shown_of_many(rt, alloc, Fold::Ascii, many(alloc, count, others)?)
+}
+
+#[test]
+fn counts_the_literals_of_the_normal_form(rt: HostRuntime) {
+    let alloc = rt.alloc();
+    let wanted = (refused(0, 6, 0), refused(7, 13, 0));
+    assert_eq!(rt; of_many(&rt, alloc, 1025, &[]), Some(wanted));
+    // A run of the letter and 17 literals of two bytes, and seven runs of 143 or 144 of the others.
+    let plan = Told::Plan(7, Fold::Ascii, 1024, 75_352_640, 8);
+    let wanted = (one(Told::Published(0)), one(plan));
+    assert_eq!(rt; of_many(&rt, alloc, 1023, &[b"A", b"a"]), Some(wanted));
+}
+
+/// The replies to a Feed of so many letters `a`, by the plan of one.
+fn fed_letters<R: Wait>(rt: &R, alloc: Global, count: usize) -> Option<Replies> {
+    let letters = vec![in alloc; b'a'; count].ok()?;
+    let asks = [
+        Ask::Publish(Fold::No, &[b"a"]),
+        OPEN,
+        Ask::Feed(7, &letters),
+    ];
+    Some(last_of(rt, alloc, &asks))
+}
+
+#[test]
+fn tells_hits_in_full_blocks(rt: HostRuntime) {
+    let wanted = [
+        Some(Told::Hits(7, 4096, 4096)),
+        Some(Told::Hits(7, 1, 4097)),
+        Some(Told::Fed(7, 4097)),
+    ];
+    assert_eq!(rt; fed_letters(&rt, rt.alloc(), 4097), Some(wanted));
+}
+
+/// How many letters `a`, each fed by itself, end `aa` at their own place, the first of a stream aside.
+fn ends_in_letters<R: Wait>(rt: &R, alloc: Global, session: &mut Session<'_>, count: u64) -> u64 {
+    let mut ends = 0;
+    for place in 2..=count {
+        let wanted = [
+            Some(Told::Hits(7, 1, place)),
+            Some(Told::Fed(7, place)),
+            None,
+        ];
+        if asked(rt, alloc, session, Ask::Feed(7, b"a")) == wanted && ends < count {
+            ends += 1;
+        }
+    }
+    ends
+}
+
+/// That, with the first letter fed before; 0 where its replies are others.
+fn ends_of_two<R: Wait>(rt: &R, alloc: Global, session: &mut Session<'_>, count: u64) -> u64 {
+    let before = [Ask::Publish(Fold::No, &[b"aa"]), OPEN, Ask::Feed(7, b"a")];
+    if last_answer(rt, alloc, session, &before) != one(Told::Fed(7, 1)) {
+        return 0;
+    }
+    ends_in_letters(rt, alloc, session, count)
+}
+
+/// That of a session of a new store.
+fn ends_of_new<R: Wait>(rt: &R, alloc: Global, count: u64) -> u64 {
+    match PlanStore::new(alloc) {
+        Ok(store) => ends_of_two(rt, alloc, &mut Session::new(&store), count),
+        Err(_) => 0,
+    }
+}
+
+#[test]
+fn tells_each_end_once_over_many_feeds(rt: HostRuntime) {
+    assert_eq!(rt; ends_of_new(&rt, rt.alloc(), 100_000), 99_999);
+}
+
+/// How many of so many streams, from 1 on, a session opens by plan 0.
+fn open_up_to<R: Wait>(rt: &R, alloc: Global, session: &mut Session<'_>, count: u32) -> u32 {
+    let mut opened = 0;
+    for stream in 1..=count {
+        let said = asked(rt, alloc, session, Ask::Open(stream, 0));
+        if said == one(Told::Opened(stream)) && opened < count {
+            opened += 1;
+        }
+    }
+    opened
+}
+
+/// How many of so many plans a session publishes under numbers that rise from 0.
+fn publish_up_to<R: Wait>(rt: &R, alloc: Global, session: &mut Session<'_>, count: u64) -> u64 {
+    let mut published = 0;
+    for number in 0..count {
+        let said = asked(rt, alloc, session, CAT);
+        if said == one(Told::Published(number)) && published < count {
+            published += 1;
+        }
+    }
+    published
+}
+
+/// How many of 64 streams a session opens, and what it then answers to one more.
+fn opened_beside<R: Wait>(rt: &R, alloc: Global, ask: Ask<'_>) -> Option<(u32, Replies)> {
+    let store = PlanStore::new(alloc).ok()?;
+    let mut session = Session::new(&store);
+    let _ = asked(rt, alloc, &mut session, CAT);
+    let opened = open_up_to(rt, alloc, &mut session, 64);
+    Some((opened, asked(rt, alloc, &mut session, ask)))
+}
+
+/// How many of 64 plans a session publishes, and what it then answers to this.
+fn published_beside<R: Wait>(rt: &R, alloc: Global, ask: Ask<'_>) -> Option<(u64, Replies)> {
+    let store = PlanStore::new(alloc).ok()?;
+    let mut session = Session::new(&store);
+    let published = publish_up_to(rt, alloc, &mut session, 64);
+    Some((published, asked(rt, alloc, &mut session, ask)))
+}
+
+#[test]
+fn has_64_streams_open(rt: HostRuntime) {
+    let alloc = rt.alloc();
+    let wanted = Some((64, refused(65, 16, 0)));
+    assert_eq!(rt; opened_beside(&rt, alloc, Ask::Open(65, 0)), wanted);
+    assert_eq!(rt; opened_beside(&rt, alloc, Ask::Open(65, 5)), wanted);
+    let in_use = Some((64, refused(64, 12, 0)));
+    assert_eq!(rt; opened_beside(&rt, alloc, Ask::Open(64, 0)), in_use);
+}
+
+#[test]
+fn publishes_64_plans(rt: HostRuntime) {
+    let alloc = rt.alloc();
+    let wanted = Some((64, refused(0, 15, 0)));
+    assert_eq!(rt; published_beside(&rt, alloc, CAT), wanted);
+    assert_eq!(rt;
+        published_beside(&rt, alloc, Ask::Publish(Fold::No, &[])),
+        wanted
+    );
+}
+
+/// What a session answers to this beside one that published `dog` and then `cat`.
+fn answer_of_another<R: Wait>(rt: &R, alloc: Global, asks: &[Ask<'_>]) -> Option<Replies> {
+    let store = PlanStore::new(alloc).ok()?;
+    let dog = Ask::Publish(Fold::No, &[b"dog"]);
+    let _ = last_answer(rt, alloc, &mut Session::new(&store), &[dog, CAT]);
+    Some(last_answer(rt, alloc, &mut Session::new(&store), asks))
+}
+
+#[test]
+fn opens_what_another_session_published(rt: HostRuntime) {
+    let alloc = rt.alloc();
+    let opened = answer_of_another(&rt, alloc, &[Ask::Open(7, 1)]);
+    assert_eq!(rt; opened, Some(one(Told::Opened(7))));
+    assert_eq!(rt;
+        answer_of_another(&rt, alloc, &[Ask::Open(7, 1), CONCAT]),
+        Some(OF_CONCAT)
+    );
+    let missed = answer_of_another(&rt, alloc, &[OPEN, CONCAT]);
+    assert_eq!(rt; missed, Some(one(Told::Fed(7, 6))));
+    let unknown = answer_of_another(&rt, alloc, &[Ask::Open(7, 2)]);
+    assert_eq!(rt; unknown, Some(refused(7, 14, 0)));
+}
