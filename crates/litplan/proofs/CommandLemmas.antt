@@ -1,5 +1,5 @@
 -- The end of a command, from what its words ask for.
-use Rattle.std.proofs.Common.{◌≡◌, ℕ, Bool, List, [], Option, refl}
+use Rattle.std.proofs.Common.{◌≡◌, ℕ, Bool, List, Option, refl}
 use Rattle.std.proofs.KnownBytes.{Appends-nil}
 use Rattle.byte_io.specs.Devices.{Told}
 use Rattle.byte_io.specs.Sources.{AreShort, Sources}

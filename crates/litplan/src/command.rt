@@ -10,10 +10,11 @@ use plan_run::{Status, Stop, run, say, say_text};
 use program_words::{Fault, words};
 use std::alloc::Global;
 use std::rt::Env;
+use std::thread::Threads;
 
 /// Serves the words of the command line: the answer goes to `out`, messages to `err`. A write that
 /// failed is told by `Trouble`.
-pub fn serve<R: Env + AllocGlobal, F: Files, W: ByteOut, E: ByteOut>(
+pub fn serve<R: Env + Threads + Sync + AllocGlobal, F: Files, W: ByteOut, E: ByteOut>(
     rt: &R,
     files: &mut F,
     out: &mut W,
@@ -23,14 +24,15 @@ pub fn serve<R: Env + AllocGlobal, F: Files, W: ByteOut, E: ByteOut>(
         → (W.has_failed out.new || E.has_failed err.new) ≡ (W.has_failed out.old || E.has_failed err.old) }
 {
     match words(rt, "litplan") {
-        Ok(words) => command(rt.alloc(), &words, files, out, err),
+        Ok(words) => command(rt, rt.alloc(), &words, files, out, err),
         Err(fault) => refuse(rt.alloc(), &fault, err),
     }
 }
 
 /// Serves the words after the program's name: some request is served, or a text says why there is
-/// none.
-pub fn command<F: Files, W: ByteOut, E: ByteOut>(
+/// none. A scan waits for the workers that it starts.
+pub fn command<R: Threads + Sync, F: Files, W: ByteOut, E: ByteOut>(
+    rt: &R,
     alloc: Global,
     words: &[String],
     files: &mut F,
@@ -46,7 +48,7 @@ pub fn command<F: Files, W: ByteOut, E: ByteOut>(
         → (W.has_failed out.new || E.has_failed err.new) ≡ (W.has_failed out.old || E.has_failed err.old) }
 {
     match requested(alloc, words) {
-        Ok(request) => run(alloc, &request, files, out, err),
+        Ok(request) => run(rt, alloc, &request, files, out, err),
         Err(fault) => refuse(alloc, &fault, err),
     }
 }

@@ -1,4 +1,5 @@
-//! `litplan`: plans how literals are grouped, and certifies that no grouping is cheaper.
+//! `litplan`: plans how literals are grouped, certifies that no grouping is cheaper, and finds them by
+//! several workers at once.
 #![tactic(auto)]
 
 mod command;

@@ -1,7 +1,7 @@
 //! The words of the command line, read with clap.
-use clap::{Arg, ArgAction, ArgMatches, Command};
+use clap::{Arg, ArgAction, ArgMatches, Command, value_parser};
 use lit_base::Fold;
-use plan_run::Request;
+use plan_run::{Request, Scan, Workers};
 use program_words::{Fault, VERSION, matches_of};
 use std::alloc::{AllocError, Global};
 
@@ -27,8 +27,23 @@ fn request_of(alloc: Global, matches: &ArgMatches<'_>) -> Result<Request, Fault>
             file: value(alloc, found, "file")?,
             certificate: value(alloc, found, "certificate")?,
         }),
+        Some(("scan", found)) => scan_of(alloc, found),
         _ => Err(Fault::usage(String::from_str(alloc, "litplan: no command given\n"))),
     }
+}
+
+/// The scan that clap's matches tell. Clap lets no other number of workers through.
+fn scan_of(alloc: Global, found: &ArgMatches<'_>) -> Result<Request, Fault> {
+    let Some(workers) = found.get_one::<usize>("workers").and_then(Workers::new) else {
+        return Err(Fault::usage(String::from_str(alloc, "litplan: no such number of workers\n")));
+    };
+    Ok(Request::Scan(Scan {
+        fold: fold_of(found),
+        workers,
+        count: found.get_count("count") > 0,
+        file: value(alloc, found, "file")?,
+        input: value(alloc, found, "input")?,
+    }))
 }
 
 fn fold_of(matches: &ArgMatches<'_>) -> Fold {
@@ -48,12 +63,18 @@ fn value(alloc: Global, matches: &ArgMatches<'_>, id: &str) -> Result<String, Al
 fn litplan<'a>(alloc: Global) -> Result<Command<'a>, AllocError> {
     Command::new(alloc, "litplan")
         .version(VERSION)
-        .about("Plans how literals are grouped, and certifies that no grouping is cheaper")
-        .override_usage("litplan plan [-i] FILE\n       litplan check [-i] FILE CERT")
+        .about(
+            "Plans how literals are grouped, certifies that no grouping is cheaper, and finds them",
+        )
+        .override_usage(
+            "litplan plan [-i] FILE\n       litplan check [-i] FILE CERT\n       \
+             litplan scan [-i] [--count] --workers W FILE INPUT",
+        )
         .no_binary_name(true)
         .subcommand_required(true)
         .subcommand(plan(alloc)?)?
-        .subcommand(check(alloc)?)
+        .subcommand(check(alloc)?)?
+        .subcommand(scan(alloc)?)
 }
 
 fn plan<'a>(alloc: Global) -> Result<Command<'a>, AllocError> {
@@ -78,6 +99,40 @@ fn check<'a>(alloc: Global) -> Result<Command<'a>, AllocError> {
         .arg(fold(alloc))?
         .arg(file(alloc))?
         .arg(certificate)
+}
+
+fn scan<'a>(alloc: Global) -> Result<Command<'a>, AllocError> {
+    let input = Arg::new(alloc, "input")
+        .value_name("INPUT")
+        .required(true)
+        .action(ArgAction::Set)
+        .help("What is searched, read whole; - is standard input");
+    Command::new(alloc, "scan")
+        .about("Finds a file's patterns in an input, by several workers at once")
+        .override_usage("litplan scan [-i] [--count] --workers W FILE INPUT")
+        .after_help(SCAN_HELP)
+        .arg(fold(alloc))?
+        .arg(count(alloc))?
+        .arg(workers(alloc))?
+        .arg(file(alloc))?
+        .arg(input)
+}
+
+fn count<'a>(alloc: Global) -> Arg<'a> {
+    Arg::new(alloc, "count")
+        .long("count")
+        .action(ArgAction::Count)
+        .help("Print only the number of hits")
+}
+
+fn workers<'a>(alloc: Global) -> Arg<'a> {
+    Arg::new(alloc, "workers")
+        .long("workers")
+        .value_name("W")
+        .required(true)
+        .action(ArgAction::Set)
+        .value_parser(value_parser!(usize).range(1..=16))
+        .help("How many workers share the input, 1 to 16")
 }
 
 fn fold<'a>(alloc: Global) -> Arg<'a> {
@@ -109,3 +164,11 @@ Whoever wrote the certificate is not trusted. Status 2 with a message where a fi
 Example: plan a file, and check the plan
   litplan plan words > words.cert
   litplan check words words.cert";
+
+const SCAN_HELP: &str = "\
+Prints a line `LIT END` for each place at which a pattern ends: its number in the list, from 0, by length and then by
+bytes, and how many bytes of INPUT there are up to its end. The lines stand by END, then by LIT, and are the same for
+each W. INPUT is held in memory, in a buffer that doubles: up to twice its size. Status 0, or 2 with a message.
+
+Example: where the words of a list end in a log
+  litplan scan --workers 4 words access.log";

@@ -1,11 +1,12 @@
 -- Answers: from what a list has to answer to what a request has.
-use Rattle.std.proofs.Common.{◌≡◌, ◌≢◌, ℕ, ◌*◌, ◌^◌, ◌<◌, ◌≤◌, Bool, true, false, cond, List, [], ◌∷◌, ◌++◌, length, Option, None, Some, IfSome, is_some, MatchOption, Result, Ok, Err, refl, sym, ap, ◌∙◌, subst, append-nil, arith}
-use Rattle.std.specs.Io.KnownBytes.{Appends}
+use Rattle.std.proofs.Common.{◌≡◌, ◌≢◌, ℕ, ◌*◌, ◌^◌, ◌<◌, ◌≤◌, Bool, true, false, cond, List, [], ◌∷◌, length, Option, None, Some, IfSome, is_some, MatchOption, Result, Ok, Err, refl, sym, ap, ◌∙◌, subst, append-nil, arith}
+use Rattle.std.specs.Global.{Vec}
 use Rattle.std.proofs.KnownBytes.{Appends-nil}
 use Rattle.byte_io.specs.Devices.{Clean, Coming, EndsHere, Faulty, Told}
 use Rattle.byte_io.specs.Sources.{AreShort, Ask, Content, IsShort, Named, Sources, after, after_all, ask_of, coming_of, taken_by}
 use Rattle.byte_io.proofs.OpenerLemmas.{short-after}
 use Rattle.byte_io.proofs.ToldLemmas.{Told-then, Told-weaker}
+use Rattle.flow_scan.specs.Plans.{Plan}
 use Rattle.lit_base.specs.Cuts.{CutsFrom}
 use Rattle.lit_base.specs.Literals.{Literals}
 use Rattle.lit_cert.specs.Certificates.{CertificateParts}
@@ -15,10 +16,10 @@ use Rattle.lit_cert.specs.Spelling.{HasText, IsShaped, literals_in, spelling}
 use Rattle.lit_cert.specs.declared.fault.Fault.{Fault}
 use Rattle.lit_cert.specs.declared.fault.Fault.TheVariants.{BadCertText, ReadFault}
 use Rattle.lit_base.specs.declared.fold.Fold.{Fold}
-use Rattle.plan_run.specs.Answers.{Answer, AnswersCheck, AnswersList, AnswersPlan, IsCheckAnswer, IsPlanAnswer, IsVerdict, Judged, Unread, Wrong, certificate_source, check_asks, refused_with, told}
-use Rattle.plan_run.specs.Lists.{list_in, list_message}
+use Rattle.plan_run.specs.Answers.{Answer, AnswersCheck, AnswersInput, AnswersList, AnswersPlan, AnswersScan, AnswersUnless, AreHitsTold, IsCheckAnswer, IsPlanAnswer, IsVerdict, Judged, Unread, Wrong, certificate_source, check_asks, input_source, refused_with, scan_asks, told}
+use Rattle.plan_run.specs.Lists.{input_message, list_in, list_message, search_message, text_in}
 use Rattle.plan_run.specs.Messages.{message_on, refused, unusable}
-use Rattle.plan_run.specs.Running.{Asks, AsksFront, Begun, Explains, IsFront, Silent, TakesList, Tells, Writes}
+use Rattle.plan_run.specs.Running.{Asks, Begun, Explains, Silent, TakesList, TakesPlan, TakesText, Tells, Writes}
 use Rattle.plan_run.specs.declared.status.Status.{Status}
 use Rattle.plan_run.specs.declared.stop.Stop.{Stop}
 use Rattle.plan_run.specs.declared.stop.Stop.TheVariants.{OutOfMemory, Refused, WriteFault}
@@ -43,27 +44,30 @@ tells-weaker P Q (Err WriteFault) old new weaker t = record { answer = t.answer;
 tells-weaker P Q (Err OutOfMemory) old new weaker (Silent nothing) = Silent nothing
 tells-weaker P Q (Err OutOfMemory) old new weaker (Begun t) = Begun (record { answer = t.answer; right = weaker t.answer t.right; output = t.output })
 
-module _ (fold : Fold) (name : List ℕ) (source : Option Content) (P : Literals → Answer → Type 0) where
-  -- where there is a list, its answer is the one
-  list-had : (list : Literals) → list_message fold name source ≡ None → list ≡ list_in fold source → (a : Answer) → P list a → AnswersList fold name source P a
-  list-had list none same a p =
-      subst (λ m. MatchOption m (P (list_in fold source) a) (λ message. a ≡ refused_with message)) (sym none) (subst (λ l. P l a) same p)
+-- where there is no message, the answer is the one
+pub tells-unless : (reason : Option (List ℕ)) (P : Answer → Type 0) (r : Result Status Stop) (old new : Option (List ℕ)) → reason ≡ None → Tells P r old new
+    → Tells (AnswersUnless reason P) r old new
+tells-unless reason P r old new none t =
+    tells-weaker P (AnswersUnless reason P) r old new (λ a right. subst (λ m. MatchOption m (P a) (λ message. a ≡ refused_with message)) (sym none) right) t
 
-  -- where there is none, its message is
-  list-refused : (text : List ℕ) → list_message fold name source ≡ Some text → AnswersList fold name source P (refused_with text)
-  list-refused text e =
-      subst (λ m. MatchOption m (P (list_in fold source) (refused_with text)) (λ message. refused_with text ≡ refused_with message)) (sym e) refl
+-- where there is one, it is the answer
+pub tells-reason : (reason : Option (List ℕ)) (P : Answer → Type 0) (stop : Stop) (known : Option (List ℕ)) → Explains stop reason → Tells (AnswersUnless reason P) (Err stop) known known
+tells-reason reason P (Refused refusal) known e =
+    let text : List ℕ = message_on refusal in
+    (subst (λ m. MatchOption m (P (refused_with text)) (λ message. refused_with text ≡ refused_with message)) (sym e) refl, Appends-nil known)
+tells-reason reason P WriteFault known e = absurd e
+tells-reason reason P OutOfMemory known e = Silent (Appends-nil known)
 
-  -- what is told of a list is told of its file
-  pub tells-list : (list : Literals) (r : Result Status Stop) (old new : Option (List ℕ)) → TakesList fold name source (Ok list) → Tells (P list) r old new
-      → Tells (AnswersList fold name source P) r old new
-  tells-list list r old new taken t = tells-weaker (P list) (AnswersList fold name source P) r old new (list-had list taken.0 taken.1) t
+-- what is told of a list is told of its file
+pub tells-list : (fold : Fold) (name : List ℕ) (source : Option Content) (P : Literals → Answer → Type 0) (list : Literals) (r : Result Status Stop) (old new : Option (List ℕ))
+    → TakesList fold name source (Ok list) → Tells (P list) r old new → Tells (AnswersList fold name source P) r old new
+tells-list fold name source P list r old new taken t =
+    tells-unless (list_message fold name source) (P (list_in fold source)) r old new taken.0 (subst (λ l. Tells (P l) r old new) taken.1 t)
 
-  -- why there is no list
-  pub tells-stop : (stop : Stop) (known : Option (List ℕ)) → Explains stop (list_message fold name source) → Tells (AnswersList fold name source P) (Err stop) known known
-  tells-stop (Refused refusal) known e = (list-refused (message_on refusal) e, Appends-nil known)
-  tells-stop WriteFault known e = absurd e
-  tells-stop OutOfMemory known e = Silent (Appends-nil known)
+-- why there is no list
+pub tells-stop : (fold : Fold) (name : List ℕ) (source : Option Content) (P : Literals → Answer → Type 0) (stop : Stop) (known : Option (List ℕ))
+    → Explains stop (list_message fold name source) → Tells (AnswersList fold name source P) (Err stop) known known
+tells-stop fold name source P stop known e = tells-reason (list_message fold name source) (P (list_in fold source)) stop known e
 
 -- all asks were made
 pub asks-all : (r : Result Status Stop) (all : List Ask) (s left : Sources) → left ≡ after_all all s → Asks r all s left
@@ -90,11 +94,11 @@ plan-stopped fold file known mid stop out reads =
     let taken = h short in
     (asks-all (Err stop) (ask_of file ∷ []) s left taken.0, tells-stop fold file (taken_by (ask_of file) s) IsPlanAnswer stop out taken.1))
 
--- with a list the certificate is asked for too
-asks-both : (file certificate : List ℕ) (message : Option (List ℕ)) → message ≡ None
-    → ask_of file ∷ cond (is_some message) [] (Named certificate ∷ []) ≡ ask_of file ∷ Named certificate ∷ []
-asks-both file certificate None e = refl
-asks-both file certificate (Some text) e = (cc)
+-- where there is no message, another ask follows that for the file of patterns
+asks-both : (file : List ℕ) (next : Ask) (message : Option (List ℕ)) → message ≡ None
+    → ask_of file ∷ cond (is_some message) [] (next ∷ []) ≡ ask_of file ∷ next ∷ []
+asks-both file next None e = refl
+asks-both file next (Some text) e = (cc)
 
 -- the check of a certificate for a list that is had
 pub check-had : (fold : Fold) (file certificate : List ℕ) (known mid left : Option Sources) (list : Literals) (r : Result Status Stop) (old new : Option (List ℕ))
@@ -108,18 +112,18 @@ check-had fold file certificate known mid left list r old new reads judges =
     let message : Option (List ℕ) = list_message fold file (taken_by (ask_of file) s) in
     let made : l ≡ after_all (ask_of file ∷ Named certificate ∷ []) s = judged.0 ∙ ap (after (Named certificate)) taken.0 in
     let tells = subst (λ x. Tells (IsCheckAnswer list certificate (taken_by (Named certificate) x)) r old new) taken.0 judged.1 in (
-      asks-all r (check_asks fold file certificate s) s l (made ∙ ap (λ asks. after_all asks s) (sym (asks-both file certificate message taken.1.0))),
+      asks-all r (check_asks fold file certificate s) s l (made ∙ ap (λ asks. after_all asks s) (sym (asks-both file (Named certificate) message taken.1.0))),
       tells-list fold file (taken_by (ask_of file) s) (λ ls. IsCheckAnswer ls certificate (certificate_source file certificate s)) list r old new taken.1 tells,
     ))
 
--- without one nothing else is asked for
-asks-stopped : (file certificate : List ℕ) (message : Option (List ℕ)) (stop : Stop) (s left : Sources) → Explains stop message → left ≡ after (ask_of file) s
-    → Asks (Err stop) (ask_of file ∷ cond (is_some message) [] (Named certificate ∷ [])) s left
-asks-stopped file certificate None (Refused refusal) s left e after = (cc)
-asks-stopped file certificate (Some text) (Refused refusal) s left e after = after
-asks-stopped file certificate message WriteFault s left e after = absurd e
-asks-stopped file certificate message OutOfMemory s left e after =
-    record { made = ask_of file ∷ []; rest = cond (is_some message) [] (Named certificate ∷ []); parts = refl; after = after }
+-- where there is one, none does
+asks-stopped : (file : List ℕ) (next : Ask) (message : Option (List ℕ)) (stop : Stop) (s left : Sources) → Explains stop message → left ≡ after (ask_of file) s
+    → Asks (Err stop) (ask_of file ∷ cond (is_some message) [] (next ∷ [])) s left
+asks-stopped file next None (Refused refusal) s left e after = (cc)
+asks-stopped file next (Some text) (Refused refusal) s left e after = after
+asks-stopped file next message WriteFault s left e after = absurd e
+asks-stopped file next message OutOfMemory s left e after =
+    record { made = ask_of file ∷ []; rest = cond (is_some message) [] (next ∷ []); parts = refl; after = after }
 
 pub check-stopped : (fold : Fold) (file certificate : List ℕ) (known mid : Option Sources) (stop : Stop) (out : Option (List ℕ))
     → Told known mid (λ s left. AreShort s → (left ≡ after (ask_of file) s) × TakesList fold file (taken_by (ask_of file) s) (Err stop))
@@ -127,8 +131,58 @@ pub check-stopped : (fold : Fold) (file certificate : List ℕ) (known mid : Opt
 check-stopped fold file certificate known mid stop out reads =
     Told-weaker known mid _ (λ s left. AreShort s → Asks (Err stop) (check_asks fold file certificate s) s left × Tells (AnswersCheck fold file certificate s) (Err stop) out out) reads (λ s left h short.
     let taken = h short in (
-      asks-stopped file certificate (list_message fold file (taken_by (ask_of file) s)) stop s left taken.1 taken.0,
+      asks-stopped file (Named certificate) (list_message fold file (taken_by (ask_of file) s)) stop s left taken.1 taken.0,
       tells-stop fold file (taken_by (ask_of file) s) (λ ls. IsCheckAnswer ls certificate (certificate_source file certificate s)) stop out taken.1,
+    ))
+
+-- the hits in an input that is read
+pub input-had : (list : Literals) (count : Bool) (input : List ℕ) (known left : Option Sources) (text : Vec ℕ) (r : Result Status Stop) (old new : Option (List ℕ))
+    → Told known left (λ s l. AreShort s → (l ≡ after (ask_of input) s) × TakesText input (taken_by (ask_of input) s) (Ok text)) → Tells (AreHitsTold list count text.items) r old new
+    → Told known left (λ s l. AreShort s → (l ≡ after (ask_of input) s) × Tells (AnswersInput list count input (taken_by (ask_of input) s)) r old new)
+input-had list count input known left text r old new reads tells =
+    Told-weaker known left _ (λ s l. AreShort s → (l ≡ after (ask_of input) s) × Tells (AnswersInput list count input (taken_by (ask_of input) s)) r old new) reads (λ s l h short.
+    let taken = h short in
+    let source : Option Content = taken_by (ask_of input) s in
+    (taken.0, tells-unless (input_message input source) (AreHitsTold list count (text_in source)) r old new taken.1.0 (subst (λ t. Tells (AreHitsTold list count t) r old new) taken.1.1 tells)))
+
+-- and of one that is not
+pub input-stopped : (list : Literals) (count : Bool) (input : List ℕ) (known left : Option Sources) (stop : Stop) (out : Option (List ℕ))
+    → Told known left (λ s l. AreShort s → (l ≡ after (ask_of input) s) × TakesText input (taken_by (ask_of input) s) (Err stop))
+    → Told known left (λ s l. AreShort s → (l ≡ after (ask_of input) s) × Tells (AnswersInput list count input (taken_by (ask_of input) s)) (Err stop) out out)
+input-stopped list count input known left stop out reads =
+    Told-weaker known left _ (λ s l. AreShort s → (l ≡ after (ask_of input) s) × Tells (AnswersInput list count input (taken_by (ask_of input) s)) (Err stop) out out) reads (λ s l h short.
+    let taken = h short in
+    let source : Option Content = taken_by (ask_of input) s in
+    (taken.0, tells-reason (input_message input source) (AreHitsTold list count (text_in source)) stop out taken.1))
+
+-- the scan of an input by a plan that is had
+pub scan-had : (fold : Fold) (count : Bool) (file input : List ℕ) (known mid left : Option Sources) (plan : Plan) (r : Result Status Stop) (old new : Option (List ℕ))
+    → Told known mid (λ s m. AreShort s → (m ≡ after (ask_of file) s) × TakesPlan fold file (taken_by (ask_of file) s) (Ok plan))
+    → Told mid left (λ m l. AreShort m → (l ≡ after (ask_of input) m) × Tells (AnswersInput plan.literals count input (taken_by (ask_of input) m)) r old new)
+    → Told known left (λ s l. AreShort s → Asks r (scan_asks fold file input s) s l × Tells (AnswersScan fold count file input s) r old new)
+scan-had fold count file input known mid left plan r old new reads scans =
+    Told-then known mid left _ _ (λ s l. AreShort s → Asks r (scan_asks fold file input s) s l × Tells (AnswersScan fold count file input s) r old new) reads scans (λ s m l h g short.
+    let taken = h short in
+    let scanned = g (subst AreShort (sym taken.0) (short-after (ask_of file) s short)) in
+    let message : Option (List ℕ) = search_message fold file (taken_by (ask_of file) s) in
+    let list : Literals = list_in fold (taken_by (ask_of file) s) in
+    let made : l ≡ after_all (ask_of file ∷ ask_of input ∷ []) s = scanned.0 ∙ ap (after (ask_of input)) taken.0 in
+    let tells = subst (λ x. Tells (AnswersInput plan.literals count input (taken_by (ask_of input) x)) r old new) taken.0 scanned.1 in
+    let answer = AnswersInput list count input (input_source file input s) in (
+      asks-all r (scan_asks fold file input s) s l (made ∙ ap (λ asks. after_all asks s) (sym (asks-both file (ask_of input) message taken.1.0))),
+      tells-unless message answer r old new taken.1.0 (subst (λ ls. Tells (AnswersInput ls count input (input_source file input s)) r old new) taken.1.1 tells),
+    ))
+
+-- and by one that is not
+pub scan-stopped : (fold : Fold) (count : Bool) (file input : List ℕ) (known mid : Option Sources) (stop : Stop) (out : Option (List ℕ))
+    → Told known mid (λ s left. AreShort s → (left ≡ after (ask_of file) s) × TakesPlan fold file (taken_by (ask_of file) s) (Err stop))
+    → Told known mid (λ s left. AreShort s → Asks (Err stop) (scan_asks fold file input s) s left × Tells (AnswersScan fold count file input s) (Err stop) out out)
+scan-stopped fold count file input known mid stop out reads =
+    Told-weaker known mid _ (λ s left. AreShort s → Asks (Err stop) (scan_asks fold file input s) s left × Tells (AnswersScan fold count file input s) (Err stop) out out) reads (λ s left h short.
+    let taken = h short in
+    let message : Option (List ℕ) = search_message fold file (taken_by (ask_of file) s) in (
+      asks-stopped file (ask_of input) message stop s left taken.1 taken.0,
+      tells-reason message (AnswersInput (list_in fold (taken_by (ask_of file) s)) count input (input_source file input s)) stop out taken.1,
     ))
 
 -- ---- a list and its certificate

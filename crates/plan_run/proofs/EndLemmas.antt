@@ -1,11 +1,11 @@
 -- The end of a run, from what it answers and what it says.
-use Rattle.std.proofs.Common.{◌≡◌, ℕ, Bool, true, false, ◌||◌, ◌⊎◌, inl, inr, List, [], ◌++◌, Option, Result, Ok, Err, refl, sym, ◌∙◌, append-nil}
+use Rattle.std.proofs.Common.{◌≡◌, ℕ, Bool, true, false, ◌||◌, inl, inr, List, [], Option, Ok, Err, refl, sym, ◌∙◌, append-nil}
 use Rattle.byte_io.specs.Devices.{Told}
 use Rattle.byte_io.specs.Sources.{AreShort, Sources}
 use Rattle.byte_io.proofs.ToldLemmas.{Told-weaker}
 use Rattle.plan_run.specs.Answers.{asks_of, refused_with}
 use Rattle.plan_run.specs.Messages.{message_on}
-use Rattle.plan_run.specs.Running.{Answers, AsksFront, Broken, Ends, Silent, SaysStop, Starved, Whole, is_write_fault}
+use Rattle.plan_run.specs.Running.{Answers, Broken, Ends, Silent, SaysStop, Starved, Whole, is_write_fault}
 use Rattle.plan_run.specs.declared.request.Request.{Request}
 use Rattle.plan_run.specs.declared.status.Status.{Status}
 use Rattle.plan_run.specs.declared.status.Status.TheVariants.{Trouble}

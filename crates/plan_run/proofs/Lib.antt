@@ -1,4 +1,5 @@
 pub mod AnswerLemmas
 pub mod EndLemmas
 pub mod ListLemmas
+pub mod ListingLemmas
 pub mod SayLemmas

@@ -1,5 +1,5 @@
 -- What is written, whole or from its front.
-use Rattle.std.proofs.Common.{◌≡◌, ℕ, Bool, true, false, ◌||◌, List, [], ◌++◌, Option, Result, Ok, Err, OnOk, OnErr, is_err, refl, sym, ◌∙◌, append-nil, take, drop, take-append-drop}
+use Rattle.std.proofs.Common.{◌≡◌, ℕ, Bool, true, false, ◌||◌, List, [], Option, Result, Ok, Err, OnOk, OnErr, is_err, refl, sym, ◌∙◌, append-nil, take, drop, take-append-drop}
 use Rattle.std.specs.Io.KnownBytes.{Appends}
 use Rattle.std.proofs.KnownBytes.{Appends-nil}
 use Rattle.byte_io.specs.Transfers.{AppendsPrefix}

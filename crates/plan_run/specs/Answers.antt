@@ -3,6 +3,7 @@ use Rattle.std.specs.Prelude.{◌≡◌, ℕ, Bool, true, false, List, [], ◌�
 use Rattle.byte_io.specs.Sources.{Ask, Content, Named, Sources, after, ask_of, taken_by}
 use Rattle.list_plan.specs.Planned.{IsPlanned}
 use Rattle.lit_base.specs.Literals.{Literals}
+use Rattle.lit_base.specs.Occurrences.{IsHits}
 use Rattle.lit_base.specs.declared.fold.Fold.{Fold}
 use Rattle.lit_cert.specs.Certificates.{CertificateParts}
 use Rattle.lit_cert.specs.Certified.{IsCertified, IsFirstFailure}
@@ -10,11 +11,11 @@ use Rattle.lit_cert.specs.Reading.{IsFirstBad}
 use Rattle.lit_cert.specs.Spelling.{HasText, spelling}
 use Rattle.lit_cert.specs.declared.reason.Reason.{Reason}
 use Rattle.plan_run.specs.declared.request.Request.{Request}
-use Rattle.plan_run.specs.declared.request.Request.TheVariants.{Plan, Check}
+use Rattle.plan_run.specs.declared.request.Request.TheVariants.{Plan, Check, Scan}
 use Rattle.plan_run.specs.declared.status.Status.{Status}
 use Rattle.plan_run.specs.declared.status.Status.TheVariants.{Done, NotCertified, Trouble}
-use Rattle.plan_run.specs.Lists.{list_in, list_message}
-use Rattle.plan_run.specs.Messages.{not_certified, optimal, refused, unusable}
+use Rattle.plan_run.specs.Lists.{input_message, list_in, list_message, search_message, text_in}
+use Rattle.plan_run.specs.Messages.{hits_text, not_certified, optimal, refused, unusable}
 
 -- a text on standard output, a message, and a status
 pub record Answer : Type 0 where
@@ -49,10 +50,13 @@ pub data IsCheckAnswer (list : Literals) (name : List ℕ) (source : Option Cont
   Judged : (c : Content) (certificate : CertificateParts) → source ≡ Some c → c.is_faulty ≡ false → HasText 8 certificate
       → c.text ≡ spelling 8 certificate → IsVerdict list certificate a → IsCheckAnswer list name source a
 
+-- the message where there is one, else what has to be answered
+abbrev pub AnswersUnless : Option (List ℕ) → (Answer → Type 0) → Answer → Type 0
+AnswersUnless reason P a = MatchOption reason (P a) (λ message. a ≡ refused_with message)
+
 -- the message on a file of patterns that gives no list; else what the list has to answer
 abbrev pub AnswersList : Fold → List ℕ → Option Content → (Literals → Answer → Type 0) → Answer → Type 0
-AnswersList fold name source P a =
-    MatchOption (list_message fold name source) (P (list_in fold source) a) (λ message. a ≡ refused_with message)
+AnswersList fold name source P = AnswersUnless (list_message fold name source) (P (list_in fold source))
 
 -- what stands under the certificate's name, once the file of patterns is read
 abbrev pub certificate_source : List ℕ → List ℕ → Sources → Option Content
@@ -66,16 +70,43 @@ abbrev pub AnswersCheck : Fold → List ℕ → List ℕ → Sources → Answer 
 AnswersCheck fold file certificate s =
     AnswersList fold file (taken_by (ask_of file) s) (λ list. IsCheckAnswer list certificate (certificate_source file certificate s))
 
+-- on a list and a text: the hits of the whole text, or their number
+pub record AreHitsTold (list : Literals) (count : Bool) (text : List ℕ) (a : Answer) : Type 0 where
+  pub hits : List (ℕ × ℕ)
+  pub right : IsHits list text hits
+  pub is : a ≡ told (hits_text count hits) Done
+
+-- on a list and what is to be searched: the message where that cannot be read; else its hits
+abbrev pub AnswersInput : Literals → Bool → List ℕ → Option Content → Answer → Type 0
+AnswersInput list count name source = AnswersUnless (input_message name source) (AreHitsTold list count (text_in source))
+
+-- what is to be searched, once there is a plan
+abbrev pub input_source : List ℕ → List ℕ → Sources → Option Content
+input_source file input s = taken_by (ask_of input) (after (ask_of file) s)
+
+-- to scan
+abbrev pub AnswersScan : Fold → Bool → List ℕ → List ℕ → Sources → Answer → Type 0
+AnswersScan fold count file input s =
+    AnswersUnless (search_message fold file (taken_by (ask_of file) s))
+    (AnswersInput (list_in fold (taken_by (ask_of file) s)) count input (input_source file input s))
+
 -- what a request has to answer
 abbrev pub IsAnswerTo : Request → Sources → Answer → Type 0
 IsAnswerTo (Plan fold file) s a = AnswersPlan fold (string_bytes file) s a
 IsAnswerTo (Check fold file certificate) s a = AnswersCheck fold (string_bytes file) (string_bytes certificate) s a
+IsAnswerTo (Scan r) s a = AnswersScan r.fold r.count (string_bytes r.file) (string_bytes r.input) s a
 
 -- what is asked for, in order: the file of patterns, and the certificate once there is a list
 abbrev pub check_asks : Fold → List ℕ → List ℕ → Sources → List Ask
 check_asks fold file certificate s =
     ask_of file ∷ (if is_some (list_message fold file (taken_by (ask_of file) s)) then [] else Named certificate ∷ [])
 
+-- likewise the file of patterns, and the input once there is a plan
+abbrev pub scan_asks : Fold → List ℕ → List ℕ → Sources → List Ask
+scan_asks fold file input s =
+    ask_of file ∷ (if is_some (search_message fold file (taken_by (ask_of file) s)) then [] else ask_of input ∷ [])
+
 abbrev pub asks_of : Request → Sources → List Ask
 asks_of (Plan fold file) s = ask_of (string_bytes file) ∷ []
 asks_of (Check fold file certificate) s = check_asks fold (string_bytes file) (string_bytes certificate) s
+asks_of (Scan r) s = scan_asks r.fold (string_bytes r.file) (string_bytes r.input) s

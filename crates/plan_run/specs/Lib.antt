@@ -3,3 +3,4 @@ pub mod Lists
 pub mod Messages
 pub mod Running
 pub mod Statuses
+pub mod Workers

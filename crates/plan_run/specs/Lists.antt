@@ -1,5 +1,5 @@
--- What a file of patterns gives: the list of its lines' literals, or a message.
-use Rattle.std.specs.Prelude.{◌≡◌, ℕ, List, [], length, nat_lt, if◌then◌else◌, Option, Some, None}
+-- What a file gives: the list of its lines' literals, a text to search, or a message.
+use Rattle.std.specs.Prelude.{ℕ, List, [], length, nat_eq, nat_lt, if◌then◌else◌, Option, Some, None}
 use Rattle.std.specs.Option.{option_map}
 use Rattle.byte_io.specs.Sources.{Content}
 use Rattle.lit_base.specs.Faults.{number_of}
@@ -38,3 +38,26 @@ list_message fold name (Some c) = content_message fold name c
 abbrev pub list_in : Fold → Option Content → Literals
 list_in fold None = record { folding = fold; texts = [] }
 list_in fold (Some c) = record { folding = fold; texts = literals_of fold c.text }
+
+-- the first message of two, if there is any
+abbrev pub first_message : Option (List ℕ) → Option (List ℕ) → Option (List ℕ)
+first_message None later = later
+first_message (Some message) later = Some message
+
+-- the message where a list has no literal
+abbrev pub plan_message : Literals → Option (List ℕ)
+plan_message list = if nat_eq (length list.texts) 0 then Some (refused 5) else None
+
+-- the message where what was asked for gives no plan: it has no list, or there is no literal in it
+abbrev pub search_message : Fold → List ℕ → Option Content → Option (List ℕ)
+search_message fold name source = first_message (list_message fold name source) (plan_message (list_in fold source))
+
+-- the message where what was asked for cannot be searched: it cannot be opened, or not be read to its end
+abbrev pub input_message : List ℕ → Option Content → Option (List ℕ)
+input_message name None = Some (unusable name)
+input_message name (Some c) = if c.is_faulty then Some (unusable name) else None
+
+-- the text of what was asked for
+abbrev pub text_in : Option Content → List ℕ
+text_in None = []
+text_in (Some c) = c.text

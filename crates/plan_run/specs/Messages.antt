@@ -1,5 +1,5 @@
--- What is written: the messages on standard error, and the verdicts on a certificate.
-use Rattle.std.specs.Prelude.{ℕ, List, ◌++◌, codes, decimal}
+-- What is written: the messages on standard error, the verdicts on a certificate, and hits.
+use Rattle.std.specs.Prelude.{ℕ, Bool, List, ◌++◌, codes, decimal, flat_map, length, if◌then◌else◌}
 use Rattle.lit_base.specs.Faults.{number_of}
 use Rattle.lit_cert.specs.declared.reason.Reason.{Reason}
 use Rattle.lit_cert.specs.declared.reason.Reason.TheVariants.{Length, Ends, Total, EndRow, Step}
@@ -39,3 +39,19 @@ not_certified Ends = codes "not certified: ends\n"
 not_certified Total = codes "not certified: total\n"
 not_certified (EndRow r p) = codes "not certified: end row " ++ (decimal r ++ (codes " " ++ (decimal p ++ codes "\n")))
 not_certified (Step r p q) = codes "not certified: step " ++ (decimal r ++ (codes " " ++ (decimal p ++ (codes " " ++ (decimal q ++ codes "\n")))))
+
+-- a hit, by its literal's place and the place at which it ends
+abbrev pub hit_line : ℕ × ℕ → List ℕ
+hit_line hit = decimal hit.0 ++ (codes " " ++ (decimal hit.1 ++ codes "\n"))
+
+-- hits, a line each
+abbrev pub hit_lines : List (ℕ × ℕ) → List ℕ
+hit_lines hits = flat_map hit_line hits
+
+-- how many there are
+abbrev pub hit_count : List (ℕ × ℕ) → List ℕ
+hit_count hits = decimal (length hits) ++ codes "\n"
+
+-- the number alone where that is asked for, else the hits
+abbrev pub hits_text : Bool → List (ℕ × ℕ) → List ℕ
+hits_text count hits = if count then hit_count hits else hit_lines hits

@@ -1,7 +1,9 @@
 -- How a run ends, against what a request has to answer.
-use Rattle.std.specs.Prelude.{◌≡◌, ◌≢◌, ℕ, Bool, true, false, List, [], ◌++◌, ◌⊎◌, ⊤, Option, None, Some, Result, Ok, Err}
+use Rattle.std.specs.Prelude.{◌≡◌, ℕ, Bool, true, false, List, [], ◌++◌, ◌⊎◌, ⊤, Option, None, Some, Result, Ok, Err}
 use Rattle.std.specs.Io.KnownBytes.{Appends}
+use Rattle.std.specs.Global.{Vec}
 use Rattle.byte_io.specs.Sources.{Ask, Content, Sources, after_all}
+use Rattle.flow_scan.specs.Plans.{Plan}
 use Rattle.lit_base.specs.Literals.{Literals}
 use Rattle.lit_base.specs.declared.fold.Fold.{Fold}
 use Rattle.plan_run.specs.declared.request.Request.{Request}
@@ -10,7 +12,7 @@ use Rattle.plan_run.specs.declared.status.Status.TheVariants.{Trouble}
 use Rattle.plan_run.specs.declared.stop.Stop.{Stop}
 use Rattle.plan_run.specs.declared.stop.Stop.TheVariants.{OutOfMemory, Refused, WriteFault}
 use Rattle.plan_run.specs.Answers.{Answer, IsAnswerTo, asks_of, refused_with}
-use Rattle.plan_run.specs.Lists.{list_in, list_message}
+use Rattle.plan_run.specs.Lists.{input_message, list_in, list_message, plan_message, search_message, text_in}
 use Rattle.plan_run.specs.Messages.{message_on, out_of_memory, write_fault}
 
 -- the stop is a write that failed
@@ -61,6 +63,21 @@ Explains OutOfMemory message = ⊤
 abbrev pub TakesList : Fold → List ℕ → Option Content → Result Literals Stop → Type 0
 TakesList fold name source (Ok list) = (list_message fold name source ≡ None) × (list ≡ list_in fold source)
 TakesList fold name source (Err stop) = Explains stop (list_message fold name source)
+
+-- the patterns were planned: their literals, or why there are none
+abbrev pub TakesPlan : Fold → List ℕ → Option Content → Result Plan Stop → Type 0
+TakesPlan fold name source (Ok plan) = (search_message fold name source ≡ None) × (plan.literals ≡ list_in fold source)
+TakesPlan fold name source (Err stop) = Explains stop (search_message fold name source)
+
+-- a list was planned
+abbrev pub PlansList : Literals → Result Plan Stop → Type 0
+PlansList list (Ok plan) = (plan_message list ≡ None) × (plan.literals ≡ list)
+PlansList list (Err stop) = Explains stop (plan_message list)
+
+-- an input was read whole, or why it was not
+abbrev pub TakesText : List ℕ → Option Content → Result (Vec ℕ) Stop → Type 0
+TakesText name source (Ok text) = (input_message name source ≡ None) × (text.items ≡ text_in source)
+TakesText name source (Err stop) = Explains stop (input_message name source)
 
 -- the run went to the end of such an answer, with this status
 pub record IsTold (P : Answer → Type 0) (status : Status) (out_old out_new : Option (List ℕ)) : Type 0 where

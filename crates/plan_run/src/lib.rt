@@ -3,16 +3,21 @@
 
 mod answering;
 mod judging;
+mod listing;
 mod message;
+mod planning;
 mod reading;
 mod request;
 mod running;
+mod scanning;
 mod status;
 mod stop;
 mod telling;
+mod workers;
 
 pub use message::{say, say_text};
-pub use request::Request;
+pub use request::{Request, Scan};
 pub use running::{answer, run};
 pub use status::Status;
 pub use stop::{Refusal, Stop};
+pub use workers::Workers;

@@ -1,9 +1,9 @@
-//! Reading a file of patterns.
+//! Reading a file of patterns, and what is searched.
 ghost use Rattle.std.specs.Prelude.{◌≡◌, ◌≢◌, IfErr, IfOk, MatchResult, None, Some, false};
 ghost use Rattle.byte_io.specs.Devices.{Told};
 ghost use Rattle.byte_io.specs.Sources.{AreShort, Content, IsShort, after, ask_of, coming_of, taken_by};
 ghost use Rattle.plan_run.specs.Lists.{list_refusal, literals_of};
-ghost use Rattle.plan_run.specs.Running.{TakesList, is_write};
+ghost use Rattle.plan_run.specs.Running.{TakesList, TakesText, is_write};
 
 use crate::stop::{Refusal, Stop};
 use byte_io::{ByteIn, Files, ReadError, open_operand, read_to_end};
@@ -63,4 +63,40 @@ fn listed(alloc: Global, fold: Fold, text: &[u8]) -> Result<LitList, Fault>
     patterns.add_file_bytes(text)?;
     let (list, _) = LitList::normal(alloc, &patterns, fold)?;
     Ok(list)
+}
+
+/// The whole text of an operand.
+pub fn text_of<'a, F: Files>(
+    alloc: Global,
+    operand: &'a str,
+    files: &mut F,
+) -> Result<Vec<u8>, Stop<'a>>
+    ensures text { Told (F.sources files.old) (F.sources files.new) (λ s left. AreShort s
+        → (left ≡ after (ask_of operand.now) s) × TakesText operand.now (taken_by (ask_of operand.now) s) result) }
+    ensures unwritten { IfErr result (λ stop. is_write stop ≡ false) }
+{
+    match open_operand(files, operand) {
+        Ok(mut input) => text_from(alloc, operand, &mut input),
+        Err(_) => Err(Stop::Refused(Refusal::Unusable(operand))),
+    }
+}
+
+/// The whole text of an operand that is open.
+fn text_from<'a, I: ByteIn>(
+    alloc: Global,
+    operand: &'a str,
+    input: &mut I,
+) -> Result<Vec<u8>, Stop<'a>>
+    ensures text { (c : Content) → I.coming input.old ≡ Some (coming_of c) → IsShort c
+        → TakesText operand.now (Some c) result }
+    ensures unwritten { IfErr result (λ stop. is_write stop ≡ false) }
+{
+    let mut text = Vec::new(alloc);
+    match read_to_end(input, usize::MAX, &mut text) {
+        Ok(()) => Ok(text),
+        Err(ReadError::Failed) => Err(Stop::Refused(Refusal::Unusable(operand))),
+        // No list has so many bytes.
+        Err(ReadError::TooLong) => unreachable!(),
+        Err(ReadError::OutOfMemory) => Err(Stop::OutOfMemory),
+    }
 }

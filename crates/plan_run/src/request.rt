@@ -1,4 +1,5 @@
 //! What the command line asks for.
+use crate::workers::Workers;
 use lit_base::Fold;
 
 /// What the command line asks for.
@@ -20,4 +21,21 @@ pub enum Request {
         /// The file of the certificate.
         certificate: String,
     },
+    /// Find the patterns of a file in an input.
+    Scan(Scan),
+}
+
+/// Which patterns are looked for, and in what.
+#[derive(Debug, Drop)]
+pub struct Scan {
+    /// Which case differences are ignored.
+    pub fold: Fold,
+    /// How many workers share the input.
+    pub workers: Workers,
+    /// Whether the number of hits is written in place of the hits.
+    pub count: bool,
+    /// The file of patterns; `-` is standard input.
+    pub file: String,
+    /// What they are looked for in; `-` is standard input.
+    pub input: String,
 }

@@ -7,16 +7,20 @@ ghost use Rattle.plan_run.specs.Running.{Answers, Ends, is_write_fault};
 use crate::answering::{answer_check, answer_plan};
 use crate::message::say;
 use crate::request::Request;
+use crate::scanning::answer_scan;
 use crate::status::Status;
 use crate::stop::Stop;
 use byte_io::{ByteOut, Files};
 use std::alloc::Global;
+use std::thread::Threads;
 
-/// Serves a request: its answer goes to `out`, its message to `err`.
+/// Serves a request: its answer goes to `out`, its message to `err`. A scan waits for the workers that it
+/// starts.
 ///
 /// A write to `out` that fails ends the run with its message and `Trouble`; so does want of memory. A
 /// write to `err` that fails ends it with no further message.
-pub fn run<F: Files, W: ByteOut, E: ByteOut>(
+pub fn run<R: Threads + Sync, F: Files, W: ByteOut, E: ByteOut>(
+    rt: &R,
     alloc: Global,
     request: &Request,
     files: &mut F,
@@ -31,7 +35,7 @@ pub fn run<F: Files, W: ByteOut, E: ByteOut>(
     ensures fault { result ≢ Status.Trouble
         → (W.has_failed out.new || E.has_failed err.new) ≡ (W.has_failed out.old || E.has_failed err.old) }
 {
-    match answer(alloc, request, files, out) {
+    match answer(rt, alloc, request, files, out) {
         Ok(status) => status,
         Err(stop) => {
             say(alloc, stop, err);
@@ -41,7 +45,8 @@ pub fn run<F: Files, W: ByteOut, E: ByteOut>(
 }
 
 /// Answers a request as far as writes and memory allow, and says nothing.
-pub fn answer<'a, F: Files, W: ByteOut>(
+pub fn answer<'a, R: Threads + Sync, F: Files, W: ByteOut>(
+    rt: &R,
     alloc: Global,
     request: &'a Request,
     files: &mut F,
@@ -67,5 +72,6 @@ pub fn answer<'a, F: Files, W: ByteOut>(
             files,
             out,
         ),
+        Request::Scan(scan) => answer_scan(rt, alloc, scan, files, out),
     }
 }

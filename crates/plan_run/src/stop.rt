@@ -12,7 +12,7 @@ pub enum Refusal<'a> {
     Unusable(&'a str),
     /// The patterns of the file are refused.
     Patterns(Fault),
-    /// There is no literal to plan.
+    /// There is no literal to plan or to search for.
     NoLiterals,
     /// What stands for the certificate is no certificate's text: this line is the first wrong one.
     NoCertificate { line: u32 },

@@ -14,7 +14,19 @@ pub fn tell<'a, W: ByteOut>(text: &str, status: Status, out: &mut W) -> Result<S
     ensures text { Writes text.now status result (W.written out.old) (W.written out.new) }
     ensures flag { W.has_failed out.new ≡ (W.has_failed out.old || is_write_fault result) }
 {
-    match write_all(out, text.as_bytes()) {
+    tell_bytes(text.as_bytes(), status, out)
+}
+
+/// Writes bytes, and answers this status.
+pub fn tell_bytes<'a, W: ByteOut>(
+    bytes: &[u8],
+    status: Status,
+    out: &mut W,
+) -> Result<Status, Stop<'a>>
+    ensures text { Writes bytes.now status result (W.written out.old) (W.written out.new) }
+    ensures flag { W.has_failed out.new ≡ (W.has_failed out.old || is_write_fault result) }
+{
+    match write_all(out, bytes) {
         Ok(()) => Ok(status),
         Err(Failed) => Err(Stop::WriteFault),
     }

@@ -1,6 +1,6 @@
 -- The verdict is the one that the check gives.
-use Rattle.std.proofs.Common.{◌≡◌, ap, sym, ◌∙◌, refl, rules}
-use Rattle.plan_run.specs.Answers.{Fails, Holds, IsVerdict, told}
+use Rattle.std.proofs.Common.{rules}
+use Rattle.plan_run.specs.Answers.{Fails, Holds, IsVerdict}
 use Rattle.plan_run.specs.declared.status.Status.TheVariants.{Done, NotCertified}
 use Rattle.plan_run.proofs.AnswerLemmas.{tells-text}
 use Rattle.plan_run.proofs.judging.verdict.Goals as goal

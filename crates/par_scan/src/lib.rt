@@ -1,0 +1,11 @@
+//! Scans by several workers at once: the hits are those of one scan, whoever finds them.
+#![tactic(auto)]
+
+mod gate;
+mod parts;
+
+pub use gate::{Gate, NoGate};
+pub use parts::{MAX_WORKERS, scan_parts};
+
+#[cfg(test)]
+mod tests;

@@ -1,0 +1,83 @@
+//! A text in parts, each scanned by a worker of its own.
+ghost use Rattle.std.specs.Prelude.{◌≡◌, ◌-◌, ◌<◌, ◌≤◌, IfOk, IsOk, IsOkUnless, length};
+ghost use Rattle.lit_base.specs.Occurrences.{IsHits};
+ghost use Rattle.flow_scan.specs.NextEnds.{NoEndAfter};
+ghost use Rattle.flow_scan.specs.Tails.{Continues};
+ghost use Rattle.flow_scan.specs.declared.fault.Fault.TheVariants.{OutOfMemory};
+ghost use denote.Param.Send.{IsSync};
+
+use crate::gate::Gate;
+use flow_scan::{Compiled, Fault, Hit, scan_behind};
+use std::alloc::Global;
+use std::thread::{Threads, join};
+
+/// How many workers may share a text.
+pub const MAX_WORKERS: usize = 16;
+
+/// All hits in a text, in order, found by so many workers, each of which scans a part of the text
+/// between its calls of the gate. The parts are as even as they can be. That of a worker that cannot
+/// be started is scanned by the calling thread, which waits for the others.
+///
+/// The only refusal is `OutOfMemory`.
+pub fn scan_parts<R: Threads + Sync, G: Gate>(
+    rt: &R,
+    alloc: Global,
+    gate: &G,
+    compiled: &Compiled,
+    text: &[u8],
+    workers: usize,
+) -> Result<Vec<Hit>, Fault>
+    requires some { 1 ≤ workers }
+    requires few { workers ≤ 16 }
+    ensures ok { IfOk result (λ hits. IsHits compiled.now.literals text.now hits.items) }
+    ensures refused { IsOkUnless result OutOfMemory }
+
+    // Where nothing ends in the text, it takes no memory.
+    ensures quiet { NoEndAfter compiled.now.literals text.now 0 → IsOk result }
+{
+    compiled.list().normal_law();
+    if workers == 1 {
+        return scan_part(alloc, gate, compiled, text, 0, 1);
+    }
+    let from = text.len() - text.len() / workers;
+    let (front, _) = text.split_at(from);
+    let (last, before) = join(
+        rt,
+        || -> Result<Vec<Hit>, Fault>
+            requires { from ≤ length text.now }
+            ensures continues { IfOk result (λ hits. Continues compiled.entry.now.literals text.entry.now from hits.items) }
+            ensures refused { IsOkUnless result OutOfMemory }
+            ensures quiet { NoEndAfter compiled.entry.now.literals text.entry.now from → IsOk result }
+        { scan_part(alloc, gate, compiled, text, from, workers) },
+        || -> Result<Vec<Hit>, Fault>
+            requires { IsSync R.row × (1 < workers) × (workers ≤ 16) }
+            ensures ok { IfOk result (λ hits. IsHits compiled.entry.now.literals front.entry.now hits.items) }
+            ensures refused { IsOkUnless result OutOfMemory }
+            ensures quiet { NoEndAfter compiled.entry.now.literals front.entry.now 0 → IsOk result }
+        { scan_parts(rt, alloc, gate, compiled, front, workers - 1) },
+    );
+    let mut hits = before?;
+    let mut more = last?;
+    hits.append(&mut more)?;
+    Ok(hits)
+}
+
+/// A worker's scan, of what ends in the text behind a place.
+fn scan_part<G: Gate>(
+    alloc: Global,
+    gate: &G,
+    compiled: &Compiled,
+    text: &[u8],
+    from: usize,
+    worker: usize,
+) -> Result<Vec<Hit>, Fault>
+    requires { from ≤ length text.now }
+    ensures continues { IfOk result (λ hits. Continues compiled.now.literals text.now from hits.items) }
+    ensures refused { IsOkUnless result OutOfMemory }
+    ensures quiet { NoEndAfter compiled.now.literals text.now from → IsOk result }
+{
+    gate.enter(worker);
+    let hits = scan_behind(alloc, compiled, text, from);
+    gate.leave(worker);
+    hits
+}

@@ -1,0 +1,80 @@
+//! Finding patterns in an input.
+ghost use Rattle.std.specs.Prelude.{◌≡◌, ◌||◌, string_bytes};
+ghost use Rattle.byte_io.specs.Devices.{Told};
+ghost use Rattle.byte_io.specs.Sources.{AreShort, after, ask_of, taken_by};
+ghost use Rattle.plan_run.specs.Answers.{AnswersInput, AnswersScan, AreHitsTold, scan_asks};
+ghost use Rattle.plan_run.specs.Running.{Asks, Tells, is_write_fault};
+
+use crate::listing::tell_hits;
+use crate::planning::plan_of;
+use crate::reading::text_of;
+use crate::request::Scan;
+use crate::status::Status;
+use crate::stop::Stop;
+use byte_io::{ByteOut, Files};
+use flow_scan::{Compiled, Fault};
+use par_scan::{NoGate, scan_parts};
+use std::alloc::Global;
+use std::thread::Threads;
+
+/// Writes the hits of a file's patterns in an input, or their number. The file is planned before the
+/// input is asked for.
+pub fn answer_scan<'a, R: Threads + Sync, F: Files, W: ByteOut>(
+    rt: &R,
+    alloc: Global,
+    scan: &'a Scan,
+    files: &mut F,
+    out: &mut W,
+) -> Result<Status, Stop<'a>>
+    ensures answer { Told (F.sources files.old) (F.sources files.new) (λ s left. AreShort s
+        → Asks result (scan_asks scan.now.fold (string_bytes scan.now.file) (string_bytes scan.now.input) s) s left
+        × Tells (AnswersScan scan.now.fold scan.now.count (string_bytes scan.now.file) (string_bytes scan.now.input) s)
+        result (W.written out.old) (W.written out.new)) }
+    ensures flag { W.has_failed out.new ≡ (W.has_failed out.old || is_write_fault result) }
+{
+    match plan_of(alloc, scan.fold, scan.file.as_str(), files) {
+        Ok(compiled) => scan_input(rt, alloc, &compiled, scan, files, out),
+        Err(stop) => Err(stop),
+    }
+}
+
+/// Writes the hits of a plan in the input that is asked for.
+fn scan_input<'a, R: Threads + Sync, F: Files, W: ByteOut>(
+    rt: &R,
+    alloc: Global,
+    compiled: &Compiled,
+    scan: &'a Scan,
+    files: &mut F,
+    out: &mut W,
+) -> Result<Status, Stop<'a>>
+    ensures answer { Told (F.sources files.old) (F.sources files.new) (λ s left. AreShort s
+        → (left ≡ after (ask_of (string_bytes scan.now.input)) s)
+        × Tells (AnswersInput compiled.now.literals scan.now.count (string_bytes scan.now.input)
+        (taken_by (ask_of (string_bytes scan.now.input)) s)) result (W.written out.old) (W.written out.new)) }
+    ensures flag { W.has_failed out.new ≡ (W.has_failed out.old || is_write_fault result) }
+{
+    match text_of(alloc, scan.input.as_str(), files) {
+        Ok(text) => scan_text(rt, alloc, compiled, scan, text.as_slice(), out),
+        Err(stop) => Err(stop),
+    }
+}
+
+/// Writes the hits of a plan in a text.
+fn scan_text<'a, R: Threads + Sync, W: ByteOut>(
+    rt: &R,
+    alloc: Global,
+    compiled: &Compiled,
+    scan: &'a Scan,
+    text: &[u8],
+    out: &mut W,
+) -> Result<Status, Stop<'a>>
+    ensures answer { Tells (AreHitsTold compiled.now.literals scan.now.count text.now) result (W.written out.old) (W.written out.new) }
+    ensures flag { W.has_failed out.new ≡ (W.has_failed out.old || is_write_fault result) }
+{
+    match scan_parts(rt, alloc, &NoGate, compiled, text, scan.workers.count()) {
+        Ok(hits) => tell_hits(alloc, scan.count, hits.as_slice(), out),
+        Err(Fault::OutOfMemory) => Err(Stop::OutOfMemory),
+        Err(Fault::NotCertified { .. }) => unreachable!(),
+        Err(Fault::StreamTooLong) => unreachable!(),
+    }
+}
