@@ -1,0 +1,11 @@
+pub mod FieldLemmas
+pub mod LoopLemmas
+pub mod LiteralLemmas
+pub mod NormalLemmas
+pub mod PlanLemmas
+pub mod StreamLemmas
+pub mod PlaceLemmas
+pub mod OneWay
+pub mod DeviceLemmas
+pub mod LongLemmas
+pub mod ReadLemmas

@@ -1,0 +1,109 @@
+-- The fields of a plan file in reading order, and which of them is the first that is wrong.
+use Rattle.std.specs.Prelude.{ℕ, zero, suc, ◌*◌, ◌-◌, List, [], ◌∷◌, length, take, drop, Bool, ◌&&◌, ◌==◌, not, nat_le, nat_lt, if◌then◌else◌, Result, Ok, Err}
+use Rattle.std.specs.Int.{Width, w16, w32, w64, byte_len, from_be_bytes}
+use Rattle.std.specs.List.{position_or_len}
+use Rattle.std.specs.Ordering.{is_lt}
+use Rattle.lit_base.specs.declared.fold.Fold.{Fold}
+use Rattle.lit_base.specs.declared.fold.Fold.TheVariants.{No, Ascii}
+use Rattle.lit_base.specs.declared.limits.TheConstants.{MAX_LITERAL_LEN, MAX_LIST_LEN}
+use Rattle.lit_base.specs.Folding.{folded}
+use Rattle.lit_base.specs.Literals.{Literals, literal_cmp}
+use Rattle.lit_cert.specs.Certificates.{CertificateParts}
+use Rattle.flow_scan.specs.Plans.{Plan}
+use Rattle.plan_file.specs.declared.fault.Cause.{Cause}
+use Rattle.plan_file.specs.declared.fault.Cause.TheVariants.{Short, Magic, Version, Count, Flags, Literal, Order, Runs}
+use Rattle.plan_file.specs.declared.fault.Wrong.{Wrong}
+
+infixl 10 ◌>>=◌
+abbrev pub ◌>>=◌ : {A B : Type 0} → Result A Wrong → (A → Result B Wrong) → Result B Wrong
+(Ok x) >>= f = f x
+(Err e) >>= f = Err e
+
+-- the cause, at the field that begins these bytes: its place is told by how many bytes stand from it on
+abbrev pub wrong_at : Cause → List ℕ → Wrong
+wrong_at cause bytes = record { left = length bytes; cause = cause }
+
+-- each field is read with the bytes after it
+
+abbrev pub byte_at : List ℕ → Result (ℕ × List ℕ) Wrong
+byte_at [] = Err (wrong_at Short [])
+byte_at (b ∷ rest) = Ok (b, rest)
+
+abbrev pub number_at : Width → List ℕ → Result (ℕ × List ℕ) Wrong
+number_at w bytes =
+    if nat_lt (length bytes) (byte_len w) then Err (wrong_at Short bytes)
+    else Ok (from_be_bytes w (take (byte_len w) bytes), drop (byte_len w) bytes)
+
+abbrev pub bytes_at : ℕ → List ℕ → Result (List ℕ × List ℕ) Wrong
+bytes_at n bytes = if nat_lt (length bytes) n then Err (wrong_at Short bytes) else Ok (take n bytes, drop n bytes)
+
+-- the number that was read of a field, if it passes the test
+abbrev pub field : List ℕ → (ℕ → Bool) → Cause → Result (ℕ × List ℕ) Wrong → Result (ℕ × List ℕ) Wrong
+field bytes passes cause read = do
+  n ← read
+  if passes n.0 then Ok n else Err (wrong_at cause bytes)
+
+-- so many numbers
+unfoldable pub numbers_at : Width → ℕ → List ℕ → Result (List ℕ × List ℕ) Wrong
+numbers_at w zero bytes = Ok ([], bytes)
+numbers_at w (suc n) bytes = do
+  first ← number_at w bytes
+  others ← numbers_at w n first.1
+  Ok (first.0 ∷ others.0, others.1)
+
+-- the number of the first bytes that are folded
+abbrev pub folded_len : Fold → List ℕ → ℕ
+folded_len fold text = position_or_len (λ b. not (folded fold b == b)) text
+
+-- a literal behind another one, where there is room for so many bytes
+unfoldable pub literal_at : Fold → ℕ → List ℕ → List ℕ → Result (List ℕ × List ℕ) Wrong
+literal_at fold room before bytes = do
+  len ← field bytes (λ n. nat_le 1 n && nat_le n MAX_LITERAL_LEN && nat_le n room) Literal (number_at w16 bytes)
+  text ← bytes_at len.0 len.1
+  if nat_lt (folded_len fold text.0) (length text.0) then Err (wrong_at Literal (drop (folded_len fold text.0) len.1))
+      else if is_lt (literal_cmp before text.0) then Ok text
+      else Err (wrong_at Order bytes)
+
+-- so many literals
+unfoldable pub literals_at : Fold → ℕ → ℕ → List ℕ → List ℕ → Result (List (List ℕ) × List ℕ) Wrong
+literals_at fold zero room before bytes = Ok ([], bytes)
+literals_at fold (suc n) room before bytes = do
+  first ← literal_at fold room before bytes
+  others ← literals_at fold n (room - length first.0) first.0 first.1
+  Ok (first.0 ∷ others.0, others.1)
+
+-- the fold that a flag tells
+abbrev pub fold_of : ℕ → Fold
+fold_of zero = No
+fold_of (suc b) = Ascii
+
+-- the literals of an entry, 1 to `limit`
+unfoldable pub list_at : ℕ → List ℕ → Result (Literals × List ℕ) Wrong
+list_at limit bytes = do
+  flag ← field bytes (λ b. nat_le b 1) Flags (byte_at bytes)
+  n ← field flag.1 (λ n. nat_le 1 n && nat_le n limit) Count (number_at w16 flag.1)
+  texts ← literals_at (fold_of flag.0) n.0 MAX_LIST_LEN [] n.1
+  Ok (record { folding = fold_of flag.0; texts = texts.0 }, texts.1)
+
+-- the certificate of n literals, whether or not it holds: 1 to `most` runs
+unfoldable pub certificate_at : ℕ → ℕ → List ℕ → Result (CertificateParts × List ℕ) Wrong
+certificate_at most n bytes = do
+  runs ← field bytes (λ r. nat_le 1 r && nat_le r most) Runs (byte_at bytes)
+  ends ← numbers_at w16 runs.0 runs.1
+  cost ← number_at w64 ends.1
+  potentials ← numbers_at w64 (most * n) cost.1
+  Ok (record { ends = ends.0; cost = cost.0; potentials = potentials.0 }, potentials.1)
+
+-- an entry
+unfoldable pub plan_at : ℕ → ℕ → List ℕ → Result (Plan × List ℕ) Wrong
+plan_at most limit bytes = do
+  list ← list_at limit bytes
+  certificate ← certificate_at most (length list.0.texts) list.1
+  Ok (record { literals = list.0; certificate = certificate.0 }, certificate.1)
+
+-- the head, which tells the number of plans
+unfoldable pub head_at : List ℕ → Result (ℕ × List ℕ) Wrong
+head_at bytes = do
+  magic ← field bytes (λ m. m == 0x4C504C46) Magic (number_at w32 bytes)
+  version ← field magic.1 (λ v. v == 1) Version (number_at w16 magic.1)
+  field version.1 (λ n. nat_le n 64) Count (number_at w16 version.1)

@@ -1,0 +1,67 @@
+//! The certificate of an entry.
+ghost use Rattle.std.specs.Prelude.{◌≡◌, ◌≤◌, ◌*◌};
+ghost use Rattle.std.specs.Int.{w16, w64};
+ghost use Rattle.lit_base.specs.declared.limits.TheConstants.{MAX_LITERALS};
+ghost use Rattle.plan_file.specs.Faults.{Gives};
+ghost use Rattle.plan_file.specs.Reading.{certificate_at, numbers_at};
+
+use crate::fault::{Cause, Stop, stop_at};
+use crate::fields::{first_byte, first_u16, first_u64};
+use lit_base::{BUCKETS, Ends};
+use lit_cert::Certificate;
+use std::alloc::Global;
+
+/// So many ends, and the bytes after them.
+fn first_ends(count: usize, bytes: &[u8]) -> Result<(Ends, &[u8]), Stop>
+    requires { count ≤ 8 }
+    ensures { Gives (λ x. (x.0.items, x.1.now)) result (numbers_at w16 count bytes.now) }
+{
+    let mut ends = Ends::new();
+    let mut rest = bytes;
+    for _ in 0..count {
+        let (end, after) = first_u16(rest)?;
+        ends.push(end);
+        rest = after;
+    }
+    Ok((ends, rest))
+}
+
+/// So many potentials, and the bytes after them. Room grows as they come, whatever their number.
+fn first_potentials(alloc: Global, count: usize, bytes: &[u8]) -> Result<(Vec<u64>, &[u8]), Stop>
+    ensures { Gives (λ x. (x.0.items, x.1.now)) result (numbers_at w64 count bytes.now) }
+{
+    let mut potentials = Vec::new(alloc);
+    let mut rest = bytes;
+    for _ in 0..count {
+        let (potential, after) = first_u64(rest)?;
+        potentials.push(potential)?;
+        rest = after;
+    }
+    Ok((potentials, rest))
+}
+
+/// The certificate at the front, which is for so many literals, and the bytes after it.
+#[tactic(auto, unfolding(crate::specs::Reading::certificate_at))]
+pub fn first_certificate(
+    alloc: Global,
+    count: usize,
+    bytes: &[u8],
+) -> Result<(Certificate, &[u8]), Stop>
+    requires { count ≤ MAX_LITERALS }
+    ensures { Gives (λ x. (x.0, x.1.now)) result (certificate_at 8 count bytes.now) }
+{
+    let (runs, rest) = first_byte(bytes)?;
+    let runs = usize::from(runs);
+    if runs < 1 || runs > BUCKETS {
+        return Err(stop_at(bytes, Cause::Runs));
+    }
+    let (ends, rest) = first_ends(runs, rest)?;
+    let (cost, rest) = first_u64(rest)?;
+    let (potentials, rest) = first_potentials(alloc, BUCKETS * count, rest)?;
+    let certificate = Certificate {
+        ends,
+        cost,
+        potentials,
+    };
+    Ok((certificate, rest))
+}

@@ -1,0 +1,156 @@
+//! The one text of each list of plans.
+ghost use Rattle.std.specs.Prelude.{◌≡◌, ◌≢◌, ◌^◌, ◌<◌, ◌≤◌, ◌++◌, length, IfErr, IfOk, IsOkUnless, IsTrue, OnErr, OnOk};
+ghost use Rattle.std.specs.Io.KnownBytes.{Appends};
+ghost use Rattle.byte_io.specs.Transfers.{AppendsPrefix};
+ghost use Rattle.plan_file.specs.Faults.{IsWritersFault};
+ghost use Rattle.std.specs.List.{flat_map};
+ghost use Rattle.std.specs.Int.{w16, w32, w64};
+ghost use Rattle.plan_file.specs.declared.fault.Fault.TheVariants.{OutOfMemory};
+ghost use Rattle.plan_file.specs.Spelling.{certificate_text, flag_of, head_text, literal_text, literals_text, numbers_text, plan_text, spelling};
+
+use crate::fault::Fault;
+use crate::limits::{MAGIC, VERSION};
+use flow_scan::Compiled;
+use lit_base::{ByteOut, Failed, Fold, LitList, write_all};
+use lit_cert::Certificate;
+use std::alloc::{AllocError, Global};
+
+/// Appends the head of a file of so many plans.
+#[tactic(auto, unfolding(crate::specs::Spelling::head_text))]
+fn push_head(out: &mut Vec<u8>, count: u16) -> Result<(), AllocError>
+    ensures { OnOk result (out.new.items ≡ out.old.items ++ head_text count) }
+{
+    out.extend_from_slice(&MAGIC.to_be_bytes())?;
+    out.extend_from_slice(&VERSION.to_be_bytes())?;
+    out.extend_from_slice(&count.to_be_bytes())
+}
+
+/// The byte that tells a fold.
+fn flag(fold: Fold) -> u8
+    ensures { result ≡ flag_of fold }
+{
+    match fold {
+        Fold::No => 0,
+        Fold::Ascii => 1,
+    }
+}
+
+/// Appends a literal.
+fn push_literal(out: &mut Vec<u8>, literal: &[u8]) -> Result<(), AllocError>
+    requires { length literal.now < 2 ^ 16 }
+    ensures { OnOk result (out.new.items ≡ out.old.items ++ literal_text literal.now) }
+{
+    let len = literal.len() as u16;
+    out.extend_from_slice(&len.to_be_bytes())?;
+    out.extend_from_slice(literal)
+}
+
+/// Appends literals, with their fold and their number.
+fn push_literals(out: &mut Vec<u8>, list: &LitList) -> Result<(), AllocError>
+    ensures { OnOk result (out.new.items ≡ out.old.items ++ literals_text list.now) }
+{
+    list.normal_law();
+    let count = list.len();
+    out.push(flag(list.fold()))?;
+    out.extend_from_slice(&(count as u16).to_be_bytes())?;
+    for place in 0..count {
+        push_literal(out, list.get(place))?;
+    }
+    Ok(())
+}
+
+/// Appends ends, one after the other.
+fn push_ends(out: &mut Vec<u8>, ends: &[u16]) -> Result<(), AllocError>
+    ensures { OnOk result (out.new.items ≡ out.old.items ++ numbers_text w16 ends.now) }
+{
+    for end in ends {
+        out.extend_from_slice(&end.to_be_bytes())?;
+    }
+    Ok(())
+}
+
+/// Appends potentials, one after the other.
+fn push_potentials(out: &mut Vec<u8>, potentials: &[u64]) -> Result<(), AllocError>
+    ensures { OnOk result (out.new.items ≡ out.old.items ++ numbers_text w64 potentials.now) }
+{
+    for potential in potentials {
+        out.extend_from_slice(&potential.to_be_bytes())?;
+    }
+    Ok(())
+}
+
+/// Appends a certificate.
+fn push_certificate(out: &mut Vec<u8>, certificate: &Certificate) -> Result<(), AllocError>
+    ensures { OnOk result (out.new.items ≡ out.old.items ++ certificate_text certificate.now) }
+{
+    let ends = certificate.ends.as_slice();
+    out.push(ends.len() as u8)?;
+    push_ends(out, ends)?;
+    out.extend_from_slice(&certificate.cost.to_be_bytes())?;
+    push_potentials(out, &certificate.potentials)
+}
+
+/// Appends an entry.
+#[tactic(auto, unfolding(crate::specs::Spelling::plan_text))]
+fn push_plan(out: &mut Vec<u8>, plan: &Compiled) -> Result<(), AllocError>
+    ensures { OnOk result (out.new.items ≡ out.old.items ++ plan_text plan.now) }
+{
+    push_literals(out, plan.list())?;
+    push_certificate(out, plan.certificate())
+}
+
+/// Appends entries, one after the other.
+fn push_plans(out: &mut Vec<u8>, plans: &[Compiled]) -> Result<(), AllocError>
+    ensures { OnOk result (out.new.items ≡ out.old.items ++ flat_map plan_text plans.now) }
+{
+    for plan in plans {
+        push_plan(out, plan)?;
+    }
+    Ok(())
+}
+
+/// The text of a file of these plans.
+fn text_of(alloc: Global, plans: &[Compiled]) -> Result<Vec<u8>, AllocError>
+    requires { length plans.now ≤ 64 }
+    ensures { IfOk result (λ text. text.items ≡ spelling plans.now) }
+{
+    let mut text = Vec::new(alloc);
+    push_head(&mut text, plans.len() as u16)?;
+    push_plans(&mut text, plans)?;
+    Ok(text)
+}
+
+/// The text of a file of these plans, at most 64. The only refusal is `OutOfMemory`.
+pub fn encode(alloc: Global, plans: &[Compiled]) -> Result<Vec<u8>, Fault>
+    requires { length plans.now ≤ 64 }
+    ensures ok { IfOk result (λ text. text.items ≡ spelling plans.now) }
+    ensures refused { IsOkUnless result OutOfMemory }
+{
+    Ok(text_of(alloc, plans)?)
+}
+
+/// Writes the text of a file of these plans, at most 64.
+///
+/// # Errors
+/// - `WriteFault`, where a write failed or took nothing.
+/// - `OutOfMemory`, where a growth was refused.
+///
+/// After both of them a front of the text was written.
+pub fn write_plans<W: ByteOut>(alloc: Global, plans: &[Compiled], out: &mut W) -> Result<(), Fault>
+    requires few { length plans.now ≤ 64 }
+    ensures ok { OnOk result
+        (Appends (W.written out.old) (W.written out.new) (spelling plans.now)) }
+    ensures err { OnErr result
+        (AppendsPrefix (W.written out.old) (W.written out.new) (spelling plans.now)) }
+
+    // A fault is told only where a write failed.
+    ensures fault { result ≡ Err Fault.WriteFault → IsTrue (W.has_failed out.new) }
+    ensures flag { result ≢ Err Fault.WriteFault → W.has_failed out.new ≡ W.has_failed out.old }
+    ensures faults { IfErr result IsWritersFault }
+{
+    let text = text_of(alloc, plans)?;
+    match write_all(out, &text) {
+        Ok(()) => Ok(()),
+        Err(Failed) => Err(Fault::WriteFault),
+    }
+}

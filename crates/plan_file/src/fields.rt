@@ -1,0 +1,64 @@
+//! Fields of a plan file, each read from the front of what is left.
+ghost use Rattle.std.specs.Prelude.{◌≡◌};
+ghost use Rattle.std.specs.Int.{w16, w32, w64};
+ghost use Rattle.plan_file.specs.Faults.{Gives};
+ghost use Rattle.plan_file.specs.Reading.{byte_at, bytes_at, number_at};
+
+use crate::fault::{Cause, Stop, stop_at};
+
+/// The byte at the front, and the bytes after it.
+pub fn first_byte(bytes: &[u8]) -> Result<(u8, &[u8]), Stop>
+    ensures { Gives (λ x. (x.0, x.1.now)) result (byte_at bytes.now) }
+{
+    match bytes {
+        [] => Err(stop_at(bytes, Cause::Short)),
+        [byte, rest @ ..] => Ok((*byte, rest)),
+    }
+}
+
+/// The number in two bytes at the front, and the bytes after it.
+pub fn first_u16(bytes: &[u8]) -> Result<(u16, &[u8]), Stop>
+    ensures { Gives (λ x. (x.0, x.1.now)) result (number_at w16 bytes.now) }
+{
+    if bytes.len() < 2 {
+        return Err(stop_at(bytes, Cause::Short));
+    }
+    let (front, rest) = bytes.split_at(2);
+    Ok((u16::from_be_bytes([front[0], front[1]]), rest))
+}
+
+/// The number in four bytes at the front, and the bytes after it.
+pub fn first_u32(bytes: &[u8]) -> Result<(u32, &[u8]), Stop>
+    ensures { Gives (λ x. (x.0, x.1.now)) result (number_at w32 bytes.now) }
+{
+    if bytes.len() < 4 {
+        return Err(stop_at(bytes, Cause::Short));
+    }
+    let (front, rest) = bytes.split_at(4);
+    let number = u32::from_be_bytes([front[0], front[1], front[2], front[3]]);
+    Ok((number, rest))
+}
+
+/// The number in eight bytes at the front, and the bytes after it.
+pub fn first_u64(bytes: &[u8]) -> Result<(u64, &[u8]), Stop>
+    ensures { Gives (λ x. (x.0, x.1.now)) result (number_at w64 bytes.now) }
+{
+    if bytes.len() < 8 {
+        return Err(stop_at(bytes, Cause::Short));
+    }
+    let (front, rest) = bytes.split_at(8);
+    let number = u64::from_be_bytes([
+        front[0], front[1], front[2], front[3], front[4], front[5], front[6], front[7],
+    ]);
+    Ok((number, rest))
+}
+
+/// So many bytes at the front, and the bytes after them.
+pub fn first_bytes(count: usize, bytes: &[u8]) -> Result<(&[u8], &[u8]), Stop>
+    ensures { Gives (λ x. (x.0.now, x.1.now)) result (bytes_at count bytes.now) }
+{
+    if bytes.len() < count {
+        return Err(stop_at(bytes, Cause::Short));
+    }
+    Ok(bytes.split_at(count))
+}
