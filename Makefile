@@ -5,10 +5,11 @@
 #   make CPU=x86-64-v2      the same for any processor of the last fifteen years
 #   make check              proves and tests everything from nothing, then runs the programs' tests
 #   make test               the programs' tests alone
+#   make soak MINUTES=..    the scan server under load, hostile connections among it, for some minutes
 #   make bench              the programs that measure, in bin/
 #   make install PREFIX=..  copies what was built into PREFIX/bin, the manual into PREFIX/share/man
 
-PROGRAMS = litgrep litplan
+PROGRAMS = litgrep litplan scand
 MEASURES = bench_check bench_lanes bench_scan
 PREFIX = /usr/local
 
@@ -58,6 +59,11 @@ check:
 test: all
 	python3 tests/run.py
 
+# A report of the server under load.
+MINUTES = 1
+soak: bin/scand
+	python3 tests/soak.py $(MINUTES)
+
 # The programs that measure; bench/README.md says how they are run.
 bench: $(MEASURES:%=bin/%)
 
@@ -73,5 +79,5 @@ clean:
 
 FORCE:
 
-.PHONY: all check test bench install clean FORCE
+.PHONY: all check test soak bench install clean FORCE
 .DELETE_ON_ERROR:

@@ -1,0 +1,4 @@
+pub mod AloneLemmas
+pub mod TellLemmas
+pub mod FeedLemmas
+pub mod SeenLemmas

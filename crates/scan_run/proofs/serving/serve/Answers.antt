@@ -1,0 +1,16 @@
+use Rattle.std.proofs.Common.{[], refl, subst}
+use Rattle.scan_serve.specs.Serving.{EndsAs}
+use Rattle.scan_core.specs.Sessions.{IsEvent, Serving}
+use Rattle.scan_run.specs.Alone.{fresh}
+use Rattle.scan_run.specs.Seen.{new_session}
+use Rattle.scan_run.proofs.SeenLemmas.{ends_seen}
+use Rattle.scan_run.proofs.serving.serve.Goals as goal
+
+pub returns-clause-ends : goal.returns-clause-ends
+returns-clause-ends g c =
+    (c.serve.new.session, subst (λ (s : Serving). EndsAs IsEvent s c.serve.new.session (g.I.ByteIn.coming c.args.input.now) (g.I.ByteIn.coming c.serve.new.input) (g.O.ByteOut.written c.args.out.now) (g.O.ByteOut.written c.serve.new.out) [] c.serve.result) c.new.ensures c.serve.ensures.ends)
+
+pub returns-clause-bytes : goal.returns-clause-bytes
+returns-clause-bytes g c =
+    let ends = subst (λ (s : Serving). EndsAs IsEvent s c.serve.new.session (g.I.ByteIn.coming c.args.input.now) (g.I.ByteIn.coming c.serve.new.input) (g.O.ByteOut.written c.args.out.now) (g.O.ByteOut.written c.serve.new.out) [] c.serve.result) c.new.ensures c.serve.ensures.ends in
+    ends_seen (fresh c.args.store.now) c.serve.new.session new_session _ _ _ _ [] c.serve.result record { told = refl; streams = tt } ends

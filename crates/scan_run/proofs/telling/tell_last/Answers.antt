@@ -1,0 +1,33 @@
+use Rattle.std.proofs.Common.{map}
+use Rattle.scan_wire.specs.Frames.{replies_text, reply_text}
+use Rattle.scan_wire.specs.Messages.{Fed, Hits}
+use Rattle.scan_serve.proofs.SendLemmas.{err_weaker, front_is, sends_is, sends_then, sends_then_front}
+use Rattle.scan_run.specs.Feeding.{last_block}
+use Rattle.scan_run.proofs.TellLemmas.{front_of_more, ok_weaker, on_err, told_place}
+use Rattle.scan_run.proofs.telling.tell_last.Goals as goal
+
+pub returns-in_err-tell_rest-clause-err : goal.returns-in_err-tell_rest-clause-err
+returns-in_err-tell_rest-clause-err g c =
+    let blocks = last_block c.args.hits.now in
+    let told = replies_text (map (Hits c.args.stream) blocks) in
+    on_err c.from_residual.result
+    (front_is _ _ _ _ _ (told_place c.args.stream blocks c.args.place)
+    (front_of_more _ _ c.args.outbox.now told (reply_text (Fed c.args.stream c.args.place)) c.in_err-tell_rest.ensures.err))
+
+pub returns-clause-ok : goal.returns-clause-ok
+returns-clause-ok g c =
+    let blocks = last_block c.args.hits.now in
+    let told = replies_text (map (Hits c.args.stream) blocks) in
+    ok_weaker c.push.result
+    (λ sent. sends_is _ _ _ _ _ _ (told_place c.args.stream blocks c.args.place)
+    (sends_then _ _ _ c.args.outbox.now _ _ told (reply_text (Fed c.args.stream c.args.place)) c.in_ok-tell_rest.ensures.ok sent))
+    c.push.ensures.ok
+
+pub returns-clause-err : goal.returns-clause-err
+returns-clause-err g c =
+    let blocks = last_block c.args.hits.now in
+    let told = replies_text (map (Hits c.args.stream) blocks) in
+    err_weaker c.push.result
+    (λ sent. front_is _ _ _ _ _ (told_place c.args.stream blocks c.args.place)
+    (sends_then_front _ _ _ c.args.outbox.now _ told (reply_text (Fed c.args.stream c.args.place)) c.in_ok-tell_rest.ensures.ok sent))
+    c.push.ensures.err

@@ -1,0 +1,55 @@
+-- A Feed that is answered as its hits are found.
+use Rattle.std.specs.Prelude.{◌≡◌, ℕ, ◌<◌, List, [], ◌∷◌, ◌++◌, length, map, Option, ◌⊎◌}
+use Rattle.scan_wire.specs.Frames.{replies_text}
+use Rattle.scan_wire.specs.Messages.{Hits}
+use Rattle.scan_wire.specs.declared.message.TheConstants.{MAX_HITS}
+use Rattle.scan_serve.specs.Sending.{Sends, SendsFront}
+use Rattle.scan_core.specs.Blocks.{AreFull, joined}
+use Rattle.scan_core.specs.Fronts.{FeedsFront, IsFeeding}
+use Rattle.scan_core.specs.Sessions.{Serving}
+
+-- the block of the hits that are left, if any are
+abbrev pub last_block : List (ℕ × ℕ) → List (List (ℕ × ℕ))
+last_block [] = []
+last_block (hit ∷ hits) = (hit ∷ hits) ∷ []
+
+-- of a list of hits the first were told in full replies
+pub record TellsFull (stream : ℕ) (old new : List (ℕ × ℕ)) (written_old written_new : Option (List ℕ)) (before after : List ℕ) : Type 0 where
+  pub blocks : List (List (ℕ × ℕ))
+  pub full : AreFull MAX_HITS blocks
+  pub cut : old ≡ joined blocks ++ new
+  pub sent : Sends written_old written_new before after (replies_text (map (Hits stream) blocks))
+
+-- of a list of hits the first are told in full replies, of which a front is written
+pub record TellsFullFront (stream : ℕ) (old : List (ℕ × ℕ)) (written_old written_new : Option (List ℕ)) (before : List ℕ) : Type 0 where
+  pub blocks : List (List (ℕ × ℕ))
+  pub left : List (ℕ × ℕ)
+  pub full : AreFull MAX_HITS blocks
+  pub cut : old ≡ joined blocks ++ left
+  pub sent : SendsFront written_old written_new before (replies_text (map (Hits stream) blocks))
+
+-- a front of a piece was fed, and of the hits gained with those before it the first were told in full replies
+pub record FeedsOn (before : Serving) (stream : ℕ) (piece : List ℕ) (count : ℕ) (old new : List (ℕ × ℕ)) (after : Serving) (written_old written_new : Option (List ℕ)) (waits_old waits_new : List ℕ) : Type 0 where
+  pub most : ℕ
+  pub gained : List (ℕ × ℕ)
+  pub some : 0 < most
+  pub fed : FeedsFront before stream piece most count old gained after
+  pub few : length new < MAX_HITS
+  pub told : TellsFull stream gained new written_old written_new waits_old waits_new
+
+-- feeding a front of a piece stopped: none was fed, or of the hits gained with those before it the first are told in full replies, of which a front is written
+abbrev pub StopsFeeding : Serving → ℕ → List ℕ → List (ℕ × ℕ) → Option (List ℕ) → Option (List ℕ) → List ℕ → Type 0
+StopsFeeding before stream piece old written_old written_new waits =
+    SendsFront written_old written_new waits []
+    ⊎ ((most : ℕ) × (count : ℕ) × (gained : List (ℕ × ℕ)) × (after : Serving) × FeedsFront before stream piece most count old gained after
+    × TellsFullFront stream gained written_old written_new waits)
+
+-- a piece was fed up to a rest: its hits so far were told in full replies, but for those that are left
+pub record HasFed (before : Serving) (stream : ℕ) (piece rest : List ℕ) (hits : List (ℕ × ℕ)) (after : Serving) (written_old written_new : Option (List ℕ)) (waits_old waits_new : List ℕ) : Type 0 where
+  pub bytes : List ℕ
+  pub blocks : List (List (ℕ × ℕ))
+  pub text_is : piece ≡ bytes ++ rest
+  pub few : length hits < MAX_HITS
+  pub full : AreFull MAX_HITS blocks
+  pub feeding : IsFeeding before stream bytes (joined blocks ++ hits) after
+  pub sent : Sends written_old written_new waits_old waits_new (replies_text (map (Hits stream) blocks))

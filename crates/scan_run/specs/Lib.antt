@@ -1,0 +1,5 @@
+pub mod Feeding
+pub mod Statuses
+pub mod Alone
+pub mod Reports
+pub mod Seen

@@ -1,0 +1,63 @@
+-- What is told of connections that have ended.
+use Rattle.std.specs.Prelude.{◌≡◌, ℕ, ◌+◌, Bool, true, false, List, [], ◌∷◌, ◌++◌, Option, Some, None, codes, decimal, if◌then◌else◌}
+use Rattle.std.specs.Io.KnownBytes.{Appends}
+use Rattle.scan_serve.specs.declared.ended.Ended.{Ended}
+use Rattle.scan_serve.specs.declared.ended.Ended.TheVariants as ended
+use Rattle.scan_run.specs.declared.status.Status.{Status}
+use Rattle.scan_run.specs.declared.status.Status.TheVariants.{Clean, Unclean, Trouble}
+
+-- the word for how a connection ended; none where its thread could not be started
+abbrev pub word_of : Option Ended → List ℕ
+word_of None = codes "not-served"
+word_of (Some ended.Clean) = codes "clean"
+word_of (Some ended.Truncated) = codes "truncated"
+word_of (Some ended.Bad) = codes "bad"
+word_of (Some ended.ReadFault) = codes "read-fault"
+word_of (Some ended.WriteFault) = codes "write-fault"
+word_of (Some ended.OutOfMemory) = codes "out-of-memory"
+
+-- the line of a connection
+abbrev pub line_text : ℕ → List ℕ → List ℕ
+line_text number word = codes "connection " ++ (decimal number ++ (codes " " ++ (word ++ codes "\n")))
+
+-- the lines of connections, counted from a number on
+abbrev pub lines_from : ℕ → List (Option Ended) → List ℕ
+lines_from number [] = []
+lines_from number (ended ∷ endings) = line_text number (word_of ended) ++ lines_from (number + 1) endings
+
+-- whether a connection ended cleanly
+abbrev pub is_clean : Option Ended → Bool
+is_clean None = false
+is_clean (Some ended.Clean) = true
+is_clean (Some ended.Truncated) = false
+is_clean (Some ended.Bad) = false
+is_clean (Some ended.ReadFault) = false
+is_clean (Some ended.WriteFault) = false
+is_clean (Some ended.OutOfMemory) = false
+
+-- the status of connections: clean if all were
+abbrev pub status_of_all : List (Option Ended) → Status
+status_of_all [] = Clean
+status_of_all (ended ∷ endings) = if is_clean ended then status_of_all endings else Unclean
+
+-- a front of a text was written
+abbrev pub AppendsFront : Option (List ℕ) → Option (List ℕ) → List ℕ → Type 0
+AppendsFront old new text = (front : List ℕ) × (rest : List ℕ) × Appends old new front × (front ++ rest ≡ text)
+
+-- All lines are told, and then a fault of accepting, where there was one. Or the lines could not be written; or there
+-- was no memory for them.
+pub data Reports (endings : List (Option Ended)) (faulty : Bool) (status : Status) (out_old out_new err_old err_new : Option (List ℕ)) : Type 0 where
+  Told : faulty ≡ false → status ≡ status_of_all endings → Appends out_old out_new (lines_from 1 endings) → Appends err_old err_new []
+      → Reports endings faulty status out_old out_new err_old err_new
+  Faulty : faulty ≡ true → status ≡ Trouble → Appends out_old out_new (lines_from 1 endings) → AppendsFront err_old err_new (codes "scand: accept fault\n")
+      → Reports endings faulty status out_old out_new err_old err_new
+  Broken : status ≡ Trouble → AppendsFront out_old out_new (lines_from 1 endings) → Appends err_old err_new []
+      → Reports endings faulty status out_old out_new err_old err_new
+  Starved : status ≡ Trouble → Appends out_old out_new [] → AppendsFront err_old err_new (codes "scand: out of memory\n")
+      → Reports endings faulty status out_old out_new err_old err_new
+
+-- some connections were served and told of
+pub record ReportsSome (status : Status) (out_old out_new err_old err_new : Option (List ℕ)) : Type 0 where
+  pub endings : List (Option Ended)
+  pub faulty : Bool
+  pub told : Reports endings faulty status out_old out_new err_old err_new

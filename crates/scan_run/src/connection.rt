@@ -1,0 +1,57 @@
+//! Serving one connection to its end.
+use crate::serving::serve;
+use byte_io::{FromRead, ToWrite};
+use plan_store::PlanStore;
+use scan_serve::Ended;
+use std::alloc::Global;
+use std::io::Read;
+use std::net::{Shutdown, TcpStream};
+use std::sync::Wait;
+use std::time::Duration;
+
+/// Seconds that each read of what is not served any more waits for the client, at most.
+const DRAIN_SECONDS: u64 = 1;
+
+/// Such reads, at most.
+const DRAIN_READS: usize = 1024;
+
+/// Serves a connection as a session of the store.
+pub(crate) fn serve_connection<R: Wait>(
+    rt: &R,
+    alloc: Global,
+    store: &PlanStore,
+    stream: TcpStream,
+) -> Ended {
+    let ended = serve(
+        rt,
+        alloc,
+        store,
+        &mut FromRead::new(&stream),
+        &mut ToWrite::new(&stream),
+    );
+    if ended == Ended::Bad {
+        drain(&stream);
+    }
+    ended
+}
+
+/// Sends what was written, and reads what the client still sends, as far as a bound on reads and waits
+/// lets it: a connection that is closed before it was read is reset, and the client may then lose
+/// replies that it has not read.
+fn drain(stream: &TcpStream) {
+    let mut piece = [0; 4096];
+    if stream.shutdown(Shutdown::Write).is_err()
+        || stream
+            .set_read_timeout(Some(Duration::from_secs(DRAIN_SECONDS)))
+            .is_err()
+    {
+        return;
+    }
+    let mut reader = stream;
+    for _ in 0..DRAIN_READS {
+        match reader.read(&mut piece) {
+            Ok(0) | Err(_) => return,
+            Ok(_) => {}
+        }
+    }
+}

@@ -1,0 +1,17 @@
+//! The run of the scan server: sessions over one store of plans, each served over a stream of frames.
+#![tactic(auto)]
+
+mod alone;
+mod connection;
+mod feeding;
+mod listening;
+mod report;
+mod serving;
+mod status;
+mod telling;
+
+pub use alone::serve_alone;
+pub use listening::{MAX_CONNECTIONS, listen};
+pub use scan_serve::Ended;
+pub use serving::serve;
+pub use status::Status;

@@ -1,0 +1,111 @@
+//! Serving a session of a store over a stream of frames.
+ghost use Rattle.std.specs.Prelude.{◌≡◌, ◌+◌, ◌^◌, ◌≤◌, ◌⊎◌, [], IsTrue, OnErr, OnOk};
+ghost use Rattle.scan_wire.specs.Messages.{lent_parts};
+ghost use Rattle.scan_serve.specs.Answering.{Answered, Stopped};
+ghost use Rattle.scan_serve.specs.Serving.{EndsAs};
+ghost use Rattle.scan_core.specs.Sessions.{IsEvent, Serving};
+ghost use Rattle.scan_core.specs.Steps.{SessionParts};
+ghost use Rattle.scan_core.specs.Worlds.{Streamed};
+ghost use Rattle.scan_run.specs.Alone.{fresh};
+ghost use Rattle.scan_run.specs.Seen.{IsStepByBytes, new_session};
+
+use crate::feeding::answer_feed;
+use byte_io::{ByteIn, ByteOut};
+use flow_scan::Hit;
+use plan_store::PlanStore;
+use scan_core::Session;
+use scan_serve::{Answer, Ended, Outbox, Stop};
+use scan_wire::Lent;
+use std::alloc::Global;
+use std::marker::Model;
+use std::sync::Wait;
+
+/// A session, with what it needs to answer over a stream.
+#[derive(Drop)]
+struct Served<'r, 's, R: Wait> {
+    rt: &'r R,
+    alloc: Global,
+    session: Session<'s>,
+    /// Hits that are not yet told: fewer than two replies take.
+    hits: Vec<Hit>,
+}
+
+/// A contract sees the session.
+impl<'r, 's, R: Wait> Model for Served<'r, 's, R> {
+    ghost use Rattle.scan_core.specs.Sessions.{Serving};
+
+    ghost Value = { Serving };
+
+    ghost view = { λ s. s.session };
+}
+
+impl<'r, 's, R: Wait> Answer for Served<'r, 's, R> {
+    ghost use Rattle.scan_core.specs.Sessions.{IsEvent};
+
+    ghost step = { IsEvent };
+
+    fn answer<W: ByteOut>(
+        &mut self,
+        request: Lent<'_>,
+        outbox: &mut Outbox,
+        out: &mut W,
+    ) -> Result<(), Stop> {
+        let reply = match request {
+            Lent::Feed { stream, bytes } => {
+                return answer_feed(
+                    &mut self.session,
+                    &mut self.hits,
+                    stream,
+                    bytes,
+                    outbox,
+                    out,
+                );
+            }
+            Lent::Publish { fold, literals } => {
+                self.session.publish(self.rt, self.alloc, fold, &literals)
+            }
+            Lent::Open { stream, number } => self.session.open(self.alloc, stream, number),
+            Lent::Close { stream } => Ok(self.session.close(stream)),
+            Lent::ShowPlan { stream } => self.session.show_plan(stream),
+        };
+        let Ok(reply) = reply else {
+            return Err(Stop::OutOfMemory);
+        };
+        outbox.push(out, &reply)
+    }
+}
+
+/// Serves a session of the store over a stream of frames to its end: requests are read from `input`,
+/// and answered in order on `out`. The replies to all frames that are whole are written before the
+/// next read.
+///
+/// Whatever is asked, it holds 262,180 bytes of what was read, about 64 KiB of replies and a few
+/// thousand hits, beside the plans that it publishes and the tails of its streams. Only a Publish may
+/// wait for another thread.
+pub fn serve<R: Wait, I: ByteIn, O: ByteOut>(
+    rt: &R,
+    alloc: Global,
+    store: &PlanStore,
+    input: &mut I,
+    out: &mut O,
+) -> Ended
+    ensures ends { (after : Serving) × EndsAs IsEvent (fresh store.now) after
+        (I.coming input.old) (I.coming input.new)
+        (O.written out.old) (O.written out.new) [] result }
+
+    // The same, seen by all bytes that each stream was fed since its Open.
+    ensures bytes { (after : SessionParts Streamed) × EndsAs IsStepByBytes new_session after
+        (I.coming input.old) (I.coming input.new)
+        (O.written out.old) (O.written out.new) [] result }
+    ensures read_fault { result ≡ Ended.ReadFault
+        → IsTrue (I.has_failed input.new) ⊎ (I.given input.old + 2 ^ 40 ≤ I.given input.new) }
+    ensures write_fault { result ≡ Ended.WriteFault → IsTrue (O.has_failed out.new) }
+{
+    let mut served = Served {
+        rt,
+        alloc,
+        session: Session::new(store),
+        hits: Vec::new(alloc),
+    };
+    scan_serve::serve(alloc, &mut served, input, out)
+}

@@ -1,0 +1,42 @@
+//! What `scand` prints of itself.
+
+pub const USAGE: &str = "scand --port P --connections N\n       scand --stdio";
+
+pub const HELP: &str = "\
+Scans byte streams for many literals at once, for clients that speak frames:
+they publish lists of literals, open streams by them, feed bytes in pieces cut
+anywhere, and are told each place at which a literal ends, once and in order.
+
+Usage: scand --port P --connections N
+       scand --stdio
+
+      --port P         listen on this port of 127.0.0.1, from 1 to 65535
+      --connections N  accept so many connections, from 1 to 64, serve each in
+                       a thread of its own, and end when all have ended
+      --stdio          serve one client over standard input and output; the
+                       other options then count for nothing
+  -h, --help           print this, to standard error, with status 2
+  -V, --version        print the version, likewise
+
+All clients share the plans that they publish, each under its number. Each
+frame is answered before the next one is waited for. Nothing is kept of what
+was fed but the last bytes that a hit may need, and a client takes up to about
+a megabyte beside its plans, whatever it asks. A client may wait for as long
+as it likes: put a limit where one is wanted before the server.
+
+When all connections have ended a line tells of each, in order of acceptance:
+`connection I WORD`, WORD being clean, truncated (inside a frame), bad (no
+frame), read-fault, write-fault, out-of-memory, or not-served where no thread
+could be started.
+
+Status: 0 if each stream ended between frames, else 1; 2 at an error, with a
+message where one can be written. With --stdio the status alone tells how the
+stream ended.
+
+Limits of a client: 64 plans, 64 open streams, 4096 patterns of at most 4095
+bytes in a list and 1024 different literals, 65536 bytes of payload in a
+frame, into which a list has to fit.
+
+Example: one client, whose frames are in a file
+  scand --stdio < frames > replies
+";
