@@ -10,9 +10,13 @@ import subprocess
 import sys
 import tempfile
 
+import listening
 import plain_grep
 import plain_plan
 import random_cases
+import scan_plans
+import serving
+import transfers
 
 TOP = os.path.dirname(os.path.dirname(os.path.abspath(__file__)))
 LITGREP = os.path.join(TOP, "bin", "litgrep")
@@ -248,11 +252,13 @@ def usages():
     """The usage behind a refusal of words names the program and its operands."""
     lists = "Usage: litgrep [-F] [-c | -l | -q] [-insvx] LIST [FILE]..."
     plan, check = "litplan plan [-i] FILE", "litplan check [-i] FILE CERT"
+    scan = "litplan scan [-i] [--count] --workers W FILE INPUT"
     for program, words, usage in (
         (LITGREP, ["-z"], lists),
-        (LITPLAN, ["-z"], f"Usage: {plan}\n       {check}"),
+        (LITPLAN, ["-z"], f"Usage: {plan}\n       {check}\n       {scan}"),
         (LITPLAN, ["plan"], f"Usage: {plan}\n"),
         (LITPLAN, ["check", "f"], f"Usage: {check}\n"),
+        (LITPLAN, ["scan", "f"], f"Usage: {scan}\n"),
     ):
         text = run(words, program=program)[2].decode()
         yield f"usage of {words}", text if usage not in text else usage, usage
@@ -372,6 +378,18 @@ def plans():
             yield f"a certificate that goes on with {byte!r} behind {front!r:.60}", got, (2, b"", REFUSED % 9)
 
 
+def planned_in_folder(files, words, stdin, **how):
+    """Runs litplan in a folder with these files."""
+    return run_in_folder(files, words, stdin, program=LITPLAN, **how)
+
+
+def scans():
+    """Scans of litplan: rows, random ones, and ones whose workers cannot be started."""
+    yield from scan_plans.rows(planned_in_folder)
+    yield from scan_plans.random_scans(planned_in_folder)
+    yield from scan_plans.refused_workers(planned_in_folder, TOP)
+
+
 def in_pieces(words, text, size, **how):
     """Runs litgrep on a text that it reads in pieces of this size."""
     near, far = socket.socketpair(socket.AF_UNIX, socket.SOCK_SEQPACKET)
@@ -430,11 +448,11 @@ def random_plans():
 
 
 def refused_plans(env, mark):
-    """A plan and a check, each with each of its growths refused in turn, until none is."""
+    """A plan, a check and a scan, each with each of its growths refused in turn, until none is."""
     with tempfile.TemporaryDirectory() as folder:
         with open(os.path.join(folder, "c"), "wb") as file:
             file.write(THREE)
-        for words in ["plan", "-"], ["check", "-", "c"]:
+        for words in ["plan", "-"], ["check", "-", "c"], ["scan", "--workers", "2", "-", "c"]:
             how = {"program": LITPLAN, "cwd": folder}
             whole = run(words, b"horse\ncat\ndog\n", **how)
             for number in range(1, 1000):
@@ -478,9 +496,13 @@ def refused_growths():
         yield from refused_plans(env, mark)
 
 
+PARTS = (greps, options, usages, edges, streams, prompt, own_outputs, plans, scans, random_greps, random_plans)
+PARTS += (refused_growths, transfers.refused_transfers)
+
+
 def main():
     passed = failed = 0
-    for part in (greps, options, usages, edges, streams, prompt, own_outputs, plans, random_greps, random_plans, refused_growths):
+    for part in PARTS + serving.PARTS + listening.parts():
         for name, got, want in part():
             if got == want:
                 passed += 1

@@ -1,0 +1,351 @@
+"""Tests of `scand --stdio`, run as a peer meets it: over pipes and sockets, with faults of both, beside the plain
+model of sessions.py. SCAND in the environment names another program to test."""
+
+import concurrent.futures
+import functools
+import os
+import resource
+import select
+import socket
+import subprocess
+import tempfile
+
+import session_cases
+from session_cases import CAT_IN_7, CLOSE_7, FEED_CONCAT, FIRST_THREE, OPEN_7, PUBLISH_CAT, SHOW_PLAN_7, THEIR_REPLIES
+from sessions import HITS, conversation, fed, feed, frame, open_stream, publish, refused, replies_of, requests_of
+
+TOP = os.path.dirname(os.path.dirname(os.path.abspath(__file__)))
+SCAND = os.environ.get("SCAND", os.path.join(TOP, "bin", "scand"))
+SERVER = [SCAND, "--stdio"]
+NEEDED = b"scand: --stdio or --port and --connections are needed\n"
+# How long a reply or an end may take, and the status of a program that did not end.
+SECONDS, NO_END = 20, "no end"
+# More than this is never sent at once where each piece is to be one read.
+PACKET = 4096
+SESSIONS = 10000
+
+
+def served(text, **how):
+    """What the server answers to these bytes and their end: its status, its replies, its messages."""
+    if isinstance(text, bytes):
+        how["input"] = text
+    else:
+        how["stdin"] = text
+    how.setdefault("stdout", subprocess.PIPE)
+    try:
+        done = subprocess.run(SERVER, stderr=subprocess.PIPE, timeout=SECONDS, **how)
+    except subprocess.TimeoutExpired as late:
+        return NO_END, late.stdout, late.stderr
+    return done.returncode, done.stdout, done.stderr
+
+
+def pieces_of(text, sizes):
+    """A text in pieces of these sizes, and its rest."""
+    at = 0
+    for size in [*sizes, len(text)]:
+        for start in range(at, min(at + size, len(text)), PACKET):
+            yield text[start : min(start + PACKET, at + size)]
+        at += size
+
+
+def in_pieces(text, sizes, **how):
+    """The same for bytes that are read piece by piece."""
+    near, far = socket.socketpair(socket.AF_UNIX, socket.SOCK_SEQPACKET)
+    with near, far, tempfile.TemporaryFile() as out:
+        with subprocess.Popen(SERVER, stdin=far, stdout=out, stderr=subprocess.PIPE, **how) as program:
+            far.close()
+            near.settimeout(SECONDS)
+            try:
+                for piece in pieces_of(text, sizes):
+                    near.send(piece)
+                near.shutdown(socket.SHUT_WR)
+            except OSError:
+                pass  # the server has left
+            status, _, messages = ended(program)
+        out.seek(0)
+        return status, out.read(), messages
+
+
+def ended(program):
+    """The status, output and messages of a program that is to end now."""
+    try:
+        shown = program.communicate(timeout=SECONDS)
+        return program.returncode, *shown
+    except subprocess.TimeoutExpired:
+        program.kill()
+        return NO_END, *program.communicate()
+
+
+def outcome(text):
+    """What the model answers to these bytes: status, replies, messages."""
+    replies, ending = conversation(text)
+    return int(ending != "clean"), b"".join(replies), b""
+
+
+def words():
+    """Words that serve nothing."""
+    for given, stderr in (
+        ([], NEEDED),
+        (["--version"], b"scand 0.1.0\n"),
+        (["-z"], b"error: unexpected argument '-z' found"),
+        (["--stdio", "x"], b"error: unexpected argument 'x' found"),
+        (["--stdio=x"], b"error: unexpected value 'x' for '--stdio"),
+        ([b"\xff"], b"scand: a word is not UTF-8\n"),
+    ):
+        done = subprocess.run([SCAND, *given], input=FIRST_THREE, capture_output=True, timeout=SECONDS)
+        shown = done.stderr if stderr.endswith(b"\n") else done.stderr[: len(stderr)]
+        yield f"scand {given}", (done.returncode, done.stdout, shown), (2, b"", stderr)
+    done = subprocess.run([SCAND, "--help"], input=FIRST_THREE, capture_output=True, timeout=SECONDS)
+    yield "scand --help", (done.returncode, done.stdout, b"--stdio" in done.stderr), (2, b"", True)
+
+
+def model():
+    """The model on the worked rows."""
+    for name, text, replies, ending in session_cases.ROWS:
+        got, ended = conversation(text)
+        yield f"the model on {name}", (b"".join(got), ended), (replies, ending)
+
+
+def places(text):
+    """Where a text is cut: everywhere, or round the ends of its frames where it is long."""
+    if len(text) <= 130:
+        return range(len(text) + 1)
+    ends = [requests_of(text[:at])[1] for at in range(0, len(text) + 1, max(len(text) // 20, 1))]
+    near = {end + step for end in ends for step in (-1, 0, 1, 3, 4, 5, 8, 9, 12)}
+    return sorted(place for place in near if 0 <= place <= len(text))
+
+
+def side_by_side(cases):
+    """Cases of a name, a call and what it is to answer, a few at once."""
+    with concurrent.futures.ThreadPoolExecutor(4) as pool:
+        for (name, _, want), got in zip(cases, pool.map(lambda case: case[1](), cases)):
+            yield name, got, want
+
+
+def row_cases():
+    """Each worked row whole, byte by byte, in two pieces cut at each place, and cut off there."""
+    for name, text, replies, ending in session_cases.ROWS:
+        want = (int(ending != "clean"), replies, b"")
+        yield name, functools.partial(served, text), want
+        yield f"{name}, byte by byte", functools.partial(in_pieces, text, [1] * len(text)), want
+        for place in places(text):
+            yield f"{name}, in two pieces at {place}", functools.partial(in_pieces, text, [place]), want
+            yield f"{name}, cut off at {place}", functools.partial(served, text[:place]), outcome(text[:place])
+
+
+def rows():
+    """The worked rows, however they are cut."""
+    yield from side_by_side(list(row_cases()))
+
+
+def cuts():
+    """Two frames are clean at the end of each, and truncated elsewhere."""
+    for place in range(len(CAT_IN_7) + 1):
+        want = (int(place not in (0, 17, 34)), THEIR_REPLIES[: place // 17 * 17][:26], b"")
+        yield f"two frames cut off at {place}", served(CAT_IN_7[:place]), want
+
+
+class Talk:
+    """The server, spoken to piece by piece while it runs. Each piece is one read of it."""
+
+    def __enter__(self):
+        self.near, far = socket.socketpair(socket.AF_UNIX, socket.SOCK_SEQPACKET)
+        self.program = subprocess.Popen(SERVER, stdin=far, stdout=subprocess.PIPE, stderr=subprocess.PIPE, bufsize=0)
+        far.close()
+        return self
+
+    def __exit__(self, *_):
+        self.near.close()
+        self.program.kill()
+        self.program.communicate()
+
+    def says(self, piece):
+        self.near.send(piece)
+
+    def hears(self, size, seconds=None):
+        """The next bytes, as many as these, or those that come in time."""
+        got = b""
+        while len(got) < size and select.select([self.program.stdout], [], [], SECONDS if seconds is None else seconds)[0]:
+            piece = self.program.stdout.read(size - len(got))
+            if not piece:
+                break
+            got += piece
+        return got
+
+    def ends(self, is_closed=True):
+        """What comes at the end: status, replies, messages."""
+        if is_closed:
+            self.near.shutdown(socket.SHUT_WR)
+        return ended(self.program)
+
+    def peak(self):
+        """The most memory that the server had, in KiB."""
+        with open(f"/proc/{self.program.pid}/status") as file:
+            return next(int(line.split()[1]) for line in file if line.startswith("VmHWM"))
+
+
+def waits():
+    """A client that waits for the replies to each frame before it sends the next one."""
+    text = FIRST_THREE + SHOW_PLAN_7 + FEED_CONCAT + CLOSE_7 + CLOSE_7
+    frames = [frame(*request) for request in requests_of(text)[0]]
+    replied = [b"".join(conversation(b"".join(frames[:count]))[0]) for count in range(len(frames) + 1)]
+    for size in 1, 5, 1000:
+        with Talk() as talk:
+            for place, sent in enumerate(frames):
+                for at in range(0, len(sent), size):
+                    yield f"frame {place}, no reply before its end", talk.hears(1, 0), b""
+                    talk.says(sent[at : at + size])
+                want = replied[place + 1][len(replied[place]) :]
+                yield f"frame {place} in pieces of {size}, replied at once", talk.hears(len(want)), want
+            yield f"the end of frames in pieces of {size}", talk.ends(), (0, b"", b"")
+
+
+def halves():
+    """Replies to whole frames come though the next frame has begun; a bad length is told by its four bytes."""
+    with Talk() as talk:
+        talk.says(PUBLISH_CAT + OPEN_7 + FEED_CONCAT[:-1])
+        yield "replies before a half frame", talk.hears(26), THEIR_REPLIES[:26]
+        talk.says(FEED_CONCAT[-1:] + b"\0\0")
+        yield "the reply to its end", talk.hears(38), THEIR_REPLIES[26:]
+        talk.says(b"\0")
+        yield "nothing for three bytes of a length", talk.hears(1, 0.05), b""
+        talk.says(b"\4")
+        yield "a bad length at once", talk.hears(12), refused(0, 11, 1)
+        yield "the end behind it", talk.ends(is_closed=False), (1, b"", b"")
+    with Talk() as talk:
+        talk.says(frame(9, 0, b"x")[:-1])
+        yield "nothing for a bad kind that is not whole", talk.hears(1, 0.05), b""
+        talk.says(b"x")
+        yield "a bad kind once it is whole", talk.hears(12), refused(0, 11, 2)
+        yield "the end behind a bad kind", talk.ends(is_closed=False), (1, b"", b"")
+
+
+def costliest():
+    """The Feed with the most hits: 354 literals `a`, `aa` .. end at each of its 65,536 bytes. They are told as
+    they are found, so that the server needs no memory for them."""
+    literals = [b"a" * length for length in range(1, 355)]
+    with Talk() as talk:
+        for sent in publish(literals), open_stream(1, 0):
+            talk.says(sent)
+        yield "the costliest plan", talk.hears(26)[-9:], frame(0x12, 1)
+        before = talk.peak()
+        talk.says(feed(1, b"a" * 65536))
+        count, is_right = costliest_hits(talk)
+        yield "the hits of the costliest Feed", (count, is_right), (23137263, True)
+        yield "its place", talk.hears(17), fed(1, 65536)
+        grown = talk.peak() - before
+        yield f"memory for the costliest Feed, {grown} KiB", grown < 16384, True
+        yield "the end of the costliest Feed", talk.ends(), (0, b"", b"")
+
+
+def costliest_hits(talk):
+    """How many hits come, and whether they are those of the costliest Feed in full frames."""
+    numbers = [number.to_bytes(2, "big") for number in range(354)]
+    wanted, count, end = bytearray(), 0, 0
+    while count < 23137263:
+        head = talk.hears(11)
+        size = int.from_bytes(head[9:], "big")
+        while len(wanted) < 40960 and end < 65536:
+            end += 1
+            wanted += end.to_bytes(8, "big").join(numbers[: min(end, 354)] + [b""])
+        hits = talk.hears(10 * size)
+        is_full = size == min(4096, 23137263 - count)
+        if head[:9] != frame(HITS, 1, bytes(2 + 10 * size))[:9] or not is_full or hits != wanted[: 10 * size]:
+            return count, False
+        del wanted[: 10 * size]
+        count += size
+    return count, True
+
+
+def faults():
+    """Standard streams that cannot be read or written."""
+    text, gone = FIRST_THREE, (1, None, b"")
+    with open("/dev/full", "wb") as full:
+        yield "a full device", served(text, stdout=full), gone
+        yield "a full device, not used", served(b"", stdout=full), (0, None, b"")
+        yield "a full device and a bad frame", served(bytes(4), stdout=full), gone
+    reader, writer = os.pipe()
+    os.close(reader)
+    yield "a pipe that nobody reads", served(text, stdout=writer), gone
+    os.close(writer)
+    no_output, no_input = {"preexec_fn": lambda: os.close(1)}, {"preexec_fn": lambda: os.close(0)}
+    yield "a closed output", served(text, **no_output), (1, b"", b"")
+    yield "a closed output, not used", served(b"", **no_output), (0, b"", b"")
+    yield "a closed input", served(None, **no_input), (1, b"", b"")
+    folder = os.open("/", os.O_RDONLY)
+    yield "a folder as input", served(folder), (1, b"", b"")
+    os.close(folder)
+    for most in range(len(THEIR_REPLIES) + 1):
+        with tempfile.TemporaryFile() as out:
+            limit = {"preexec_fn": lambda: resource.setrlimit(resource.RLIMIT_FSIZE, (most, most)), "restore_signals": False}
+            status = served(text, stdout=out, **limit)[0]
+            out.seek(0)
+            want = (int(most < len(THEIR_REPLIES)), THEIR_REPLIES[:most])
+            yield f"a file that takes {most} bytes", (status, out.read()), want
+
+
+MIXED = (
+    FIRST_THREE + SHOW_PLAN_7 + publish([b"He", b"she", b"HE"], True) + open_stream(1, 1) + feed(1, b"usHE" * 2000) + publish([])
+    + CLOSE_7 + OPEN_7 + feed(7, b"cat" * 100) + publish(session_cases.PAIRS[:40])
+)
+
+
+def shimmed(source, folder):
+    """An environment in which a file of C in this folder changes the calls of a program."""
+    shim = os.path.join(folder, "shim.so")
+    subprocess.run(["cc", "-shared", "-fPIC", "-O1", "-o", shim, os.path.join(TOP, "tests", source)], check=True)
+    return dict(os.environ, LD_PRELOAD=shim)
+
+
+def is_front(replies, whole):
+    """Whether these are the first of all replies, none of them cut."""
+    return whole.startswith(replies) and not replies_of(replies)[1]
+
+
+def refused_growths():
+    """A session with each of its growths refused in turn, until none is: all replies, where it went on with another
+    growth, or the replies so far and no word of it."""
+    whole, starved = outcome(MIXED), 0
+    with tempfile.TemporaryDirectory() as folder:
+        mark = os.path.join(folder, "mark")
+        env = dict(shimmed("refuse_growth.c", folder), REFUSED_MARK=mark)
+        for number in range(1, 2000):
+            got = in_pieces(MIXED, [50] * 10, env=dict(env, REFUSED=str(number)))
+            if not os.path.exists(mark):
+                break
+            os.remove(mark)
+            starved += got[0] != 0
+            want = (1, got[1], b"") if got[0] == 1 and is_front(got[1], whole[1]) else whole
+            yield f"growth {number} refused", got, want if got[0] != 2 else (2, b"", b"scand: out of memory\n")
+        yield "growths to refuse", (starved > 10, *got), (True, *whole)
+
+
+def refused_transfers():
+    """A session with each of its reads and writes refused in turn, and one with transfers of single bytes."""
+    whole = outcome(MIXED)
+    with tempfile.TemporaryDirectory() as folder:
+        mark = os.path.join(folder, "mark")
+        env = dict(shimmed("refuse_transfer.c", folder), SPOILED_MARK=mark)
+        for call, enough in ("read", 30), ("write", 4), ("take", 4):
+            for number in range(1, 2000):
+                got = in_pieces(MIXED, [7] * 30, env=dict(env, SPOILED=f"{call}-{number}"))
+                if not os.path.exists(mark):
+                    break
+                os.remove(mark)
+                read = b"".join(list(pieces_of(MIXED, [7] * 30))[: number - 1])
+                front = got[1] if is_front(got[1], whole[1]) else whole[1]
+                yield f"{call} {number} refused", got, (1, outcome(read)[1] if call == "read" else front, b"")
+            yield f"calls of {call} to refuse", (number > enough, *got), (True, *whole)
+        yield "transfers of one byte", served(MIXED, env=dict(env, SPOILED="short-0")), whole
+
+
+def random_serving():
+    """Random sessions in random pieces, beside the model."""
+    cases = []
+    for text, sizes in session_cases.random_sessions(SESSIONS):
+        name = f"a session {text.hex():.400} in pieces of {sizes!r:.60}"
+        cases.append((name, functools.partial(in_pieces, text, sizes), outcome(text)))
+    yield from side_by_side(cases)
+
+
+PARTS = (words, model, rows, cuts, waits, halves, costliest, faults, refused_growths, refused_transfers, random_serving)
