@@ -1,5 +1,6 @@
 pub mod DeviceLemmas
 pub mod OpenerLemmas
+pub mod SayLemmas
 pub mod SourceLemmas
 pub mod ToldLemmas
 pub mod TransferLemmas

@@ -65,6 +65,13 @@ abbrev pub after_all : List Ask → Sources → Sources
 after_all [] s = s
 after_all (a ∷ asks) s = after_all asks (after a s)
 
+-- some of the asks were made, from their front
+pub record AsksFront (all : List Ask) (s left : Sources) : Type 0 where
+  pub made : List Ask
+  pub rest : List Ask
+  pub parts : all ≡ made ++ rest
+  pub after : left ≡ after_all made s
+
 -- the ask for an operand: `-` is standard input
 abbrev pub ask_of : List ℕ → Ask
 ask_of operand = if bytes_eq operand (codes "-") then Standard else Named operand

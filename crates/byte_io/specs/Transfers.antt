@@ -1,5 +1,5 @@
 -- What moves between a device and a list of bytes in many calls.
-use Rattle.std.specs.Prelude.{◌≡◌, ◌≢◌, ℕ, ◌<◌, ◌≤◌, ◌++◌, List, length, take, Option}
+use Rattle.std.specs.Prelude.{◌≡◌, ◌≢◌, ℕ, ◌<◌, ◌≤◌, ◌++◌, Bool, false, List, [], length, take, Option}
 use Rattle.std.specs.Io.KnownBytes.{Appends}
 use Rattle.byte_io.specs.Devices.{Coming, Clean, Faulty, Gives, Told}
 
@@ -8,6 +8,18 @@ pub record AppendsPrefix (old new : Option (List ℕ)) (piece : List ℕ) : Type
   pub count : ℕ
   pub fewer : count < length piece
   pub text : Appends old new (take count piece)
+
+-- known bytes grew by a front of the text, which may be none or all of it
+pub record AppendsFront (old new : Option (List ℕ)) (text : List ℕ) : Type 0 where
+  pub front : List ℕ
+  pub rest : List ℕ
+  pub parts : text ≡ front ++ rest
+  pub grown : Appends old new front
+
+-- and by all of it unless a write failed
+pub record Says (has_failed : Bool) (old new : Option (List ℕ)) (text : List ℕ) : Type 0 where
+  pub said : AppendsFront old new text
+  pub whole : has_failed ≡ false → said.rest ≡ []
 
 -- a text grows by bytes that a reader gave, and the reader gave no others
 pub record ReadsInto (old new : Option Coming) (before after : List ℕ) : Type 0 where

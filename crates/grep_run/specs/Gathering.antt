@@ -1,6 +1,6 @@
 -- What gathering patterns answers, against the patterns and the messages of pattern files.
 use Rattle.std.specs.Prelude.{◌≡◌, ◌≢◌, ℕ, List, [], ◌++◌, flat_map, Option, Some, None, Result, Ok, Err}
-use Rattle.byte_io.specs.Sources.{Content, Sources, after_all}
+use Rattle.byte_io.specs.Sources.{AsksFront, Content, Sources, after_all}
 use Rattle.lit_base.specs.declared.fault.Fault.TheVariants.{OutOfMemory}
 use Rattle.line_pick.specs.Matching.{StandsFor}
 use Rattle.grep_run.specs.declared.compiled_patterns.CompiledPatterns.{CompiledPatterns}
@@ -8,7 +8,7 @@ use Rattle.grep_run.specs.declared.options.GrepOptions.{GrepOptions}
 use Rattle.grep_run.specs.declared.patterns.NoPatterns.{NoPatterns}
 use Rattle.grep_run.specs.declared.patterns.NoPatterns.TheVariants.{Unreadable, Refused}
 use Rattle.grep_run.specs.declared.status.Stop.{Stop}
-use Rattle.grep_run.specs.Grep.{AsksFront, asks, behind_files}
+use Rattle.grep_run.specs.Grep.{asks, behind_files}
 use Rattle.grep_run.specs.Messages.{patterns_refused, unreadable}
 use Rattle.grep_run.specs.Patterns.{content_message, files_asked, files_message, files_read, patterns_from, patterns_message, all_patterns}
 use Rattle.grep_run.specs.Sources.{Input}

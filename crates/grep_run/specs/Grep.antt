@@ -81,10 +81,3 @@ asks_of o s = asks_where (patterns_message o s) o s
 -- the sources that it leaves
 abbrev pub left_of : GrepOptions → Sources → Sources
 left_of o s = after_all (asks_of o s) s
-
--- some of the asks were made, from their front
-pub record AsksFront (all : List Ask) (s left : Sources) : Type 0 where
-  pub made : List Ask
-  pub rest : List Ask
-  pub parts : all ≡ made ++ rest
-  pub after : left ≡ after_all made s

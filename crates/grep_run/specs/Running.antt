@@ -1,12 +1,12 @@
 -- How a run ends, against what grep writes and answers.
 use Rattle.std.specs.Prelude.{◌≡◌, ◌||◌, ◌⊎◌, ℕ, Bool, true, List, [], Option, None, Result, Ok, Err, unwrap_or}
-use Rattle.byte_io.specs.Sources.{Sources}
+use Rattle.byte_io.specs.Sources.{AsksFront, Sources}
 use Rattle.grep_run.specs.declared.options.GrepOptions.{GrepOptions}
 use Rattle.grep_run.specs.declared.status.Status.{Status}
 use Rattle.grep_run.specs.declared.status.Status.TheVariants.{Trouble}
 use Rattle.grep_run.specs.declared.status.Stop.{Stop}
 use Rattle.grep_run.specs.Blocks.{selects}
-use Rattle.grep_run.specs.Grep.{Answer, AsksFront, asks, behind_files, grep, inputs_of, left_of, status_of}
+use Rattle.grep_run.specs.Grep.{Answer, asks, behind_files, grep, inputs_of, left_of, status_of}
 use Rattle.grep_run.specs.Messages.{out_of_memory}
 use Rattle.grep_run.specs.Patterns.{files_asked, patterns_message, all_patterns}
 use Rattle.grep_run.specs.Searching.{StopsAt}

@@ -1,11 +1,12 @@
 -- How a command ends, whatever its words ask for.
 use Rattle.std.specs.Prelude.{◌≡◌, ℕ, Bool, List, [], Option}
 use Rattle.std.specs.Io.KnownBytes.{Appends}
+use Rattle.byte_io.specs.Transfers.{Says}
 use Rattle.byte_io.specs.Sources.{Sources}
 use Rattle.plan_run.specs.declared.request.Request.{Request}
 use Rattle.plan_run.specs.declared.status.Status.{Status}
 use Rattle.plan_run.specs.declared.status.Status.TheVariants.{Trouble}
-use Rattle.plan_run.specs.Running.{Ends, Says}
+use Rattle.plan_run.specs.Running.{Ends}
 
 -- some text was said
 pub record IsUnserved (has_failed : Bool) (old new : Option (List ℕ)) : Type 0 where

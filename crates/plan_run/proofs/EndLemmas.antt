@@ -11,7 +11,7 @@ use Rattle.plan_run.specs.declared.status.Status.{Status}
 use Rattle.plan_run.specs.declared.status.Status.TheVariants.{Trouble}
 use Rattle.plan_run.specs.declared.stop.Stop.{Stop}
 use Rattle.plan_run.specs.declared.stop.Stop.TheVariants.{OutOfMemory, Refused, WriteFault}
-use Rattle.plan_run.proofs.SayLemmas.{says-nothing}
+use Rattle.byte_io.proofs.SayLemmas.{says-nothing}
 
 -- a run with an answer says nothing
 pub ends-told : (r : Request) (known left : Option Sources) (status : Status) (out_failed err_failed : Bool) (out_old out_new err : Option (List ℕ))

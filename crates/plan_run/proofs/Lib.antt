@@ -2,4 +2,3 @@ pub mod AnswerLemmas
 pub mod EndLemmas
 pub mod ListLemmas
 pub mod ListingLemmas
-pub mod SayLemmas

@@ -3,8 +3,9 @@ use Rattle.std.proofs.Common.{◌≡◌, ℕ, List, ◌++◌, Option, Err, sym, 
 use Rattle.std.specs.Io.KnownBytes.{Appends}
 use Rattle.std.proofs.KnownBytes.{Appends-trans}
 use Rattle.std.proofs.lemmas.List.Concat.{flat_map-append}
+use Rattle.byte_io.specs.Transfers.{AppendsFront}
 use Rattle.plan_run.specs.Messages.{hit_line, hit_lines}
-use Rattle.plan_run.specs.Running.{AppendsFront, Writes}
+use Rattle.plan_run.specs.Running.{Writes}
 use Rattle.plan_run.specs.declared.status.Status.{Status}
 use Rattle.plan_run.specs.declared.stop.Stop.{Stop}
 use Rattle.plan_run.specs.declared.stop.Stop.TheVariants.{OutOfMemory, Refused, WriteFault}

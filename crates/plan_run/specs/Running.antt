@@ -2,7 +2,8 @@
 use Rattle.std.specs.Prelude.{◌≡◌, ℕ, Bool, true, false, List, [], ◌++◌, ◌⊎◌, ⊤, Option, None, Some, Result, Ok, Err}
 use Rattle.std.specs.Io.KnownBytes.{Appends}
 use Rattle.std.specs.Global.{Vec}
-use Rattle.byte_io.specs.Sources.{Ask, Content, Sources, after_all}
+use Rattle.byte_io.specs.Transfers.{AppendsFront, Says}
+use Rattle.byte_io.specs.Sources.{Ask, AsksFront, Content, Sources, after_all}
 use Rattle.flow_scan.specs.Plans.{Plan}
 use Rattle.lit_base.specs.Literals.{Literals}
 use Rattle.lit_base.specs.declared.fold.Fold.{Fold}
@@ -25,18 +26,6 @@ is_write OutOfMemory = false
 abbrev pub is_write_fault : {T : Type 0} → Result T Stop → Bool
 is_write_fault (Ok _) = false
 is_write_fault (Err stop) = is_write stop
-
--- known bytes grew by a front of the text, which may be none or all of it
-pub record AppendsFront (old new : Option (List ℕ)) (text : List ℕ) : Type 0 where
-  pub front : List ℕ
-  pub rest : List ℕ
-  pub parts : text ≡ front ++ rest
-  pub grown : Appends old new front
-
--- and by all of it unless a write failed
-pub record Says (has_failed : Bool) (old new : Option (List ℕ)) (text : List ℕ) : Type 0 where
-  pub said : AppendsFront old new text
-  pub whole : has_failed ≡ false → said.rest ≡ []
 
 -- what is said of a stop: its message, or that there was no memory for it
 abbrev pub SaysStop : Stop → Bool → Option (List ℕ) → Option (List ℕ) → Type 0
@@ -105,14 +94,7 @@ Tells P (Err (Refused refusal)) out_old out_new = P (refused_with (message_on re
 Tells P (Err WriteFault) out_old out_new = IsFront P out_old out_new
 Tells P (Err OutOfMemory) out_old out_new = IsUnfinished P out_old out_new
 
--- some of the asks were made, from their front
-pub record AsksFront (all : List Ask) (s left : Sources) : Type 0 where
-  pub made : List Ask
-  pub rest : List Ask
-  pub parts : all ≡ made ++ rest
-  pub after : left ≡ after_all made s
-
--- all of them, unless memory ran out
+-- all asks were made, unless memory ran out
 abbrev pub Asks : Result Status Stop → List Ask → Sources → Sources → Type 0
 Asks (Ok status) all s left = left ≡ after_all all s
 Asks (Err (Refused refusal)) all s left = left ≡ after_all all s

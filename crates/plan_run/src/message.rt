@@ -1,7 +1,8 @@
 //! Messages on standard error, each a line behind the program's name.
 ghost use Rattle.std.specs.Prelude.{◌≡◌, IfOk, string_bytes};
+ghost use Rattle.byte_io.specs.Transfers.{Says};
 ghost use Rattle.plan_run.specs.Messages.{message_on, refused};
-ghost use Rattle.plan_run.specs.Running.{Says, SaysStop};
+ghost use Rattle.plan_run.specs.Running.{SaysStop};
 
 use crate::stop::{Refusal, Stop};
 use byte_io::{ByteOut, write_all};

@@ -1,4 +1,4 @@
-use Rattle.plan_run.proofs.SayLemmas.{says}
+use Rattle.byte_io.proofs.SayLemmas.{says}
 use Rattle.plan_run.proofs.message.say_text.Goals as goal
 
 pub returns : goal.returns

@@ -1,5 +1,5 @@
 -- A write that fails leaves a front of the bytes.
-use Rattle.plan_run.proofs.SayLemmas.{front-part}
+use Rattle.byte_io.proofs.SayLemmas.{front-part}
 use Rattle.plan_run.proofs.telling.tell_bytes.Goals as goal
 
 pub returns-in-Err-clause-text : goal.returns-in-Err-clause-text

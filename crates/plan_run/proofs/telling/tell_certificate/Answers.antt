@@ -1,5 +1,5 @@
 -- A write that stops leaves a front of the text.
-use Rattle.plan_run.proofs.SayLemmas.{front-part}
+use Rattle.byte_io.proofs.SayLemmas.{front-part}
 use Rattle.plan_run.proofs.telling.tell_certificate.Goals as goal
 
 pub returns-in-Err-WriteFault-clause-text : goal.returns-in-Err-WriteFault-clause-text

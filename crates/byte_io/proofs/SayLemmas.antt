@@ -2,9 +2,8 @@
 use Rattle.std.proofs.Common.{◌≡◌, ℕ, Bool, true, false, ◌||◌, List, [], Option, Result, Ok, Err, OnOk, OnErr, is_err, refl, sym, ◌∙◌, append-nil, take, drop, take-append-drop}
 use Rattle.std.specs.Io.KnownBytes.{Appends}
 use Rattle.std.proofs.KnownBytes.{Appends-nil}
-use Rattle.byte_io.specs.Transfers.{AppendsPrefix}
+use Rattle.byte_io.specs.Transfers.{AppendsFront, AppendsPrefix, Says}
 use Rattle.byte_io.specs.declared.device.Failed.{Failed}
-use Rattle.plan_run.specs.Running.{AppendsFront, Says}
 
 -- all of a text is a front of it
 abbrev pub front-all : {old new : Option (List ℕ)} {text : List ℕ} → Appends old new text → AppendsFront old new text
