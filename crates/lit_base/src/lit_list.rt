@@ -68,6 +68,23 @@ impl LitList {
         ))
     }
 
+    /// The list of literals that stand in normal form already, each kept as it is: neither ordered nor
+    /// folded anew.
+    ///
+    /// The only refusal is `OutOfMemory`.
+    pub fn from_normal(alloc: Global, literals: RawList, fold: Fold) -> Result<LitList, Fault>
+        requires { IsNormal (record { folding = fold; texts = literals }) }
+        ensures ok { IfOk result (λ list. list ≡ record { folding = fold; texts = literals }) }
+        ensures err { IfErr result (λ fault. fault ≡ OutOfMemory) }
+    {
+        let literals = literals.into_literals(alloc)?;
+        let suffixes = Suffixes::new(alloc, fold, literals.as_slice())?;
+        Ok(LitList {
+            literals: FoldedList::new(fold, literals),
+            suffixes,
+        })
+    }
+
     /// How many literals there are.
     pub fn len(&self) -> usize
         ensures value { result ≡ length self.now.texts }

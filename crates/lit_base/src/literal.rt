@@ -36,6 +36,13 @@ impl Literal {
         Ok(Literal { bytes })
     }
 
+    /// The pattern as it is.
+    pub fn of(bytes: Vec<u8>) -> Literal
+        ensures { result ≡ bytes.items }
+    {
+        Literal { bytes }
+    }
+
     pub fn as_slice(&self) -> &[u8]
         ensures { result.now ≡ self.now }
     {

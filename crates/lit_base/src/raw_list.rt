@@ -8,6 +8,7 @@ ghost use Rattle.lit_base.specs.declared.limits.TheConstants.{MAX_LIST_LEN, MAX_
 
 use crate::fault::Fault;
 use crate::limits::{MAX_LIST_LEN, MAX_LITERAL_LEN, MAX_PATTERNS, MAX_TEXT_LEN};
+use crate::literal::Literal;
 use crate::patterns::Patterns;
 use std::alloc::{AllocError, Global};
 use std::marker::Model;
@@ -54,6 +55,13 @@ impl RawList {
         ensures { IsTrue result ↔ (self.now ≡ []) }
     {
         self.patterns.is_empty()
+    }
+
+    /// The patterns as literals, as they are.
+    pub(crate) fn into_literals(self, alloc: Global) -> Result<Vec<Literal>, AllocError>
+        ensures { IfOk result (λ literals. literals.items ≡ self) }
+    {
+        self.patterns.into_iter().map(Literal::of).collect(alloc)
     }
 
     /// The pattern at a place.
