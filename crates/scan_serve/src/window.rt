@@ -1,7 +1,8 @@
 //! What was read and not yet answered.
-ghost use Rattle.std.specs.Prelude.{◌≡◌, ◌<◌, ◌≤◌, ◌+◌, [], drop, length, IfOk, IsTrue, OnErr, OnOk};
+ghost use Rattle.std.specs.Prelude.{◌≡◌, ◌<◌, ◌≤◌, ◌+◌, ◌*◌, [], drop, length, min, take, vec_capacity, IfOk, IsTrue, OnErr, OnOk};
 ghost use Rattle.byte_io.specs.Devices.{EndsHere, Told, count_of};
 ghost use Rattle.byte_io.specs.Transfers.{ReadsInto};
+ghost use Rattle.scan_serve.specs.declared.window.TheConstants.{ROOM};
 
 use byte_io::{ByteIn, Failed};
 use std::alloc::{AllocError, Global};
@@ -10,7 +11,11 @@ use std::marker::Model;
 /// The room of a window: four of the longest frames.
 const ROOM: usize = 262_180;
 
-/// Bytes that were read and not yet answered, in one buffer that is made once.
+/// The room at first. A client that asks for little needs no more.
+const FIRST_ROOM: usize = 4096;
+
+/// Bytes that were read and not yet answered, in one buffer that is made once. A small part of it is
+/// used at first, and more as reads fill it: memory that is never written is only set aside.
 #[derive(Drop)]
 pub struct Window {
     buffer: Vec<u8>,
@@ -18,13 +23,29 @@ pub struct Window {
 }
 
 impl Model for Window {
-    ghost use Rattle.std.specs.Prelude.{◌≡◌, ℕ, ◌≤◌, List, length, take};
+    ghost use Rattle.std.specs.Prelude.{◌≡◌, ℕ, ◌<◌, ◌≤◌, ◌⊎◌, List, length, take, vec_capacity};
+    ghost use Rattle.scan_serve.specs.declared.window.TheConstants.{ROOM};
 
     ghost Value = { List ℕ };
 
     ghost view = { λ w. take w.len w.buffer.items };
 
-    ghost invariant = { λ w. (w.len ≤ length w.buffer.items) × (length w.buffer.items ≡ 262180) };
+    ghost invariant = { λ w. (w.len ≤ length w.buffer.items)
+        × ((w.len < length w.buffer.items) ⊎ (ROOM ≤ length w.buffer.items))
+        × (ROOM ≤ vec_capacity w.buffer) };
+}
+
+/// Doubles the room, up to `ROOM` bytes. That much was set aside at first, so it cannot be refused.
+fn enlarge(buffer: &mut Vec<u8>)
+    requires { ROOM ≤ vec_capacity buffer.old }
+    ensures kept { take (length buffer.old.items) buffer.new.items ≡ buffer.old.items }
+    ensures more { min ROOM (length buffer.old.items + length buffer.old.items) ≤ length buffer.new.items }
+    ensures capacity { ROOM ≤ vec_capacity buffer.new }
+{
+    let len = buffer.len();
+    if len < ROOM {
+        let _ = buffer.resize(ROOM.min(len * 2), 0);
+    }
 }
 
 impl Window {
@@ -32,8 +53,8 @@ impl Window {
     pub fn new(alloc: Global) -> Result<Window, AllocError>
         ensures { IfOk result (λ window. window ≡ []) }
     {
-        let room = ROOM;
-        let buffer = vec![in alloc; 0; room]?;
+        let mut buffer = Vec::with_capacity(alloc, ROOM)?;
+        buffer.resize(FIRST_ROOM, 0)?;
         Ok(Window { buffer, len: 0 })
     }
 
@@ -67,6 +88,9 @@ impl Window {
         match input.read_some(&mut self.buffer[self.len..]) {
             Ok(count) => {
                 self.len += count;
+                if self.len == self.buffer.len() {
+                    enlarge(&mut self.buffer);
+                }
                 Ok(count)
             }
             Err(Failed) => Err(Failed),
