@@ -1,5 +1,5 @@
 -- What a contract sees of a `Session`: its store, the tickets that it was told, and its open streams as their tickets and what their scanners keep.
-use Rattle.std.specs.Prelude.{◌≡◌, ℕ, List, ◌++◌, All, map, Option}
+use Rattle.std.specs.Prelude.{◌≡◌, ℕ, List, [], ◌++◌, All, map, Option}
 use Rattle.boxcar.specs.Table.{Shelves}
 use Rattle.plan_store.specs.Tickets.{IsOf, Told}
 use Rattle.flow_scan.specs.Scanners.{Scanning, fed, started}
@@ -17,6 +17,10 @@ pub record Serving : Type 0 where
   pub store : Shelves
   pub told : List Told
   pub streams : List (ℕ × Bound)
+
+-- a session of a store that was told nothing and has no open stream
+abbrev pub fresh : Shelves → Serving
+fresh store = record { store = store; told = []; streams = [] }
 
 -- the entry that a ticket shows
 abbrev pub entry_of : Told → Entry

@@ -42,6 +42,10 @@ pub record SessionParts (S : Type 0) : Type 0 where
   pub told : List Entry
   pub streams : List (ℕ × S)
 
+-- a session that was told nothing and has no open stream
+abbrev pub new_session : {S : Type 0} → SessionParts S
+new_session {S} = record { told = []; streams = [] }
+
 -- what a request comes to: the replies, the entry that it met, if it met one, and the session behind it
 pub record Outcome (S : Type 0) : Type 0 where
   pub replies : List ReplyParts

@@ -8,7 +8,7 @@ use Rattle.flow_scan.specs.Plans as plans
 use Rattle.scan_wire.specs.Messages.{RequestParts, ReplyParts, Publish, Open, Feed, Close, ShowPlan, Published, Opened, Hits, Fed, Closed, Plan, Refused}
 use Rattle.scan_wire.specs.declared.message.TheConstants.{MAX_HITS}
 use Rattle.scan_core.specs.Blocks.{AreBlocks}
-use Rattle.scan_core.specs.Steps.{Entry, IsSound, IsStep, Reading, SessionParts, fed_replies}
+use Rattle.scan_core.specs.Steps.{Entry, IsSound, IsStep, Reading, SessionParts, fed_replies, new_session}
 
 -- a stream as its client sees it: the plan it was opened with, and all bytes fed since
 pub record Streamed : Type 0 where
@@ -49,7 +49,7 @@ HasOnePlan entries = (first second : Entry) → Contains entries first → Conta
 pub record IsFirst (world : World) : Type 0 where
   pub sound : (entry : Entry) → Contains world.entries entry → IsSound entry.plan
   pub one_plan : HasOnePlan world.entries
-  pub sessions : (name : ℕ) → world.sessions name ≡ record { told = []; streams = [] }
+  pub sessions : (name : ℕ) → world.sessions name ≡ new_session
 
 -- whether a request is a Publish
 abbrev pub is_publish : RequestParts → Bool

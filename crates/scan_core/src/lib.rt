@@ -14,7 +14,7 @@ mod tickets;
 mod world;
 
 pub use fault::Fault;
-pub use limits::{MAX_PLANS, MAX_STREAMS};
+pub use limits::{MAX_PLANS, MAX_STREAMS, limits_law};
 pub use refusal::Refusal;
 pub use session::Session;
 pub use world::{event_law, world_law};

@@ -3,7 +3,7 @@ ghost use Rattle.std.specs.Prelude.{◌≡◌, ◌∷◌, [], IfErr, IfNone, IfO
 ghost use Rattle.plan_store.specs.Tickets.{IsOf};
 ghost use Rattle.scan_wire.specs.Messages.{Close, Feed, Open, Publish, ShowPlan, reply_parts, request_parts, texts_of};
 ghost use Rattle.scan_core.specs.Fronts.{FeedsFront, MayFeed};
-ghost use Rattle.scan_core.specs.Sessions.{GainsEvent, IsEvent, by_tails, parts_of};
+ghost use Rattle.scan_core.specs.Sessions.{GainsEvent, IsEvent, by_tails, fresh, parts_of};
 ghost use Rattle.scan_core.specs.Steps.{refusal_of};
 ghost use Rattle.scan_core.specs.declared.fault.Fault.TheVariants.{OutOfMemory};
 
@@ -45,7 +45,7 @@ impl<'s> Model for Session<'s> {
 impl<'s> Session<'s> {
     /// A session that was told nothing and has no open stream. It takes no memory.
     pub fn new(store: &'s PlanStore) -> Session<'s>
-        ensures { result ≡ record { store = store.entry.now; told = []; streams = [] } }
+        ensures { result ≡ fresh store.entry.now }
     {
         Session {
             store,

@@ -5,3 +5,4 @@ pub mod Causes
 pub mod Faults
 pub mod Reading
 pub mod Decoders
+pub mod Limits

@@ -6,6 +6,7 @@ mod decoder;
 mod encoding;
 mod fault;
 mod frames;
+mod laws;
 mod message;
 mod numbers;
 mod reading;
@@ -14,6 +15,7 @@ pub use decoder::Decoder;
 pub use encoding::{append_hits, append_reply, encode_reply};
 pub use fault::{Cause, Fault};
 pub use frames::next;
+pub use laws::limits_law;
 pub use message::{Lent, MAX_HITS, MAX_PAYLOAD, Reply, Request};
 
 #[cfg(test)]
