@@ -1,7 +1,7 @@
 -- Plans one after the other: what stands in a text is one list of plans, or has one first fault.
-use Rattle.std.proofs.Common.{◌≡◌, ◌≢◌, ℕ, suc, ◌+◌, ◌-◌, ◌<◌, ◌≤◌, List, [], ◌∷◌, ◌++◌, length, All, Ok, Err, inl, inr, refl, sym, ap, subst, ◌∙◌, append_assoc, arith}
+use Rattle.std.proofs.Common.{◌≡◌, ◌≢◌, ℕ, suc, ◌+◌, ◌-◌, ◌<◌, ◌≤◌, List, [], ◌∷◌, ◌++◌, length, get_or, take, All, Ok, Err, inl, inr, refl, sym, ap, subst, ◌∙◌, append_assoc, arith}
 use Rattle.std.specs.List.{flat_map}
-use Rattle.std.proofs.lemmas.List.{append-nil, length-append}
+use Rattle.std.proofs.lemmas.List.{append-nil, flat_map_more, length-append, take_more}
 use Rattle.std.proofs.lemmas.List.Concat.{flat_map-append}
 use Rattle.std.proofs.lemmas.List.Elements.{All-nil, All-push}
 use Rattle.flow_scan.specs.Plans.{Plan}
@@ -87,3 +87,10 @@ wrong_behind most limit count text rest (stop.Wrong w) head wrong = inr (count, 
 pub wrong_head : (most limit : ℕ) (text : List ℕ) (e : Stop) → IfWrong (λ w. head_at text ≡ Err w) e → IfWrong (IsWrong most limit text) e
 wrong_head most limit text stop.OutOfMemory wrong = tt
 wrong_head most limit text (stop.Wrong w) wrong = inl wrong
+
+-- one more entry is written behind those before it
+pub entries_more : (front old new : List ℕ) (plans : List Plan) (i : ℕ) (p : Plan) → i < length plans → p ≡ get_or plans i p → old ≡ front ++ flat_map plan_text (take i plans)
+    → new ≡ old ++ plan_text p → new ≡ front ++ flat_map plan_text (take (i + 1) plans)
+entries_more front old new plans i p within is so_far one =
+    let last : take (i + 1) plans ≡ take i plans ++ p ∷ [] = take_more plans i p within ∙ ap (λ (q : Plan). take i plans ++ q ∷ []) (sym is) in
+    one ∙ ap (λ (t : List ℕ). t ++ plan_text p) so_far ∙ flat_map_more plan_text front (take i plans) p ∙ ap (λ (ps : List Plan). front ++ flat_map plan_text ps) (sym last)

@@ -1,12 +1,13 @@
 //! The one text of each list of plans.
-ghost use Rattle.std.specs.Prelude.{◌≡◌, ◌≢◌, ◌^◌, ◌<◌, ◌≤◌, ◌++◌, length, IfErr, IfOk, IsOkUnless, IsTrue, OnErr, OnOk};
+ghost use Rattle.std.specs.Prelude.{◌≡◌, ◌≢◌, ◌^◌, ◌<◌, ◌≤◌, ◌++◌, All, length, IfErr, IfOk, IsOkUnless, IsTrue, OnErr, OnOk};
 ghost use Rattle.std.specs.Io.KnownBytes.{Appends};
 ghost use Rattle.byte_io.specs.Transfers.{AppendsPrefix};
+ghost use Rattle.lit_base.specs.Literals.{IsNormal};
 ghost use Rattle.plan_file.specs.Faults.{IsWritersFault};
 ghost use Rattle.std.specs.List.{flat_map};
 ghost use Rattle.std.specs.Int.{w16, w32, w64};
 ghost use Rattle.plan_file.specs.declared.fault.Fault.TheVariants.{OutOfMemory};
-ghost use Rattle.plan_file.specs.Spelling.{certificate_text, flag_of, head_text, literal_text, literals_text, numbers_text, plan_text, spelling};
+ghost use Rattle.plan_file.specs.Spelling.{ArePlans, IsPlan, certificate_text, flag_of, head_text, literal_text, literals_text, numbers_text, plan_text, spelling};
 
 use crate::fault::Fault;
 use crate::limits::{MAGIC, VERSION};
@@ -47,7 +48,8 @@ fn push_literal(out: &mut Vec<u8>, literal: &[u8]) -> Result<(), AllocError>
 
 /// Appends literals, with their fold and their number.
 fn push_literals(out: &mut Vec<u8>, list: &LitList) -> Result<(), AllocError>
-    ensures { OnOk result (out.new.items ≡ out.old.items ++ literals_text list.now) }
+    ensures text { OnOk result (out.new.items ≡ out.old.items ++ literals_text list.now) }
+    ensures normal { IsNormal list.now }
 {
     list.normal_law();
     let count = list.len();
@@ -59,9 +61,10 @@ fn push_literals(out: &mut Vec<u8>, list: &LitList) -> Result<(), AllocError>
     Ok(())
 }
 
-/// Appends ends, one after the other.
+/// Appends ends, one after the other. Each fits its field.
 fn push_ends(out: &mut Vec<u8>, ends: &[u16]) -> Result<(), AllocError>
-    ensures { OnOk result (out.new.items ≡ out.old.items ++ numbers_text w16 ends.now) }
+    ensures text { OnOk result (out.new.items ≡ out.old.items ++ numbers_text w16 ends.now) }
+    ensures small { All (λ e. e < 2 ^ 16) ends.now }
 {
     for end in ends {
         out.extend_from_slice(&end.to_be_bytes())?;
@@ -69,9 +72,10 @@ fn push_ends(out: &mut Vec<u8>, ends: &[u16]) -> Result<(), AllocError>
     Ok(())
 }
 
-/// Appends potentials, one after the other.
+/// Appends potentials, one after the other. Each fits its field.
 fn push_potentials(out: &mut Vec<u8>, potentials: &[u64]) -> Result<(), AllocError>
-    ensures { OnOk result (out.new.items ≡ out.old.items ++ numbers_text w64 potentials.now) }
+    ensures text { OnOk result (out.new.items ≡ out.old.items ++ numbers_text w64 potentials.now) }
+    ensures small { All (λ h. h < 2 ^ 64) potentials.now }
 {
     for potential in potentials {
         out.extend_from_slice(&potential.to_be_bytes())?;
@@ -79,9 +83,12 @@ fn push_potentials(out: &mut Vec<u8>, potentials: &[u64]) -> Result<(), AllocErr
     Ok(())
 }
 
-/// Appends a certificate.
+/// Appends a certificate. Each of its numbers fits its field.
 fn push_certificate(out: &mut Vec<u8>, certificate: &Certificate) -> Result<(), AllocError>
-    ensures { OnOk result (out.new.items ≡ out.old.items ++ certificate_text certificate.now) }
+    ensures text { OnOk result (out.new.items ≡ out.old.items ++ certificate_text certificate.now) }
+    ensures small_ends { OnOk result (All (λ e. e < 2 ^ 16) certificate.now.ends) }
+    ensures small_cost { OnOk result (certificate.now.cost < 2 ^ 64) }
+    ensures small_potentials { OnOk result (All (λ h. h < 2 ^ 64) certificate.now.potentials) }
 {
     let ends = certificate.ends.as_slice();
     out.push(ends.len() as u8)?;
@@ -90,18 +97,20 @@ fn push_certificate(out: &mut Vec<u8>, certificate: &Certificate) -> Result<(), 
     push_potentials(out, &certificate.potentials)
 }
 
-/// Appends an entry.
+/// Appends an entry. Its plan is one that a file can tell.
 #[tactic(auto, unfolding(crate::specs::Spelling::plan_text))]
 fn push_plan(out: &mut Vec<u8>, plan: &Compiled) -> Result<(), AllocError>
-    ensures { OnOk result (out.new.items ≡ out.old.items ++ plan_text plan.now) }
+    ensures text { OnOk result (out.new.items ≡ out.old.items ++ plan_text plan.now) }
+    ensures right { OnOk result (IsPlan 8 1024 plan.now) }
 {
     push_literals(out, plan.list())?;
     push_certificate(out, plan.certificate())
 }
 
-/// Appends entries, one after the other.
+/// Appends entries, one after the other. Their plans are such.
 fn push_plans(out: &mut Vec<u8>, plans: &[Compiled]) -> Result<(), AllocError>
-    ensures { OnOk result (out.new.items ≡ out.old.items ++ flat_map plan_text plans.now) }
+    ensures text { OnOk result (out.new.items ≡ out.old.items ++ flat_map plan_text plans.now) }
+    ensures right { OnOk result (All (IsPlan 8 1024) plans.now) }
 {
     for plan in plans {
         push_plan(out, plan)?;
@@ -112,7 +121,7 @@ fn push_plans(out: &mut Vec<u8>, plans: &[Compiled]) -> Result<(), AllocError>
 /// The text of a file of these plans.
 fn text_of(alloc: Global, plans: &[Compiled]) -> Result<Vec<u8>, AllocError>
     requires { length plans.now ≤ 64 }
-    ensures { IfOk result (λ text. text.items ≡ spelling plans.now) }
+    ensures { IfOk result (λ text. ArePlans 8 1024 plans.now × (text.items ≡ spelling plans.now)) }
 {
     let mut text = Vec::new(alloc);
     push_head(&mut text, plans.len() as u16)?;
@@ -120,10 +129,12 @@ fn text_of(alloc: Global, plans: &[Compiled]) -> Result<Vec<u8>, AllocError>
     Ok(text)
 }
 
-/// The text of a file of these plans, at most 64. The only refusal is `OutOfMemory`.
+/// The text of a file of these plans, at most 64: `decode` reads it as exactly these plans, unless memory
+/// runs out. The only refusal is `OutOfMemory`.
 pub fn encode(alloc: Global, plans: &[Compiled]) -> Result<Vec<u8>, Fault>
     requires { length plans.now ≤ 64 }
-    ensures ok { IfOk result (λ text. text.items ≡ spelling plans.now) }
+    // What is written is what `decode` reads: plans as a file can tell them, and their spelling.
+    ensures ok { IfOk result (λ text. ArePlans 8 1024 plans.now × (text.items ≡ spelling plans.now)) }
     ensures refused { IsOkUnless result OutOfMemory }
 {
     Ok(text_of(alloc, plans)?)
@@ -138,8 +149,9 @@ pub fn encode(alloc: Global, plans: &[Compiled]) -> Result<Vec<u8>, Fault>
 /// After both of them a front of the text was written.
 pub fn write_plans<W: ByteOut>(alloc: Global, plans: &[Compiled], out: &mut W) -> Result<(), Fault>
     requires few { length plans.now ≤ 64 }
-    ensures ok { OnOk result
-        (Appends (W.written out.old) (W.written out.new) (spelling plans.now)) }
+    // What is written is what `read_plans` reads.
+    ensures ok { OnOk result (ArePlans 8 1024 plans.now
+        × Appends (W.written out.old) (W.written out.new) (spelling plans.now)) }
     ensures err { OnErr result
         (AppendsPrefix (W.written out.old) (W.written out.new) (spelling plans.now)) }
 
