@@ -1,5 +1,5 @@
 //! The plans that were published, each under its number.
-ghost use Rattle.std.specs.Prelude.{◌≡◌, IfErr, IfOk, IfSome, IsOkUnless};
+ghost use Rattle.std.specs.Prelude.{◌≡◌, IfErr, IfOk, IfSome, IsOkUnless, IsSomeAnd};
 ghost use Rattle.lit_cert.specs.Certified.{IsCertified};
 ghost use Rattle.plan_store.specs.Tickets.{IsOf};
 ghost use Rattle.plan_store.specs.declared.fault.Fault.TheVariants.{OutOfMemory};
@@ -78,6 +78,15 @@ impl PlanStore {
     {
         let pushed = self.plans.witness(number as usize)?;
         Some(Ticket { pushed })
+    }
+
+    /// The plan with this number, if there is one now. Who has a ticket of that number is sure to be
+    /// shown its plan. It takes no memory.
+    pub(crate) fn look(&self, number: u64, ticket: &Ticket) -> Option<&Compiled>
+        requires { IsOf self.now ticket.now }
+        ensures { number ≡ ticket.now.number → IsSomeAnd result (λ plan. plan.now ≡ ticket.now.plan) }
+    {
+        self.plans.get_seen(number as usize, &ticket.pushed)
     }
 
     /// The law that a number has one plan: two tickets of it show the same. It takes no memory.

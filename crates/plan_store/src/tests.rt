@@ -1,6 +1,9 @@
 //! What no clause says: that there is a plan where there is memory, that each has a number of its own,
 //! that it is found by any thread, and that no other number is.
-use crate::PlanStore;
+use crate::{
+    PlanStore, each_finds_the_other, numbers_are_apart, published_beside_a_find,
+    published_is_found, published_is_shown, published_is_there,
+};
 use flow_scan::Compiled;
 use list_plan::compile;
 use lit_base::{Fold, LitList, RawList};
@@ -13,6 +16,13 @@ use std::thread::{Threads, map_indices};
 const THREADS: usize = 8;
 
 const PLANS: u8 = 64;
+
+/// The one literal of a plan.
+type Pair = (u8, u8);
+
+const CA: Pair = (b'c', b'a');
+
+const DO: Pair = (b'd', b'o');
 
 #[test]
 fn finds_what_was_published(rt: HostRuntime) -> Result<(), Fail> {
@@ -41,8 +51,38 @@ fn finds_what_eight_threads_published(rt: HostRuntime) -> Result<(), Fail> {
     Ok(())
 }
 
+#[test]
+fn shows_in_one_thread_what_another_published(rt: HostRuntime) -> Result<(), Fail> {
+    let store = PlanStore::new(rt.alloc())?;
+    let alloc = rt.alloc();
+    assert_eq!(rt; shown(&rt, alloc, &store, CA), Some((0, CA)));
+    assert_eq!(rt; there(&rt, alloc, &store, DO), Some((1, DO)));
+    assert_eq!(rt; handed_on(&rt, alloc, &store, CA), Some((2, CA)));
+    assert_eq!(rt; found_meanwhile(&rt, alloc, &store, CA, 1), Some((3, DO)));
+    assert_eq!(rt; found_meanwhile(&rt, alloc, &store, CA, 9), None);
+    Ok(())
+}
+
+#[test]
+fn tells_two_threads_two_numbers(rt: HostRuntime) -> Result<(), Fail> {
+    let store = PlanStore::new(rt.alloc())?;
+    let told = told_to_two(&rt, rt.alloc(), &store, CA);
+    assert!(rt; told == Some((0, 1)) || told == Some((1, 0)));
+    Ok(())
+}
+
+#[test]
+fn finds_in_each_of_two_threads_what_the_other_published(rt: HostRuntime) -> Result<(), Fail> {
+    let store = PlanStore::new(rt.alloc())?;
+    assert_eq!(rt;
+        found_by_each(&rt, rt.alloc(), &store, CA, DO),
+        Some((DO, CA))
+    );
+    Ok(())
+}
+
 /// The plan of one literal of two bytes.
-fn plan_of(alloc: Global, literal: (u8, u8)) -> Option<Compiled> {
+fn plan_of(alloc: Global, literal: Pair) -> Option<Compiled> {
     let mut raw = RawList::new(alloc);
     raw.push(&[literal.0, literal.1]).ok()?;
     let (list, _) = LitList::normal(alloc, &raw, Fold::No).ok()?;
@@ -50,7 +90,7 @@ fn plan_of(alloc: Global, literal: (u8, u8)) -> Option<Compiled> {
 }
 
 /// The number under which the plan of a literal was stored, if the ticket shows that plan.
-fn publish<R: Wait>(rt: &R, alloc: Global, store: &PlanStore, literal: (u8, u8)) -> Option<u64> {
+fn publish<R: Wait>(rt: &R, alloc: Global, store: &PlanStore, literal: Pair) -> Option<u64> {
     let ticket = store.publish(rt, plan_of(alloc, literal)?).ok()?;
     if literal_of(store.at(&ticket.again())) != Some(literal) {
         return None;
@@ -59,13 +99,13 @@ fn publish<R: Wait>(rt: &R, alloc: Global, store: &PlanStore, literal: (u8, u8))
 }
 
 /// The literal of the plan with a number, if there is one.
-fn found(store: &PlanStore, number: u64) -> Option<(u8, u8)> {
+fn found(store: &PlanStore, number: u64) -> Option<Pair> {
     let ticket = store.find(number)?;
     literal_of(store.at(&ticket))
 }
 
 /// The literal of a plan that has one, of two bytes.
-fn literal_of(plan: &Compiled) -> Option<(u8, u8)> {
+fn literal_of(plan: &Compiled) -> Option<Pair> {
     let list = plan.list();
     if list.len() != 1 {
         return None;
@@ -133,4 +173,80 @@ fn distinct_count(alloc: Global, told: &[Vec<u64>]) -> Option<usize> {
     all.sort().ok()?;
     all.dedup();
     Some(all.len())
+}
+
+/// The number that one thread is told of a plan, and what its ticket shows to another.
+fn shown<R: Threads + Wait + Sync>(
+    rt: &R,
+    alloc: Global,
+    store: &PlanStore,
+    literal: Pair,
+) -> Option<(u64, Pair)> {
+    let (ticket, plan) = published_is_shown(rt, store, plan_of(alloc, literal)?).ok()?;
+    Some((store.number(&ticket), literal_of(plan)?))
+}
+
+/// The number that one thread is told of a plan, and what stands there for another that has the ticket.
+fn there<R: Threads + Wait + Sync>(
+    rt: &R,
+    alloc: Global,
+    store: &PlanStore,
+    literal: Pair,
+) -> Option<(u64, Pair)> {
+    let (ticket, plan) = published_is_there(rt, store, plan_of(alloc, literal)?).ok()?;
+    Some((store.number(&ticket), literal_of(plan?)?))
+}
+
+/// The number that one thread is told of a plan, and what another finds under it.
+fn handed_on<R: Threads + Wait + Sync>(
+    rt: &R,
+    alloc: Global,
+    store: &PlanStore,
+    literal: Pair,
+) -> Option<(u64, Pair)> {
+    let (ticket, found) = published_is_found(rt, store, plan_of(alloc, literal)?).ok()?;
+    Some((store.number(&ticket), literal_of(store.at(&found?))?))
+}
+
+/// The number that one thread is told of a plan, and what another finds meanwhile under the one it wants.
+fn found_meanwhile<R: Threads + Wait + Sync>(
+    rt: &R,
+    alloc: Global,
+    store: &PlanStore,
+    literal: Pair,
+    wanted: u64,
+) -> Option<(u64, Pair)> {
+    let plan = plan_of(alloc, literal)?;
+    let (ticket, found) = published_beside_a_find(rt, store, plan, wanted).ok()?;
+    Some((store.number(&ticket), literal_of(store.at(&found?))?))
+}
+
+/// The numbers that two threads are told of equal plans.
+fn told_to_two<R: Threads + Wait + Sync>(
+    rt: &R,
+    alloc: Global,
+    store: &PlanStore,
+    literal: Pair,
+) -> Option<(u64, u64)> {
+    let plan = plan_of(alloc, literal)?;
+    let same = plan_of(alloc, literal)?;
+    let (first, second) = numbers_are_apart(rt, store, plan, same).ok()?;
+    Some((store.number(&first), store.number(&second)))
+}
+
+/// What each of two threads finds under the number that the other is told.
+fn found_by_each<R: Threads + Wait + Sync>(
+    rt: &R,
+    alloc: Global,
+    store: &PlanStore,
+    one: Pair,
+    other: Pair,
+) -> Option<(Pair, Pair)> {
+    let one = plan_of(alloc, one)?;
+    let other = plan_of(alloc, other)?;
+    let ((_, by_first), (_, by_second)) = each_finds_the_other(rt, store, one, other).ok()?;
+    Some((
+        literal_of(store.at(&by_first?))?,
+        literal_of(store.at(&by_second?))?,
+    ))
 }
