@@ -13,13 +13,3 @@ pub record Told : Type 0 where
 -- the ticket is of this store: its shelf has that name there
 abbrev pub IsOf : Shelves → Told → Type 0
 IsOf store ticket = ticket.name ≡ id_at store.buckets ticket.shelf
-
--- the ticket is of this store, and shows this plan
-pub record ShowsPlan (store : Shelves) (plan : Plan) (ticket : Told) : Type 0 where
-  pub here : IsOf store ticket
-  pub shown : ticket.plan ≡ plan
-
--- the ticket is the store's, of this number and of this plan
-pub record IsFound (store : Shelves) (number : ℕ) (plan : Plan) (ticket : Told) : Type 0 where
-  pub shows : ShowsPlan store plan ticket
-  pub asked : ticket.number ≡ number

@@ -1,7 +1,8 @@
 //! The laws of a store whose calls are made in several threads. Each function makes such calls, and
 //! its contract is the law.
 ghost use Rattle.std.specs.Prelude.{◌≡◌, ◌≢◌, IfErr, IfOk, IfSome, IsOkUnless, IsSomeAnd};
-ghost use Rattle.plan_store.specs.Tickets.{IsFound, IsOf, ShowsPlan};
+ghost use Rattle.plan_store.specs.Meetings.{IsFound, ShowsPlan};
+ghost use Rattle.plan_store.specs.Tickets.{IsOf};
 ghost use Rattle.plan_store.specs.declared.fault.Fault.TheVariants.{OutOfMemory};
 
 use crate::fault::Fault;

@@ -9,4 +9,5 @@ pub mod StepLemmas
 pub mod StreamLemmas
 pub mod StreamLists
 pub mod TicketLemmas
+pub mod TogetherLemmas
 pub mod WorldLemmas

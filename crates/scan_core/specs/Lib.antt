@@ -2,6 +2,7 @@ pub mod Limits
 pub mod Blocks
 pub mod Refusals
 pub mod Steps
+pub mod Together
 pub mod Worlds
 pub mod Sessions
 pub mod Fews

@@ -11,12 +11,14 @@ mod refusal;
 mod session;
 mod stream;
 mod tickets;
+mod together;
 mod world;
 
 pub use fault::Fault;
 pub use limits::{MAX_PLANS, MAX_STREAMS, limits_law};
 pub use refusal::Refusal;
 pub use session::Session;
+pub use together::{fit_law, together_law};
 pub use world::{event_law, world_law};
 
 #[cfg(test)]

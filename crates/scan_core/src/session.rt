@@ -1,10 +1,12 @@
 //! A session: what one client has published and opened, and how it is answered.
-ghost use Rattle.std.specs.Prelude.{◌≡◌, ◌∷◌, [], IfErr, IfNone, IfOk, IfSome, None, Some, IsOkUnless, OnErr, OnOk, Contains, map};
+ghost use Rattle.std.specs.Prelude.{◌≡◌, ◌∷◌, ◌<◌, [], IfErr, IfNone, IfOk, IfSome, None, Some, IsOkUnless, OnErr, OnOk, Contains, length, map};
+ghost use Rattle.std.specs.List.{slice_get};
 ghost use Rattle.plan_store.specs.Tickets.{IsOf};
 ghost use Rattle.scan_wire.specs.Messages.{Close, Feed, Open, Publish, ShowPlan, reply_parts, request_parts, texts_of};
 ghost use Rattle.scan_core.specs.Fronts.{FeedsFront, MayFeed};
 ghost use Rattle.scan_core.specs.Sessions.{GainsEvent, IsEvent, by_tails, fresh, parts_of};
 ghost use Rattle.scan_core.specs.Steps.{refusal_of};
+ghost use Rattle.scan_core.specs.Together.{tickets_of};
 ghost use Rattle.scan_core.specs.declared.fault.Fault.TheVariants.{OutOfMemory};
 
 use crate::answering::push_answer;
@@ -51,6 +53,33 @@ impl<'s> Session<'s> {
             store,
             told: Few::new(),
             streams: Few::new(),
+        }
+    }
+
+    /// The store of this session.
+    pub(crate) fn store(&self) -> &'s PlanStore
+        ensures { result.now ≡ self.now.store }
+    {
+        self.store
+    }
+
+    /// How many tickets it has: those that it was told, and those of its open streams.
+    pub(crate) fn ticket_count(&self) -> usize
+        ensures { result ≡ length (tickets_of self.now) }
+    {
+        self.told.len() + self.streams.len()
+    }
+
+    /// The ticket at a place: first come those that it was told.
+    pub(crate) fn ticket_at(&self, place: usize) -> &Ticket
+        requires { place < length (tickets_of self.now) }
+        ensures at { slice_get (tickets_of self.now) place ≡ Some result.now }
+        ensures here { IsOf self.now.store result.now }
+    {
+        if place < self.told.len() {
+            self.told.get(place)
+        } else {
+            self.streams.get(place - self.told.len()).ticket()
         }
     }
 

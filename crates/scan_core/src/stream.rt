@@ -41,6 +41,13 @@ impl<'s> Model for Stream<'s> {
 }
 
 impl<'s> Stream<'s> {
+    /// The ticket of its plan.
+    pub(crate) fn ticket(&self) -> &Ticket
+        ensures { result.now ≡ self.now.1.ticket }
+    {
+        &self.ticket
+    }
+
     /// A stream of which nothing was fed yet, by the plan of a ticket.
     pub(crate) fn open(
         alloc: Global,

@@ -1,0 +1,157 @@
+-- Tickets of a session, and that two sessions fit into one world.
+use Rattle.std.proofs.Common.{◌≡◌, ℕ, zero, suc, ◌+◌, ◌-◌, ◌<◌, ◌≤◌, List, [], ◌∷◌, ◌++◌, length, get_or, map, Option, Some, None, Contains, ◌⊎◌, inl, inr, refl, sym, ap, ◌∙◌, subst, arith}
+use Rattle.std.specs.Prelude.{Bool, true, false, IfSome, option_map}
+use Rattle.std.specs.List.{slice_get}
+use Rattle.std.proofs.lemmas.List.{get_or_append_left, get_or-append-add}
+use Rattle.std.proofs.lemmas.List.Elements.{Contains-append_cases}
+use Rattle.std.proofs.lemmas.Option.{get_or_from_slice_get, none-some, same_Some, slice_get-get_or, slice_get-map, slice_get_read}
+use Rattle.plan_store.specs.Tickets.{Told}
+use Rattle.scan_core.specs.Sessions.{Bound, Serving, entry_of}
+use Rattle.scan_core.specs.Steps.{Entry, IsSound, SessionParts}
+use Rattle.scan_core.specs.Together.{AgreeAll, IsMeeting, IsOneRun, Meet, ShowSound, TogetherLaw, known_to, tickets_of, world_of}
+use Rattle.scan_core.specs.Worlds.{Event, Happens, HasOnePlan, IsFirst, MeetsEntries, Runs, Streamed, World, is_publish}
+
+-- a ticket that the session was told
+pub told_at : (s : Serving) (place : ℕ) (t : Told) → place < length s.told → place < length (tickets_of s) → t ≡ get_or s.told place t → slice_get (tickets_of s) place ≡ Some t
+told_at s place t within inside here =
+    slice_get_read (tickets_of s) (length (tickets_of s)) place t refl inside
+    (here ∙ sym (get_or_append_left s.told (map (λ (stream : ℕ × Bound). stream.1.ticket) s.streams) t place within))
+
+-- the ticket of an open stream
+pub open_at : (s : Serving) (k : ℕ) (stream : ℕ × Bound) → k < length s.streams → length s.told + k < length (tickets_of s) → stream ≡ get_or s.streams k stream → slice_get (tickets_of s) (length s.told + k) ≡ Some stream.1.ticket
+open_at s k stream within inside here =
+    let tickets = map (λ (b : ℕ × Bound). b.1.ticket) s.streams in
+    let t = stream.1.ticket in
+    let read : slice_get tickets k ≡ Some t =
+    slice_get-map (λ (b : ℕ × Bound). b.1.ticket) s.streams k
+    ∙ ap (option_map (λ (b : ℕ × Bound). b.1.ticket)) (slice_get_read s.streams (length s.streams) k stream refl within here) in
+    slice_get_read (tickets_of s) (length (tickets_of s)) (length s.told + k) t refl inside
+    (sym (get_or-append-add s.told tickets k t ∙ get_or_from_slice_get tickets k t t read))
+
+-- an entry that a session knows is that of one of its tickets
+record IsShown (s : Serving) (entry : Entry) : Type 0 where
+  place : ℕ
+  ticket : Told
+  at : slice_get (tickets_of s) place ≡ Some ticket
+  is : entry_of ticket ≡ entry
+
+shown_at : (s : Serving) (entry : Entry) (k : ℕ) (o : Option Told) → slice_get (tickets_of s) k ≡ o → option_map entry_of o ≡ Some entry → IsShown s entry
+shown_at s entry k None at shows = absurd (none-some entry shows)
+shown_at s entry k (Some ticket) at shows = record { place = k; ticket = ticket; at = at; is = same_Some (entry_of ticket) entry shows }
+
+shown_of : (s : Serving) (entry : Entry) → Contains (known_to s) entry → IsShown s entry
+shown_of s entry known =
+    shown_at s entry known.0 (slice_get (tickets_of s) known.0) refl
+    (sym (slice_get-map entry_of (tickets_of s) known.0)
+    ∙ slice_get-get_or (known_to s) known.0 entry known.1
+    ∙ ap Some known.2)
+
+-- entries of two sessions whose tickets agree
+agree_on : (s t : Serving) → AgreeAll s t → (first second : Entry) → IsShown s first → IsShown t second → first.number ≡ second.number → first.plan ≡ second.plan
+agree_on s t agreed first second one other same =
+    let numbers : one.ticket.number ≡ other.ticket.number =
+    ap (λ (e : Entry). e.number) one.is ∙ same ∙ sym (ap (λ (e : Entry). e.number) other.is) in
+    let plans = agreed one.place one.ticket one.at other.place other.ticket other.at numbers in
+    sym (ap (λ (e : Entry). e.plan) one.is) ∙ plans ∙ ap (λ (e : Entry). e.plan) other.is
+
+sound_of : (s : Serving) → ShowSound s → (entry : Entry) → IsShown s entry → IsSound entry.plan
+sound_of s sound entry shown = subst (λ (e : Entry). IsSound e.plan) shown.is (sound shown.place shown.ticket shown.at)
+
+-- what two sessions know are the entries of one world, if all their tickets agree
+pub fit : (s t : Serving) → AgreeAll s s → AgreeAll s t → AgreeAll t t → ShowSound s → ShowSound t → IsFirst (world_of (known_to s ++ known_to t))
+fit s t ss st tt sound_s sound_t = record {
+  sound = λ entry known. elim (Contains-append_cases (known_to s) (known_to t) entry known) [
+    | inl in_s ↦ sound_of s sound_s entry (shown_of s entry in_s)
+    | inr in_t ↦ sound_of t sound_t entry (shown_of t entry in_t)
+  ];
+  one_plan = λ first second in_first in_second same. elim (Contains-append_cases (known_to s) (known_to t) first in_first) [
+    | inl one_s ↦ elim (Contains-append_cases (known_to s) (known_to t) second in_second) [
+      | inl two_s ↦ agree_on s s ss first second (shown_of s first one_s) (shown_of s second two_s) same
+      | inr two_t ↦ agree_on s t st first second (shown_of s first one_s) (shown_of t second two_t) same
+    ]
+    | inr one_t ↦ elim (Contains-append_cases (known_to s) (known_to t) second in_second) [
+      | inl two_s ↦ sym (agree_on s t st second first (shown_of s second two_s) (shown_of t first one_t) (sym same))
+      | inr two_t ↦ agree_on t t tt first second (shown_of t first one_t) (shown_of t second two_t) same
+    ]
+  ];
+  sessions = λ name. refl;
+}
+
+-- the entries behind an event
+abbrev grown : Bool → Option Entry → List Entry → List Entry
+grown publishes None entries = entries
+grown true (Some entry) entries = entry ∷ entries
+grown false (Some entry) entries = entries
+
+-- what stands first, or behind it
+head_or_rest : (x e : Entry) (es : List Entry) (k : ℕ) → k < length (x ∷ es) → get_or (x ∷ es) k e ≡ e → (x ≡ e) ⊎ Contains es e
+head_or_rest x e es zero within at = inl at
+head_or_rest x e es (suc k) within at = inr (k, omega (arith, within), at)
+
+module _ (entries : List Entry) (one_plan : HasOnePlan entries) where
+  -- the same entries, some perhaps more than once
+  record IsSame (current : List Entry) : Type 0 where
+    all : (e : Entry) → Contains entries e → Contains current e
+    no_others : (e : Entry) → Contains current e → Contains entries e
+
+  -- an event that meets one of the entries is one of the world
+  meets_grown : (publishes : Bool) (met : Option Entry) (current : List Entry) → IsSame current → IfSome met (Contains entries) → MeetsEntries publishes met current (grown publishes met current)
+  meets_grown true None current same among = refl
+  meets_grown false None current same among = refl
+  meets_grown true (Some entry) current same among =
+      (λ other there numbers. one_plan other entry (same.no_others other there) among numbers, refl)
+  meets_grown false (Some entry) current same among = (same.all entry among, refl)
+
+  same_grown : (publishes : Bool) (met : Option Entry) (current : List Entry) → IsSame current → IfSome met (Contains entries) → IsSame (grown publishes met current)
+  same_grown true None current same among = same
+  same_grown false None current same among = same
+  same_grown false (Some entry) current same among = same
+  same_grown true (Some entry) current same among = record {
+    all = λ e there. let h = same.all e there in (suc h.0, omega (arith, h.1), h.2);
+    no_others = λ e there. elim (head_or_rest entry e current there.0 there.1 there.2) [
+      | inl first ↦ subst (Contains entries) first among
+      | inr behind ↦ same.no_others e behind
+    ];
+  }
+
+  -- the run of the world from the entries so far
+  record IsRunFrom (current : List Entry) (old : ℕ → SessionParts Streamed) (events : List Event) (new : ℕ → SessionParts Streamed) : Type 0 where
+    last : World
+    runs : Runs record { entries = current; sessions = old } events last
+    ends : last.sessions ≡ new
+    no_others : (e : Entry) → Contains last.entries e → Contains entries e
+
+  run_from : (events : List Event) (current : List Entry) (old new : ℕ → SessionParts Streamed) → IsSame current → Meet entries old events new → IsRunFrom current old events new
+  run_from [] current old new same meet = record {
+    last = record { entries = current; sessions = old };
+    runs = refl;
+    ends = sym meet;
+    no_others = same.no_others;
+  }
+  run_from (event ∷ events) current old new same meet =
+      let step = meet.1 in
+      let publishes = is_publish event.request in
+      let further = grown publishes step.met current in
+      let next : World = record { entries = further; sessions = meet.0 } in
+      let rest = run_from events further meet.0 new (same_grown publishes step.met current same step.among) meet.2 in
+      let happens : Happens event record { entries = current; sessions = old } next = record {
+        met = step.met;
+        step = step.step;
+        others = step.others;
+        entries = meets_grown publishes step.met current same step.among;
+      } in record {
+        last = rest.last;
+        runs = (next, happens, rest.runs);
+        ends = rest.ends;
+        no_others = rest.no_others;
+      }
+
+-- events that each meet entries of one set are a run of one world
+pub together_law_lem : TogetherLaw
+together_law_lem entries old new events one_plan meet =
+    let run = run_from entries one_plan events entries old new record { all = λ e there. there; no_others = λ e there. there } meet in record {
+      last = run.last;
+      runs = run.runs;
+      ends = run.ends;
+      no_others = run.no_others;
+    }
