@@ -11,6 +11,7 @@
 
 PROGRAMS = litgrep litplan scand
 MEASURES = bench_check bench_lanes bench_scan
+PROBES = plan_probe
 PREFIX = /usr/local
 
 # What a processor of level x86-64-v3 says of itself.
@@ -45,7 +46,7 @@ bin/$(1): $$(call files_of,$(1)) $$(call marks_below,$(1)) bin/.cpu
 	then test ! -f stdout || cmp out/build.stdout stdout; else cat out/build.log >&2; exit 1; fi
 	@cp crates/$(1)/out/$(1) $$@
 endef
-$(foreach program,$(PROGRAMS) $(MEASURES),$(eval $(call program_rule,$(program))))
+$(foreach program,$(PROGRAMS) $(MEASURES) $(PROBES),$(eval $(call program_rule,$(program))))
 
 # The processor level of the last build, so that another one builds anew.
 bin/.cpu: FORCE
@@ -56,7 +57,8 @@ check:
 	rt ci
 	$(MAKE) test
 
-test: all
+# A probe is a program that only the tests ask.
+test: all $(PROBES:%=bin/%)
 	python3 tests/run.py
 
 # A report of the server under load.

@@ -13,6 +13,7 @@ import tempfile
 import listening
 import plain_grep
 import plain_plan
+import plan_files
 import random_cases
 import scan_plans
 import serving
@@ -497,7 +498,7 @@ def refused_growths():
 
 
 PARTS = (greps, options, usages, edges, streams, prompt, own_outputs, plans, scans, random_greps, random_plans)
-PARTS += (refused_growths, transfers.refused_transfers)
+PARTS += (refused_growths, transfers.refused_transfers, *plan_files.PARTS)
 
 
 def main():
