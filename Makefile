@@ -66,8 +66,8 @@ MINUTES = 1
 soak: bin/scand
 	python3 tests/soak.py $(MINUTES)
 
-# The programs that measure; bench/README.md says how they are run.
-bench: $(MEASURES:%=bin/%)
+# The programs that measure, and the probe that is measured; bench/README.md says how they are run.
+bench: $(MEASURES:%=bin/%) $(PROBES:%=bin/%)
 
 # What was built is taken as it is, for whatever processor; what was not is built.
 install: $(filter-out $(wildcard bin/*),$(PROGRAMS:%=bin/%))

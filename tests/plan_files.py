@@ -188,6 +188,11 @@ def random_files(count):
         yield text
 
 
+def shown(text):
+    """A file in hexadecimal, or the front of a worked file that is long."""
+    return text.hex() if len(text) < 100000 else f"{text[:40].hex()}.. of {len(text)} bytes"
+
+
 def told(texts):
     """The lines that the program writes of these files, in one run, and how it ends."""
     with tempfile.TemporaryDirectory() as folder:
@@ -205,14 +210,14 @@ def compared(cases):
     while batch := list(itertools.islice(cases, BATCH)):
         lines, ending = told([text for text, _ in batch])
         for (text, want), line in zip(batch, lines + [None] * len(batch)):
-            yield f"the plan file {text.hex()}", line, want
+            yield f"the plan file {shown(text)}", line, want
         yield "a run of plan_probe", (len(lines), *ending), (len(batch), 0, b"")
 
 
 def worked():
     """The worked files, as both readers read them."""
     for text, want in ROWS:
-        yield f"the plain reader on {text.hex()}", answer(text), want
+        yield f"the plain reader on {shown(text)}", answer(text), want
     yield from compared(ROWS)
     yield "the file in docs/FORMATS.md", documented(), ONE
 
