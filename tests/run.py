@@ -15,15 +15,14 @@ import plain_grep
 import plain_plan
 import plan_files
 import random_cases
+import refusing
 import scan_plans
 import serving
-import transfers
 
 TOP = os.path.dirname(os.path.dirname(os.path.abspath(__file__)))
 LITGREP = os.path.join(TOP, "bin", "litgrep")
 LITPLAN = os.path.join(TOP, "bin", "litplan")
 
-OUT_OF_MEMORY = b"litgrep: out of memory\n"
 UNREADABLE = b"litgrep: (standard input): cannot be read\n"
 NO_PATTERN = b"litgrep: no pattern given\n"
 MISSING = b"litgrep: missing: cannot be read\n"
@@ -385,10 +384,10 @@ def planned_in_folder(files, words, stdin, **how):
 
 
 def scans():
-    """Scans of litplan: rows, random ones, and ones whose workers cannot be started."""
+    """Scans of litplan: rows, random ones, and ones whose workers find no memory."""
     yield from scan_plans.rows(planned_in_folder)
     yield from scan_plans.random_scans(planned_in_folder)
-    yield from scan_plans.refused_workers(planned_in_folder, TOP)
+    yield from scan_plans.workers_without_memory(planned_in_folder)
 
 
 def in_pieces(words, text, size, **how):
@@ -448,57 +447,8 @@ def random_plans():
                 yield f"a check of {text!r:.300} for {literals!r:.100}", got, plain_plan.answer(literals, text)
 
 
-def refused_plans(env, mark):
-    """A plan, a check and a scan, each with each of its growths refused in turn, until none is."""
-    with tempfile.TemporaryDirectory() as folder:
-        with open(os.path.join(folder, "c"), "wb") as file:
-            file.write(THREE)
-        for words in ["plan", "-"], ["check", "-", "c"], ["scan", "--workers", "2", "-", "c"]:
-            how = {"program": LITPLAN, "cwd": folder}
-            whole = run(words, b"horse\ncat\ndog\n", **how)
-            for number in range(1, 1000):
-                how["env"] = dict(env, REFUSED=str(number))
-                got = run(words, b"horse\ncat\ndog\n", **how)
-                if not os.path.exists(mark):
-                    break
-                os.remove(mark)
-                starved = got[0] == 2 and whole[1].startswith(got[1]) and got[2] == REFUSED % 1
-                yield f"litplan {words}, growth {number} refused", got, got if starved else whole
-            yield f"litplan {words}, growths to refuse", (number > 5, *got), (True, *whole)
-
-
-def refused_greps(env, mark):
-    """Some runs of litgrep, each with each of its growths refused in turn, until none is."""
-    files = {"p": b"dog\n", "f": b"cat\nDog\n", "g": b"concat\n"}
-    with tempfile.TemporaryDirectory() as folder:
-        lay_out(folder, files)
-        for words in ["-F", "cat"], ["a", "b"], ["\n" * 4096], [], ["-in", "-f", "p", "-e", "cat", "f", "g"], ["-c", "z", "f", "none"]:
-            stdin = b"cat\ndog\nconcat"
-            whole = run(words, stdin, cwd=folder)
-            for number in range(1, 1000):
-                got = run(words, stdin, cwd=folder, env=dict(env, REFUSED=str(number)))
-                if not os.path.exists(mark):
-                    break
-                os.remove(mark)
-                front = got[2].removesuffix(OUT_OF_MEMORY)
-                starved = got[0] == 2 and whole[1].startswith(got[1]) and front != got[2] and whole[2].startswith(front)
-                yield f"{words!r:.20}, growth {number} refused", got, got if starved else whole
-            yield f"{words!r:.20}, growths to refuse", (number > 5, *got), (True, *whole)
-
-
-def refused_growths():
-    """Runs with each of their growths refused in turn."""
-    with tempfile.TemporaryDirectory() as folder:
-        shim, mark = os.path.join(folder, "shim.so"), os.path.join(folder, "mark")
-        source = os.path.join(TOP, "tests", "refuse_growth.c")
-        subprocess.run(["cc", "-shared", "-fPIC", "-O1", "-o", shim, source], check=True)
-        env = dict(os.environ, LD_PRELOAD=shim, REFUSED_MARK=mark)
-        yield from refused_greps(env, mark)
-        yield from refused_plans(env, mark)
-
-
 PARTS = (greps, options, usages, edges, streams, prompt, own_outputs, plans, scans, random_greps, random_plans)
-PARTS += (refused_growths, transfers.refused_transfers, *plan_files.PARTS)
+PARTS += (refusing.mistakes, refusing.refusals, *plan_files.PARTS)
 
 
 def main():

@@ -1,12 +1,9 @@
-"""Scans of litplan: rows, random lists and texts beside a plain scan, and workers that cannot be started.
+"""Scans of litplan: rows, random lists and texts beside a plain scan, and workers that find no memory.
 
 Each part is given `run_in_folder(files, words, stdin, **how)`, which runs litplan in a folder with these files."""
 
-import os
 import random
 import resource
-import subprocess
-import tempfile
 
 import plain_plan
 
@@ -94,19 +91,10 @@ def random_scans(run_in_folder):
         yield f"{workers} workers for {literals!r:.100} in {text!r:.200}", got, (0, wanted, b"")
 
 
-def refused_workers(run_in_folder, top):
-    """Workers that cannot be started: the output stays."""
+def workers_without_memory(run_in_folder):
+    """Workers that cannot be started for want of memory: the output stays."""
     files = {"p": PRONOUNS, "t": b"ushers" * 1000}
     whole = run_in_folder(files, words_of(1, "p", "t"), b"")
-    with tempfile.TemporaryDirectory() as folder:
-        shim, mark = os.path.join(folder, "shim.so"), os.path.join(folder, "mark")
-        source = os.path.join(top, "tests", "refuse_threads.c")
-        subprocess.run(["cc", "-shared", "-fPIC", "-O1", "-o", shim, source], check=True)
-        for workers in 2, 16:
-            env = dict(os.environ, LD_PRELOAD=shim, REFUSED_MARK=mark)
-            got = run_in_folder(files, words_of(workers, "p", "t"), b"", env=env)
-            yield f"{workers} workers, none of whom starts", (os.path.exists(mark), *got), (True, *whole)
-            os.remove(mark)
     for mebibytes in 16, 24, 32, 64, 128:
         most = mebibytes << 20
         how = {"preexec_fn": lambda most=most: resource.setrlimit(resource.RLIMIT_AS, (most, most))}

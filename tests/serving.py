@@ -284,61 +284,6 @@ def faults():
             yield f"a file that takes {most} bytes", (status, out.read()), want
 
 
-MIXED = (
-    FIRST_THREE + SHOW_PLAN_7 + publish([b"He", b"she", b"HE"], True) + open_stream(1, 1) + feed(1, b"usHE" * 2000) + publish([])
-    + CLOSE_7 + OPEN_7 + feed(7, b"cat" * 100) + publish(session_cases.PAIRS[:40])
-)
-
-
-def shimmed(source, folder):
-    """An environment in which a file of C in this folder changes the calls of a program."""
-    shim = os.path.join(folder, "shim.so")
-    subprocess.run(["cc", "-shared", "-fPIC", "-O1", "-o", shim, os.path.join(TOP, "tests", source)], check=True)
-    return dict(os.environ, LD_PRELOAD=shim)
-
-
-def is_front(replies, whole):
-    """Whether these are the first of all replies, none of them cut."""
-    return whole.startswith(replies) and not replies_of(replies)[1]
-
-
-def refused_growths():
-    """A session with each of its growths refused in turn, until none is: all replies, where it went on with another
-    growth, or the replies so far and no word of it."""
-    whole, starved = outcome(MIXED), 0
-    with tempfile.TemporaryDirectory() as folder:
-        mark = os.path.join(folder, "mark")
-        env = dict(shimmed("refuse_growth.c", folder), REFUSED_MARK=mark)
-        for number in range(1, 2000):
-            got = in_pieces(MIXED, [50] * 10, env=dict(env, REFUSED=str(number)))
-            if not os.path.exists(mark):
-                break
-            os.remove(mark)
-            starved += got[0] != 0
-            want = (1, got[1], b"") if got[0] == 1 and is_front(got[1], whole[1]) else whole
-            yield f"growth {number} refused", got, want if got[0] != 2 else (2, b"", b"scand: out of memory\n")
-        yield "growths to refuse", (starved > 10, *got), (True, *whole)
-
-
-def refused_transfers():
-    """A session with each of its reads and writes refused in turn, and one with transfers of single bytes."""
-    whole = outcome(MIXED)
-    with tempfile.TemporaryDirectory() as folder:
-        mark = os.path.join(folder, "mark")
-        env = dict(shimmed("refuse_transfer.c", folder), SPOILED_MARK=mark)
-        for call, enough in ("read", 30), ("write", 4), ("take", 4):
-            for number in range(1, 2000):
-                got = in_pieces(MIXED, [7] * 30, env=dict(env, SPOILED=f"{call}-{number}"))
-                if not os.path.exists(mark):
-                    break
-                os.remove(mark)
-                read = b"".join(list(pieces_of(MIXED, [7] * 30))[: number - 1])
-                front = got[1] if is_front(got[1], whole[1]) else whole[1]
-                yield f"{call} {number} refused", got, (1, outcome(read)[1] if call == "read" else front, b"")
-            yield f"calls of {call} to refuse", (number > enough, *got), (True, *whole)
-        yield "transfers of one byte", served(MIXED, env=dict(env, SPOILED="short-0")), whole
-
-
 def random_serving():
     """Random sessions in random pieces, beside the model."""
     cases = []
@@ -348,4 +293,4 @@ def random_serving():
     yield from side_by_side(cases)
 
 
-PARTS = (words, model, rows, cuts, waits, halves, costliest, faults, refused_growths, refused_transfers, random_serving)
+PARTS = (words, model, rows, cuts, waits, halves, costliest, faults, random_serving)

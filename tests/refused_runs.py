@@ -1,0 +1,288 @@
+"""The runs of refusing.py: for each how it ends, also where its sources end in faults, and what is allowed where
+memory runs out or a write fails."""
+
+import functools
+import os
+from typing import Callable, NamedTuple
+
+import plain_grep
+import plain_plan
+import scan_plans
+import session_cases
+from sessions import conversation, feed, open_stream, publish, replies_of, requests_of
+
+TOP = os.path.dirname(os.path.dirname(os.path.abspath(__file__)))
+
+
+class Ending(NamedTuple):
+    """How a run ended: its status, both texts, and what the files hold that it makes, None where there is none."""
+
+    status: int
+    output: bytes
+    messages: bytes = b""
+    made: tuple = ()
+
+
+class Run(NamedTuple):
+    """A run of a program over FILES. `answer` tells how it ends where some of its sources end in faults, by their
+    names and how many bytes come before; `sources` are those that are there, in the order of reading, with their
+    sizes. `is_starved` and `is_unwritten` say, of the ending as none is refused and another one, whether this is right
+    for want of memory, and for a write that failed. `made` names the files that it makes."""
+
+    words: list
+    answer: Callable
+    sources: dict
+    is_starved: Callable
+    is_unwritten: Callable
+    stdin: bytes = b""
+    made: tuple = ()
+    has_threads: bool = False
+
+
+def is_front(part, whole):
+    """Whether what was written is a front of what was to be written; None is no file."""
+    return part is None or (whole is not None and whole.startswith(part))
+
+
+def are_fronts(got, whole):
+    """Whether output, messages and made files are fronts."""
+    return all(map(is_front, (got.output, got.messages, *got.made), (whole.output, whole.messages, *whole.made)))
+
+
+def stops_with(message, status=2):
+    """Whether an ending has this status, and of the run's own texts and files fronts, and then this message."""
+
+    def is_so(whole, got):
+        own = got._replace(messages=got.messages.removesuffix(message))
+        return got.status == status and got.messages.endswith(message) and are_fronts(own, whole)
+
+    return is_so
+
+
+def program(name):
+    return os.path.join(TOP, "bin", name)
+
+
+# litgrep.
+
+FILES = {
+    "p": b"dog\nCat\n",
+    "f": b"a cat\nno\nDog\n\ncatalog",
+    "g": b"x\nconcat\nhot dog\n",
+    "w": b"horse\ncat\ndog\n",
+    "e": b"\n",
+    "t": b"ushers and a cat, a dog, a horse; cat",
+    "long": b"a cat\n" + b"x" * 150000 + b"cat\nno\nlast cat",
+    "many": b"a" * 3000,
+}
+
+
+def shown(name):
+    """What litgrep calls an input."""
+    return b"(standard input)" if name == "-" else name.encode()
+
+
+def unreadable(name):
+    return b"litgrep: %s: cannot be read\n" % shown(name)
+
+
+class Search(NamedTuple):
+    """What litgrep is asked: flags, pattern lists, pattern files, inputs, of which one may be missing."""
+
+    flags: str = ""
+    lists: tuple = ()
+    files: tuple = ()
+    inputs: tuple = ("-",)
+    stdin: bytes = b""
+
+    def text(self, name):
+        return self.stdin if name == "-" else FILES.get(name)
+
+    def words(self):
+        flags = ["-" + flag for flag in self.flags]
+        lists = [word for text in self.lists for word in ("-e", text)]
+        files = [word for name in self.files for word in ("-f", name)]
+        return [program("litgrep"), *flags, *lists, *files, *(self.inputs if self.inputs != ("-",) else ())]
+
+    def answer(self, faults):
+        """How it ends where these files and inputs end in faults after so many bytes: no line counts that no newline
+        ended before."""
+        ended = {name: self.text(name).rfind(b"\n", 0, most) + 1 for name, most in faults.items()}
+        return self.ending(tuple(ended.items()))
+
+    @functools.lru_cache(1000)
+    def ending(self, cuts):
+        """The same by plain matching, where these are cut to so many bytes."""
+        cuts = dict(cuts)
+        patterns = [pattern.encode() for text in self.lists for pattern in text.split("\n")]
+        for name in self.files:
+            if name in cuts:
+                return Ending(2, b"", unreadable(name))
+            patterns += plain_grep.lines_of(self.text(name))
+        output, messages, is_found, is_trouble = b"", b"", False, False
+        for name in self.inputs:
+            text = self.text(name)
+            lines = plain_grep.selected((text or b"")[: cuts.get(name)], patterns, self.flags)
+            output += b"" if text is None else self.block(name, lines)
+            is_found |= bool(lines)
+            if text is None or (name in cuts and not (lines and set("ql") & set(self.flags))):
+                messages += b"" if "s" in self.flags else unreadable(name)
+                is_trouble = True
+            if "q" in self.flags and is_found:
+                return Ending(0, b"", messages)
+        return Ending(2 if is_trouble else int(not is_found), output, messages)
+
+    def block(self, name, lines):
+        """What is written of an input and its selected lines."""
+        front = shown(name) + b":" if len(self.inputs) > 1 else b""
+        if "q" in self.flags:
+            return b""
+        if "l" in self.flags:
+            return shown(name) + b"\n" if lines else b""
+        if "c" in self.flags:
+            return front + b"%d\n" % len(lines)
+        numbered = "n" in self.flags
+        return b"".join(front + (b"%d:" % number if numbered else b"") + line + b"\n" for number, line in lines)
+
+    def run(self):
+        sources = {name: len(self.text(name)) for name in (*self.files, *self.inputs) if self.text(name) is not None}
+        starved, unwritten = stops_with(b"litgrep: out of memory\n"), stops_with(b"")
+        return Run(self.words(), self.answer, sources, starved, unwritten, self.stdin)
+
+
+MANY_WORDS = [f"word{number}" for number in range(60)] + ["dog"]
+THREE_LINES = b"cat\ndog\nconcat"
+SEARCHES = [
+    Search("n", ("cat",), stdin=THREE_LINES),
+    Search("", ("cat\ndog",), stdin=THREE_LINES),
+    Search("c", ("cat",), inputs=("f", "-", "g"), stdin=THREE_LINES),
+    Search("l", ("dog",), inputs=("f", "g", "-"), stdin=THREE_LINES),
+    Search("q", ("cat",), inputs=("none", "g", "f")),
+    Search("vn", ("cat",), ("p",), ("f", "g")),
+    Search("i", (), ("p",), ("f", "none", "g")),
+    Search("xi", ("dog", "CAT"), (), ("f", "-"), THREE_LINES),
+    Search("s", ("o",), (), ("none", "g")),
+    Search("cv", ("",), (), ("f", "none")),
+    Search("n", ("cat", "dog"), (), ("long", "g")),
+    Search("c", ("\n".join(MANY_WORDS),), inputs=("t",)),
+]
+
+# litplan.
+
+
+def planned(words, names, output, stdin=b"", status=0, messages=b"", **more):
+    """A run of litplan that reads these files, and answers so."""
+
+    def answer(faults):
+        for name in names:
+            if name in faults:
+                return Ending(2, b"", f"litplan: {name}: cannot be used\n".encode())
+        return Ending(status, output, messages)
+
+    sources = {name: len(stdin if name == "-" else FILES[name]) for name in names}
+    starved, unwritten = stops_with(b"litplan: refused (1)\n"), stops_with(b"litplan: refused (18)\n")
+    return Run([program("litplan"), *words], answer, sources, starved, unwritten, stdin, **more)
+
+
+WORDS = plain_plan.literals_of(FILES["w"].split(), False)
+FILES["c"] = plain_plan.spelled(plain_plan.plan_of(WORDS))
+FILES["d"] = FILES["c"].replace(b"4 934", b"4 935")
+HITS = scan_plans.plain_scan(WORDS, FILES["t"], False)
+COUNT = b"%d\n" % HITS.count(b"\n")
+A_FOUND = b"".join(b"0 %d\n" % end for end in range(1, 3001))
+MANY = "\n".join(MANY_WORDS).encode()
+MANY_PLANNED = plain_plan.spelled(plain_plan.plan_of(plain_plan.literals_of(MANY.split(), False)))
+PLANS = [
+    planned(["plan", "-"], ["-"], FILES["c"], FILES["w"]),
+    planned(["plan", "-i", "w"], ["w"], FILES["c"]),
+    planned(["plan", "-"], ["-"], MANY_PLANNED, MANY),
+    planned(["check", "-", "c"], ["-", "c"], b"optimal 934\n", FILES["w"]),
+    planned(["plan", "e"], ["e"], b"", status=2, messages=b"litplan: refused (5)\n"),
+    planned(["check", "w", "d"], ["w", "d"], b"not certified: end row 4 0\n", status=1),
+    planned(["scan", "--workers", "1", "w", "-"], ["w", "-"], HITS, FILES["t"]),
+    planned(["scan", "--workers", "4", "w", "-"], ["w", "-"], HITS, FILES["t"], has_threads=True),
+    planned(["scan", "--workers", "4", "-", "many"], ["-", "many"], A_FOUND, b"a\n", has_threads=True),
+    planned(["scan", "--count", "--workers", "1", "-", "t"], ["-", "t"], COUNT, FILES["w"]),
+    planned(["scan", "--count", "--workers", "16", "-", "t"], ["-", "t"], COUNT, FILES["w"], has_threads=True),
+]
+
+# scand.
+
+
+def is_unserved(whole, got):
+    """Whether memory ran out: before serving, with a message, or at some request, with the replies so far."""
+    if got.status == 2:
+        return got == Ending(2, b"", b"scand: out of memory\n")
+    return got.status == 1 and are_fronts(got, whole) and not got.messages and not replies_of(got.output)[1]
+
+
+def served(text):
+    """A run of scand over standard input and output."""
+
+    @functools.lru_cache
+    def replies_to(size):
+        return b"".join(conversation(text[:size])[0])
+
+    def answer(faults):
+        front = text[: faults.get("-", len(text))]
+        _, size, ending = requests_of(front)
+        is_clean = ending == "clean" and "-" not in faults
+        return Ending(int(not is_clean), replies_to(size if ending in ("clean", "truncated") else len(front)))
+
+    return Run([program("scand"), "--stdio"], answer, {"-": len(text)}, is_unserved, stops_with(b"", 1), text)
+
+
+MIXED = (
+    session_cases.FIRST_THREE + session_cases.SHOW_PLAN_7 + publish([b"He", b"she", b"HE"], True) + open_stream(1, 1)
+    + feed(1, b"usHE" * 20) + publish([]) + session_cases.CLOSE_7 + session_cases.OPEN_7 + feed(7, b"cat" * 10)
+    + publish(session_cases.PAIRS[:40])
+)
+MANY_HITS = publish([b"a", b"aa"]) + open_stream(1, 0) + feed(1, b"a" * 5000) + feed(1, b"xa")
+BAD = session_cases.FIRST_THREE + b"\0\0\0\4"
+SESSIONS = [served(text) for text in (session_cases.FIRST_THREE, BAD, MIXED, MANY_HITS)]
+
+# Words that ask for no run.
+
+
+def told(name, words, message, starved):
+    """A run that only tells something of words."""
+    ending = Ending(2, b"", message)
+    return Run([program(name), *words], lambda faults: ending, {}, stops_with(starved), stops_with(b""))
+
+
+TOLD = [
+    told("litgrep", [], b"litgrep: no pattern given\n", b"litgrep: out of memory\n"),
+    told("litgrep", ["--version"], b"litgrep 0.1.0\n", b"litgrep: out of memory\n"),
+    told("litplan", ["plan", "none"], b"litplan: none: cannot be used\n", b"litplan: refused (1)\n"),
+    told("litplan", ["--version"], b"litplan 0.1.0\n", b"litplan: refused (1)\n"),
+    told("scand", [], b"scand: --stdio or --port and --connections are needed\n", b"scand: out of memory\n"),
+    told("scand", ["--version"], b"scand 0.1.0\n", b"scand: out of memory\n"),
+]
+
+RUNS = [*(search.run() for search in SEARCHES), *PLANS, *SESSIONS, *TOLD]
+
+# A run, what it is refused, and how it ends.
+CAT, PLAN, SERVED = RUNS[0], PLANS[0], SESSIONS[0]
+NO_MEMORY = {"litgrep": b"litgrep: out of memory\n", "litplan": b"litplan: refused (1)\n", "scand": b"scand: out of memory\n"}
+ROWS = [
+    *((run, f"growth-1{behind}", Ending(2, b"", NO_MEMORY[os.path.basename(run.words[0])])) for run in RUNS for behind in ("", "-on")),
+    (CAT, "cut-3", Ending(0, b"1:cat\n3:concat\n")),
+    (CAT, "short-3", Ending(0, b"1:cat\n3:concat\n")),
+    (CAT, "room-3", Ending(2, b"1:c")),
+    (CAT, "given-9", Ending(2, b"1:cat\n", b"litgrep: (standard input): cannot be read\n")),
+    (PLAN, "room-12", Ending(2, b"litcert 1\nli", b"litplan: refused (18)\n")),
+    (PLAN, "given-13", Ending(2, b"", b"litplan: -: cannot be used\n")),
+    (SERVED, "room-20", Ending(1, session_cases.THEIR_REPLIES[:20])),
+    (SERVED, "given-22", Ending(1, session_cases.PUBLISHED_0)),
+]
+
+
+def copied(program, mistake, text=b"what is copied, in four pieces."):
+    """A run of mistaken.c, which stops as litplan does, and copies as it reads."""
+
+    def answer(faults):
+        if "-" in faults:
+            return Ending(2, text[: faults["-"]], b"litplan: -: cannot be used\n")
+        return Ending(0, text)
+
+    return planned([], ["-"], text, text)._replace(words=[program, mistake], answer=answer)
