@@ -7,7 +7,8 @@
 #   make test               the programs' tests alone
 #   make soak MINUTES=..    the scan server under load, hostile connections among it, for some minutes
 #   make bench              the programs that measure, in bin/
-#   make install PREFIX=..  copies what was built into PREFIX/bin, the manual into PREFIX/share/man
+#   make install PREFIX=..  copies what was built into PREFIX/bin, manuals and completions into PREFIX/share
+#   make uninstall ..       removes these files again
 
 PROGRAMS = litgrep litplan scand
 MEASURES = bench_check bench_lanes bench_scan
@@ -69,17 +70,32 @@ soak: bin/scand
 # The programs that measure, and the probe that is measured; bench/README.md says how they are run.
 bench: $(MEASURES:%=bin/%) $(PROBES:%=bin/%)
 
-# What was built is taken as it is, for whatever processor; what was not is built.
+# What is installed: files, each with its folder below PREFIX behind a colon.
+BINARIES = $(PROGRAMS:%=bin/%:bin)
+TEXTS = $(foreach page,$(wildcard man/*.[1-8]),$(page):share/man/man$(patsubst .%,%,$(suffix $(page)))) \
+	$(patsubst %,%:share/bash-completion/completions,$(wildcard completions/bash/*)) \
+	$(patsubst %,%:share/zsh/site-functions,$(wildcard completions/zsh/*)) \
+	$(patsubst %,%:share/fish/vendor_completions.d,$(wildcard completions/fish/*))
+
+file_of = $(firstword $(subst :, ,$(1)))
+target_of = '$(DESTDIR)$(PREFIX)/$(lastword $(subst :, ,$(1)))/$(notdir $(file_of))'
+define put
+install -D $(2) $(file_of) $(target_of)
+
+endef
+
+# What was built is taken as it is, for whatever processor, without its symbols; what was not is built.
 install: $(filter-out $(wildcard bin/*),$(PROGRAMS:%=bin/%))
-	install -d '$(DESTDIR)$(PREFIX)/bin'
-	install -m 755 $(PROGRAMS:%=bin/%) '$(DESTDIR)$(PREFIX)/bin'
-	install -d '$(DESTDIR)$(PREFIX)/share/man/man1'
-	install -m 644 man/litgrep.1 '$(DESTDIR)$(PREFIX)/share/man/man1'
+	$(foreach binary,$(BINARIES),$(call put,$(binary),-s -m 755))
+	$(foreach text,$(TEXTS),$(call put,$(text),-m 644))
+
+uninstall:
+	rm -f $(foreach installed,$(BINARIES) $(TEXTS),$(call target_of,$(installed)))
 
 clean:
 	rm -rf bin crates/*/out
 
 FORCE:
 
-.PHONY: all check test soak bench install clean FORCE
+.PHONY: all check test soak bench install uninstall clean FORCE
 .DELETE_ON_ERROR:

@@ -1,0 +1,15 @@
+# Completion of litgrep's words, for fish.
+
+complete -c litgrep -s F -l fixed-strings -d 'Patterns are literals, as they always are here'
+complete -c litgrep -s c -l count -d 'Write only the number of selected lines of each file'
+complete -c litgrep -s e -l regexp -x -d 'Use the patterns of a list, separated by newlines'
+complete -c litgrep -s f -l file -r -F -d 'Use the lines of a file as patterns'
+complete -c litgrep -s i -l ignore-case -d 'Ignore the difference between A to Z and a to z'
+complete -c litgrep -s l -l files-with-matches -d 'Write only the names of files with a selected line'
+complete -c litgrep -s n -l line-number -d 'Write before each line its number in its file'
+complete -c litgrep -s q -l quiet -d 'Write nothing, and end at the first selected line'
+complete -c litgrep -s s -l no-messages -d 'No message on a file to search that cannot be read'
+complete -c litgrep -s v -l invert-match -d 'Select the lines that match no pattern'
+complete -c litgrep -s x -l line-regexp -d 'Let a pattern match whole lines only'
+complete -c litgrep -l help -d 'Write a description, to standard error'
+complete -c litgrep -l version -d 'Write the version, to standard error'

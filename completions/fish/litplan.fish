@@ -1,0 +1,15 @@
+# Completion of litplan's words, for fish.
+
+complete -c litplan -n __fish_use_subcommand -f
+complete -c litplan -n __fish_use_subcommand -s h -l help -d 'Write a description, to standard error'
+complete -c litplan -n __fish_use_subcommand -s V -l version -d 'Write the version, to standard error'
+complete -c litplan -n __fish_use_subcommand -a plan -d 'Print the certificate of the cheapest grouping'
+complete -c litplan -n __fish_use_subcommand -a check -d 'Check a certificate'
+complete -c litplan -n __fish_use_subcommand -a scan -d 'Find the patterns in an input'
+complete -c litplan -n __fish_use_subcommand -a help -d 'Describe a command'
+
+complete -c litplan -n '__fish_seen_subcommand_from plan check scan' -s i -l ignore-case -d 'Patterns that differ in case are one'
+complete -c litplan -n '__fish_seen_subcommand_from plan check scan' -s h -l help -d 'Write a description, to standard error'
+complete -c litplan -n '__fish_seen_subcommand_from scan' -l count -d 'Print only the number of hits'
+complete -c litplan -n '__fish_seen_subcommand_from scan' -l workers -x -a '(seq 16)' -d 'How many workers share the input'
+complete -c litplan -n '__fish_seen_subcommand_from help' -f -a 'plan check scan'
