@@ -1,72 +1,142 @@
 #!/usr/bin/env python3
-"""Measures `litplan scan --count` with 1, 2 and 4 workers, in turns, on three kinds of text.
+"""Measures scans by several workers, in turns, on three kinds of text.
 
-    python3 bench/workers.py [--size MB] [--turns N] [--litplan PATH]
+    python3 bench/workers.py [--size MB] [--turns N] [--rare] [--write]
 
-For each text and list it prints the median time on the clock with one worker in milliseconds, reading included, the time
-with more workers over it, and their processor time over that of one. The numbers of hits are compared.
+First the scan in memory (bin/bench_scan) by 1, 2 and 4 workers beside the scan by one, and Hyperscan in one process and
+in four at once, each over a quarter of the text. Then `litplan scan --count` as a command, reading and planning included,
+beside reading the text alone and beside ripgrep in four processes over the quarters. The quarters are cut at newlines,
+so no literal is cut. Hits are compared. With --rare only lists that hardly occur are taken; with --write the tables are
+added to bench/WORKERS.md.
 """
 import argparse
 import os
-import resource
 import statistics
 import subprocess
 import sys
 import tempfile
 import time
 
-from programs import HERE, MB, english_block, log_block, make_texts
-from scanning import make_lists
+from programs import HERE, MB, english_block, log_block, machine, make_texts
+from scanning import PEERS, make_lists
 
-WORKERS = (1, 2, 4)
-
-
-def timed(litplan, patterns, text, workers):
-    """The time on the clock, the processor time, and the number of hits."""
-    words = [litplan, "scan", "--count", "--workers", str(workers), patterns, text]
-    before, start = used_by_children(), time.perf_counter()
-    hits = subprocess.run(words, stdout=subprocess.PIPE, check=True).stdout
-    return time.perf_counter() - start, used_by_children() - before, hits
+BIN = os.path.join(HERE, "../bin")
+QUARTERS = 4
+MEMORY_HEAD = ("| text and list | hits | one, GB/s | 2 / 1 | 4 / 1 | Hyperscan, one process, GB/s | four processes / one "
+               "| 4 workers / four Hyperscans |\n|---|---|---|---|---|---|---|---|")
+COMMAND_HEAD = ("| text and list | 1 worker, ms | 4 / 1 | reading alone, ms | ripgrep in four processes, ms |\n"
+                "|---|---|---|---|---|")
 
 
-def used_by_children():
-    """The processor time of the programs that have ended, in seconds."""
-    used = resource.getrusage(resource.RUSAGE_CHILDREN)
-    return used.ru_utime + used.ru_stime
+def quarters_of(path):
+    """The text in four files, cut at newlines."""
+    size, names = os.path.getsize(path), []
+    with open(path, "rb") as text:
+        ends = []
+        for number in range(1, QUARTERS):
+            text.seek(size * number // QUARTERS)
+            text.readline()
+            ends.append(text.tell())
+        for number, (start, end) in enumerate(zip([0, *ends], [*ends, size])):
+            names.append(f"{path}.{number}")
+            text.seek(start)
+            with open(names[-1], "wb") as part:
+                while start < end:
+                    start += part.write(text.read(min(MB, end - start)))
+    return names
 
 
-def rows(folder):
+def clock(commands):
+    """The seconds until all of these commands, begun at once, have ended, and what each printed."""
+    start = time.perf_counter()
+    running = [subprocess.Popen(command, stdout=subprocess.PIPE) for command in commands]
+    printed = [program.communicate()[0] for program in running]
+    return time.perf_counter() - start, printed
+
+
+def scan_seconds(commands):
+    """The longest scan of these commands, begun at once, by their own clocks, and how many hits they found together."""
+    answers = [line.split() for line in clock(commands)[1]]
+    return max(float(seconds) for seconds, _ in answers), sum(int(hits) for _, hits in answers)
+
+
+def medians(turns, takes):
+    """The median seconds of each of these, taken in turns, and the different answers they gave."""
+    found = {name: [] for name in takes}
+    for _ in range(turns):
+        for name, take in takes.items():
+            found[name].append(take())
+    return ({name: statistics.median(seconds for seconds, _ in runs) for name, runs in found.items()},
+            {answer for runs in found.values() for _, answer in runs if answer is not None})
+
+
+def in_memory(text, quarters, patterns, turns):
+    """Seconds of the scan in memory by one call, by 2 and 4 workers, and of Hyperscan in one process and in four."""
+    def ours(mode):
+        return lambda: scan_seconds([[os.path.join(BIN, "bench_scan"), text, patterns, mode, "3"]])
+
+    def theirs(files):
+        return lambda: scan_seconds([[os.path.join(PEERS, "hyperscan"), name, patterns, "block", "3"] for name in files])
+
+    return medians(turns, {"all": ours("all"), 2: ours("2"), 4: ours("4"), "one": theirs([text]), "four": theirs(quarters)})
+
+
+def as_command(text, quarters, patterns, turns):
+    """Seconds of `litplan scan --count` by 1 and 4 workers, of reading alone, and of ripgrep in four processes."""
+    def counted(workers):
+        def take():
+            seconds, printed = clock([[os.path.join(BIN, "litplan"), "scan", "--count", "--workers", str(workers), patterns, text]])
+            return seconds, int(printed[0])
+        return take
+
+    def quiet(commands):
+        return lambda: (clock(commands)[0], None)
+
+    return medians(turns, {
+        1: counted(1), 4: counted(4), "read": quiet([["dd", "if=" + text, "of=/dev/null", "bs=64k", "status=none"]]),
+        "ripgrep": quiet([["rg", "-a", "-c", "-F", "-f", patterns, name] for name in quarters])})
+
+
+def rows(folder, only_rare):
     samples = {"log": log_block(0, MB), "english": english_block(0, MB)}
     lists = make_lists(folder, samples)
     for name in samples:
-        for kind in "rare", name:
-            for count in (10, 100, 1000):
-                shown = "%s, %d %s" % (name, count, "rare" if kind == "rare" else "frequent")
-                yield shown, lists[kind, count], os.path.join(folder, name)
-    yield "random bytes, 1000", lists["bytes", 1000], os.path.join(folder, "random")
+        for kind in ("rare",) if only_rare else ("rare", name):
+            for count in (1, 10, 100, 1000):
+                yield f"{name}, {count} {'rare' if kind == 'rare' else 'frequent'}", lists[kind, count], name
+    if not only_rare:
+        yield "random bytes, 1000", lists["bytes", 1000], "random"
 
 
 def main():
     parser = argparse.ArgumentParser(description=__doc__, formatter_class=argparse.RawDescriptionHelpFormatter)
     parser.add_argument("--size", type=int, default=64, help="megabytes of each text")
-    parser.add_argument("--turns", type=int, default=5)
-    parser.add_argument("--litplan", default=os.path.join(HERE, "../bin/litplan"))
+    parser.add_argument("--turns", type=int, default=3)
+    parser.add_argument("--rare", action="store_true")
+    parser.add_argument("--write", action="store_true")
     options = parser.parse_args()
-    wrong = 0
-    print("| text and list | 1 worker, ms | 2 / 1 | 4 / 1 | processor time, 4 / 1 |\n|---|---|---|---|---|")
+    memory, command, wrong = [MEMORY_HEAD], [COMMAND_HEAD], 0
     with tempfile.TemporaryDirectory(prefix="workers-") as folder:
         make_texts(folder, options.size * MB)
-        for name, patterns, text in rows(folder):
-            runs = {workers: [] for workers in WORKERS}
-            for _ in range(options.turns):
-                for workers in WORKERS:
-                    runs[workers].append(timed(options.litplan, patterns, text, workers))
-            wrong += len({hits for found in runs.values() for _, _, hits in found}) > 1
-            clock, used = ({w: statistics.median(run[k] for run in runs[w]) for w in WORKERS} for k in (0, 1))
-            print("| %s | %.0f | %.2f | %.2f | %.2f |" % (
-                name, clock[1] * 1000, clock[2] / clock[1], clock[4] / clock[1], used[4] / used[1]), flush=True)
+        quarters = {name: quarters_of(os.path.join(folder, name)) for name in ("log", "english", "random")}
+        for shown, patterns, name in rows(folder, options.rare):
+            text = os.path.join(folder, name)
+            took, hits = in_memory(text, quarters[name], patterns, options.turns)
+            gigabytes = os.path.getsize(text) / 1e9
+            memory.append(f"| {shown} | {' '.join(map(str, hits))} | {gigabytes / took['all']:.2f} | {took[2] / took['all']:.2f} | "
+                          f"{took[4] / took['all']:.2f} | {gigabytes / took['one']:.2f} | {took['four'] / took['one']:.2f} | "
+                          f"{took['four'] / took[4]:.2f} |")
+            print(memory[-1], flush=True)
+            took, counted = as_command(text, quarters[name], patterns, options.turns)
+            command.append(f"| {shown} | {took[1] * 1000:.0f} | {took[4] / took[1]:.2f} | {took['read'] * 1000:.0f} | "
+                           f"{took['ripgrep'] * 1000:.0f} |")
+            print(command[-1], flush=True)
+            wrong += hits != counted or len(hits) > 1
+    if options.write:
+        with open(os.path.join(HERE, "WORKERS.md"), "a") as out:
+            print(f"\n## {options.size} MB\n\n{machine(options.size)}\n", *memory, "", *command, sep="\n", file=out)
     if wrong:
-        print("other numbers of hits: %d" % wrong)
+        print("rows with other numbers of hits: %d" % wrong)
     return 1 if wrong else 0
 
 

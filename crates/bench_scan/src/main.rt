@@ -1,14 +1,16 @@
-//! How long a scan takes: `bench_scan TEXT LITERALS all|stream TURNS` reads both files and prints the
-//! median seconds of a scan and the number of hits. It prints nothing without arguments;
-//! `bench/README.md` says what it is measured beside.
+//! How long a scan takes: `bench_scan TEXT LITERALS all|stream|WORKERS TURNS` reads both files and
+//! prints the median seconds of a scan and the number of hits. A number of workers from 1 to 16 share
+//! the text. It prints nothing without arguments; `bench/README.md` says what it is measured beside.
 #![tactic(auto)]
 
-use anyhow::{Result, bail, ensure};
+use anyhow::{Result, ensure};
 use flow_scan::{Compiled, Hit, Scanner, scan_all};
 use list_plan::compile;
 use lit_base::{Fold, LitList, RawList};
+use par_scan::{MAX_WORKERS, NoGate, scan_parts};
 use std::alloc::Global;
 use std::rt::{Clock, Files};
+use std::thread::Threads;
 use std::time::Instant;
 use std::{env, fs};
 
@@ -22,6 +24,8 @@ enum Mode {
     Whole,
     /// As a stream, in pieces.
     Pieces,
+    /// By so many workers, each of which scans a part.
+    Parts(usize),
 }
 
 fn main(rt: HostRuntime) -> Result<()> {
@@ -32,7 +36,7 @@ fn main(rt: HostRuntime) -> Result<()> {
     let mode = match mode.as_str() {
         "all" => Mode::Whole,
         "stream" => Mode::Pieces,
-        _ => bail!("all or stream"),
+        workers => Mode::Parts(workers.parse::<usize>()?),
     };
     let text = fs::read(&rt, text.as_str())?;
     let compiled = compiled_of(rt.alloc(), fs::read(&rt, literals.as_str())?.as_slice())?;
@@ -53,7 +57,7 @@ fn compiled_of(alloc: Global, file: &[u8]) -> Result<Compiled> {
     Ok(compile(alloc, list)?)
 }
 
-fn measure<R: Clock + Print + AllocGlobal>(
+fn measure<R: Clock + Print + AllocGlobal + Threads + Sync>(
     rt: &R,
     compiled: &Compiled,
     text: &[u8],
@@ -65,7 +69,7 @@ fn measure<R: Clock + Print + AllocGlobal>(
     let mut hits = 0;
     for _ in 0..turns {
         let start = Instant::now(rt)?;
-        hits = scan(rt.alloc(), compiled, text, mode)?;
+        hits = scan(rt, rt.alloc(), compiled, text, mode)?;
         times.push(start.elapsed(rt)?.as_nanos())?;
     }
     times.sort()?;
@@ -76,10 +80,20 @@ fn measure<R: Clock + Print + AllocGlobal>(
 }
 
 /// How many hits a text has.
-fn scan(alloc: Global, compiled: &Compiled, text: &[u8], mode: Mode) -> Result<usize> {
+fn scan<R: Threads + Sync>(
+    rt: &R,
+    alloc: Global,
+    compiled: &Compiled,
+    text: &[u8],
+    mode: Mode,
+) -> Result<usize> {
     match mode {
         Mode::Whole => Ok(scan_all(alloc, compiled, text)?.len()),
         Mode::Pieces => scan_pieces(alloc, compiled, text),
+        Mode::Parts(workers) => {
+            ensure!((1..=MAX_WORKERS).contains(&workers), "1 to 16 workers");
+            Ok(scan_parts(rt, alloc, &NoGate, compiled, text, workers)?.len())
+        }
     }
 }
 
