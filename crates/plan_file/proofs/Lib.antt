@@ -1,7 +1,6 @@
 pub mod FieldLemmas
 pub mod LoopLemmas
 pub mod LiteralLemmas
-pub mod NormalLemmas
 pub mod PlanLemmas
 pub mod StreamLemmas
 pub mod PlaceLemmas

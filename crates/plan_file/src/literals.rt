@@ -11,7 +11,7 @@ ghost use Rattle.plan_file.specs.Reading.{folded_len as folded_len_of, list_at, 
 use crate::fault::{Cause, Stop, stop_at};
 use crate::fields::{first_byte, first_bytes, first_u16};
 use lit_base::{
-    Fold, LitList, MAX_LIST_LEN, MAX_LITERAL_LEN, MAX_LITERALS, RawList, fold_byte, normal_form_law,
+    Fold, LitList, MAX_LIST_LEN, MAX_LITERAL_LEN, MAX_LITERALS, RawList, fold_byte,
 };
 use std::alloc::Global;
 
@@ -109,16 +109,12 @@ fn literals_of(
 }
 
 /// The list of literals that are in normal form already.
-fn list_of(alloc: Global, fold: Fold, literals: &RawList) -> Result<LitList, Stop>
-    requires { IsNormal (record { folding = fold; texts = literals.now }) }
-    ensures ok { IfOk result (λ list. list ≡ record { folding = fold; texts = literals.now }) }
+fn list_of(alloc: Global, fold: Fold, literals: RawList) -> Result<LitList, Stop>
+    requires { IsNormal (record { folding = fold; texts = literals }) }
+    ensures ok { IfOk result (λ list. list ≡ record { folding = fold; texts = literals }) }
     ensures err { IfErr result (λ stop. stop ≡ no_memory_left) }
 {
-    normal_form_law();
-    match LitList::normal(alloc, literals, fold) {
-        Ok((list, _)) => Ok(list),
-        Err(refusal) => Err(no_memory(refusal)),
-    }
+    LitList::from_normal(alloc, literals, fold).map_err(no_memory)
 }
 
 /// The literals of the entry at the front, and the bytes after them.
@@ -137,6 +133,6 @@ pub fn first_list(alloc: Global, bytes: &[u8]) -> Result<(LitList, &[u8]), Stop>
         return Err(stop_at(rest, Cause::Count));
     }
     let (list, rest) = literals_of(alloc, fold, count, literals)?;
-    let list = list_of(alloc, fold, &list)?;
+    let list = list_of(alloc, fold, list)?;
     Ok((list, rest))
 }
