@@ -1,5 +1,5 @@
 -- A Feed answered as its hits are found is a Feed answered.
-use Rattle.std.proofs.Common.{◌≡◌, ◌≢◌, ℕ, zero, suc, ◌<◌, List, [], ◌∷◌, ◌++◌, length, map, take, drop, Option, Result, Ok, IfOk, OnErr, inl, inr, refl, sym, ap, subst, ◌∙◌, append_assoc, arith, Contains}
+use Rattle.std.proofs.Common.{◌≡◌, ◌≢◌, ℕ, zero, suc, ◌-◌, ◌<◌, List, [], ◌∷◌, ◌++◌, length, map, take, drop, Option, Result, Ok, IfOk, OnErr, inl, inr, refl, sym, ap, subst, ◌∙◌, append_assoc, arith, Contains}
 use Rattle.std.proofs.lemmas.Bool.{cases_lt}
 use Rattle.std.proofs.lemmas.List.{append-nil, length-append, take-append-drop}
 use Rattle.lit_base.specs.Literals.{Literals}
@@ -40,16 +40,16 @@ no_hits l tail at (hit ∷ found) added =
     absurd (omega (arith, w.0, w.1.ends, length-append tail []))
 
 -- a front of a piece that is not empty has a byte
-pub feeds_some : (s t : Serving) (stream : ℕ) (piece : List ℕ) (count : ℕ) (old new : List (ℕ × ℕ)) (v w : Option (List ℕ)) (a b : List ℕ) → length piece ≢ 0 → FeedsOn s stream piece count old new t v w a b → 0 < count
-feeds_some s t stream piece zero old new v w a b any on =
+pub feeds_some : (s t : Serving) (stream : ℕ) (piece : List ℕ) (count : ℕ) (old new : List (ℕ × ℕ)) (v w : Option (List ℕ)) (a b : List ℕ) → length old < MAX_HITS → length piece ≢ 0 → FeedsOn s stream piece count old new t v w a b → 0 < count
+feeds_some s t stream piece zero old new v w a b few any on =
     let stops = on.fed.stops in
     let none : length stops.gained.found ≡ 0 = no_hits _ on.fed.state.scan.tail _ stops.gained.found stops.gained.added in
     let same : length on.gained ≡ length old = ap length stops.gained.grown ∙ length-append old stops.gained.found ∙ omega (arith, none) in
     elim (cases_lt 0 (length piece)) [
-      | inl some ↦ absurd (omega (arith, stops.enough some, same, on.some))
+      | inl some ↦ absurd (omega (arith, stops.enough some, same, few))
       | inr empty ↦ absurd (any (omega (arith, empty)))
     ]
-feeds_some s t stream piece (suc count) old new v w a b any on = omega arith
+feeds_some s t stream piece (suc count) old new v w a b few any on = omega arith
 
 -- nothing was fed yet
 pub fed_none : (s : Serving) (stream : ℕ) (piece : List ℕ) (place : ℕ) (hits : List (ℕ × ℕ)) (v : Option (List ℕ)) (b : List ℕ) → MayFeed s stream piece place → hits ≡ [] → HasFed s stream piece piece hits s v v b b
@@ -80,7 +80,7 @@ fed_on s t u stream piece rest others count old new v w x a b c so on behind = r
   few = on.few;
   full = full-append MAX_HITS so.blocks on.told.blocks so.full on.told.full;
   feeding = subst (λ hs. IsFeeding s stream (so.bytes ++ take count rest) hs u) (both_cut so.blocks on.told.blocks on.gained new on.told.cut)
-      (feeding_more s t u stream so.bytes rest on.most count (joined so.blocks) old on.gained so.feeding on.fed);
+      (feeding_more s t u stream so.bytes rest (MAX_HITS - length old) count (joined so.blocks) old on.gained so.feeding on.fed);
   sent = sends_is v x a c _ _ (told_both stream so.blocks on.told.blocks)
       (sends_then v w x a b c (replies_text (map (Hits stream) so.blocks)) (replies_text (map (Hits stream) on.told.blocks)) so.sent on.told.sent);
 }
@@ -136,12 +136,12 @@ pub stopped_feeding : (s t : Serving) (stream : ℕ) (piece rest : List ℕ) (pl
 stopped_feeding s t stream piece rest place hits v w x a b may so (inl sent) =
     stopped_within s t stream piece so.bytes rest place so.blocks hits v x a may so.text_is so.full so.feeding
     (front_is v x a _ _ (append-nil (replies_text (map (Hits stream) so.blocks))) (sends_then_front v w x a b (replies_text (map (Hits stream) so.blocks)) [] so.sent sent))
-stopped_feeding s t stream piece rest place hits v w x a b may so (inr (most, count, gained, u, fed, told)) =
+stopped_feeding s t stream piece rest place hits v w x a b may so (inr (count, gained, u, fed, told)) =
     stopped_within s u stream piece (so.bytes ++ take count rest) (drop count rest) place (so.blocks ++ told.blocks) told.left v x a may
     (so.text_is ∙ ap (λ bs. so.bytes ++ bs) (sym (take-append-drop count rest)) ∙ sym (append_assoc so.bytes (take count rest) (drop count rest)))
     (full-append MAX_HITS so.blocks told.blocks so.full told.full)
     (subst (λ hs. IsFeeding s stream (so.bytes ++ take count rest) hs u) (both_cut so.blocks told.blocks gained told.left told.cut)
-    (feeding_more s t u stream so.bytes rest most count (joined so.blocks) hits gained so.feeding fed))
+    (feeding_more s t u stream so.bytes rest (MAX_HITS - length hits) count (joined so.blocks) hits gained so.feeding fed))
     (front_is v x a _ _ (told_both stream so.blocks told.blocks)
     (sends_then_front v w x a b (replies_text (map (Hits stream) so.blocks)) (replies_text (map (Hits stream) told.blocks)) so.sent told.sent))
 

@@ -1,5 +1,5 @@
 -- A Feed that is answered as its hits are found.
-use Rattle.std.specs.Prelude.{◌≡◌, ℕ, ◌<◌, List, [], ◌∷◌, ◌++◌, length, map, Option, ◌⊎◌}
+use Rattle.std.specs.Prelude.{◌≡◌, ℕ, ◌+◌, ◌-◌, ◌<◌, ◌≤◌, List, [], ◌∷◌, ◌++◌, length, map, Option, ◌⊎◌}
 use Rattle.scan_wire.specs.Frames.{replies_text}
 use Rattle.scan_wire.specs.Messages.{Hits}
 use Rattle.scan_wire.specs.declared.message.TheConstants.{MAX_HITS}
@@ -28,12 +28,12 @@ pub record TellsFullFront (stream : ℕ) (old : List (ℕ × ℕ)) (written_old 
   pub cut : old ≡ joined blocks ++ left
   pub sent : SendsFront written_old written_new before (replies_text (map (Hits stream) blocks))
 
--- a front of a piece was fed, and of the hits gained with those before it the first were told in full replies
+-- A front of a piece was fed, no longer than it takes to gain a full reply's hits with those before it, so that no more
+-- than these and one a literal are held. Of them the first were told in full replies.
 pub record FeedsOn (before : Serving) (stream : ℕ) (piece : List ℕ) (count : ℕ) (old new : List (ℕ × ℕ)) (after : Serving) (written_old written_new : Option (List ℕ)) (waits_old waits_new : List ℕ) : Type 0 where
-  pub most : ℕ
   pub gained : List (ℕ × ℕ)
-  pub some : 0 < most
-  pub fed : FeedsFront before stream piece most count old gained after
+  pub fed : FeedsFront before stream piece (MAX_HITS - length old) count old gained after
+  pub held : length gained ≤ MAX_HITS + length fed.state.scan.plan.literals.texts
   pub few : length new < MAX_HITS
   pub told : TellsFull stream gained new written_old written_new waits_old waits_new
 
@@ -41,7 +41,7 @@ pub record FeedsOn (before : Serving) (stream : ℕ) (piece : List ℕ) (count :
 abbrev pub StopsFeeding : Serving → ℕ → List ℕ → List (ℕ × ℕ) → Option (List ℕ) → Option (List ℕ) → List ℕ → Type 0
 StopsFeeding before stream piece old written_old written_new waits =
     SendsFront written_old written_new waits []
-    ⊎ ((most : ℕ) × (count : ℕ) × (gained : List (ℕ × ℕ)) × (after : Serving) × FeedsFront before stream piece most count old gained after
+    ⊎ ((count : ℕ) × (gained : List (ℕ × ℕ)) × (after : Serving) × FeedsFront before stream piece (MAX_HITS - length old) count old gained after
     × TellsFullFront stream gained written_old written_new waits)
 
 -- a piece was fed up to a rest: its hits so far were told in full replies, but for those that are left

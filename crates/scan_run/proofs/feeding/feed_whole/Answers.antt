@@ -29,7 +29,7 @@ pub loop-rest-smaller : goal.loop-rest-smaller
 loop-rest-smaller g c =
     let rest = c.loop-rest.rest.now in
     let any : length rest ≢ 0 = λ e. false≢true (sym c.loop-rest-test.true ∙ c.is_empty.ensures ∙ ap (λ (n : ℕ). nat_eq n 0) e) in
-    let some : 0 < c.in_ok-count.count = feeds_some c.loop-rest.session c.feed_on.new.session c.args.stream rest c.in_ok-count.count c.loop-rest.hits.items c.feed_on.new.hits.items _ _ _ _ any c.in_ok-count.ensures.ok in
+    let some : 0 < c.in_ok-count.count = feeds_some c.loop-rest.session c.feed_on.new.session c.args.stream rest c.in_ok-count.count c.loop-rest.hits.items c.feed_on.new.hits.items _ _ _ _ c.loop-rest.invariant.few any c.in_ok-count.ensures.ok in
     omega (arith, some, any, ap length c.split_at.ensures.back, length-drop c.in_ok-count.count rest)
 
 pub loop-rest-preserved : goal.loop-rest-preserved
