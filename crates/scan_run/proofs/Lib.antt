@@ -1,4 +1,3 @@
-pub mod AloneLemmas
 pub mod TellLemmas
 pub mod FeedLemmas
 pub mod SeenLemmas

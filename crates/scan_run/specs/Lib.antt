@@ -1,4 +1,5 @@
 pub mod Feeding
+pub mod Messages
 pub mod Statuses
 pub mod Alone
 pub mod Reports

@@ -1,10 +1,12 @@
 -- What is told of connections that have ended.
-use Rattle.std.specs.Prelude.{◌≡◌, ℕ, ◌+◌, Bool, true, false, List, [], ◌∷◌, ◌++◌, Option, Some, None, codes, decimal, if◌then◌else◌}
+use Rattle.std.specs.Prelude.{◌≡◌, ℕ, ◌+◌, ◌≤◌, Bool, true, false, List, [], ◌∷◌, ◌++◌, Option, Some, None, codes, decimal, length, if◌then◌else◌}
 use Rattle.std.specs.Io.KnownBytes.{Appends}
+use Rattle.byte_io.specs.Transfers.{AppendsFront, Says}
 use Rattle.scan_serve.specs.declared.ended.Ended.{Ended}
 use Rattle.scan_serve.specs.declared.ended.Ended.TheVariants as ended
 use Rattle.scan_run.specs.declared.status.Status.{Status}
 use Rattle.scan_run.specs.declared.status.Status.TheVariants.{Clean, Unclean, Trouble}
+use Rattle.scan_run.specs.Messages.{accept_fault, out_of_memory}
 
 -- the word for how a connection ended; none where its thread could not be started
 abbrev pub word_of : Option Ended → List ℕ
@@ -40,24 +42,22 @@ abbrev pub status_of_all : List (Option Ended) → Status
 status_of_all [] = Clean
 status_of_all (ended ∷ endings) = if is_clean ended then status_of_all endings else Unclean
 
--- a front of a text was written
-abbrev pub AppendsFront : Option (List ℕ) → Option (List ℕ) → List ℕ → Type 0
-AppendsFront old new text = (front : List ℕ) × (rest : List ℕ) × Appends old new front × (front ++ rest ≡ text)
-
--- All lines are told, and then a fault of accepting, where there was one. Or the lines could not be written; or there
--- was no memory for them.
-pub data Reports (endings : List (Option Ended)) (faulty : Bool) (status : Status) (out_old out_new err_old err_new : Option (List ℕ)) : Type 0 where
+-- All lines are told, and then a fault of accepting, where there was one. Or a write of the lines failed; or there was no
+-- memory for them.
+pub data Reports (endings : List (Option Ended)) (faulty : Bool) (status : Status) (out_failed err_failed : Bool) (out_old out_new err_old err_new : Option (List ℕ)) : Type 0 where
   Told : faulty ≡ false → status ≡ status_of_all endings → Appends out_old out_new (lines_from 1 endings) → Appends err_old err_new []
-      → Reports endings faulty status out_old out_new err_old err_new
-  Faulty : faulty ≡ true → status ≡ Trouble → Appends out_old out_new (lines_from 1 endings) → AppendsFront err_old err_new (codes "scand: accept fault\n")
-      → Reports endings faulty status out_old out_new err_old err_new
-  Broken : status ≡ Trouble → AppendsFront out_old out_new (lines_from 1 endings) → Appends err_old err_new []
-      → Reports endings faulty status out_old out_new err_old err_new
-  Starved : status ≡ Trouble → Appends out_old out_new [] → AppendsFront err_old err_new (codes "scand: out of memory\n")
-      → Reports endings faulty status out_old out_new err_old err_new
+      → Reports endings faulty status out_failed err_failed out_old out_new err_old err_new
+  Faulty : faulty ≡ true → status ≡ Trouble → Appends out_old out_new (lines_from 1 endings) → Says err_failed err_old err_new accept_fault
+      → Reports endings faulty status out_failed err_failed out_old out_new err_old err_new
+  Broken : out_failed ≡ true → status ≡ Trouble → AppendsFront out_old out_new (lines_from 1 endings) → Appends err_old err_new []
+      → Reports endings faulty status out_failed err_failed out_old out_new err_old err_new
+  Starved : status ≡ Trouble → Appends out_old out_new [] → Says err_failed err_old err_new out_of_memory
+      → Reports endings faulty status out_failed err_failed out_old out_new err_old err_new
 
--- some connections were served and told of
-pub record ReportsSome (status : Status) (out_old out_new err_old err_new : Option (List ℕ)) : Type 0 where
+-- Connections were served and told of: so many, or fewer where accepting failed.
+pub record ReportsSome (connections : ℕ) (status : Status) (out_failed err_failed : Bool) (out_old out_new err_old err_new : Option (List ℕ)) : Type 0 where
   pub endings : List (Option Ended)
   pub faulty : Bool
-  pub told : Reports endings faulty status out_old out_new err_old err_new
+  pub few : length endings ≤ connections
+  pub all : faulty ≡ false → length endings ≡ connections
+  pub told : Reports endings faulty status out_failed err_failed out_old out_new err_old err_new

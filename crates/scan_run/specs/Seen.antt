@@ -1,12 +1,8 @@
 -- A served session, seen by all bytes that its streams were fed.
-use Rattle.std.specs.Prelude.{ℕ, List, [], Option}
+use Rattle.std.specs.Prelude.{List, Option}
 use Rattle.scan_wire.specs.Messages.{ReplyParts, RequestParts}
 use Rattle.scan_core.specs.Steps.{Entry, IsStep, SessionParts}
 use Rattle.scan_core.specs.Worlds.{Streamed, by_bytes}
-
--- a session that was told nothing and has no open stream
-abbrev pub new_session : SessionParts Streamed
-new_session = record { told = []; streams = [] }
 
 -- a request is one step of the session, with these replies
 abbrev pub IsStepByBytes : SessionParts Streamed → RequestParts → List ReplyParts → SessionParts Streamed → Type 0

@@ -1,9 +1,10 @@
 //! Serving one stream on a store of its own.
 ghost use Rattle.scan_run.specs.Alone.{EndsAlone};
 
+use crate::message::say_text;
 use crate::serving::serve;
 use crate::status::Status;
-use byte_io::{ByteIn, ByteOut, write_all};
+use byte_io::{ByteIn, ByteOut};
 use plan_store::PlanStore;
 use std::alloc::Global;
 use std::sync::Wait;
@@ -17,11 +18,11 @@ pub fn serve_alone<R: Wait, I: ByteIn, O: ByteOut, E: ByteOut>(
     out: &mut O,
     err: &mut E,
 ) -> Status
-    ensures { EndsAlone result (I.coming input.old) (I.coming input.new)
+    ensures { EndsAlone result (E.has_failed err.new) (I.coming input.old) (I.coming input.new)
         (O.written out.old) (O.written out.new) (E.written err.old) (E.written err.new) }
 {
     let Ok(store) = PlanStore::new(alloc) else {
-        let _ = write_all(err, b"scand: out of memory\n");
+        say_text("scand: out of memory\n", err);
         return Status::Trouble;
     };
     Status::from(serve(rt, alloc, &store, input, out))

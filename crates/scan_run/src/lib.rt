@@ -5,6 +5,7 @@ mod alone;
 mod connection;
 mod feeding;
 mod listening;
+mod message;
 mod report;
 mod serving;
 mod status;
@@ -12,6 +13,7 @@ mod telling;
 
 pub use alone::serve_alone;
 pub use listening::{MAX_CONNECTIONS, listen};
+pub use message::say_text;
 pub use scan_serve::Ended;
 pub use serving::serve;
 pub use status::Status;

@@ -1,5 +1,5 @@
 //! Serving many streams at once over one store, each in a thread of its own.
-ghost use Rattle.std.specs.Prelude.{◌≤◌};
+ghost use Rattle.std.specs.Prelude.{◌≡◌, ◌≤◌, false, length};
 ghost use Rattle.scan_run.specs.declared.listening.TheConstants.{MAX_CONNECTIONS};
 ghost use Rattle.scan_run.specs.Reports.{ReportsSome};
 
@@ -13,13 +13,10 @@ use scan_serve::Ended;
 use std::alloc::Global;
 use std::net::{TcpListener, TcpStream};
 use std::sync::Wait;
-use std::thread::{self, JoinHandle, Threads};
+use std::thread::{self, JoinHandle, Scope, Threads};
 
 /// Connections of one run, at most.
 pub const MAX_CONNECTIONS: usize = 64;
-
-/// How accepted connections ended, in order of acceptance; `None` where no thread could be started.
-pub(crate) type Endings = ArrayVec<Option<Ended>, MAX_CONNECTIONS>;
 
 /// Accepts so many connections, and serves each in a thread of its own, as a session of the store.
 /// When all have ended, it tells on `out` how, a line for each in order of acceptance. Once the last
@@ -36,47 +33,86 @@ pub fn listen<R: Threads + Wait + Sync, O: ByteOut, E: ByteOut>(
     err: &mut E,
 ) -> Status
     requires { connections ≤ MAX_CONNECTIONS }
-    ensures { ReportsSome result (O.written out.old) (O.written out.new) (E.written err.old) (E.written err.new) }
+    ensures { ReportsSome connections result (O.has_failed out.new) (E.has_failed err.new)
+        (O.written out.old) (O.written out.new) (E.written err.old) (E.written err.new) }
 {
-    let mut faulty = false;
-    let endings = serve_all(rt, alloc, store, listener, connections, &mut faulty);
-    report(alloc, &endings, faulty, out, err)
+    let served = serve_all(rt, alloc, store, listener, connections);
+    report(alloc, &served.endings, served.faulty, out, err)
 }
 
-/// Serves the connections, and tells how they ended, and whether accepting failed.
+/// How the connections of a run ended.
+#[derive(Drop)]
+struct Served {
+    /// How each ended, in order of acceptance; `None` where no thread could be started.
+    endings: ArrayVec<Option<Ended>, MAX_CONNECTIONS>,
+    /// Whether accepting failed before all had come.
+    faulty: bool,
+}
+
+/// The threads that serve connections, in order of acceptance; `None` where none could be started.
+type Serving = ArrayVec<Option<JoinHandle<Ended>>, MAX_CONNECTIONS>;
+
+/// Serves the connections to their ends.
 fn serve_all<R: Threads + Wait + Sync>(
     rt: &R,
     alloc: Global,
     store: &PlanStore,
     listener: TcpListener,
     connections: usize,
-    faulty: &mut bool,
-) -> Endings
+) -> Served
     requires { connections ≤ MAX_CONNECTIONS }
+    ensures few { length result.endings.items ≤ connections }
+    ensures all { result.faulty ≡ false → length result.endings.items ≡ connections }
 {
-    thread::scope(thread::scope_env(), rt, |scope| {
-        let mut threads: ArrayVec<Option<JoinHandle<Ended>>, MAX_CONNECTIONS> = ArrayVec::new();
-        for _ in 0..connections {
-            if threads.is_full() {
-                break;
+    thread::scope(
+        thread::scope_env(),
+        rt,
+        |scope|
+            requires { connections ≤ MAX_CONNECTIONS }
+        {
+            let (threads, faulty) = accept_all(scope, rt, alloc, store, listener, connections);
+            Served {
+                endings: join_all(rt, threads),
+                faulty,
             }
-            let Ok(stream) = accepted(&listener) else {
-                *faulty = true;
-                break;
-            };
-            let thread = scope.spawn(move || serve_connection(rt, alloc, store, stream));
-            threads.push(thread.ok());
-        }
-        drop(listener);
-        let mut endings = ArrayVec::new();
-        for thread in threads {
-            if endings.is_full() {
-                break;
-            }
-            endings.push(thread.map(|thread| thread.join(rt)));
-        }
-        endings
-    })
+        },
+    )
+}
+
+/// Accepts the connections, starts a thread for each, and closes the listener. It tells whether
+/// accepting failed.
+fn accept_all<'s, E, R: Threads + Wait + Sync>(
+    scope: &'s Scope<'s, E>,
+    rt: &'s R,
+    alloc: Global,
+    store: &'s PlanStore,
+    listener: TcpListener,
+    connections: usize,
+) -> (Serving, bool)
+    requires { connections ≤ MAX_CONNECTIONS }
+    ensures few { length result.0.items ≤ connections }
+    ensures all { result.1 ≡ false → length result.0.items ≡ connections }
+{
+    let mut threads = ArrayVec::new();
+    for _accepted in 0..connections {
+        let Ok(stream) = accepted(&listener) else {
+            return (threads, true);
+        };
+        let thread = scope.spawn(move || serve_connection(rt, alloc, store, stream));
+        threads.push(thread.ok());
+    }
+    (threads, false)
+}
+
+/// Waits for the threads, and tells how each connection ended.
+fn join_all<R: Threads + Wait>(rt: &R, threads: Serving) -> ArrayVec<Option<Ended>, MAX_CONNECTIONS>
+    ensures { length result.items ≡ length threads.items }
+{
+    let mut endings = ArrayVec::new();
+    for thread in threads {
+        endings.push(thread.map(|thread| thread.join(rt)));
+    }
+    endings
 }
 
 /// The next connection, whose replies are sent at once.

@@ -2,6 +2,7 @@
 ghost use Rattle.std.specs.Prelude.{◌≡◌, ◌++◌, IfOk, OnOk, length, string_bytes};
 ghost use Rattle.scan_run.specs.Reports.{Reports, is_clean, line_text, lines_from, status_of_all, word_of};
 
+use crate::message::say_text;
 use crate::status::Status;
 use byte_io::{ByteOut, write_all};
 use scan_serve::Ended;
@@ -17,17 +18,18 @@ pub(crate) fn report<O: ByteOut, E: ByteOut>(
     out: &mut O,
     err: &mut E,
 ) -> Status
-    ensures { Reports endings.now faulty result (O.written out.old) (O.written out.new) (E.written err.old) (E.written err.new) }
+    ensures { Reports endings.now faulty result (O.has_failed out.new) (E.has_failed err.new)
+        (O.written out.old) (O.written out.new) (E.written err.old) (E.written err.new) }
 {
     let Ok(text) = lines(alloc, endings) else {
-        let _ = write_all(err, b"scand: out of memory\n");
+        say_text("scand: out of memory\n", err);
         return Status::Trouble;
     };
     let Ok(()) = write_all(out, text.as_bytes()) else {
         return Status::Trouble;
     };
     if faulty {
-        let _ = write_all(err, b"scand: accept fault\n");
+        say_text("scand: accept fault\n", err);
         return Status::Trouble;
     }
     status_of_all(endings)

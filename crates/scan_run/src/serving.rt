@@ -3,11 +3,10 @@ ghost use Rattle.std.specs.Prelude.{◌≡◌, ◌+◌, ◌^◌, ◌≤◌, ◌�
 ghost use Rattle.scan_wire.specs.Messages.{lent_parts};
 ghost use Rattle.scan_serve.specs.Answering.{Answered, Stopped};
 ghost use Rattle.scan_serve.specs.Serving.{EndsAs};
-ghost use Rattle.scan_core.specs.Sessions.{IsEvent, Serving};
-ghost use Rattle.scan_core.specs.Steps.{SessionParts};
+ghost use Rattle.scan_core.specs.Sessions.{IsEvent, Serving, fresh};
+ghost use Rattle.scan_core.specs.Steps.{SessionParts, new_session};
 ghost use Rattle.scan_core.specs.Worlds.{Streamed};
-ghost use Rattle.scan_run.specs.Alone.{fresh};
-ghost use Rattle.scan_run.specs.Seen.{IsStepByBytes, new_session};
+ghost use Rattle.scan_run.specs.Seen.{IsStepByBytes};
 
 use crate::feeding::answer_feed;
 use byte_io::{ByteIn, ByteOut};
@@ -79,7 +78,7 @@ impl<'r, 's, R: Wait> Answer for Served<'r, 's, R> {
 /// and answered in order on `out`. The replies to all frames that are whole are written before the
 /// next read.
 ///
-/// Whatever is asked, it holds 262,180 bytes of what was read, about 64 KiB of replies and a few
+/// Whatever is asked, it holds at most 262,180 bytes of what was read, about 64 KiB of replies and a few
 /// thousand hits, beside the plans that it publishes and the tails of its streams. Only a Publish may
 /// wait for another thread.
 pub fn serve<R: Wait, I: ByteIn, O: ByteOut>(

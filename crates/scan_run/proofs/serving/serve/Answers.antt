@@ -1,8 +1,7 @@
 use Rattle.std.proofs.Common.{[], refl, subst}
 use Rattle.scan_serve.specs.Serving.{EndsAs}
-use Rattle.scan_core.specs.Sessions.{IsEvent, Serving}
-use Rattle.scan_run.specs.Alone.{fresh}
-use Rattle.scan_run.specs.Seen.{new_session}
+use Rattle.scan_core.specs.Sessions.{IsEvent, Serving, fresh}
+use Rattle.scan_core.specs.Steps.{new_session}
 use Rattle.scan_run.proofs.SeenLemmas.{ends_seen}
 use Rattle.scan_run.proofs.serving.serve.Goals as goal
 

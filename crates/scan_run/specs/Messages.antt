@@ -1,0 +1,10 @@
+-- What is said on standard error.
+use Rattle.std.specs.Prelude.{ℕ, List, codes}
+
+-- on want of memory
+abbrev pub out_of_memory : List ℕ
+out_of_memory = codes "scand: out of memory\n"
+
+-- where no further connection could be accepted
+abbrev pub accept_fault : List ℕ
+accept_fault = codes "scand: accept fault\n"
