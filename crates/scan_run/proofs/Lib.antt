@@ -1,3 +1,4 @@
 pub mod TellLemmas
 pub mod FeedLemmas
 pub mod SeenLemmas
+pub mod LoadLemmas

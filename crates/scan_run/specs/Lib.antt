@@ -3,4 +3,5 @@ pub mod Messages
 pub mod Statuses
 pub mod Alone
 pub mod Reports
+pub mod Loading
 pub mod Seen

@@ -5,6 +5,7 @@ mod alone;
 mod connection;
 mod feeding;
 mod listening;
+mod loading;
 mod message;
 mod report;
 mod serving;
@@ -13,7 +14,9 @@ mod telling;
 
 pub use alone::serve_alone;
 pub use listening::{MAX_CONNECTIONS, listen};
+pub use loading::{load_named, load_plans, load_tickets};
 pub use message::say_text;
+pub use plan_file::Fault;
 pub use scan_serve::Ended;
 pub use serving::serve;
 pub use status::Status;

@@ -1,0 +1,319 @@
+-- Plans published one after the other, and their lines.
+use Rattle.std.proofs.Common.{◌≡◌, ◌≢◌, ℕ, ◌^◌, ◌<◌, List, [], ◌∷◌, ◌++◌, All, Option, Some, None, IfSome, Result, Ok, Err, OnErr, IsOk, IsOkAnd, MatchOption, inl, inr, length, refl, sym, ap, subst, ◌∙◌, append_assoc, append-nil, map}
+use Rattle.std.specs.Global.{Vec}
+use Rattle.std.specs.Io.KnownBytes.{Appends}
+use Rattle.std.proofs.KnownBytes.{Appends-nil, Appends-trans}
+use Rattle.std.proofs.lemmas.List.Concat.{flat_map-append}
+use Rattle.std.proofs.lemmas.List.Elements.{All-nil, All-cons, All-append}
+use Rattle.boxcar.specs.Table.{Shelves}
+use Rattle.byte_io.specs.Devices.{Clean, Coming}
+use Rattle.byte_io.specs.Sources.{Content, OpensAs, Sources, coming_of, source_of}
+use Rattle.byte_io.specs.Transfers.{AppendsFront}
+use Rattle.byte_io.specs.declared.opener.Missing.{Missing}
+use Rattle.flow_scan.specs.Plans.{Plan}
+use Rattle.flow_scan.specs.declared.compiled.Compiled.{Compiled}
+use Rattle.plan_file.specs.declared.fault.Cause.{Cause}
+use Rattle.plan_file.specs.declared.fault.Fault.{Fault}
+use Rattle.plan_file.specs.declared.fault.Fault.TheVariants.{OutOfMemory, BadPlanFile, ReadFault, WriteFault}
+use Rattle.plan_file.specs.Faults.{IsReadersFault}
+use Rattle.plan_file.specs.FirstFaults.{IsFirstFault}
+use Rattle.plan_file.specs.Spelling.{ArePlans, spelling}
+use Rattle.plan_store.specs.Tickets.{Told, IsOf}
+use Rattle.scan_run.specs.Loading.{Broken, IsUnread, Judges, Loads, LoadsFile, MayLeave, PublishesFront, IsSaid, SaysLines, Whole, message_on, plan_line, plan_lines, plans_of}
+
+-- a front of a text is a front of a longer one
+pub front-longer : {old new : Option (List ℕ)} {text : List ℕ} (more : List ℕ) → AppendsFront old new text → AppendsFront old new (text ++ more)
+front-longer {old} {new} {text} more f = record {
+  front = f.front;
+  rest = f.rest ++ more;
+  parts = ap (λ t. t ++ more) f.parts ∙ append_assoc f.front f.rest more;
+  grown = f.grown;
+}
+
+-- a front was written behind a whole text
+pub front-behind : (a b c : Option (List ℕ)) (done text : List ℕ) → Appends a b done → AppendsFront b c text → AppendsFront a c (done ++ text)
+front-behind a b c done text whole f = record {
+  front = done ++ f.front;
+  rest = f.rest;
+  parts = ap (λ t. done ++ t) f.parts ∙ sym (append_assoc done f.front f.rest);
+  grown = Appends-trans a b c done f.front whole f.grown;
+}
+
+-- what follows from a refusal
+pub OnErr-then : {T E P Q : Type 0} (r : Result T E) → OnErr r P → (P → Q) → OnErr r Q
+OnErr-then (Ok x) p then = tt
+OnErr-then (Err e) p then = then p
+
+-- lines behind lines that were written whole
+says-behind : (a b c : Option (List ℕ)) (done text : List ℕ) (r : Result (Unit {0}) Fault) → Appends a b done → SaysLines text r b c → SaysLines (done ++ text) r a c
+says-behind a b c done text (Ok _) whole said = Appends-trans a b c done text whole said
+says-behind a b c done text (Err OutOfMemory) whole said = Appends-trans a b c done text whole said
+says-behind a b c done text (Err (BadPlanFile place cause)) whole said = Appends-trans a b c done text whole said
+says-behind a b c done text (Err ReadFault) whole said = Appends-trans a b c done text whole said
+says-behind a b c done text (Err WriteFault) whole said = front-behind a b c done text whole said
+
+plans_of-append : (xs ys : List Told) → plans_of (xs ++ ys) ≡ plans_of xs ++ plans_of ys
+plans_of-append [] ys = refl
+plans_of-append (x ∷ xs) ys = ap (λ ps. x.plan ∷ ps) (plans_of-append xs ys)
+
+-- no plans were published yet
+pub published-none : (store : Shelves) (tickets : List Told) (err : Option (List ℕ)) → PublishesFront store [] tickets tickets err err (Ok tt)
+published-none store tickets err = record {
+  published = [];
+  more = [];
+  grown = sym (append-nil tickets);
+  here = All-nil (IsOf store);
+  parts = refl;
+  left = refl;
+  said = Appends-nil err;
+}
+
+-- there was no memory for a plan
+pub published-not : (store : Shelves) (plan : Plan) (tickets : List Told) (err : Option (List ℕ)) → PublishesFront store (plan ∷ []) tickets tickets err err (Err OutOfMemory)
+published-not store plan tickets err = record {
+  published = [];
+  more = plan ∷ [];
+  grown = sym (append-nil tickets);
+  here = All-nil (IsOf store);
+  parts = refl;
+  left = tt;
+  said = Appends-nil err;
+}
+
+-- a plan was published, and its line written
+pub published-told : (store : Shelves) (ticket : Told) (plan : Plan) (tickets : List Told) (a b : Option (List ℕ)) → IsOf store ticket → ticket.plan ≡ plan
+    → Appends a b (plan_line ticket.number) → PublishesFront store (plan ∷ []) tickets (tickets ++ ticket ∷ []) a b (Ok tt)
+published-told store ticket plan tickets a b here shows said = record {
+  published = ticket ∷ [];
+  more = [];
+  grown = refl;
+  here = All-cons (IsOf store) ticket [] here (All-nil (IsOf store));
+  parts = ap (λ p. p ∷ []) (sym shows);
+  left = refl;
+  said = subst (Appends a b) (sym (append-nil (plan_line ticket.number))) said;
+}
+
+-- a plan was published, and its line not written
+pub published-untold : (store : Shelves) (ticket : Told) (plan : Plan) (tickets : List Told) (a b : Option (List ℕ)) → IsOf store ticket → ticket.plan ≡ plan
+    → AppendsFront a b (plan_line ticket.number) → PublishesFront store (plan ∷ []) tickets (tickets ++ ticket ∷ []) a b (Err WriteFault)
+published-untold store ticket plan tickets a b here shows said = record {
+  published = ticket ∷ [];
+  more = [];
+  grown = refl;
+  here = All-cons (IsOf store) ticket [] here (All-nil (IsOf store));
+  parts = ap (λ p. p ∷ []) (sym shows);
+  left = tt;
+  said = subst (AppendsFront a b) (sym (append-nil (plan_line ticket.number))) said;
+}
+
+-- plans behind others that were all published
+pub published-then : (store : Shelves) (xs ys : List Plan) (ts us vs : List Told) (a b c : Option (List ℕ)) (r : Result (Unit {0}) Fault)
+    → PublishesFront store xs ts us a b (Ok tt) → PublishesFront store ys us vs b c r → PublishesFront store (xs ++ ys) ts vs a c r
+published-then store xs ys ts us vs a b c r p q =
+    let all : xs ≡ plans_of p.published = p.parts ∙ ap (λ m. plans_of p.published ++ m) p.left ∙ append-nil (plans_of p.published) in
+    record {
+      published = p.published ++ q.published;
+      more = q.more;
+      grown = q.grown ∙ ap (λ t. t ++ q.published) p.grown ∙ append_assoc ts p.published q.published;
+      here = All-append (IsOf store) p.published q.published p.here q.here;
+      parts = ap (λ t. t ++ ys) all ∙ ap (λ t. plans_of p.published ++ t) q.parts ∙ sym (append_assoc (plans_of p.published) (plans_of q.published) q.more)
+          ∙ ap (λ t. t ++ q.more) (sym (plans_of-append p.published q.published));
+      left = q.left;
+      said = subst (λ t. SaysLines t r a c) (sym (flat_map-append (λ ticket. plan_line ticket.number) p.published q.published))
+          (says-behind a b c (plan_lines p.published) (plan_lines q.published) r p.said q.said);
+    }
+
+left-more : (xs ys : List Plan) (fault : Fault) → MayLeave xs (Err fault) → MayLeave (xs ++ ys) (Err fault)
+left-more xs ys OutOfMemory left = tt
+left-more xs ys (BadPlanFile place cause) left = left
+left-more xs ys ReadFault left = left
+left-more xs ys WriteFault left = tt
+
+-- where publishing stopped, the plans behind are left too
+pub published-front : (store : Shelves) (xs ys : List Plan) (ts us : List Told) (a b : Option (List ℕ)) (fault : Fault)
+    → PublishesFront store xs ts us a b (Err fault) → PublishesFront store (xs ++ ys) ts us a b (Err fault)
+published-front store xs ys ts us a b fault p = record {
+  published = p.published;
+  more = p.more ++ ys;
+  grown = p.grown;
+  here = p.here;
+  parts = ap (λ t. t ++ ys) p.parts ∙ append_assoc (plans_of p.published) p.more ys;
+  left = left-more p.more ys fault p.left;
+  said = p.said;
+}
+
+-- ---- what is said
+
+nothing-first : (xs ys : List ℕ) → [] ≡ xs ++ ys → xs ≡ []
+nothing-first [] ys e = refl
+nothing-first (x ∷ xs) ys e = absurd (cc)
+
+-- a front of nothing is nothing
+front-nothing : (a b : Option (List ℕ)) → AppendsFront a b [] → Appends a b []
+front-nothing a b f = subst (Appends a b) (nothing-first f.front f.rest f.parts) f.grown
+
+-- nothing behind a front
+front-still : (a b c : Option (List ℕ)) (text : List ℕ) → AppendsFront a b text → Appends b c [] → AppendsFront a c (text ++ [])
+front-still a b c text f still = front-longer [] (record {
+  front = f.front;
+  rest = f.rest;
+  parts = f.parts;
+  grown = subst (Appends a c) (append-nil f.front) (Appends-trans a b c f.front [] f.grown still);
+})
+
+-- a message behind lines
+says-message : (a b c : Option (List ℕ)) (lines name : List ℕ) (fault : Fault) (result : Result (Unit {0}) Fault) → SaysLines lines (Err fault) a b
+    → IsSaid (message_on name fault) (Err fault) result b c → IsSaid (lines ++ message_on name fault) (Err fault) result a c
+says-message a b c lines name OutOfMemory result said (Whole is all) = Whole is (Appends-trans a b c lines (message_on name OutOfMemory) said all)
+says-message a b c lines name OutOfMemory result said (Broken is part) = Broken is (front-behind a b c lines (message_on name OutOfMemory) said part)
+says-message a b c lines name (BadPlanFile place cause) result said (Whole is all) = Whole is (Appends-trans a b c lines (message_on name (BadPlanFile place cause)) said all)
+says-message a b c lines name (BadPlanFile place cause) result said (Broken is part) = Broken is (front-behind a b c lines (message_on name (BadPlanFile place cause)) said part)
+says-message a b c lines name ReadFault result said (Whole is all) = Whole is (Appends-trans a b c lines (message_on name ReadFault) said all)
+says-message a b c lines name ReadFault result said (Broken is part) = Broken is (front-behind a b c lines (message_on name ReadFault) said part)
+says-message a b c lines name WriteFault result said (Whole is all) = Broken is (front-still a b c lines said all)
+says-message a b c lines name WriteFault result said (Broken is part) = Broken is (front-still a b c lines said (front-nothing b c part))
+
+-- a file that was not loaded, and why
+pub loads-refused : (store : Shelves) (name : List ℕ) (x y : Option Coming) (ts us : List Told) (a b c : Option (List ℕ)) (fault result : Fault)
+    → LoadsFile store x y ts us a b (Err fault) → IsSaid (message_on name fault) (Err fault) (Err result) b c → Loads store name x y ts us a c (Err result)
+loads-refused store name x y ts us a b c fault result loads said = record {
+  published = loads.published;
+  answer = Err fault;
+  grown = loads.grown;
+  here = loads.here;
+  plans = loads.plans;
+  said = says-message a b c (plan_lines loads.published) name fault (Err result) loads.said said;
+}
+
+-- ---- from a file that was read, or not
+
+-- what reading a file answers
+abbrev unread : Fault → Result (Vec Compiled) Fault
+unread fault = Err fault
+
+abbrev as_read : Vec Compiled → Result (Vec Compiled) Fault
+as_read plans = Ok plans
+
+abbrev stopped : Fault → Result (Unit {0}) Fault
+stopped fault = Err fault
+
+-- the first fault of a file, where one is told
+first-fault : (x : Option Coming) (fault : Fault) (place : ℕ) (cause : Cause) → fault ≡ BadPlanFile place cause
+    → IfSome x (λ c. (p : ℕ) (q : Cause) → unread fault ≡ unread (BadPlanFile p q) → IsFirstFault 8 1024 c.text p q) → IfSome x (λ c. IsFirstFault 8 1024 c.text place cause)
+first-fault None fault place cause is wrong = tt
+first-fault (Some c) fault place cause is wrong = wrong place cause (ap unread is)
+
+-- no plan of a file that was not read is published
+pub loads-unread : (store : Shelves) (x y : Option Coming) (ts : List Told) (err : Option (List ℕ)) (fault : Fault) → IsReadersFault fault
+    → IfSome x (λ c. (p : ℕ) (q : Cause) → unread fault ≡ unread (BadPlanFile p q) → IsFirstFault 8 1024 c.text p q) → LoadsFile store x y ts ts err err (stopped fault)
+loads-unread store x y ts err OutOfMemory readers wrong = record {
+  published = [];
+  grown = sym (append-nil ts);
+  here = All-nil (IsOf store);
+  plans = inl refl;
+  said = Appends-nil err;
+}
+loads-unread store x y ts err (BadPlanFile place cause) readers wrong = record {
+  published = [];
+  grown = sym (append-nil ts);
+  here = All-nil (IsOf store);
+  plans = (refl, first-fault x (BadPlanFile place cause) place cause refl wrong);
+  said = Appends-nil err;
+}
+loads-unread store x y ts err ReadFault readers wrong = record {
+  published = [];
+  grown = sym (append-nil ts);
+  here = All-nil (IsOf store);
+  plans = refl;
+  said = Appends-nil err;
+}
+loads-unread store x y ts err WriteFault readers wrong = absurd readers
+
+-- one fault is another of either answer
+as-unread : (a b : Fault) → stopped a ≡ stopped b → unread a ≡ unread b
+as-unread a b e = let same : a ≡ b = cc in ap unread same
+
+as-stopped : (a b : Fault) → unread a ≡ unread b → stopped a ≡ stopped b
+as-stopped a b e = let same : a ≡ b = cc in ap stopped same
+
+-- a file that was not read is judged so
+pub judges-unread : (x : Option Coming) (fault : Fault)
+    → IfSome x (λ c. c.ending ≡ Clean → (plans : List Plan) → ArePlans 8 1024 plans → c.text ≡ spelling plans → unread fault ≢ unread OutOfMemory → IsOkAnd (unread fault) (λ v. v.items ≡ plans))
+    → IfSome x (λ c. c.ending ≡ Clean → length c.text < 2 ^ 40 → (place : ℕ) (cause : Cause) → IsFirstFault 8 1024 c.text place cause → unread fault ≢ unread OutOfMemory → unread fault ≡ unread (BadPlanFile place cause))
+    → IfSome x (λ c. c.ending ≡ Clean → length c.text < 2 ^ 40 → unread fault ≢ unread ReadFault) → IfSome x (λ c. Judges c (stopped fault))
+judges-unread None fault only exact ends = tt
+judges-unread (Some c) fault only exact ends = λ clean short memory write. record {
+  loaded = λ plans are text. absurd (only clean plans are text (λ e. memory (as-stopped fault OutOfMemory e)));
+  refused = λ place cause first. as-stopped fault (BadPlanFile place cause) (exact clean short place cause first (λ e. memory (as-stopped fault OutOfMemory e)));
+  read = λ e. ends clean short (as-unread fault ReadFault e);
+}
+
+-- publishing answers nothing else
+is-loaded : (more : List Plan) (r : Result (Unit {0}) Fault) → MayLeave more r → r ≢ Err OutOfMemory → r ≢ Err WriteFault → IsOk r
+is-loaded more (Ok u) left memory write = refl
+is-loaded more (Err OutOfMemory) left memory write = absurd (memory refl)
+is-loaded more (Err (BadPlanFile place cause)) left memory write = absurd left
+is-loaded more (Err ReadFault) left memory write = absurd left
+is-loaded more (Err WriteFault) left memory write = absurd (write refl)
+
+was-read : (more : List Plan) (r : Result (Unit {0}) Fault) → MayLeave more r → r ≢ Err ReadFault
+was-read more (Ok u) left = λ e. cc
+was-read more (Err OutOfMemory) left = λ e. cc
+was-read more (Err (BadPlanFile place cause)) left = absurd left
+was-read more (Err ReadFault) left = absurd left
+was-read more (Err WriteFault) left = λ e. cc
+
+-- a file that was read is judged so
+pub judges-read : (x : Option Coming) (v : Vec Compiled) (more : List Plan) (r : Result (Unit {0}) Fault)
+    → IfSome x (λ c. c.ending ≡ Clean → length c.text < 2 ^ 40 → (place : ℕ) (cause : Cause) → IsFirstFault 8 1024 c.text place cause → as_read v ≢ unread OutOfMemory → as_read v ≡ unread (BadPlanFile place cause))
+    → MayLeave more r → IfSome x (λ c. Judges c r)
+judges-read None v more r exact left = tt
+judges-read (Some c) v more r exact left = λ clean short memory write. record {
+  loaded = λ plans are text. is-loaded more r left memory write;
+  refused = λ place cause first. let wrong : as_read v ≡ unread (BadPlanFile place cause) = exact clean short place cause first (λ e. cc) in absurd (cc);
+  read = was-read more r left;
+}
+
+-- ---- by name
+
+-- what an opener answers
+abbrev opened : {I : Type 0} → I → Result I Missing
+opened input = Ok input
+
+abbrev unopened : (I : Type 0) → Missing → Result I Missing
+unopened I e = Err e
+
+-- what an opener gave was loaded
+source-loaded : {I : Type 0} (coming : I → Option Coming) (source : Option Content) (input : I) (r : Result (Unit {0}) Fault) → OpensAs coming source (opened input)
+    → IfSome (coming input) (λ x. Judges x r) → MatchOption source (IsUnread r) (λ c. (coming input ≡ Some (coming_of c)) × Judges (coming_of c) r)
+source-loaded coming None input r opens judged = absurd (cc)
+source-loaded coming (Some c) input r opens judged = (opens, subst (λ x. IfSome x (λ y. Judges y r)) opens judged)
+
+pub named-loaded : {I : Type 0} (coming : I → Option Coming) (sources : Option Sources) (name : List ℕ) (input : I) (r : Result (Unit {0}) Fault)
+    → IfSome sources (λ s. OpensAs coming (source_of name s.named) (opened input)) → IfSome (coming input) (λ x. Judges x r)
+    → IfSome sources (λ s. MatchOption (source_of name s.named) (IsUnread r) (λ c. (coming input ≡ Some (coming_of c)) × Judges (coming_of c) r))
+named-loaded coming None name input r opens judged = tt
+named-loaded coming (Some s) name input r opens judged = source-loaded coming (source_of name s.named) input r opens judged
+
+-- an opener that gives nothing has nothing under the name
+source-missing : {I : Type 0} (coming : I → Option Coming) (source : Option Content) (e : Missing) (r : Result (Unit {0}) Fault) → OpensAs coming source (unopened I e)
+    → IsUnread r → MatchOption source (IsUnread r) (λ c. (None ≡ Some (coming_of c)) × Judges (coming_of c) r)
+source-missing coming None e r opens missing = missing
+source-missing coming (Some c) e r opens missing = absurd opens
+
+pub named-missing : {I : Type 0} (coming : I → Option Coming) (sources : Option Sources) (name : List ℕ) (e : Missing) (r : Result (Unit {0}) Fault)
+    → IfSome sources (λ s. OpensAs coming (source_of name s.named) (unopened I e)) → IsUnread r
+    → IfSome sources (λ s. MatchOption (source_of name s.named) (IsUnread r) (λ c. (None ≡ Some (coming_of c)) × Judges (coming_of c) r))
+named-missing coming None name e r opens missing = tt
+named-missing coming (Some s) name e r opens missing = source-missing coming (source_of name s.named) e r opens missing
+
+-- a message alone, where nothing was loaded
+pub loads-missing : (store : Shelves) (name : List ℕ) (a b : Option (List ℕ)) (result : Fault) → IsSaid (message_on name ReadFault) (Err ReadFault) (Err result) a b
+    → Loads store name None None [] [] a b (Err result)
+loads-missing store name a b result said =
+    loads-refused store name None None [] [] a a b ReadFault result (loads-unread store None None [] a ReadFault tt tt) said
+
+-- it was told, or could not be
+pub unread-said : (name : List ℕ) (a b : Option (List ℕ)) (result : Fault) → IsSaid (message_on name ReadFault) (Err ReadFault) (Err result) a b → IsUnread (Err result)
+unread-said name a b result (Whole is all) = inl is
+unread-said name a b result (Broken is part) = inr is

@@ -1,0 +1,148 @@
+-- Plans published from a plan file before anything is served, and what is said of it.
+use Rattle.std.specs.Prelude.{◌≡◌, ◌≢◌, ℕ, ◌^◌, ◌<◌, Bool, true, false, List, [], ◌++◌, ◌⊎◌, All, IfSome, MatchOption, Option, Some, Result, Ok, Err, IsOk, ⊤, codes, decimal, flat_map, length, map}
+use Rattle.std.specs.Io.KnownBytes.{Appends}
+use Rattle.boxcar.specs.Table.{Shelves}
+use Rattle.byte_io.specs.Devices.{Clean, Coming, EndsHere, Told}
+use Rattle.byte_io.specs.Sources.{Sources, coming_of, source_of}
+use Rattle.byte_io.specs.Transfers.{AppendsFront}
+use Rattle.flow_scan.specs.Plans.{Plan}
+use Rattle.plan_file.specs.declared.fault.Cause.{Cause}
+use Rattle.plan_file.specs.declared.fault.Fault.{Fault}
+use Rattle.plan_file.specs.declared.fault.Fault.TheVariants.{OutOfMemory, BadPlanFile, ReadFault, WriteFault}
+use Rattle.plan_file.specs.FirstFaults.{IsFirstFault}
+use Rattle.plan_file.specs.Spelling.{ArePlans, spelling}
+use Rattle.plan_store.specs.Tickets as tickets
+
+-- ---- what is said
+
+-- the line of a plan that was published
+abbrev pub plan_line : ℕ → List ℕ
+plan_line number = codes "scand: plan " ++ (decimal number ++ codes "\n")
+
+-- the lines of published plans, by their tickets
+abbrev pub plan_lines : List tickets.Told → List ℕ
+plan_lines published = flat_map (λ ticket. plan_line ticket.number) published
+
+-- why a file is not loaded; where a write failed, no more is said
+abbrev pub reason_of : Fault → List ℕ
+reason_of OutOfMemory = codes ": refused (1)\n"
+reason_of (BadPlanFile place cause) = codes ": refused (10)\n"
+reason_of ReadFault = codes ": cannot be read\n"
+reason_of WriteFault = []
+
+-- the message on a file of this name
+abbrev pub message_on : List ℕ → Fault → List ℕ
+message_on name OutOfMemory = codes "scand: " ++ (name ++ reason_of OutOfMemory)
+message_on name (BadPlanFile place cause) = codes "scand: " ++ (name ++ reason_of (BadPlanFile place cause))
+message_on name ReadFault = codes "scand: " ++ (name ++ reason_of ReadFault)
+message_on name WriteFault = []
+
+-- all that is said where loading comes to this answer: a line for each published plan, and the message
+abbrev pub said_of : List ℕ → List tickets.Told → Result (Unit {0}) Fault → List ℕ
+said_of name published (Ok _) = plan_lines published
+said_of name published (Err fault) = plan_lines published ++ message_on name fault
+
+-- all of it was said, or a front of it, since a write failed
+pub data IsSaid (text : List ℕ) (answer result : Result (Unit {0}) Fault) (err_old err_new : Option (List ℕ)) : Type 0 where
+  Whole : result ≡ answer → Appends err_old err_new text → IsSaid text answer result err_old err_new
+  Broken : result ≡ Err WriteFault → AppendsFront err_old err_new text → IsSaid text answer result err_old err_new
+
+-- ---- what is published
+
+-- the plans that tickets show
+abbrev pub plans_of : List tickets.Told → List Plan
+plans_of published = map (λ ticket. ticket.plan) published
+
+-- what a reader gave, to its end, is the file of these plans
+abbrev pub IsFileOf : Option Coming → Option Coming → List Plan → Type 0
+IsFileOf old new plans = Told old new (λ x y. ArePlans 8 1024 plans × (x.text ≡ spelling plans) × EndsHere y)
+
+-- and of these and more
+abbrev pub IsFileOfMore : Option Coming → Option Coming → List Plan → Type 0
+IsFileOfMore old new plans = (more : List Plan) × IsFileOf old new (plans ++ more)
+
+-- Which plans were published where loading comes to this answer: all of the file, in order; none; or, where memory ran
+-- out or a line could not be written, the first ones.
+abbrev pub Publishes : Option Coming → Option Coming → List Plan → Result (Unit {0}) Fault → Type 0
+Publishes old new plans (Ok _) = IsFileOf old new plans
+Publishes old new plans (Err OutOfMemory) = (plans ≡ []) ⊎ IsFileOfMore old new plans
+Publishes old new plans (Err (BadPlanFile place cause)) = (plans ≡ []) × IfSome old (λ x. IsFirstFault 8 1024 x.text place cause)
+Publishes old new plans (Err ReadFault) = plans ≡ []
+Publishes old new plans (Err WriteFault) = IsFileOfMore old new plans
+
+-- A file of this text that ends cleanly is judged by it: it is loaded where it is the file of some plans, and else refused
+-- with its first fault.
+pub record IsJudged (text : List ℕ) (result : Result (Unit {0}) Fault) : Type 0 where
+  pub loaded : (plans : List Plan) → ArePlans 8 1024 plans → text ≡ spelling plans → IsOk result
+  pub refused : (place : ℕ) (cause : Cause) → IsFirstFault 8 1024 text place cause → result ≡ Err (BadPlanFile place cause)
+  pub read : result ≢ Err ReadFault
+
+-- so it is unless memory runs out or a write fails
+abbrev pub Judges : Coming → Result (Unit {0}) Fault → Type 0
+Judges x result = x.ending ≡ Clean → length x.text < 2 ^ 40 → result ≢ Err OutOfMemory → result ≢ Err WriteFault → IsJudged x.text result
+
+-- Tickets of the store were gained, which show the plans that were published. Where a write failed, the answer is the
+-- one that loading had come to.
+pub record Loads (store : Shelves) (name : List ℕ) (coming_old coming_new : Option Coming) (tickets_old tickets_new : List tickets.Told) (err_old err_new : Option (List ℕ)) (result : Result (Unit {0}) Fault) : Type 0 where
+  pub published : List tickets.Told
+  pub answer : Result (Unit {0}) Fault
+  pub grown : tickets_new ≡ tickets_old ++ published
+  pub here : All (tickets.IsOf store) published
+  pub plans : Publishes coming_old coming_new (plans_of published) answer
+  pub said : IsSaid (said_of name published answer) answer result err_old err_new
+
+-- a file that cannot be opened is told as one that cannot be read
+abbrev pub IsUnread : Result (Unit {0}) Fault → Type 0
+IsUnread result = (result ≡ Err ReadFault) ⊎ (result ≡ Err WriteFault)
+
+-- What an opener gives under a name was loaded: where it tells what that is, it is judged by it.
+pub record LoadsNamed (store : Shelves) (name : List ℕ) (sources : Option Sources) (err_old err_new : Option (List ℕ)) (result : Result (Unit {0}) Fault) : Type 0 where
+  pub coming_old : Option Coming
+  pub coming_new : Option Coming
+  pub tickets : List tickets.Told
+  pub loads : Loads store name coming_old coming_new [] tickets err_old err_new result
+  pub source : IfSome sources (λ s. MatchOption (source_of name s.named) (IsUnread result) (λ c. (coming_old ≡ Some (coming_of c)) × Judges (coming_of c) result))
+
+-- ---- inside the crate: lines before a message
+
+-- the lines were written, or, where a write failed, a front of them
+abbrev pub SaysLines : List ℕ → Result (Unit {0}) Fault → Option (List ℕ) → Option (List ℕ) → Type 0
+SaysLines text (Ok _) old new = Appends old new text
+SaysLines text (Err OutOfMemory) old new = Appends old new text
+SaysLines text (Err (BadPlanFile place cause)) old new = Appends old new text
+SaysLines text (Err ReadFault) old new = Appends old new text
+SaysLines text (Err WriteFault) old new = AppendsFront old new text
+
+-- which plans may be left where publishing comes to this answer: none, or any
+abbrev pub MayLeave : List Plan → Result (Unit {0}) Fault → Type 0
+MayLeave more (Ok _) = more ≡ []
+MayLeave more (Err OutOfMemory) = ⊤
+MayLeave more (Err (BadPlanFile place cause)) = ⊥
+MayLeave more (Err ReadFault) = ⊥
+MayLeave more (Err WriteFault) = ⊤
+
+-- of plans the first were published, each with its line
+pub record PublishesFront (store : Shelves) (plans : List Plan) (tickets_old tickets_new : List tickets.Told) (err_old err_new : Option (List ℕ)) (result : Result (Unit {0}) Fault) : Type 0 where
+  pub published : List tickets.Told
+  pub more : List Plan
+  pub grown : tickets_new ≡ tickets_old ++ published
+  pub here : All (tickets.IsOf store) published
+  pub parts : plans ≡ plans_of published ++ more
+  pub left : MayLeave more result
+  pub said : SaysLines (plan_lines published) result err_old err_new
+
+-- plans of a file were published, each with its line, before anything is said of a fault
+pub record LoadsFile (store : Shelves) (coming_old coming_new : Option Coming) (tickets_old tickets_new : List tickets.Told) (err_old err_new : Option (List ℕ)) (result : Result (Unit {0}) Fault) : Type 0 where
+  pub published : List tickets.Told
+  pub grown : tickets_new ≡ tickets_old ++ published
+  pub here : All (tickets.IsOf store) published
+  pub plans : Publishes coming_old coming_new (plans_of published) result
+  pub said : SaysLines (plan_lines published) result err_old err_new
+
+-- whether a write failed
+abbrev pub is_write_fault : Result (Unit {0}) Fault → Bool
+is_write_fault (Ok _) = false
+is_write_fault (Err OutOfMemory) = false
+is_write_fault (Err (BadPlanFile place cause)) = false
+is_write_fault (Err ReadFault) = false
+is_write_fault (Err WriteFault) = true

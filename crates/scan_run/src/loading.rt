@@ -1,0 +1,199 @@
+//! Plans published from a plan file, before anything is served.
+ghost use Rattle.std.specs.Prelude.{◌≡◌, ◌≢◌, ◌++◌, ◌∷◌, ◌||◌, [], List, IfSome, IsTrue, OnErr, OnOk, is_err};
+ghost use Rattle.std.specs.Io.KnownBytes.{Appends};
+ghost use Rattle.byte_io.specs.Devices.{Told};
+ghost use Rattle.byte_io.specs.Sources.{Named, after};
+ghost use Rattle.byte_io.specs.Transfers.{AppendsFront};
+ghost use Rattle.plan_store.specs.Tickets as tickets;
+ghost use Rattle.scan_run.specs.Loading.{Judges, Loads, LoadsFile, LoadsNamed, PublishesFront, IsSaid, is_write_fault, message_on, plan_line};
+
+use byte_io::{ByteIn, ByteOut, Failed, Missing, Opener, write_all};
+use flow_scan::Compiled;
+use itoa::Buffer;
+use plan_file::{Fault, read_plans};
+use plan_store::{PlanStore, Ticket};
+use std::alloc::Global;
+use std::sync::Wait;
+
+/// Publishes the plans of a file in order, and tells the number of each on `err`, a line for each. The
+/// file is read whole first. It may wait as the store's `publish` does.
+///
+/// # Errors
+/// - `ReadFault`, where a read failed, and `BadPlanFile`, where the file is none: nothing was published.
+/// - `OutOfMemory`, where a growth was refused: the plans published so far stay.
+/// - `WriteFault`, where a line or a message could not be written: what was published stays.
+///
+/// All but the last are told on `err`, by the name of the file.
+pub fn load_plans<R: Wait, I: ByteIn, E: ByteOut>(
+    rt: &R,
+    alloc: Global,
+    store: &PlanStore,
+    input: &mut I,
+    name: &str,
+    err: &mut E,
+) -> Result<(), Fault>
+    ensures loads { (tickets : List tickets.Told) × Loads store.now name.now (I.coming input.old) (I.coming input.new)
+        [] tickets (E.written err.old) (E.written err.new) result }
+    ensures judged { IfSome (I.coming input.old) (λ x. Judges x result) }
+
+    // A fault is told only where a read or a write failed.
+    ensures fault { result ≡ Err Fault.ReadFault → IsTrue (I.has_failed input.new) }
+    ensures broken { result ≡ Err Fault.WriteFault → IsTrue (E.has_failed err.new) }
+    ensures flag { result ≢ Err Fault.WriteFault → E.has_failed err.new ≡ E.has_failed err.old }
+{
+    load_tickets(rt, alloc, store, input, name, &mut Vec::new(alloc), err)
+}
+
+/// The same, for a caller that keeps the tickets of the plans: `tickets` gains them in order.
+pub fn load_tickets<R: Wait, I: ByteIn, E: ByteOut>(
+    rt: &R,
+    alloc: Global,
+    store: &PlanStore,
+    input: &mut I,
+    name: &str,
+    tickets: &mut Vec<Ticket>,
+    err: &mut E,
+) -> Result<(), Fault>
+    ensures loads { Loads store.now name.now (I.coming input.old) (I.coming input.new)
+        tickets.old.items tickets.new.items (E.written err.old) (E.written err.new) result }
+    ensures judged { IfSome (I.coming input.old) (λ x. Judges x result) }
+
+    // A fault is told only where a read or a write failed.
+    ensures fault { result ≡ Err Fault.ReadFault → IsTrue (I.has_failed input.new) }
+    ensures broken { result ≡ Err Fault.WriteFault → IsTrue (E.has_failed err.new) }
+    ensures flag { result ≢ Err Fault.WriteFault → E.has_failed err.new ≡ E.has_failed err.old }
+{
+    match publish_file(rt, alloc, store, input, tickets, err) {
+        Ok(()) => Ok(()),
+        Err(fault) => Err(refused(fault, name, err)),
+    }
+}
+
+/// Opens the file of a name, whatever the name is, and publishes its plans: `-` is a file too. A file
+/// that cannot be opened is answered and told as one that cannot be read.
+///
+/// # Errors
+/// Those of `load_plans`.
+pub fn load_named<R: Wait, F: Opener, E: ByteOut>(
+    rt: &R,
+    alloc: Global,
+    store: &PlanStore,
+    files: &mut F,
+    name: &str,
+    err: &mut E,
+) -> Result<(), Fault>
+    ensures takes { Told (F.sources files.old) (F.sources files.new) (λ old new. new ≡ after (Named name.now) old) }
+    ensures loads { LoadsNamed store.now name.now (F.sources files.old) (E.written err.old) (E.written err.new) result }
+    ensures broken { result ≡ Err Fault.WriteFault → IsTrue (E.has_failed err.new) }
+    ensures flag { result ≢ Err Fault.WriteFault → E.has_failed err.new ≡ E.has_failed err.old }
+{
+    match files.open_named(name) {
+        Ok(mut input) => load_plans(rt, alloc, store, &mut input, name, err),
+        Err(Missing) => Err(refused(Fault::ReadFault, name, err)),
+    }
+}
+
+/// IsSaid why a file is not loaded. The answer is the fault, or that this could not be written.
+fn refused<E: ByteOut>(fault: Fault, name: &str, err: &mut E) -> Fault
+    ensures said { IsSaid (message_on name.now fault) (Err fault) (Err result) (E.written err.old) (E.written err.new) }
+    ensures broken { result ≡ Fault.WriteFault → fault ≢ Fault.WriteFault → IsTrue (E.has_failed err.new) }
+    ensures flag { result ≢ Fault.WriteFault → E.has_failed err.new ≡ E.has_failed err.old }
+    ensures kept { fault ≡ Fault.WriteFault → E.has_failed err.new ≡ E.has_failed err.old }
+    ensures fault { result ≢ Fault.WriteFault → result ≡ fault }
+{
+    let reason = match fault {
+        Fault::OutOfMemory => ": refused (1)\n",
+        Fault::BadPlanFile { .. } => ": refused (10)\n",
+        Fault::ReadFault => ": cannot be read\n",
+        Fault::WriteFault => return Fault::WriteFault,
+    };
+    match say(b"scand: ", name.as_bytes(), reason.as_bytes(), err) {
+        Ok(()) => fault,
+        Err(Failed) => Fault::WriteFault,
+    }
+}
+
+/// Publishes the plans of a file, and says the number of each.
+fn publish_file<R: Wait, I: ByteIn, E: ByteOut>(
+    rt: &R,
+    alloc: Global,
+    store: &PlanStore,
+    input: &mut I,
+    tickets: &mut Vec<Ticket>,
+    err: &mut E,
+) -> Result<(), Fault>
+    ensures loads { LoadsFile store.now (I.coming input.old) (I.coming input.new)
+        tickets.old.items tickets.new.items (E.written err.old) (E.written err.new) result }
+    ensures judged { IfSome (I.coming input.old) (λ x. Judges x result) }
+    ensures fault { result ≡ Err Fault.ReadFault → IsTrue (I.has_failed input.new) }
+    ensures flag { E.has_failed err.new ≡ (E.has_failed err.old || is_write_fault result) }
+{
+    let plans = read_plans(alloc, input)?;
+    publish_plans(rt, store, plans, tickets, err)
+}
+
+/// Publishes plans in order, and says the number of each.
+fn publish_plans<R: Wait, E: ByteOut>(
+    rt: &R,
+    store: &PlanStore,
+    plans: Vec<Compiled>,
+    tickets: &mut Vec<Ticket>,
+    err: &mut E,
+) -> Result<(), Fault>
+    ensures front { PublishesFront store.now plans.items tickets.old.items tickets.new.items (E.written err.old) (E.written err.new) result }
+    ensures flag { E.has_failed err.new ≡ (E.has_failed err.old || is_write_fault result) }
+{
+    for plan in plans {
+        publish_plan(rt, store, plan, tickets, err)?;
+    }
+    Ok(())
+}
+
+/// Publishes a plan, and says its number.
+fn publish_plan<R: Wait, E: ByteOut>(
+    rt: &R,
+    store: &PlanStore,
+    plan: Compiled,
+    tickets: &mut Vec<Ticket>,
+    err: &mut E,
+) -> Result<(), Fault>
+    ensures front { PublishesFront store.now (plan ∷ []) tickets.old.items tickets.new.items (E.written err.old) (E.written err.new) result }
+    ensures flag { E.has_failed err.new ≡ (E.has_failed err.old || is_write_fault result) }
+{
+    tickets.reserve(1)?;
+    let Ok(ticket) = store.publish(rt, plan) else {
+        return Err(Fault::OutOfMemory);
+    };
+    let number = store.number(&ticket);
+    tickets.push_reserved(ticket);
+    match say_number(number, err) {
+        Ok(()) => Ok(()),
+        Err(Failed) => Err(Fault::WriteFault),
+    }
+}
+
+/// Writes the line of a plan's number.
+fn say_number<E: ByteOut>(number: u64, err: &mut E) -> Result<(), Failed>
+    ensures ok { OnOk result (Appends (E.written err.old) (E.written err.new) (plan_line number)) }
+    ensures err { OnErr result (AppendsFront (E.written err.old) (E.written err.new) (plan_line number)) }
+    ensures flag { E.has_failed err.new ≡ (E.has_failed err.old || is_err result) }
+{
+    let mut digits = Buffer::new();
+    say(
+        b"scand: plan ",
+        digits.format(number).as_bytes(),
+        b"\n",
+        err,
+    )
+}
+
+/// Writes a line that stands in three parts, for which it needs no memory.
+fn say<E: ByteOut>(front: &[u8], middle: &[u8], end: &[u8], err: &mut E) -> Result<(), Failed>
+    ensures ok { OnOk result (Appends (E.written err.old) (E.written err.new) (front.now ++ (middle.now ++ end.now))) }
+    ensures err { OnErr result (AppendsFront (E.written err.old) (E.written err.new) (front.now ++ (middle.now ++ end.now))) }
+    ensures flag { E.has_failed err.new ≡ (E.has_failed err.old || is_err result) }
+{
+    write_all(err, front)?;
+    write_all(err, middle)?;
+    write_all(err, end)
+}
