@@ -198,7 +198,7 @@ PLANS = [
     planned(["plan", "-"], ["-"], MANY_PLANNED, MANY),
     planned(["check", "-", "c"], ["-", "c"], b"optimal 934\n", FILES["w"]),
     planned(["plan", "e"], ["e"], b"", status=2, messages=b"litplan: refused (5)\n"),
-    planned(["check", "w", "d"], ["w", "d"], b"not certified: end row 4 0\n", status=1),
+    planned(["check", "w", "d"], ["w", "d"], plain_plan.answer(WORDS, FILES["d"])[1], status=1),
     planned(["scan", "--workers", "1", "w", "-"], ["w", "-"], HITS, FILES["t"]),
     planned(["scan", "--workers", "4", "w", "-"], ["w", "-"], HITS, FILES["t"], has_threads=True),
     planned(["scan", "--workers", "4", "-", "many"], ["-", "many"], A_FOUND, b"a\n", has_threads=True),

@@ -212,8 +212,9 @@ def seen(endings, runs):
 
 
 def name_of(run):
-    """The words of a run."""
-    return " ".join([os.path.basename(run.words[0]), *map(repr, run.words[1:])])
+    """The words of a run, and what it is given."""
+    words = " ".join([os.path.basename(run.words[0]), *map(repr, run.words[1:])])
+    return f"{words:.60} on {run.stdin!r:.20}"
 
 
 def refusals():
@@ -221,9 +222,9 @@ def refusals():
     with bench() as (folder, endings):
         for run, refused, wanted in ROWS:
             got = ended(folder, run.words, run.stdin, run.made, {"REFUSED": refused})
-            yield f"{name_of(run):.80}, {refused}", got, (wanted, True)
+            yield f"{name_of(run)}, {refused}", got, (wanted, True)
         for one in seen(endings, RUNS):
-            name = f"{name_of(one.run):.80}, {one.sweep} {one.number} refused"
+            name = f"{name_of(one.run)}, {one.sweep} {one.number} refused"
             yield name, one.got, one.got if one.is_right else (one.whole, "or what is right for the refusal")
 
 
@@ -255,24 +256,41 @@ def mistakes():
         yield f"the mistake {mistake!r}", found[mistake].intersection(wanted or found[mistake]), set(wanted)
 
 
-KINDS = {"growth": 0, "read": 1, "given": 1, "write": 2, "take": 2, "room": 2, "message": 3, "interrupt": 4, "thread": 5}
+# The columns of the table, by what was refused.
+COLUMNS = {
+    "growths": ("growth",),
+    "reads": ("read", "given"),
+    "writes": ("write", "take", "room"),
+    "messages": ("message",),
+    "interrupted, cut": ("interrupt", "short", "cut"),
+    "threads": ("thread",),
+}
+
+
+def group_of(run):
+    """The program of a run, and what it is asked for."""
+    command = next((word for word in run.words[1:2] if word in ("plan", "check", "scan", "pack", "--stdio")), "")
+    return f"{os.path.basename(run.words[0])} {command}".strip()
 
 
 def main():
-    """A table of how many calls of each run were refused, and how many endings were its own; and what was wrong."""
+    """What was wrong, and a table: for each program how many calls were refused, and how many endings were then its
+    own."""
     refused, own, wrong = collections.Counter(), collections.Counter(), 0
     with bench() as (_, endings):
         for one in seen(endings, RUNS):
-            key = name_of(one.run), one.sweep.kind
             if not one.is_right:
                 wrong += 1
-                print(f"FAILED: {key}, {one.sweep} {one.number}\n  got   {one.got!r:.300}\n  whole {one.whole!r:.300}")
+                print(f"FAILED: {name_of(one.run)}, {one.sweep} {one.number}\n  {one.got!r:.300}\n  {one.whole!r:.300}")
             if one.number is not None:
-                refused[key] += 1
-                own[key] += one.got == one.whole
-    for name in dict.fromkeys(name for name, _ in refused):
-        print(name, {kind: (refused[name, kind], own[name, kind]) for kind in KINDS})
-    print(f"{sum(refused.values())} refused, {wrong} wrong")
+                refused[group_of(one.run), one.sweep.kind] += 1
+                own[group_of(one.run), one.sweep.kind] += one.got == one.whole
+    groups = collections.Counter(map(group_of, RUNS))
+    print("| program | runs |", " | ".join(COLUMNS), "|")
+    for group, runs in groups.items():
+        cells = [tuple(sum(count[group, kind] for kind in kinds) for count in (refused, own)) for kinds in COLUMNS.values()]
+        print(f"| {group} | {runs} |", " | ".join(f"{count:,} ({same:,})" for count, same in cells), "|")
+    print(f"{sum(refused.values()):,} calls refused or cut, {wrong} wrong endings")
     return 1 if wrong else 0
 
 
