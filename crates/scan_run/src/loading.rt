@@ -93,7 +93,7 @@ pub fn load_named<R: Wait, F: Opener, E: ByteOut>(
     }
 }
 
-/// IsSaid why a file is not loaded. The answer is the fault, or that this could not be written.
+/// Says why a file is not loaded. The answer is the fault, or that this could not be written.
 fn refused<E: ByteOut>(fault: Fault, name: &str, err: &mut E) -> Fault
     ensures said { IsSaid (message_on name.now fault) (Err fault) (Err result) (E.written err.old) (E.written err.new) }
     ensures broken { result ≡ Fault.WriteFault → fault ≢ Fault.WriteFault → IsTrue (E.has_failed err.new) }
