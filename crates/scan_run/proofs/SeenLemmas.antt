@@ -1,5 +1,5 @@
 -- What a session serves by what its scanners keep, it serves by all bytes that its streams were fed.
-use Rattle.std.proofs.Common.{◌≡◌, ℕ, List, [], ◌∷◌, Option, refl, sym, subst}
+use Rattle.std.proofs.Common.{ℕ, List, [], ◌∷◌, Option, refl, sym, subst}
 use Rattle.byte_io.specs.Devices.{Coming}
 use Rattle.scan_wire.specs.Messages.{ReplyParts, RequestParts}
 use Rattle.scan_serve.specs.declared.ended.Ended.{Ended}

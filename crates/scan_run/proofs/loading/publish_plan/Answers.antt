@@ -1,9 +1,6 @@
 -- No plan was published, or this one, and its line was written.
-use Rattle.std.proofs.Common.{◌≡◌, List, [], ◌∷◌, ◌++◌, Result, Ok, Err, rules, subst, sym}
-use Rattle.plan_file.specs.declared.fault.Fault.{Fault}
+use Rattle.std.proofs.Common.{◌≡◌, [], ◌∷◌, ◌++◌, Err, rules}
 use Rattle.plan_file.specs.declared.fault.Fault.TheVariants.{OutOfMemory}
-use Rattle.plan_store.specs.Tickets.{Told}
-use Rattle.scan_run.specs.Loading.{PublishesFront}
 use Rattle.scan_run.proofs.LoadLemmas.{published-not, published-told}
 use Rattle.scan_run.proofs.loading.publish_plan.Goals as goal
 

@@ -1,5 +1,5 @@
 -- A front of the message was written.
-use Rattle.std.proofs.Common.{◌≡◌, ℕ, List, ◌++◌, codes, refl, rules, subst}
+use Rattle.std.proofs.Common.{◌≡◌, ℕ, List, ◌++◌, codes, refl, subst}
 use Rattle.byte_io.specs.Transfers.{AppendsFront}
 use Rattle.scan_run.specs.Loading.{Broken, message_on}
 use Rattle.scan_run.proofs.loading.refused.Goals as goal
