@@ -3,14 +3,15 @@
 
 import os
 import random
-import re
 import select
 import socket
 import subprocess
 import sys
 import tempfile
 
+import guide
 import listening
+import manuals
 import plain_grep
 import plain_plan
 import plan_files
@@ -49,7 +50,6 @@ GREPS = [
     ({}, ["-F"], b"", b"", NO_PATTERN, 2),
     ({}, ["-z", "a"], b"a\n", b"", b"error: unexpected argument '-z' found...", 2),
     ({}, ["--help"], b"", b"", b"litgrep writes the lines...", 2),
-    ({}, ["--version"], b"", b"", b"litgrep 0.1.0\n", 2),
     ({}, [b"\xff"], b"", b"", b"litgrep: a word is not UTF-8\n", 2),
     # long spellings
     ({}, ["--count", "--ignore-case", "--regexp=CAT"], b"cat\n", b"1\n", b"", 0),
@@ -148,7 +148,6 @@ PLANS = [
     ({"words": b"dog\nhorse\ncat\n\ncat"}, ["plan", "words"], b"", THREE, b"", 0),
     ({}, ["plan", "-i", "-"], b"Cat\ncat\n", CAT, b"", 0),
     ({}, ["plan", "--ignore-case", "-"], b"Cat\ncat\n", CAT, b"", 0),
-    ({}, ["--version"], b"", b"", b"litplan 0.1.0\n", 2),
     ({}, ["plan", "-"], b"\n", b"", REFUSED % 5, 2),
     ({}, ["plan", "-"], b"", b"", REFUSED % 5, 2),
     ({}, ["plan", "-"], b"".join(b"%d\n" % n for n in range(1025)), b"", REFUSED % 6, 2),
@@ -236,16 +235,6 @@ def greps():
     for files, words, stdin, stdout, stderr, status in GREPS:
         got = started(run_in_folder(files, words, stdin), stderr)
         yield f"litgrep {words!r:.60} on {stdin!r:.20}", got, (status, stdout, stderr)
-
-
-def options():
-    """The options of the help text and of the manual are the same, in the same order."""
-    helped = re.findall(r"^  (-\S.*?)  ", run(["--help"])[2].decode(), re.M)
-    with open(os.path.join(TOP, "man", "litgrep.1")) as file:
-        manual = file.read().split(".SH OPTIONS\n")[1].split(".SH ")[0]
-    tagged = [line for tag, line in zip(manual.split("\n"), manual.split("\n")[1:]) if tag == ".TP"]
-    listed = [" ".join(re.sub(r'^\.BI? |^\.BR |[\\"]', "", line).split()).replace(" ,", ",") for line in tagged]
-    yield "options of the help text and of the manual", helped, listed
 
 
 def usages():
@@ -447,13 +436,13 @@ def random_plans():
                 yield f"a check of {text!r:.300} for {literals!r:.100}", got, plain_plan.answer(literals, text)
 
 
-PARTS = (greps, options, usages, edges, streams, prompt, own_outputs, plans, scans, random_greps, random_plans)
+PARTS = (greps, usages, edges, streams, prompt, own_outputs, plans, scans, random_greps, random_plans)
 PARTS += (refusing.mistakes, refusing.refusals, *plan_files.PARTS)
 
 
 def main():
     passed = failed = 0
-    for part in PARTS + serving.PARTS + listening.parts():
+    for part in PARTS + manuals.PARTS + guide.PARTS + serving.PARTS + listening.parts():
         for name, got, want in part():
             if got == want:
                 passed += 1

@@ -86,7 +86,6 @@ def words():
     """Words that serve nothing."""
     for given, stderr in (
         ([], NEEDED),
-        (["--version"], b"scand 0.1.0\n"),
         (["-z"], b"error: unexpected argument '-z' found"),
         (["--stdio", "x"], b"error: unexpected argument 'x' found"),
         (["--stdio=x"], b"error: unexpected value 'x' for '--stdio"),

@@ -1,0 +1,72 @@
+"""Runs the sessions that README and the guide show, as they stand, and compares what they print.
+
+A session is a block of console, or one that is indented and begins with a prompt. Behind `$ ` stands a command, behind
+`> ` its next line, and then what it prints. The sessions of a section share a shell and a folder, in which the
+programs are under bin/ and on the PATH, and each block of Python is the file that its fence names."""
+
+import itertools
+import os
+import re
+import subprocess
+import tempfile
+
+TOP = os.path.dirname(os.path.dirname(os.path.abspath(__file__)))
+DOCUMENTS = ("README.md", "docs/GUIDE.md")
+# Ends the output of a command, and leaves its status as it is.
+MARK = 'mark() { local status=$?; printf "\\1"; return $status; }\n'
+
+
+def sections(document):
+    """The sections of a document, each with its head."""
+    with open(os.path.join(TOP, document)) as file:
+        parts = re.split(r"^## (.*)\n", file.read(), flags=re.M)
+    return zip(parts[1::2], parts[2::2])
+
+
+def sessions_in(section):
+    """The lines of the sessions of a section, one after the other."""
+    found = re.findall(r"^```console\n(.*?)^```$|^((?: {4}[^\n]*\n)+)", section, re.M | re.S)
+    blocks = [fenced or re.sub("^ {4}", "", indented, flags=re.M) for fenced, indented in found]
+    return [line for block in blocks if block.startswith("$ ") for line in block.splitlines()]
+
+
+def commands_in(lines):
+    """The commands of a session, each with what it prints."""
+    commands = []
+    for line in lines:
+        if line.startswith("$ "):
+            commands.append([line[2:], ""])
+        elif line.startswith("> ") and not commands[-1][1]:
+            commands[-1][0] += "\n" + line[2:]
+        else:
+            commands[-1][1] += line + "\n"
+    return commands
+
+
+def printed(section, commands):
+    """What each command of a section prints, in a folder of its own."""
+    with tempfile.TemporaryDirectory() as folder:
+        os.symlink(os.path.join(TOP, "bin"), os.path.join(folder, "bin"))
+        for name, text in re.findall(r"^```python (\S+)\n(.*?)^```$", section, re.M | re.S):
+            with open(os.path.join(folder, name), "w") as file:
+                file.write(text)
+        env = dict(os.environ, PATH=os.path.join(TOP, "bin") + os.pathsep + os.environ["PATH"])
+        script = MARK + "".join(f"{command}\nmark\n" for command, _ in commands)
+        how = {"cwd": folder, "env": env, "stdin": subprocess.DEVNULL, "stderr": subprocess.STDOUT}
+        shown = subprocess.run(["bash", "-c", script], stdout=subprocess.PIPE, timeout=60, **how).stdout
+        return shown.decode(errors="backslashreplace").split("\1")
+
+
+def sessions():
+    """Each command of README and the guide prints what they show."""
+    for document in DOCUMENTS:
+        count = 0
+        for head, section in sections(document):
+            commands = commands_in(sessions_in(section))
+            count += len(commands)
+            for (command, want), got in itertools.zip_longest(commands, printed(section, commands)[:-1], fillvalue=("", "")):
+                yield f"{document}, {head}: {command}", got, want
+        yield f"{document} has commands", count > 5, True
+
+
+PARTS = (sessions,)
