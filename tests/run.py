@@ -9,6 +9,7 @@ import subprocess
 import sys
 import tempfile
 
+import c_header
 import clients
 import guide
 import listening
@@ -443,7 +444,7 @@ PARTS += (refusing.mistakes, refusing.refusals, *plan_files.PARTS)
 
 def main():
     passed = failed = 0
-    for part in PARTS + manuals.PARTS + guide.PARTS + serving.PARTS + listening.parts() + clients.PARTS:
+    for part in PARTS + manuals.PARTS + guide.PARTS + serving.PARTS + listening.parts() + clients.PARTS + c_header.PARTS:
         for name, got, want in part():
             if got == want:
                 passed += 1

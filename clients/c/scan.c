@@ -1,0 +1,114 @@
+/* Scans standard input by a scand on this machine, and prints a line `LIT END` for each hit.
+
+       cc -std=c99 -Wall -Wextra -o scan clients/c/scan.c && ./scan 7000 cat dog < text
+
+   The words behind the port are the literals. Status 0, or 2 with a message. */
+
+#define _POSIX_C_SOURCE 200809L
+
+#include <arpa/inet.h>
+#include <inttypes.h>
+#include <netinet/in.h>
+#include <stdio.h>
+#include <stdlib.h>
+#include <sys/socket.h>
+#include <unistd.h>
+
+#include "scand.h"
+
+enum { STREAM = 1, LITERALS = 4096 };
+
+static uint8_t sent[SCAND_FRAME], got[SCAND_FRAME];
+static size_t held, used;
+
+static void fail(const char *what)
+{
+    fprintf(stderr, "scan: %s\n", what);
+    exit(2);
+}
+
+static int connected(int port)
+{
+    struct sockaddr_in to = {.sin_family = AF_INET, .sin_port = htons((uint16_t)port)};
+    to.sin_addr.s_addr = htonl(INADDR_LOOPBACK);
+    int peer = socket(AF_INET, SOCK_STREAM, 0);
+    if (peer < 0 || connect(peer, (struct sockaddr *)&to, sizeof to) != 0) {
+        fail("no server");
+    }
+    return peer;
+}
+
+static void send_frame(int peer, size_t size)
+{
+    if (size == 0) {
+        fail("a request does not fit a frame");
+    }
+    for (size_t at = 0; at < size;) {
+        ssize_t moved = send(peer, sent + at, size - at, MSG_NOSIGNAL);
+        if (moved < 0) {
+            fail("the connection is lost");
+        }
+        at += (size_t)moved;
+    }
+}
+
+/* The next reply, which is lent until the one behind it is asked for. */
+static struct scand_frame reply(int peer)
+{
+    struct scand_frame frame;
+    held -= used;
+    memmove(got, got + used, held);
+    used = 0;
+    for (;;) {
+        enum scand_state state = scand_take((struct scand_text){got, held}, &frame, &used);
+        if (state == SCAND_WRONG || (state == SCAND_WHOLE && !scand_is_reply(&frame))) {
+            fail("no reply");
+        }
+        if (state == SCAND_WHOLE && frame.kind == SCAND_REFUSED) {
+            fprintf(stderr, "scan: refused (%d), detail %d\n", scand_code(&frame), scand_detail(&frame));
+            exit(2);
+        }
+        if (state == SCAND_WHOLE) {
+            return frame;
+        }
+        ssize_t moved = recv(peer, got + held, sizeof got - held, 0);
+        if (moved <= 0) {
+            fail("the connection is lost");
+        }
+        held += (size_t)moved;
+    }
+}
+
+/* Feeds a piece, and prints its hits. */
+static void feed(int peer, struct scand_text piece)
+{
+    send_frame(peer, scand_put_feed(sent, sizeof sent, STREAM, piece));
+    for (struct scand_frame frame = reply(peer); frame.kind == SCAND_HITS; frame = reply(peer)) {
+        for (size_t place = 0; place < scand_hit_count(&frame); place++) {
+            struct scand_hit hit = scand_hit_at(&frame, place);
+            printf("%u %" PRIu64 "\n", (unsigned)hit.literal, hit.end);
+        }
+    }
+}
+
+int main(int count, char **words)
+{
+    static struct scand_text literals[LITERALS];
+    static uint8_t piece[SCAND_PAYLOAD];
+    if (count < 3 || count - 2 > LITERALS) {
+        fail("usage: scan PORT LITERAL..");
+    }
+    for (int place = 2; place < count; place++) {
+        literals[place - 2] = (struct scand_text){(const uint8_t *)words[place], strlen(words[place])};
+    }
+    int peer = connected(atoi(words[1]));
+    send_frame(peer, scand_put_publish(sent, sizeof sent, 0, literals, (size_t)count - 2));
+    struct scand_frame published = reply(peer);
+    send_frame(peer, scand_put_open(sent, sizeof sent, STREAM, scand_number(&published)));
+    (void)reply(peer);
+    for (size_t size; (size = fread(piece, 1, sizeof piece, stdin)) > 0;) {
+        feed(peer, (struct scand_text){piece, size});
+    }
+    close(peer);
+    return ferror(stdin) || fflush(stdout) != 0 ? 2 : 0;
+}
