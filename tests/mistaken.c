@@ -1,6 +1,7 @@
 // Copies standard input to standard output, and stops as litplan does, but for the mistake that its word names.
 // refusing.py has to find it.
 #include <errno.h>
+#include <pthread.h>
 #include <stdlib.h>
 #include <string.h>
 #include <unistd.h>
@@ -30,9 +31,9 @@ static int put(int file, const char *bytes, size_t count)
 
 static void stop(const char *text)
 {
-	if (!is("says nothing"))
-		put(2, text, strlen(text));
-	_exit(is("ends well") ? 0 : 2);
+	int is_said = is("says nothing") || put(2, text, strlen(text));
+
+	_exit(is("ends well") || (is("ends well where nothing is said") && !is_said) ? 0 : 2);
 }
 
 // Takes some memory for a piece.
@@ -53,22 +54,44 @@ static void grow(const char *text, size_t count)
 	free(memory);
 }
 
-int main(int count, char **words)
+// Copies pieces to the end, and answers how many bytes they had.
+static size_t copy(void)
 {
 	char text[8];
-	ssize_t got;
+	size_t count = 0;
 
-	mistake = count > 1 ? words[1] : "none";
 	for (;;) {
-		got = read(0, text, sizeof text);
+		ssize_t got = read(0, text, sizeof text);
+
 		if (got < 0 && errno == EINTR && !is("is interrupted"))
 			continue;
 		if (got < 0 && !is("takes a fault for the end"))
 			stop("litplan: -: cannot be used\n");
 		if (got <= 0)
-			return 0;
+			return count;
 		grow(text, got);
 		if (!put(1, text, got) && !is("writes on"))
 			stop("litplan: refused (18)\n");
+		count += got;
+		if (got < (ssize_t)sizeof text && is("takes a short piece for the last"))
+			return count;
 	}
+}
+
+static void *work(void *value)
+{
+	return value;
+}
+
+int main(int count, char **words)
+{
+	pthread_t thread;
+
+	mistake = count > 1 ? words[1] : "none";
+	grow("", 1);
+	if (is("needs a thread") && pthread_create(&thread, NULL, work, NULL))
+		return 2;
+	if (copy() == 0)
+		stop("litplan: refused (5)\n");
+	return 0;
 }

@@ -277,12 +277,13 @@ ROWS = [
 ]
 
 
-def copied(program, mistake, text=b"what is copied, in four pieces."):
+def copied(program, mistake, text):
     """A run of mistaken.c, which stops as litplan does, and copies as it reads."""
 
     def answer(faults):
         if "-" in faults:
             return Ending(2, text[: faults["-"]], b"litplan: -: cannot be used\n")
-        return Ending(0, text)
+        return Ending(0, text) if text else Ending(2, b"", b"litplan: refused (5)\n")
 
-    return planned([], ["-"], text, text)._replace(words=[program, mistake], answer=answer)
+    like = planned([], ["-"], text, text, has_threads=mistake == "needs a thread")
+    return like._replace(words=[program, mistake], answer=answer)

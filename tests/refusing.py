@@ -167,7 +167,8 @@ def judge_of(run, whole, sweep):
         return got.status == 2 and are_fronts(got, whole) and got.messages != whole.messages
 
     if sweep.kind == "growth":
-        return lambda number, got: run.is_starved(whole, got) or (got == whole and number > 1)
+        is_needed = sweep.behind  # a growth may be asked for again, but not where all behind it are refused
+        return lambda number, got: run.is_starved(whole, got) or (got == whole and number > 1 and not is_needed)
     if sweep.kind == "read":
         allowed = unread_endings(run, sweep.behind)
         return lambda _, got: got in allowed
@@ -180,13 +181,21 @@ def judge_of(run, whole, sweep):
 
 def must_refuse(run, whole, kind):
     """Whether a run has calls of this kind."""
-    return {
+    shows, tells, reads = bool(written(whole)), bool(whole.messages), bool(run.sources)
+    of_kind = {
         "growth": True,
+        "read": reads,
+        "given": reads,
+        "short": any(run.sources.values()),
+        "write": shows,
+        "take": shows,
+        "room": shows,
+        "cut": shows or tells,
+        "message": tells,
+        "interrupt": reads or shows or tells,
         "thread": run.has_threads,
-        "message": bool(whole.messages),
-        "cut": bool(written(whole) or whole.messages),
-        "interrupt": bool(run.sources or written(whole) or whole.messages),
-    }.get(kind, bool(run.sources) if kind in ("read", "given", "short") else bool(written(whole)))
+    }
+    return of_kind[kind]
 
 
 class Seen(NamedTuple):
@@ -228,19 +237,22 @@ def refusals():
             yield name, one.got, one.got if one.is_right else (one.whole, "or what is right for the refusal")
 
 
-# The mistakes of mistaken.c, and some sweeps that find each.
+# The mistakes of mistaken.c, and some sweeps that find each. Each sweep finds one.
 MISTAKES = {
     "none": (),
-    "says nothing": ("growth", "growth-on", "read", "write", "take", "given", "room"),
-    "ends well": ("growth", "growth-on", "read", "write", "take", "given", "room"),
+    "says nothing": ("growth", "growth-on", "read", "read-on", "write", "write-on", "take", "take-on", "given", "room"),
+    "ends well": ("growth", "growth-on", "read", "read-on", "write", "write-on", "take", "take-on", "given", "room"),
+    "ends well where nothing is said": ("message", "message-on"),
     "writes on": ("write", "write-on", "take", "room"),
     "takes a part for all": ("cut", "room"),
+    "takes a short piece for the last": ("short",),
+    "takes a fault for the end": ("read", "read-on", "given"),
+    "is interrupted": ("interrupt",),
     "loses a byte": ("growth", "growth-on"),
     "ends by a signal": ("growth", "growth-on"),
     "answers otherwise": ("growth", "growth-on"),
     "says it in memory": ("growth-on",),
-    "takes a fault for the end": ("read", "read-on", "given"),
-    "is interrupted": ("interrupt",),
+    "needs a thread": ("thread", "thread-on"),
 }
 
 
@@ -249,7 +261,9 @@ def mistakes():
     found = {mistake: set() for mistake in MISTAKES}
     with bench() as (folder, endings):
         fake = built(folder, "mistaken.c", "mistaken", "-fno-builtin")
-        for one in seen(endings, [refused_runs.copied(fake, mistake) for mistake in MISTAKES]):
+        texts = b"what is copied, in four pieces.", b""
+        runs = [refused_runs.copied(fake, mistake, text) for mistake in MISTAKES for text in texts]
+        for one in seen(endings, runs):
             if not one.is_right:
                 found[one.run.words[1]].add(str(one.sweep))
     for mistake, wanted in MISTAKES.items():
