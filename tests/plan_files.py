@@ -13,11 +13,11 @@ import collections
 import itertools
 import os
 import random
-import re
 import subprocess
 import sys
 import tempfile
 
+import packing
 import plain_plan
 import random_cases
 from plain_plan_file import LONGEST, answer, file_fields, number
@@ -105,13 +105,6 @@ ROWS = [
     (first_literals([b"a" * 257, *LONG[:256]]), "1045005 Literal"),
     *((ONE[:size], f"{max(place for place in FIELDS if place <= size)} Short") for size in range(len(ONE))),
 ]
-
-
-def documented():
-    """The bytes that docs/FORMATS.md spells of the file of one plan."""
-    with open(os.path.join(TOP, "docs", "FORMATS.md")) as file:
-        block = file.read().split("The file of one plan")[1].split("```")[1]
-    return bytes.fromhex("".join(re.findall(r"^(?:[0-9A-F]{2} +)+", block, re.M)))
 
 
 def changed_files():
@@ -219,7 +212,7 @@ def worked():
     for text, want in ROWS:
         yield f"the plain reader on {shown(text)}", answer(text), want
     yield from compared(ROWS)
-    yield "the file in docs/FORMATS.md", documented(), ONE
+    yield "the file in docs/FORMATS.md", packing.worked_file(TOP), ONE
 
 
 def drawn(count):

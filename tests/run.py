@@ -14,6 +14,7 @@ import clients
 import guide
 import listening
 import manuals
+import packing
 import plain_grep
 import plain_plan
 import plan_files
@@ -242,13 +243,14 @@ def greps():
 def usages():
     """The usage behind a refusal of words names the program and its operands."""
     lists = "Usage: litgrep [-F] [-c | -l | -q] [-insvx] LIST [FILE]..."
-    plan, check = "litplan plan [-i] FILE", "litplan check [-i] FILE CERT"
+    plan, check, pack = "litplan plan [-i] FILE", "litplan check [-i] FILE CERT", "litplan pack [-i] FILE OUT"
     scan = "litplan scan [-i] [--count] --workers W FILE INPUT"
     for program, words, usage in (
         (LITGREP, ["-z"], lists),
-        (LITPLAN, ["-z"], f"Usage: {plan}\n       {check}\n       {scan}"),
+        (LITPLAN, ["-z"], f"Usage: {plan}\n       {check}\n       {pack}\n       {scan}"),
         (LITPLAN, ["plan"], f"Usage: {plan}\n"),
         (LITPLAN, ["check", "f"], f"Usage: {check}\n"),
+        (LITPLAN, ["pack", "f"], f"Usage: {pack}\n"),
         (LITPLAN, ["scan", "f"], f"Usage: {scan}\n"),
     ):
         text = run(words, program=program)[2].decode()
@@ -381,6 +383,17 @@ def scans():
     yield from scan_plans.workers_without_memory(planned_in_folder)
 
 
+def packs():
+    """Plan files of litplan: rows, random lists, and files that have no room for all of it."""
+
+    def planned(words, stdin, **how):
+        return run(words, stdin, program=LITPLAN, **how)
+
+    yield from packing.rows(planned, TOP)
+    yield from packing.random_packs(planned)
+    yield from packing.cut_packs(planned)
+
+
 def in_pieces(words, text, size, **how):
     """Runs litgrep on a text that it reads in pieces of this size."""
     near, far = socket.socketpair(socket.AF_UNIX, socket.SOCK_SEQPACKET)
@@ -438,7 +451,7 @@ def random_plans():
                 yield f"a check of {text!r:.300} for {literals!r:.100}", got, plain_plan.answer(literals, text)
 
 
-PARTS = (greps, usages, edges, streams, prompt, own_outputs, plans, scans, random_greps, random_plans)
+PARTS = (greps, usages, edges, streams, prompt, own_outputs, plans, scans, packs, random_greps, random_plans)
 PARTS += (refusing.mistakes, refusing.refusals, *plan_files.PARTS)
 
 

@@ -27,6 +27,11 @@ fn request_of(alloc: Global, matches: &ArgMatches<'_>) -> Result<Request, Fault>
             file: value(alloc, found, "file")?,
             certificate: value(alloc, found, "certificate")?,
         }),
+        Some(("pack", found)) => Ok(Request::Pack {
+            fold: fold_of(found),
+            file: value(alloc, found, "file")?,
+            output: value(alloc, found, "output")?,
+        }),
         Some(("scan", found)) => scan_of(alloc, found),
         _ => Err(Fault::usage(String::from_str(alloc, "litplan: no command given\n"))),
     }
@@ -68,12 +73,14 @@ fn litplan<'a>(alloc: Global) -> Result<Command<'a>, AllocError> {
         )
         .override_usage(
             "litplan plan [-i] FILE\n       litplan check [-i] FILE CERT\n       \
+             litplan pack [-i] FILE OUT\n       \
              litplan scan [-i] [--count] --workers W FILE INPUT",
         )
         .no_binary_name(true)
         .subcommand_required(true)
         .subcommand(plan(alloc)?)?
         .subcommand(check(alloc)?)?
+        .subcommand(pack(alloc)?)?
         .subcommand(scan(alloc)?)
 }
 
@@ -99,6 +106,21 @@ fn check<'a>(alloc: Global) -> Result<Command<'a>, AllocError> {
         .arg(fold(alloc))?
         .arg(file(alloc))?
         .arg(certificate)
+}
+
+fn pack<'a>(alloc: Global) -> Result<Command<'a>, AllocError> {
+    let output = Arg::new(alloc, "output")
+        .value_name("OUT")
+        .required(true)
+        .action(ArgAction::Set)
+        .help("The plan file, which is made or emptied");
+    Command::new(alloc, "pack")
+        .about("Writes the plan of a file's patterns to a plan file")
+        .override_usage("litplan pack [-i] FILE OUT")
+        .after_help(PACK_HELP)
+        .arg(fold(alloc))?
+        .arg(file(alloc))?
+        .arg(output)
 }
 
 fn scan<'a>(alloc: Global) -> Result<Command<'a>, AllocError> {
@@ -164,6 +186,13 @@ Whoever wrote the certificate is not trusted. Status 2 with a message where a fi
 Example: plan a file, and check the plan
   litplan plan words > words.cert
   litplan check words words.cert";
+
+const PACK_HELP: &str = "\
+The patterns are read and planned before OUT is made; it then holds their plan with its certificate, for whoever checks it
+again. Status 0, or 2 with a message. Where OUT cannot be written to its end, what it holds is a front of the plan file.
+
+Example: the plan file of a list
+  litplan pack words words.plan";
 
 const SCAN_HELP: &str = "\
 Prints a line `LIT END` for each place at which a pattern ends: its number in the list, from 0, by length and then by

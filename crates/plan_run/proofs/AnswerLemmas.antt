@@ -70,8 +70,8 @@ pub tells-stop : (fold : Fold) (name : List ℕ) (source : Option Content) (P : 
 tells-stop fold name source P stop known e = tells-reason (list_message fold name source) (P (list_in fold source)) stop known e
 
 -- all asks were made
-pub asks-all : (r : Result Status Stop) (all : List Ask) (s left : Sources) → left ≡ after_all all s → Asks r all s left
-asks-all (Ok status) all s left e = e
+pub asks-all : {T : Type 0} (r : Result T Stop) (all : List Ask) (s left : Sources) → left ≡ after_all all s → Asks r all s left
+asks-all (Ok _) all s left e = e
 asks-all (Err (Refused refusal)) all s left e = e
 asks-all (Err WriteFault) all s left e = e
 asks-all (Err OutOfMemory) all s left e = record { made = all; rest = []; parts = sym (append-nil all); after = e }
@@ -88,14 +88,14 @@ plan-had fold file known mid list r old new reads tells =
 -- and of one that is not
 pub plan-stopped : (fold : Fold) (file : List ℕ) (known mid : Option Sources) (stop : Stop) (out : Option (List ℕ))
     → Told known mid (λ s left. AreShort s → (left ≡ after (ask_of file) s) × TakesList fold file (taken_by (ask_of file) s) (Err stop))
-    → Told known mid (λ s left. AreShort s → Asks (Err stop) (ask_of file ∷ []) s left × Tells (AnswersPlan fold file s) (Err stop) out out)
+    → Told known mid (λ s left. AreShort s → Asks {T = Status} (Err stop) (ask_of file ∷ []) s left × Tells (AnswersPlan fold file s) (Err stop) out out)
 plan-stopped fold file known mid stop out reads =
-    Told-weaker known mid _ (λ s left. AreShort s → Asks (Err stop) (ask_of file ∷ []) s left × Tells (AnswersPlan fold file s) (Err stop) out out) reads (λ s left h short.
+    Told-weaker known mid _ (λ s left. AreShort s → Asks {T = Status} (Err stop) (ask_of file ∷ []) s left × Tells (AnswersPlan fold file s) (Err stop) out out) reads (λ s left h short.
     let taken = h short in
-    (asks-all (Err stop) (ask_of file ∷ []) s left taken.0, tells-stop fold file (taken_by (ask_of file) s) IsPlanAnswer stop out taken.1))
+    (asks-all {T = Status} (Err stop) (ask_of file ∷ []) s left taken.0, tells-stop fold file (taken_by (ask_of file) s) IsPlanAnswer stop out taken.1))
 
 -- where there is no message, another ask follows that for the file of patterns
-asks-both : (file : List ℕ) (next : Ask) (message : Option (List ℕ)) → message ≡ None
+pub asks-both : (file : List ℕ) (next : Ask) (message : Option (List ℕ)) → message ≡ None
     → ask_of file ∷ cond (is_some message) [] (next ∷ []) ≡ ask_of file ∷ next ∷ []
 asks-both file next None e = refl
 asks-both file next (Some text) e = (cc)
@@ -117,21 +117,21 @@ check-had fold file certificate known mid left list r old new reads judges =
     ))
 
 -- where there is one, none does
-asks-stopped : (file : List ℕ) (next : Ask) (message : Option (List ℕ)) (stop : Stop) (s left : Sources) → Explains stop message → left ≡ after (ask_of file) s
-    → Asks (Err stop) (ask_of file ∷ cond (is_some message) [] (next ∷ [])) s left
-asks-stopped file next None (Refused refusal) s left e after = (cc)
-asks-stopped file next (Some text) (Refused refusal) s left e after = after
-asks-stopped file next message WriteFault s left e after = absurd e
-asks-stopped file next message OutOfMemory s left e after =
+pub asks-stopped : (T : Type 0) (file : List ℕ) (next : Ask) (message : Option (List ℕ)) (stop : Stop) (s left : Sources) → Explains stop message → left ≡ after (ask_of file) s
+    → Asks {T = T} (Err stop) (ask_of file ∷ cond (is_some message) [] (next ∷ [])) s left
+asks-stopped T file next None (Refused refusal) s left e after = (cc)
+asks-stopped T file next (Some text) (Refused refusal) s left e after = after
+asks-stopped T file next message WriteFault s left e after = absurd e
+asks-stopped T file next message OutOfMemory s left e after =
     record { made = ask_of file ∷ []; rest = cond (is_some message) [] (next ∷ []); parts = refl; after = after }
 
 pub check-stopped : (fold : Fold) (file certificate : List ℕ) (known mid : Option Sources) (stop : Stop) (out : Option (List ℕ))
     → Told known mid (λ s left. AreShort s → (left ≡ after (ask_of file) s) × TakesList fold file (taken_by (ask_of file) s) (Err stop))
-    → Told known mid (λ s left. AreShort s → Asks (Err stop) (check_asks fold file certificate s) s left × Tells (AnswersCheck fold file certificate s) (Err stop) out out)
+    → Told known mid (λ s left. AreShort s → Asks {T = Status} (Err stop) (check_asks fold file certificate s) s left × Tells (AnswersCheck fold file certificate s) (Err stop) out out)
 check-stopped fold file certificate known mid stop out reads =
-    Told-weaker known mid _ (λ s left. AreShort s → Asks (Err stop) (check_asks fold file certificate s) s left × Tells (AnswersCheck fold file certificate s) (Err stop) out out) reads (λ s left h short.
+    Told-weaker known mid _ (λ s left. AreShort s → Asks {T = Status} (Err stop) (check_asks fold file certificate s) s left × Tells (AnswersCheck fold file certificate s) (Err stop) out out) reads (λ s left h short.
     let taken = h short in (
-      asks-stopped file (Named certificate) (list_message fold file (taken_by (ask_of file) s)) stop s left taken.1 taken.0,
+      asks-stopped Status file (Named certificate) (list_message fold file (taken_by (ask_of file) s)) stop s left taken.1 taken.0,
       tells-stop fold file (taken_by (ask_of file) s) (λ ls. IsCheckAnswer ls certificate (certificate_source file certificate s)) stop out taken.1,
     ))
 
@@ -170,18 +170,18 @@ scan-had fold count file input known mid left plan r old new reads scans =
     let tells = subst (λ x. Tells (AnswersInput plan.literals count input (taken_by (ask_of input) x)) r old new) taken.0 scanned.1 in
     let answer = AnswersInput list count input (input_source file input s) in (
       asks-all r (scan_asks fold file input s) s l (made ∙ ap (λ asks. after_all asks s) (sym (asks-both file (ask_of input) message taken.1.0))),
-      tells-unless message answer r old new taken.1.0 (subst (λ ls. Tells (AnswersInput ls count input (input_source file input s)) r old new) taken.1.1 tells),
+      tells-unless message answer r old new taken.1.0 (subst (λ ls. Tells (AnswersInput ls count input (input_source file input s)) r old new) taken.1.1.literals tells),
     ))
 
 -- and by one that is not
 pub scan-stopped : (fold : Fold) (count : Bool) (file input : List ℕ) (known mid : Option Sources) (stop : Stop) (out : Option (List ℕ))
     → Told known mid (λ s left. AreShort s → (left ≡ after (ask_of file) s) × TakesPlan fold file (taken_by (ask_of file) s) (Err stop))
-    → Told known mid (λ s left. AreShort s → Asks (Err stop) (scan_asks fold file input s) s left × Tells (AnswersScan fold count file input s) (Err stop) out out)
+    → Told known mid (λ s left. AreShort s → Asks {T = Status} (Err stop) (scan_asks fold file input s) s left × Tells (AnswersScan fold count file input s) (Err stop) out out)
 scan-stopped fold count file input known mid stop out reads =
-    Told-weaker known mid _ (λ s left. AreShort s → Asks (Err stop) (scan_asks fold file input s) s left × Tells (AnswersScan fold count file input s) (Err stop) out out) reads (λ s left h short.
+    Told-weaker known mid _ (λ s left. AreShort s → Asks {T = Status} (Err stop) (scan_asks fold file input s) s left × Tells (AnswersScan fold count file input s) (Err stop) out out) reads (λ s left h short.
     let taken = h short in
     let message : Option (List ℕ) = search_message fold file (taken_by (ask_of file) s) in (
-      asks-stopped file (ask_of input) message stop s left taken.1 taken.0,
+      asks-stopped Status file (ask_of input) message stop s left taken.1 taken.0,
       tells-reason message (AnswersInput (list_in fold (taken_by (ask_of file) s)) count input (input_source file input s)) stop out taken.1,
     ))
 

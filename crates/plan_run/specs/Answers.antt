@@ -1,6 +1,6 @@
 -- What a request has to answer, for the files that there are.
 use Rattle.std.specs.Prelude.{◌≡◌, ℕ, Bool, true, false, List, [], ◌∷◌, length, if◌then◌else◌, is_some, Option, Some, None, MatchOption, string_bytes}
-use Rattle.byte_io.specs.Sources.{Ask, Content, Named, Sources, after, ask_of, taken_by}
+use Rattle.byte_io.specs.Sources.{Ask, Content, Created, Named, Sources, after, ask_of, can_create, taken_by}
 use Rattle.list_plan.specs.Planned.{IsPlanned}
 use Rattle.lit_base.specs.Literals.{Literals}
 use Rattle.lit_base.specs.Occurrences.{IsHits}
@@ -11,7 +11,7 @@ use Rattle.lit_cert.specs.Reading.{IsFirstBad}
 use Rattle.lit_cert.specs.Spelling.{HasText, spelling}
 use Rattle.lit_cert.specs.declared.reason.Reason.{Reason}
 use Rattle.plan_run.specs.declared.request.Request.{Request}
-use Rattle.plan_run.specs.declared.request.Request.TheVariants.{Plan, Check, Scan}
+use Rattle.plan_run.specs.declared.request.Request.TheVariants.{Plan, Check, Pack, Scan}
 use Rattle.plan_run.specs.declared.status.Status.{Status}
 use Rattle.plan_run.specs.declared.status.Status.TheVariants.{Done, NotCertified, Trouble}
 use Rattle.plan_run.specs.Lists.{input_message, list_in, list_message, search_message, text_in}
@@ -90,16 +90,33 @@ AnswersScan fold count file input s =
     AnswersUnless (search_message fold file (taken_by (ask_of file) s))
     (AnswersInput (list_in fold (taken_by (ask_of file) s)) count input (input_source file input s))
 
+-- on a plan and the name of its file, which can be made or not: nothing is told; or the message, where the file cannot be
+-- made, or a write to it fails
+pub data IsPackAnswer (name : List ℕ) (can : Bool) (a : Answer) : Type 0 where
+  Packed : can ≡ true → a ≡ told [] Done → IsPackAnswer name can a
+  Unpacked : a ≡ refused_with (unusable name) → IsPackAnswer name can a
+
+-- to pack
+abbrev pub AnswersPack : Fold → List ℕ → List ℕ → Sources → Answer → Type 0
+AnswersPack fold file output s =
+    AnswersUnless (search_message fold file (taken_by (ask_of file) s)) (IsPackAnswer output (can_create output s.creatable))
+
 -- what a request has to answer
 abbrev pub IsAnswerTo : Request → Sources → Answer → Type 0
 IsAnswerTo (Plan fold file) s a = AnswersPlan fold (string_bytes file) s a
 IsAnswerTo (Check fold file certificate) s a = AnswersCheck fold (string_bytes file) (string_bytes certificate) s a
+IsAnswerTo (Pack fold file output) s a = AnswersPack fold (string_bytes file) (string_bytes output) s a
 IsAnswerTo (Scan r) s a = AnswersScan r.fold r.count (string_bytes r.file) (string_bytes r.input) s a
 
 -- what is asked for, in order: the file of patterns, and the certificate once there is a list
 abbrev pub check_asks : Fold → List ℕ → List ℕ → Sources → List Ask
 check_asks fold file certificate s =
     ask_of file ∷ (if is_some (list_message fold file (taken_by (ask_of file) s)) then [] else Named certificate ∷ [])
+
+-- likewise the file of patterns, and the plan's file once there is a plan
+abbrev pub pack_asks : Fold → List ℕ → List ℕ → Sources → List Ask
+pack_asks fold file output s =
+    ask_of file ∷ (if is_some (search_message fold file (taken_by (ask_of file) s)) then [] else Created output ∷ [])
 
 -- likewise the file of patterns, and the input once there is a plan
 abbrev pub scan_asks : Fold → List ℕ → List ℕ → Sources → List Ask
@@ -109,4 +126,5 @@ scan_asks fold file input s =
 abbrev pub asks_of : Request → Sources → List Ask
 asks_of (Plan fold file) s = ask_of (string_bytes file) ∷ []
 asks_of (Check fold file certificate) s = check_asks fold (string_bytes file) (string_bytes certificate) s
+asks_of (Pack fold file output) s = pack_asks fold (string_bytes file) (string_bytes output) s
 asks_of (Scan r) s = scan_asks r.fold (string_bytes r.file) (string_bytes r.input) s

@@ -1,5 +1,5 @@
 -- How a run ends, against what a request has to answer.
-use Rattle.std.specs.Prelude.{◌≡◌, ℕ, Bool, true, false, List, [], ◌++◌, ◌⊎◌, ⊤, Option, None, Some, Result, Ok, Err}
+use Rattle.std.specs.Prelude.{◌≡◌, ℕ, Bool, true, false, List, [], ◌⊎◌, ⊤, Option, None, Some, Result, Ok, Err}
 use Rattle.std.specs.Io.KnownBytes.{Appends}
 use Rattle.std.specs.Global.{Vec}
 use Rattle.byte_io.specs.Transfers.{AppendsFront, Says}
@@ -7,6 +7,7 @@ use Rattle.byte_io.specs.Sources.{Ask, AsksFront, Content, Sources, after_all}
 use Rattle.flow_scan.specs.Plans.{Plan}
 use Rattle.lit_base.specs.Literals.{Literals}
 use Rattle.lit_base.specs.declared.fold.Fold.{Fold}
+use Rattle.list_plan.specs.Planned.{IsPlanned}
 use Rattle.plan_run.specs.declared.request.Request.{Request}
 use Rattle.plan_run.specs.declared.status.Status.{Status}
 use Rattle.plan_run.specs.declared.status.Status.TheVariants.{Trouble}
@@ -26,6 +27,13 @@ is_write OutOfMemory = false
 abbrev pub is_write_fault : {T : Type 0} → Result T Stop → Bool
 is_write_fault (Ok _) = false
 is_write_fault (Err stop) = is_write stop
+
+-- a call stopped at a refusal
+abbrev pub is_refused : {T : Type 0} → Result T Stop → Bool
+is_refused (Ok _) = false
+is_refused (Err (Refused refusal)) = true
+is_refused (Err WriteFault) = false
+is_refused (Err OutOfMemory) = false
 
 -- what is said of a stop: its message, or that there was no memory for it
 abbrev pub SaysStop : Stop → Bool → Option (List ℕ) → Option (List ℕ) → Type 0
@@ -53,14 +61,19 @@ abbrev pub TakesList : Fold → List ℕ → Option Content → Result Literals 
 TakesList fold name source (Ok list) = (list_message fold name source ≡ None) × (list ≡ list_in fold source)
 TakesList fold name source (Err stop) = Explains stop (list_message fold name source)
 
--- the patterns were planned: their literals, or why there are none
+-- the plan is the list's
+pub record IsPlanOf (list : Literals) (plan : Plan) : Type 0 where
+  pub literals : plan.literals ≡ list
+  pub planned : IsPlanned list plan.certificate
+
+-- the patterns were planned: their plan, or why there is none
 abbrev pub TakesPlan : Fold → List ℕ → Option Content → Result Plan Stop → Type 0
-TakesPlan fold name source (Ok plan) = (search_message fold name source ≡ None) × (plan.literals ≡ list_in fold source)
+TakesPlan fold name source (Ok plan) = (search_message fold name source ≡ None) × IsPlanOf (list_in fold source) plan
 TakesPlan fold name source (Err stop) = Explains stop (search_message fold name source)
 
 -- a list was planned
 abbrev pub PlansList : Literals → Result Plan Stop → Type 0
-PlansList list (Ok plan) = (plan_message list ≡ None) × (plan.literals ≡ list)
+PlansList list (Ok plan) = (plan_message list ≡ None) × IsPlanOf list plan
 PlansList list (Err stop) = Explains stop (plan_message list)
 
 -- an input was read whole, or why it was not
@@ -95,8 +108,8 @@ Tells P (Err WriteFault) out_old out_new = IsFront P out_old out_new
 Tells P (Err OutOfMemory) out_old out_new = IsUnfinished P out_old out_new
 
 -- all asks were made, unless memory ran out
-abbrev pub Asks : Result Status Stop → List Ask → Sources → Sources → Type 0
-Asks (Ok status) all s left = left ≡ after_all all s
+abbrev pub Asks : {T : Type 0} → Result T Stop → List Ask → Sources → Sources → Type 0
+Asks (Ok _) all s left = left ≡ after_all all s
 Asks (Err (Refused refusal)) all s left = left ≡ after_all all s
 Asks (Err WriteFault) all s left = left ≡ after_all all s
 Asks (Err OutOfMemory) all s left = AsksFront all s left

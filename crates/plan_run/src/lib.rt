@@ -5,6 +5,7 @@ mod answering;
 mod judging;
 mod listing;
 mod message;
+mod packing;
 mod planning;
 mod reading;
 mod request;
@@ -16,6 +17,7 @@ mod telling;
 mod workers;
 
 pub use message::{say, say_text};
+pub use packing::{pack, pack_into};
 pub use request::{Request, Scan};
 pub use running::{answer, run};
 pub use status::Status;

@@ -21,6 +21,15 @@ pub enum Request {
         /// The file of the certificate.
         certificate: String,
     },
+    /// Write the plan of the patterns of a file to a plan file.
+    Pack {
+        /// Which case differences are ignored.
+        fold: Fold,
+        /// The file of patterns; `-` is standard input.
+        file: String,
+        /// The plan file, which is made or emptied.
+        output: String,
+    },
     /// Find the patterns of a file in an input.
     Scan(Scan),
 }

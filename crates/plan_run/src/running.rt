@@ -6,6 +6,7 @@ ghost use Rattle.plan_run.specs.Running.{Answers, Ends, is_write_fault};
 
 use crate::answering::{answer_check, answer_plan};
 use crate::message::say;
+use crate::packing::answer_pack;
 use crate::request::Request;
 use crate::scanning::answer_scan;
 use crate::status::Status;
@@ -72,6 +73,9 @@ pub fn answer<'a, R: Threads + Sync, F: Files, W: ByteOut>(
             files,
             out,
         ),
+        Request::Pack { fold, file, output } => {
+            answer_pack(alloc, *fold, file.as_str(), output.as_str(), files)
+        }
         Request::Scan(scan) => answer_scan(rt, alloc, scan, files, out),
     }
 }

@@ -5,7 +5,7 @@ ghost use Rattle.plan_run.specs.Statuses.{code_of};
 /// How a run ends.
 #[derive(Clone, Copy, Debug, PartialEq, Eq)]
 pub enum Status {
-    /// There is a plan, a certificate that holds, or a scan: 0.
+    /// There is a plan, a plan file, a certificate that holds, or a scan: 0.
     Done,
     /// A certificate does not hold: 1.
     NotCertified,

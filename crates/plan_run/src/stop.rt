@@ -8,7 +8,7 @@ use std::alloc::AllocError;
 /// Why a request has a message in place of an answer.
 #[derive(Clone, Copy, Debug)]
 pub enum Refusal<'a> {
-    /// The file of this name cannot be opened or read.
+    /// The file of this name cannot be opened, made, read or written.
     Unusable(&'a str),
     /// The patterns of the file are refused.
     Patterns(Fault),
