@@ -1,5 +1,5 @@
 -- Tickets of a session, and that two sessions fit into one world.
-use Rattle.std.proofs.Common.{◌≡◌, ℕ, zero, suc, ◌+◌, ◌-◌, ◌<◌, ◌≤◌, List, [], ◌∷◌, ◌++◌, length, get_or, map, Option, Some, None, Contains, ◌⊎◌, inl, inr, refl, sym, ap, ◌∙◌, subst, arith}
+use Rattle.std.proofs.Common.{◌≡◌, ℕ, zero, suc, ◌+◌, ◌<◌, List, [], ◌∷◌, ◌++◌, length, get_or, map, Option, Some, None, Contains, ◌⊎◌, inl, inr, refl, sym, ap, ◌∙◌, subst, arith}
 use Rattle.std.specs.Prelude.{Bool, true, false, IfSome, option_map}
 use Rattle.std.specs.List.{slice_get}
 use Rattle.std.proofs.lemmas.List.{get_or_append_left, get_or-append-add}
@@ -8,7 +8,7 @@ use Rattle.std.proofs.lemmas.Option.{get_or_from_slice_get, none-some, same_Some
 use Rattle.plan_store.specs.Tickets.{Told}
 use Rattle.scan_core.specs.Sessions.{Bound, Serving, entry_of}
 use Rattle.scan_core.specs.Steps.{Entry, IsSound, SessionParts}
-use Rattle.scan_core.specs.Together.{AgreeAll, IsMeeting, IsOneRun, Meet, ShowSound, TogetherLaw, known_to, tickets_of, world_of}
+use Rattle.scan_core.specs.Together.{AgreeAll, Meet, ShowSound, TogetherLaw, known_to, tickets_of, world_of}
 use Rattle.scan_core.specs.Worlds.{Event, Happens, HasOnePlan, IsFirst, MeetsEntries, Runs, Streamed, World, is_publish}
 
 -- a ticket that the session was told

@@ -18,7 +18,7 @@ pub use fault::Fault;
 pub use limits::{MAX_PLANS, MAX_STREAMS, limits_law};
 pub use refusal::Refusal;
 pub use session::Session;
-pub use together::{fit_law, together_law};
+pub use together::{Answered, answered_at_once, fit_law, together_law};
 pub use world::{event_law, world_law};
 
 #[cfg(test)]

@@ -1,11 +1,13 @@
 //! What no clause says: that a request is answered where there is memory, that numbers begin at 0, and
-//! that a number of another session is found.
+//! that a number of another session is found, in another thread too.
 use crate::session::Session;
+use crate::together::answered_at_once;
 use lit_base::Fold;
 use plan_store::PlanStore;
 use scan_wire::{Reply, Request};
 use std::alloc::Global;
 use std::sync::Wait;
+use std::thread::Threads;
 
 /// What a client asks.
 #[derive(Clone, Copy)]
@@ -417,4 +419,36 @@ fn opens_what_another_session_published(rt: HostRuntime) {
     assert_eq!(rt; missed, Some(one(Told::Fed(7, 6))));
     let unknown = answer_of_another(&rt, alloc, &[Ask::Open(7, 2)]);
     assert_eq!(rt; unknown, Some(refused(7, 14, 0)));
+}
+
+/// The number that was told.
+fn number_in(replies: &[Reply]) -> Option<u64> {
+    match replies {
+        [Reply::Published { number }] => Some(*number),
+        _ => None,
+    }
+}
+
+/// What two sessions in two threads answer to `concat`, each by the plan that the other published.
+fn answers_of_two<R: Threads + Wait + Sync>(rt: &R, alloc: Global) -> Option<(Replies, Replies)> {
+    let store = PlanStore::new(alloc).ok()?;
+    let publish_cat = request_of(alloc, CAT)?;
+    let publish_con = request_of(alloc, Ask::Publish(Fold::No, &[b"con"]))?;
+    let (one, other) = (Session::new(&store), Session::new(&store));
+    let (one, other) = answered_at_once(rt, alloc, one, publish_cat, other, publish_con).ok()?;
+    let open_con = request_of(alloc, Ask::Open(7, number_in(&other.replies)?))?;
+    let open_cat = request_of(alloc, Ask::Open(7, number_in(&one.replies)?))?;
+    let (one, other) = (one.session, other.session);
+    let (one, other) = answered_at_once(rt, alloc, one, open_con, other, open_cat).ok()?;
+    let feed = request_of(alloc, CONCAT)?;
+    let feed_too = request_of(alloc, CONCAT)?;
+    let (one, other) = (one.session, other.session);
+    let (one, other) = answered_at_once(rt, alloc, one, feed, other, feed_too).ok()?;
+    Some((all_said(&one.replies), all_said(&other.replies)))
+}
+
+#[test]
+fn opens_in_each_of_two_threads_what_the_other_published(rt: HostRuntime) {
+    let of_con = [Some(Told::Hits(7, 1, 3)), Some(Told::Fed(7, 6)), None];
+    assert_eq!(rt; answers_of_two(&rt, rt.alloc()), Some((of_con, OF_CONCAT)));
 }

@@ -1,13 +1,71 @@
 //! How sessions of one store fit into one world.
-ghost use Rattle.std.specs.Prelude.{◌≡◌, ◌++◌, ◌<◌, length, Some};
-ghost use Rattle.std.specs.List.{slice_get};
+ghost use Rattle.std.specs.Prelude.{◌≡◌, ◌++◌, [], IfOk, IsOkUnless};
 ghost use Rattle.plan_store.specs.Tickets.{IsOf};
+ghost use Rattle.scan_wire.specs.Messages.{request_parts};
+ghost use Rattle.scan_core.specs.Sessions.{GainsEvent};
 ghost use Rattle.scan_core.specs.Steps.{IsSound};
-ghost use Rattle.scan_core.specs.Together.{AgreeAll, AgreesWith, ShowSound, TogetherLaw, known_to, tickets_of, world_of};
+ghost use Rattle.scan_core.specs.Together.{AgreeAll, AgreesWith, ShowSound, TogetherLaw, known_to, world_of};
 ghost use Rattle.scan_core.specs.Worlds.{IsFirst};
+ghost use Rattle.scan_core.specs.declared.fault.Fault.TheVariants.{OutOfMemory};
 
+use crate::fault::Fault;
 use crate::session::Session;
 use plan_store::{PlanStore, Ticket};
+use scan_wire::{Reply, Request};
+use std::alloc::Global;
+use std::sync::Wait;
+use std::thread::{Threads, join};
+
+/// A session behind a request, and the replies.
+#[derive(Drop)]
+pub struct Answered<'s> {
+    pub session: Session<'s>,
+    pub replies: Vec<Reply>,
+}
+
+/// The law of two sessions of one store in two threads: each answers a request, both at once. Each has one
+/// event of its own, and behind them the entries that the two know are those of one world. The only
+/// refusal is `OutOfMemory`.
+pub fn answered_at_once<'s, R: Threads + Wait + Sync>(
+    rt: &R,
+    alloc: Global,
+    one: Session<'s>,
+    asked_of_one: Request,
+    other: Session<'s>,
+    asked_of_other: Request,
+) -> Result<(Answered<'s>, Answered<'s>), Fault>
+    requires { one.store ≡ other.store }
+    ensures first { IfOk result (λ met. GainsEvent one.entry (request_parts asked_of_one) [] met.0.replies.items met.0.session) }
+    ensures second { IfOk result (λ met. GainsEvent other.entry (request_parts asked_of_other) [] met.1.replies.items met.1.session) }
+    ensures fit { IfOk result (λ met. IsFirst (world_of (known_to met.0.session ++ known_to met.1.session))) }
+    ensures store { IfOk result (λ met. (met.0.session.store ≡ one.entry.store) × (met.1.session.store ≡ one.entry.store)) }
+    ensures fault { IsOkUnless result OutOfMemory }
+{
+    let (first, second) = join(
+        rt,
+        move || answer_of(rt, alloc, one, asked_of_one),
+        move || answer_of(rt, alloc, other, asked_of_other),
+    );
+    let first = first?;
+    let second = second?;
+    fit_law(&first.session, &second.session);
+    Ok((first, second))
+}
+
+/// A session behind a request that it answers.
+fn answer_of<'s, R: Wait>(
+    rt: &R,
+    alloc: Global,
+    mut session: Session<'s>,
+    request: Request,
+) -> Result<Answered<'s>, Fault>
+    ensures ok { IfOk result (λ met. GainsEvent session.entry (request_parts request) [] met.replies.items met.session) }
+    ensures fault { IsOkUnless result OutOfMemory }
+{
+    let mut replies = Vec::new(alloc);
+    session.handle(rt, alloc, request, &mut replies)?;
+    Ok(Answered { session, replies })
+}
 
 /// The law that two sessions of one store live in one world, in whatever threads they are: the entries
 /// that they know, by the numbers that they were told and by the streams that they have open, are
