@@ -1,8 +1,8 @@
 """Runs the sessions that README and the guide show, as they stand, and compares what they print.
 
 A session is a block of console, or one that is indented and begins with a prompt. Behind `$ ` stands a command, behind
-`> ` its next line, and then what it prints. The sessions of a section share a shell and a folder, in which the
-programs are under bin/ and on the PATH, and each block of Python is the file that its fence names."""
+`> ` its next line, and then what it prints. The sessions of a section share a shell and a folder, in which bin/ and
+clients/ are at hand, the programs are on the PATH, and each block of Python is the file that its fence names."""
 
 import itertools
 import os
@@ -46,7 +46,8 @@ def commands_in(lines):
 def printed(section, commands):
     """What each command of a section prints, in a folder of its own."""
     with tempfile.TemporaryDirectory() as folder:
-        os.symlink(os.path.join(TOP, "bin"), os.path.join(folder, "bin"))
+        for name in "bin", "clients":
+            os.symlink(os.path.join(TOP, name), os.path.join(folder, name))
         for name, text in re.findall(r"^```python (\S+)\n(.*?)^```$", section, re.M | re.S):
             with open(os.path.join(folder, name), "w") as file:
                 file.write(text)
