@@ -150,7 +150,7 @@ def words_in_bash():
         (["litgrep", "--file", "=", "-"], []),
         (["litgrep", "--file", "="], []),
         (["litgrep", "-n", "--", "-"], []),
-        (["litplan", "s"], ["scan"]),
+        (["litplan", "p"], ["plan", "pack"]),
         (["litplan", "plan", ""], []),
         (["litplan", "check", "--i"], ["--ignore-case"]),
         (["litplan", "scan", "--", "-"], []),
@@ -159,6 +159,8 @@ def words_in_bash():
         (["litplan", "scan", "--workers", "=", "1"], [number for number in workers if number.startswith("1")]),
         (["scand", "--st"], ["--stdio"]),
         (["scand", "--port", ""], []),
+        (["scand", "--plans", "-"], []),
+        (["scand", "--plans", "=", "-"], []),
         (["scand", "--connections", "="], []),
     ):
         yield f"{words} in bash", in_bash(*words), want
@@ -186,9 +188,13 @@ def bytes_in(lines):
 
 
 def examples():
-    """The certificate and the session that the manuals show."""
+    """The certificate, the plan file and the session that the manuals show."""
     planned = ran(built("litplan"), "plan", "-", input=b"horse\ncat\ndog\n")
     yield "the certificate of the manual", planned, (0, example_of("litplan-plans.5", 0), "")
+    shown = re.findall("^(?:[0-9A-F]{2} {1,2})+", example_of("litplan-plans.5", 1), re.M)
+    whole = "".join(shown + shown[-1:] * 8)
+    done = subprocess.run([built("litplan"), "pack", "-", "/dev/stdout"], input=b"a\n", capture_output=True, timeout=60)
+    yield "the plan file of the manual", (done.returncode, done.stdout.hex()), (0, bytes.fromhex(whole).hex())
     lines, is_asked, sides = example_of("scand-protocol.7", 0).splitlines(), False, {True: [], False: []}
     for line in lines:
         is_asked = line.startswith(">") or (is_asked and not re.match("  [0-9A-F]{2} ", line))
