@@ -5,6 +5,7 @@
 #   make CPU=x86-64-v2      the same for any processor of the last fifteen years
 #   make check              proves and tests everything from nothing, then runs the programs' tests
 #   make test               the programs' tests alone
+#   make check-deploy       tries what is in clients/, tools/ and deploy/, with Debian's packages, on this machine
 #   make soak MINUTES=..    the scan server under load, hostile connections among it, for some minutes
 #   make bench              the programs that measure, in bin/
 #   make install PREFIX=..  copies what was built into PREFIX/bin, manuals and completions into PREFIX/share
@@ -62,6 +63,9 @@ check:
 test: all $(PROBES:%=bin/%)
 	python3 tests/run.py
 
+check-deploy: bin/litgrep bin/scand
+	python3 tests/deploy.py
+
 # A report of the server under load.
 MINUTES = 1
 soak: bin/scand
@@ -97,5 +101,5 @@ clean:
 
 FORCE:
 
-.PHONY: all check test soak bench install uninstall clean FORCE
+.PHONY: all check test check-deploy soak bench install uninstall clean FORCE
 .DELETE_ON_ERROR:

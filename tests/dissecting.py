@@ -1,0 +1,165 @@
+"""Tests of tools/scand.lua by tshark: on written captures of the worked and of random sessions, cut into segments
+anywhere, and on a live one of the loopback. tests/deploy.py runs them."""
+
+import os
+import random
+import struct
+import subprocess
+import tempfile
+import time
+import xml.etree.ElementTree
+
+import session_cases
+import sessions
+from listening import Server
+from serving import SECONDS, TOP
+
+DISSECTOR = os.path.join(TOP, "tools", "scand.lua")
+PORT = 7000
+BYTES = ("scand.literal", "scand.piece")
+
+
+def segment(is_request, client, place, answered, text):
+    """A packet with a part of a conversation, behind so many bytes of it and of the other side."""
+    ports = (client, PORT) if is_request else (PORT, client)
+    tcp = struct.pack(">HHIIBBHHH", *ports, 1 + place & 0xFFFFFFFF, 1 + answered & 0xFFFFFFFF, 5 << 4, 0x18, 65535, 0, 0)
+    hosts = bytes([127, 0, 0, 1, 127, 0, 0, 1])
+    return struct.pack(">BBHHHBBH", 0x45, 0, 40 + len(text), 0, 0x4000, 64, 6, 0) + hosts + tcp + text
+
+
+def write_capture(path, conversations, source):
+    """A capture of conversations, each given by its requests and replies, in segments of random sizes."""
+    with open(path, "wb") as file:
+        file.write(struct.pack("<IHHiIII", 0xA1B2C3D4, 2, 4, 0, 0, 1 << 18, 101))
+        for number, sides in enumerate(conversations):
+            done = [0, 0]
+            while done[0] < len(sides[0]) or done[1] < len(sides[1]):
+                side = source.randrange(2)
+                size = source.choice([1, 3, 9, 20, 1400, 60000])
+                part = sides[side][done[side] : done[side] + size]
+                if part:
+                    packet = segment(side == 0, 20000 + number, done[side], done[1 - side], part)
+                    file.write(struct.pack("<IIII", 1, 0, len(packet), len(packet)) + packet)
+                    done[side] += len(part)
+
+
+def dissected(capture, port):
+    """What tshark shows of a capture: for each connection's client port and side, the frames, each by the values of its
+    fields."""
+    words = ["tshark", "-r", capture, "-X", f"lua_script:{DISSECTOR}", "-d", f"tcp.port=={port},scand", "-T", "pdml"]
+    done = subprocess.run([*words, "-Y", "scand"], capture_output=True, timeout=300, env=dict(os.environ, HOME="/nonexistent"))
+    if done.returncode != 0 or b"Lua" in done.stderr:
+        return {"fault": done.stderr.decode()}
+    shown = {}
+    for packet in xml.etree.ElementTree.fromstring(done.stdout):
+        ports = {field.get("name"): int(field.get("show")) for field in packet.iter("field") if field.get("name") in PORTS}
+        side = 0 if ports["tcp.dstport"] == port else 1
+        client = ports["tcp.srcport" if side == 0 else "tcp.dstport"]
+        for proto in packet.findall("proto"):
+            if proto.get("name") == "scand":
+                shown.setdefault((client, side), []).append([value_of(field) for field in proto.iter("field") if is_told(field)])
+    return shown
+
+
+PORTS = ("tcp.srcport", "tcp.dstport")
+
+
+def is_told(field):
+    return field.get("name", "").startswith("scand.") and field.get("name") not in ("scand.length", "scand.refused")
+
+
+def value_of(field):
+    if field.get("name") in BYTES:
+        return field.get("value")
+    return "bad" if field.get("name") == "scand.bad" else int(field.get("show"), 0)
+
+
+def told(frame):
+    """What is to be shown of a frame: its fields in order, behind kind and stream; or "bad" where it is none."""
+    kind, (stream,), payload = frame[4], struct.unpack(">I", frame[5:9]), frame[9:]
+    if kind == sessions.PUBLISH:
+        literals = sessions.literals_of(payload)
+        shown = [[len(literal), literal.hex()] if literal else [0] for literal in literals]
+        return [kind, stream, payload[0], len(literals), *sum(shown, [])]
+    if kind == sessions.FEED:
+        return [kind, stream, *([payload.hex()] if payload else [])]
+    if kind == sessions.HITS:
+        return [kind, stream, len(payload) // 10, *sum(struct.iter_unpack(">HQ", payload[2:]), ())]
+    if kind == sessions.PLAN:
+        return [kind, stream, *struct.unpack(f">BHQB{payload[11]}H", payload)]
+    if kind == sessions.REFUSED:
+        return [kind, stream, *struct.unpack(">BH", payload)]
+    return [kind, stream, *struct.unpack(f">{len(payload) // 8}Q", payload)]
+
+
+def side_told(text, is_request):
+    """The same for all frames of one side, up to the first bad one."""
+    if not is_request:
+        return [told(reply) for reply in sessions.replies_of(text)[0]]
+    found, at, ending = sessions.requests_of(text)
+    rows = [told(sessions.frame(*request)) for request in found]
+    if ending == sessions.LENGTH:
+        return [*rows, ["bad"]]
+    return [*rows, *([[*struct.unpack_from(">BI", text, at + 4), "bad"]] if isinstance(ending, int) else [])]
+
+
+def up_to_bad(rows):
+    """The frames up to the first bad one, of which only kind, stream and that it is bad."""
+    place = next((place for place, row in enumerate(rows) if row[-1] == "bad"), len(rows))
+    return rows[:place] + [[*row[:-1][:2], "bad"] for row in rows[place : place + 1]]
+
+
+def written():
+    """Written captures of the worked rows, and of random sessions."""
+    source = random.Random(21)
+    cases = [(name, text, replies) for name, text, replies, _ in session_cases.ROWS]
+    for number, (text, _) in enumerate(session_cases.random_sessions(200)):
+        cases.append((f"random session {number}", text, b"".join(sessions.conversation(text)[0])))
+    with tempfile.TemporaryDirectory() as folder:
+        path = os.path.join(folder, "capture")
+        for start in range(0, len(cases), 50):
+            part = cases[start : start + 50]
+            write_capture(path, [case[1:] for case in part], source)
+            shown = dissected(path, PORT)
+            yield "a capture dissected", shown.get("fault"), None
+            for number, (name, *sides) in enumerate(part):
+                for side, text in enumerate(sides):
+                    got = up_to_bad(shown.get((20000 + number, side), []))
+                    yield f"{name}, {'replies' if side else 'requests'} dissected", got, side_told(text, side == 0)
+
+
+def live():
+    """A capture of the loopback, of a talk with the server."""
+    with tempfile.TemporaryDirectory() as folder, Server(1) as server:
+        path = os.path.join(folder, "capture")
+        words = ["tshark", "-i", "lo", "-f", f"tcp port {server.port}", "-w", path, "-q"]
+        with subprocess.Popen(words, stderr=subprocess.PIPE, text=True) as capturing:
+            is_at_work = any("Capturing on" in line for line in capturing.stderr)
+            if not is_at_work:
+                print("left out: a live capture, which this machine does not allow")
+                return
+            time.sleep(0.5)
+            with server.client() as client:
+                text = session_cases.FIRST_THREE + session_cases.SHOW_PLAN_7 + session_cases.CLOSE_7
+                client.sends(text)
+                replies, own = client.leaves(), client.socket.getsockname()[1]
+            is_taken = until(lambda: dissected(path, server.port).get((own, 1), [[]])[-1:] == [[sessions.CLOSED, 7]])
+            capturing.terminate()
+            capturing.communicate()
+        shown = dissected(path, server.port)
+        yield "a live capture", is_taken, True
+        yield "its requests", shown.get((own, 0)), side_told(text, True)
+        yield "its replies", shown.get((own, 1)), side_told(replies, False)
+
+
+def until(holds):
+    """Whether something holds soon."""
+    deadline = time.monotonic() + SECONDS
+    while not holds():
+        if time.monotonic() > deadline:
+            return False
+        time.sleep(0.1)
+    return True
+
+
+PARTS = (written, live)
