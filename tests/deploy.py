@@ -21,6 +21,7 @@ NEEDS = {
     "clients": [],
     "c_header": [],
     "dissecting": ["tshark"],
+    "supervising": ["systemd-socket-activate", "systemd-analyze", "strace"],
 }
 # Debian's packages that have these programs, where they are named otherwise.
 PACKAGES = {"systemd-socket-activate": "systemd", "systemd-analyze": "systemd", "dask-scheduler": "python3-distributed"}

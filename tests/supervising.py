@@ -1,0 +1,176 @@
+"""Tests of deploy/systemd: the units as systemd's own checks see them, scand as a supervisor starts it, and that the
+system calls which it makes are among those that the units allow. tests/deploy.py runs them."""
+
+import contextlib
+import os
+import re
+import shutil
+import signal
+import subprocess
+import tempfile
+import time
+
+import session_cases
+import sessions
+from listening import Client, free_port
+from serving import SCAND, SECONDS, TOP
+
+UNITS = os.path.join(TOP, "deploy", "systemd")
+# The most of systemd's marks for what a service is exposed to that the units may have, in tenths.
+EXPOSURE = 12
+
+
+def connected(port):
+    """A new connection to a server that listens, or will soon."""
+    deadline = time.monotonic() + SECONDS
+    while True:
+        try:
+            return Client(port, {})
+        except ConnectionRefusedError:
+            if time.monotonic() > deadline:
+                raise
+            time.sleep(0.02)
+
+
+class Activated:
+    """A supervisor that starts `scand --stdio` for each connection to a port, as scand.socket does."""
+
+    def __init__(self, port=None):
+        self.port = port or free_port()
+        listen = ["systemd-socket-activate", "--accept", "--inetd", "-l", f"127.0.0.1:{self.port}"]
+        self.program = subprocess.Popen(
+            [*listen, SCAND, "--stdio"], stdin=subprocess.DEVNULL, stderr=subprocess.DEVNULL, start_new_session=True
+        )
+        self.client().socket.close()
+
+    def client(self):
+        """A new connection. The first one waits until the supervisor listens."""
+        return connected(self.port)
+
+    def __enter__(self):
+        return self
+
+    def __exit__(self, *_):
+        self.kill()
+
+    def kill(self):
+        """Ends the supervisor and every server that it started, at once."""
+        with contextlib.suppress(ProcessLookupError):
+            os.killpg(self.program.pid, signal.SIGKILL)
+        self.program.wait()
+
+
+def at_hand(folder):
+    """The units, with the scand at hand, and templates with an instance."""
+    for name in os.listdir(UNITS):
+        if name.endswith((".socket", ".service")):
+            with open(os.path.join(UNITS, name)) as file:
+                text = file.read()
+            with open(os.path.join(folder, name), "w") as file:
+                file.write(text.replace("/usr/local/bin/scand", SCAND))
+    return [os.path.join(folder, name) for name in ("scand.socket", "scand@.service", "scand-port@.service")]
+
+
+def instance(unit):
+    return unit.replace("@.", "@7001.")
+
+
+def units():
+    """The units, by systemd's own checks."""
+    with tempfile.TemporaryDirectory() as folder:
+        paths = at_hand(folder)
+        for path in paths[1:]:
+            shutil.copy(path, instance(path))
+        for path in paths:
+            done = subprocess.run(["systemd-analyze", "verify", instance(path)], capture_output=True, text=True, timeout=60)
+            own = [line for line in done.stderr.splitlines() if "scand" in line]
+            yield f"systemd-analyze verify {os.path.basename(path)}", (done.returncode, own), (0, [])
+        for path in paths[1:]:
+            words = ["systemd-analyze", "security", "--offline=true", "--no-pager", f"--threshold={EXPOSURE}", instance(path)]
+            done = subprocess.run(words, capture_output=True, text=True, timeout=60)
+            yield f"systemd-analyze security {os.path.basename(path)}, {done.stdout[-60:]!r}", done.returncode, 0
+
+
+def started():
+    """Connections that a supervisor hands over: more than 64 in turn and at once, ends, and one that is killed."""
+    with Activated() as supervisor:
+        for name, text, replies, _ in session_cases.WORKED + session_cases.BAD:
+            with supervisor.client() as client:
+                client.sends(text)
+                yield f"{name}, under a supervisor", client.leaves(), replies
+        with contextlib.ExitStack() as stack:
+            clients = [stack.enter_context(supervisor.client()) for _ in range(80)]
+            for number, client in enumerate(clients):
+                yield f"connection {number} of 80", *client.asks(sessions.publish([b"cat", b"%d" % number]))
+            for request in sessions.open_stream(1, 0), sessions.feed(1, b"79 concat"):
+                for client in clients:
+                    got, want = client.asks(request)
+                    if got != want:
+                        yield "a reply to one of 80", got, want
+            pids = children(supervisor.program.pid)
+            yield "a process for each connection", len(pids), 80
+            os.kill(pids[0], signal.SIGKILL)
+            ended = sum(client.leaves() == b"" for client in clients)
+            yield "connections that end, one of them killed", ended, 80
+
+
+def children(pid):
+    """The processes that a process has started, and that live."""
+    with open(f"/proc/{pid}/task/{pid}/children") as file:
+        found = [int(word) for word in file.read().split()]
+    return [child for child in found if is_alive(child)]
+
+
+def is_alive(pid):
+    with contextlib.suppress(OSError), open(f"/proc/{pid}/stat") as file:
+        return file.read().rsplit(")", 1)[1].split()[0] != "Z"
+    return False
+
+
+def allowed_calls():
+    """The system calls that the units allow, by systemd's own lists."""
+    def listed(group):
+        shown = subprocess.run(["systemd-analyze", "syscall-filter", "--no-pager", group], capture_output=True, text=True).stdout
+        found = set()
+        for word in re.findall(r"^\s+(@?[a-z0-9_-]+)", shown, re.M):
+            found |= listed(word) if word.startswith("@") else {word}
+        return found
+
+    with open(os.path.join(UNITS, "scand@.service")) as file:
+        filters = re.findall(r"^SystemCallFilter=(~?)(.*)$", file.read(), re.M)
+    found = set()
+    for without, groups in filters:
+        for group in groups.split():
+            found = found - listed(group) if without else found | listed(group)
+    return found
+
+
+def calls():
+    """The system calls of a session and of a server of connections, and those that the units allow."""
+    allowed = allowed_calls()
+    yield "lists of system calls", {"read", "write", "mmap", "futex", "accept4"} <= allowed, True
+    with tempfile.TemporaryDirectory() as folder:
+        trace = os.path.join(folder, "trace")
+        many = session_cases.FIRST_THREE + sessions.publish(session_cases.PAIRS) + sessions.feed(7, b"cat" * 20000)
+        done = subprocess.run(["strace", "-f", "-o", trace, SCAND, "--stdio"], input=many, capture_output=True, timeout=SECONDS)
+        if done.returncode != 0:
+            print(f"left out: the system calls of scand ({done.stderr.decode()[-100:].strip()})")
+            return
+        yield "system calls of --stdio that are not allowed", traced(trace) - allowed, set()
+        port = free_port()
+        words = ["strace", "-f", "-o", trace, SCAND, "--port", str(port), "--connections", "2"]
+        with subprocess.Popen(words, stdout=subprocess.DEVNULL) as program:
+            for _ in range(2):
+                with connected(port) as client:
+                    client.sends(many)
+                    yield "a connection under strace", client.leaves()[:9], session_cases.PUBLISHED_0[:9]
+            program.wait(SECONDS)
+        yield "system calls of --port that are not allowed", traced(trace) - allowed, set()
+
+
+def traced(path):
+    with open(path) as file:
+        return set(re.findall(r"^\d+ +(?:<\.\.\. )?([a-z0-9_]+)", file.read(), re.M)) - {"exited", "killed"}
+
+
+PARTS = (units, started, calls)
