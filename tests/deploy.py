@@ -23,6 +23,7 @@ NEEDS = {
     "dissecting": ["tshark"],
     "supervising": ["systemd-socket-activate", "systemd-analyze", "strace"],
     "balancing": ["haproxy", "systemd-socket-activate"],
+    "hosts": ["parallel"],
 }
 # Debian's packages that have these programs, where they are named otherwise.
 PACKAGES = {"systemd-socket-activate": "systemd", "systemd-analyze": "systemd", "dask-scheduler": "python3-distributed"}
