@@ -3,8 +3,9 @@
 
     python3 tests/deploy.py [PART..]
 
-Without PARTs all of them; --help names them. What is needed beside the programs in bin/ is installed from Debian's packages
-where the caller may do that; what cannot be tried without it is left out, and named. Prints 'N passed, M failed'."""
+Without PARTs all of them; --help names them. What is needed beside the programs in bin/ is installed from Debian's
+packages where the caller may do that; what cannot be tried without it is left out, and named. Prints
+'N passed, M failed'."""
 
 import argparse
 import importlib
@@ -24,14 +25,21 @@ NEEDS = {
     "supervising": ["systemd-socket-activate", "systemd-analyze", "strace"],
     "balancing": ["haproxy", "systemd-socket-activate"],
     "hosts": ["parallel"],
+    "cluster": ["dask-scheduler", "dask-worker"],
 }
 # Debian's packages that have these programs, where they are named otherwise.
-PACKAGES = {"systemd-socket-activate": "systemd", "systemd-analyze": "systemd", "dask-scheduler": "python3-distributed"}
+PACKAGES = {
+    "systemd-socket-activate": "systemd",
+    "systemd-analyze": "systemd",
+    "dask-scheduler": "python3-distributed",
+    "dask-worker": "python3-distributed",
+}
 
 
 def install(parts):
     """Installs what is missing, where that can be done. Gives the parts that can be tried, and says which are left out."""
-    missing = sorted({PACKAGES.get(program, program) for part in parts for program in NEEDS[part] if not shutil.which(program)})
+    needed = {program for part in parts for program in NEEDS[part]}
+    missing = sorted({PACKAGES.get(program, program) for program in needed if not shutil.which(program)})
     if missing and os.geteuid() == 0 and shutil.which("apt-get"):
         print(f"installing {' '.join(missing)}", flush=True)
         quiet = {"stdout": subprocess.DEVNULL, "env": dict(os.environ, DEBIAN_FRONTEND="noninteractive")}

@@ -1,0 +1,155 @@
+#!/usr/bin/env python3
+"""Searches archives by the workers of a Dask cluster, and prints what one process would.
+
+    deploy/dask/scan_archive.py --scheduler HOST:PORT lines WORDS FILE...
+    deploy/dask/scan_archive.py --scheduler HOST:PORT count WORDS FILE...
+    deploy/dask/scan_archive.py --scheduler HOST:PORT hits WORDS FILE...
+
+`lines` prints the lines that `litgrep -f WORDS` selects, `count` how many they are, and `hits` a line `LIT END` for each
+hit: the literal's number in the list by length and bytes, and how many bytes of the file there are up to its end. With
+several files each line begins with `NAME:`. WORDS has one literal a line.
+
+Files are searched in parts: for lines and counts cut at newlines, for hits anywhere, with the `longest - 1` bytes before
+a part fed first and their hits dropped. Each worker needs the files under the same names, and litgrep or scand. A part
+whose worker is lost is searched by another one. Progress goes to standard error. Status 0: something was found; 1:
+nothing; 2: some part could not be searched, and the output is a front of what it should be.
+"""
+
+import argparse
+import collections
+import os
+import subprocess
+import sys
+import tempfile
+
+try:
+    import distributed
+except ImportError as fault:
+    print(f"scan_archive: {fault} (Debian's package is python3-distributed)", file=sys.stderr)
+    sys.exit(2)
+
+HERE = os.path.dirname(os.path.abspath(__file__))
+CLIENT = os.path.join(HERE, "..", "..", "clients", "python", "scand_client.py")
+CHUNK = 1 << 20
+
+
+def line_start(file, at):
+    """The first place, from `at` on, at which a line begins, or the end of the file."""
+    if at == 0:
+        return 0
+    file.seek(at - 1)
+    file.readline()
+    return file.tell()
+
+
+def selected(litgrep, words, flags, path, start, end):
+    """What litgrep writes for the lines that begin in a part of a file."""
+    with open(path, "rb") as file:
+        last, first = line_start(file, end), line_start(file, start)
+        file.seek(first)
+        text = file.read(last - first)
+    with tempfile.NamedTemporaryFile() as patterns:
+        patterns.write(b"".join(word + b"\n" for word in words))
+        patterns.flush()
+        done = subprocess.run([litgrep, *flags, "-f", patterns.name], input=text, capture_output=True)
+    if done.returncode not in (0, 1):
+        raise RuntimeError(f"{litgrep}: status {done.returncode}: {done.stderr.decode(errors='replace')}")
+    return done.stdout
+
+
+def chunks(file, size):
+    """So many bytes of a file, in pieces."""
+    while size > 0:
+        piece = file.read(min(size, CHUNK))
+        if not piece:
+            raise RuntimeError(f"{file.name} is shorter than it was")
+        yield piece
+        size -= len(piece)
+
+
+def hits(scand, words, ignore_case, path, start, end):
+    """A line for each hit that ends in a part of a file."""
+    from scand_client import Client
+
+    with Client.spawn([scand, "--stdio"]) as client, open(path, "rb") as file:
+        plan = client.publish(words, ignore_case)
+        lead = min(plan.longest - 1, start)
+        file.seek(start - lead)
+        with client.open(plan) as stream:
+            stream.feed(file.read(lead))
+            found = stream.scan(chunks(file, end - start))
+            return b"".join(b"%d %d\n" % (literal, start - lead + end) for literal, end in found)
+
+
+def arguments():
+    parser = argparse.ArgumentParser(description="Searches archives by the workers of a Dask cluster.")
+    parser.add_argument("--scheduler", required=True, metavar="HOST:PORT", help="the cluster's scheduler")
+    parser.add_argument("--part", type=int, default=64 << 20, metavar="BYTES", help="the size of a part (64 MiB)")
+    parser.add_argument("--litgrep", default="litgrep", help="litgrep on each worker")
+    parser.add_argument("--scand", default="scand", help="scand on each worker")
+    parser.add_argument("-i", "--ignore-case", action="store_true", help="ignore ASCII case")
+    parser.add_argument("what", choices=["lines", "count", "hits"])
+    parser.add_argument("words", metavar="WORDS", help="the literals, one a line")
+    parser.add_argument("files", nargs="+", metavar="FILE", help="what is searched")
+    return parser.parse_args()
+
+
+def tasks(given, words):
+    """The parts in their order: each with its file's name, whether it is the last of it, and the call that searches it."""
+    for name in given.files:
+        path, size = os.path.abspath(name), os.path.getsize(name)
+        for start in range(0, max(size, 1), given.part):
+            end = min(start + given.part, size)
+            if given.what == "hits":
+                call = hits, given.scand, words, given.ignore_case, path, start, end
+            else:
+                flags = ["-i"] * given.ignore_case + ["-c"] * (given.what == "count")
+                call = selected, given.litgrep, words, flags, path, start, end
+            yield name, end == size, call
+
+
+def answers(cluster, given, words):
+    """The answer to each part, in order, with a few parts for each worker on their way."""
+    source, running = tasks(given, words), collections.deque()
+    while True:
+        most = 3 * max(len(cluster.scheduler_info()["workers"]), 1)
+        while len(running) < most and (task := next(source, None)):
+            running.append((*task[:2], cluster.submit(*task[2], pure=False, retries=3)))
+        if not running:
+            return
+        name, is_last, answer = running.popleft()
+        yield name, is_last, answer.result()
+
+
+def search(cluster, given, words):
+    """Prints the answers, and tells whether anything was found."""
+    found, count, out = False, 0, sys.stdout.buffer
+    for number, (name, is_last, text) in enumerate(answers(cluster, given, words), 1):
+        front = os.fsencode(name) + b":" if len(given.files) > 1 else b""
+        if given.what == "count":
+            count += int(text)
+            found = found or count > 0
+            text = b"%d\n" % count if is_last else b""
+            count = 0 if is_last else count
+        found = found or bool(text and given.what != "count")
+        out.write(b"".join(front + line + b"\n" for line in text.split(b"\n")[:-1]) if front else text)
+        print(f"\r{number} parts", end="", file=sys.stderr, flush=True)
+    print(file=sys.stderr)
+    return found
+
+
+def main():
+    given = arguments()
+    try:
+        with open(given.words, "rb") as file:
+            words = [word for word in file.read().split(b"\n") if word]
+        with distributed.Client(given.scheduler) as cluster:
+            cluster.upload_file(CLIENT)
+            return 0 if search(cluster, given, words) else 1
+    except Exception as fault:
+        print(f"scan_archive: {fault}", file=sys.stderr)
+        return 2
+
+
+if __name__ == "__main__":
+    sys.exit(main())
