@@ -3,6 +3,7 @@
 
 mod alone;
 mod connection;
+mod connections;
 mod feeding;
 mod listening;
 mod loading;
@@ -13,7 +14,8 @@ mod status;
 mod telling;
 
 pub use alone::serve_alone;
-pub use listening::{MAX_CONNECTIONS, listen};
+pub use connections::{Connections, MAX_CONNECTIONS, connections_law};
+pub use listening::listen;
 pub use loading::{load_named, load_plans, load_tickets};
 pub use message::say_text;
 pub use plan_file::Fault;

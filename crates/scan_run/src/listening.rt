@@ -1,9 +1,10 @@
 //! Serving many streams at once over one store, each in a thread of its own.
 ghost use Rattle.std.specs.Prelude.{◌≡◌, ◌≤◌, false, length};
-ghost use Rattle.scan_run.specs.declared.listening.TheConstants.{MAX_CONNECTIONS};
+ghost use Rattle.scan_run.specs.Limits.{AreConnections};
 ghost use Rattle.scan_run.specs.Reports.{ReportsSome};
 
 use crate::connection::serve_connection;
+use crate::connections::{Connections, MAX_CONNECTIONS};
 use crate::report::report;
 use crate::status::Status;
 use arrayvec::ArrayVec;
@@ -15,9 +16,6 @@ use std::net::{TcpListener, TcpStream};
 use std::sync::Wait;
 use std::thread::{self, JoinHandle, Scope, Threads};
 
-/// Connections of one run, at most.
-pub const MAX_CONNECTIONS: usize = 64;
-
 /// Accepts so many connections, and serves each in a thread of its own, as a session of the store.
 /// When all have ended, it tells on `out` how, a line for each in order of acceptance. Once the last
 /// one is accepted, or accepting failed, the listener is closed, so that a late client is refused.
@@ -28,15 +26,14 @@ pub fn listen<R: Threads + Wait + Sync, O: ByteOut, E: ByteOut>(
     alloc: Global,
     store: &PlanStore,
     listener: TcpListener,
-    connections: usize,
+    connections: Connections,
     out: &mut O,
     err: &mut E,
 ) -> Status
-    requires { connections ≤ MAX_CONNECTIONS }
-    ensures { ReportsSome connections result (O.has_failed out.new) (E.has_failed err.new)
+    ensures { ReportsSome connections.count result (O.has_failed out.new) (E.has_failed err.new)
         (O.written out.old) (O.written out.new) (E.written err.old) (E.written err.new) }
 {
-    let served = serve_all(rt, alloc, store, listener, connections);
+    let served = serve_all(rt, alloc, store, listener, connections.count());
     report(alloc, &served.endings, served.faulty, out, err)
 }
 
@@ -60,7 +57,7 @@ fn serve_all<R: Threads + Wait + Sync>(
     listener: TcpListener,
     connections: usize,
 ) -> Served
-    requires { connections ≤ MAX_CONNECTIONS }
+    requires { AreConnections connections }
     ensures few { length result.endings.items ≤ connections }
     ensures all { result.faulty ≡ false → length result.endings.items ≡ connections }
 {
@@ -68,7 +65,7 @@ fn serve_all<R: Threads + Wait + Sync>(
         thread::scope_env(),
         rt,
         |scope|
-            requires { connections ≤ MAX_CONNECTIONS }
+            requires { AreConnections connections }
         {
             let (threads, faulty) = accept_all(scope, rt, alloc, store, listener, connections);
             Served {
@@ -89,7 +86,7 @@ fn accept_all<'s, E, R: Threads + Wait + Sync>(
     listener: TcpListener,
     connections: usize,
 ) -> (Serving, bool)
-    requires { connections ≤ MAX_CONNECTIONS }
+    requires { AreConnections connections }
     ensures few { length result.0.items ≤ connections }
     ensures all { result.1 ≡ false → length result.0.items ≡ connections }
 {

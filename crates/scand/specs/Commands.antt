@@ -1,25 +1,36 @@
 -- How a command ends, whatever its words ask for.
-use Rattle.std.specs.Prelude.{◌≡◌, ℕ, List, [], Option, ◌⊎◌}
+use Rattle.std.specs.Prelude.{◌≡◌, ℕ, Bool, List, [], ◌++◌, Option, codes, decimal, string_bytes, ◌⊎◌}
 use Rattle.std.specs.Io.KnownBytes.{Appends}
 use Rattle.byte_io.specs.Devices.{Coming}
+use Rattle.byte_io.specs.Transfers.{Says}
+use Rattle.program_words.specs.declared.fault.Fault.{Fault}
+use Rattle.program_words.specs.declared.fault.Fault.TheVariants.{OutOfMemory, Usage}
 use Rattle.scan_run.specs.declared.status.Status.{Status}
 use Rattle.scan_run.specs.declared.status.Status.TheVariants.{Trouble}
 use Rattle.scan_run.specs.Alone.{EndsAlone}
+use Rattle.scan_run.specs.Limits.{AreConnections}
+use Rattle.scan_run.specs.Messages.{out_of_memory}
 use Rattle.scan_run.specs.Reports.{ReportsSome}
 
--- some text was said
-pub record IsUnserved (status : Status) (err_old err_new : Option (List ℕ)) : Type 0 where
-  pub trouble : status ≡ Trouble
-  pub text : List ℕ
-  pub said : Appends err_old err_new text
+-- what is said of words that are no command
+abbrev pub message_on : Fault → List ℕ
+message_on (Usage text) = string_bytes text
+message_on OutOfMemory = out_of_memory
 
--- connections were served and told of, or a text was said and nothing else was done
-abbrev pub ServesPort : Status → Option (List ℕ) → Option (List ℕ) → Option (List ℕ) → Option (List ℕ) → Type 0
-ServesPort status out_old out_new err_old err_new =
-    ReportsSome status out_old out_new err_old err_new ⊎ (Appends out_old out_new [] × IsUnserved status err_old err_new)
+-- what is said where a port cannot be listened on
+abbrev pub cannot_listen : ℕ → List ℕ
+cannot_listen port = codes "scand: cannot listen on port " ++ (decimal port ++ codes "\n")
 
--- a stream was served, or connections were and nothing was read; or a text was said and nothing else was done
-pub data EndsSomehow (status : Status) (coming_old coming_new : Option Coming) (out_old out_new err_old err_new : Option (List ℕ)) : Type 0 where
-  Served : EndsAlone status coming_old coming_new out_old out_new err_old err_new → EndsSomehow status coming_old coming_new out_old out_new err_old err_new
-  Listened : coming_new ≡ coming_old → ServesPort status out_old out_new err_old err_new → EndsSomehow status coming_old coming_new out_old out_new err_old err_new
-  Unserved : coming_new ≡ coming_old → Appends out_old out_new [] → IsUnserved status err_old err_new → EndsSomehow status coming_old coming_new out_old out_new err_old err_new
+-- so many connections to a port were served and told of; or why there were none was said, and nothing else was done
+pub data ServesPort (port connections : ℕ) (status : Status) (out_failed err_failed : Bool) (out_old out_new err_old err_new : Option (List ℕ)) : Type 0 where
+  Reported : ReportsSome connections status out_failed err_failed out_old out_new err_old err_new → ServesPort port connections status out_failed err_failed out_old out_new err_old err_new
+  Unserved : status ≡ Trouble → Appends out_old out_new [] → Says err_failed err_old err_new (cannot_listen port) ⊎ Says err_failed err_old err_new out_of_memory
+      → ServesPort port connections status out_failed err_failed out_old out_new err_old err_new
+
+-- a stream was served, or connections to some port were and nothing was read; or the message on some words was said and nothing else was done
+pub data EndsSomehow (status : Status) (out_failed err_failed : Bool) (coming_old coming_new : Option Coming) (out_old out_new err_old err_new : Option (List ℕ)) : Type 0 where
+  Alone : EndsAlone status err_failed coming_old coming_new out_old out_new err_old err_new → EndsSomehow status out_failed err_failed coming_old coming_new out_old out_new err_old err_new
+  Listened : (port connections : ℕ) → AreConnections connections → coming_new ≡ coming_old → ServesPort port connections status out_failed err_failed out_old out_new err_old err_new
+      → EndsSomehow status out_failed err_failed coming_old coming_new out_old out_new err_old err_new
+  Unread : (fault : Fault) → status ≡ Trouble → coming_new ≡ coming_old → Appends out_old out_new [] → Says err_failed err_old err_new (message_on fault)
+      → EndsSomehow status out_failed err_failed coming_old coming_new out_old out_new err_old err_new

@@ -1,12 +1,14 @@
 //! What a command does.
-ghost use Rattle.scand.specs.Commands.{EndsSomehow, IsUnserved, ServesPort};
+ghost use Rattle.std.specs.Prelude.{◌≡◌, IfOk, string_bytes};
+ghost use Rattle.byte_io.specs.Transfers.{Says};
+ghost use Rattle.scand.specs.Commands.{EndsSomehow, ServesPort, cannot_listen, message_on};
 
 use crate::words::{Request, requested};
-use byte_io::{ByteIn, ByteOut, write_all};
+use byte_io::{ByteIn, ByteOut};
 use plan_store::PlanStore;
 use program_words::{Fault, words};
-use scan_run::{MAX_CONNECTIONS, Status, listen, serve_alone};
-use std::alloc::Global;
+use scan_run::{Connections, Status, listen, say_text, serve_alone};
+use std::alloc::{AllocError, Global};
 use std::net::{Ipv4Addr, Net, TcpListener, TcpStream};
 use std::rt::Env;
 use std::sync::Wait;
@@ -21,13 +23,13 @@ pub fn serve<R, I: ByteIn, O: ByteOut, E: ByteOut>(
 ) -> Status
 where
     R: Env + AllocGlobal + Threads + Wait + Sync + Net<Listener = TcpListener, Stream = TcpStream>,
-    ensures { EndsSomehow result (I.coming input.old) (I.coming input.new)
-        (O.written out.old) (O.written out.new) (E.written err.old) (E.written err.new) }
+    ensures { EndsSomehow result (O.has_failed out.new) (E.has_failed err.new)
+        (I.coming input.old) (I.coming input.new) (O.written out.old) (O.written out.new) (E.written err.old) (E.written err.new) }
 {
     match asked(rt) {
         Ok(Request::Alone) => serve_alone(rt, rt.alloc(), input, out, err),
         Ok(Request::Listen { port, connections }) => {
-            serve_port(rt, rt.alloc(), port, usize::from(connections), out, err)
+            serve_port(rt, rt.alloc(), port, connections, out, err)
         }
         Err(fault) => refuse(&fault, err),
     }
@@ -43,32 +45,45 @@ fn serve_port<R, O: ByteOut, E: ByteOut>(
     rt: &R,
     alloc: Global,
     port: u16,
-    connections: usize,
+    connections: Connections,
     out: &mut O,
     err: &mut E,
 ) -> Status
 where
     R: Threads + Wait + Sync + Net<Listener = TcpListener, Stream = TcpStream>,
-    ensures { ServesPort result (O.written out.old) (O.written out.new) (E.written err.old) (E.written err.new) }
+    ensures { ServesPort port connections.count result (O.has_failed out.new) (E.has_failed err.new)
+        (O.written out.old) (O.written out.new) (E.written err.old) (E.written err.new) }
 {
     let Ok(store) = PlanStore::new(alloc) else {
         return refuse(&Fault::OutOfMemory, err);
     };
     let Ok(listener) = TcpListener::bind(rt, (Ipv4Addr::LOCALHOST, port)) else {
-        let text = format!(in alloc; "scand: cannot listen on port {port}\n");
-        return refuse(&Fault::usage(text), err);
+        return refuse(&Fault::usage(cannot_listen(alloc, port)), err);
     };
-    let connections = connections.min(MAX_CONNECTIONS);
     listen(rt, alloc, &store, listener, connections, out, err)
+}
+
+/// What is said where a port cannot be listened on.
+fn cannot_listen(alloc: Global, port: u16) -> Result<String, AllocError>
+    ensures { IfOk result (λ text. string_bytes text ≡ cannot_listen port) }
+{
+    format!(in alloc; "scand: cannot listen on port {port}\n")
 }
 
 /// Says what is wrong with the words. Where that cannot be written, the status alone tells it.
 fn refuse<E: ByteOut>(fault: &Fault, err: &mut E) -> Status
-    ensures { IsUnserved result (E.written err.old) (E.written err.new) }
+    ensures trouble { result ≡ Status.Trouble }
+    ensures said { Says (E.has_failed err.new) (E.written err.old) (E.written err.new) (message_on fault.now) }
 {
-    let _ = match fault {
-        Fault::Usage { text } => write_all(err, text.as_bytes()),
-        Fault::OutOfMemory => write_all(err, b"scand: out of memory\n"),
-    };
+    explain(fault, err);
     Status::Trouble
+}
+
+fn explain<E: ByteOut>(fault: &Fault, err: &mut E)
+    ensures { Says (E.has_failed err.new) (E.written err.old) (E.written err.new) (message_on fault.now) }
+{
+    match fault {
+        Fault::Usage { text } => say_text(text.as_str(), err),
+        Fault::OutOfMemory => say_text("scand: out of memory\n", err),
+    }
 }

@@ -2,6 +2,7 @@
 use crate::help::{HELP, USAGE};
 use clap::{Arg, ArgAction, ArgMatches, Command, value_parser};
 use program_words::{Fault, VERSION, matches_of};
+use scan_run::{Connections, MAX_CONNECTIONS};
 use std::alloc::{AllocError, Global};
 
 /// What the words ask for.
@@ -10,7 +11,7 @@ pub enum Request {
     /// To serve one client over standard input and output.
     Alone,
     /// To serve so many connections to a port of this machine.
-    Listen { port: u16, connections: u8 },
+    Listen { port: u16, connections: Connections },
 }
 
 /// What the words after the program's name ask for.
@@ -30,13 +31,16 @@ pub fn requested(alloc: Global, words: &[String]) -> Result<Request, Fault> {
     }
 }
 
-/// The request that clap's matches tell, if no option is missing.
+/// The request that clap's matches tell, if no option is missing. Clap lets no other number of
+/// connections through.
 fn request_of(matches: &ArgMatches<'_>) -> Option<Request> {
     if matches.get_count("stdio") > 0 {
         return Some(Request::Alone);
     }
     let port = matches.get_one::<u16>("port")?;
-    let connections = matches.get_one::<u8>("connections")?;
+    let connections = matches
+        .get_one::<usize>("connections")
+        .and_then(Connections::new)?;
     Some(Request::Listen { port, connections })
 }
 
@@ -54,7 +58,7 @@ fn scand<'a>(alloc: Global) -> Result<Command<'a>, AllocError> {
         .long("connections")
         .value_name("N")
         .action(ArgAction::Set)
-        .value_parser(value_parser!(u8).range(1..=64));
+        .value_parser(value_parser!(usize).range(1..=MAX_CONNECTIONS as i64));
     Command::new(alloc, "scand")
         .version(VERSION)
         .no_binary_name(true)
