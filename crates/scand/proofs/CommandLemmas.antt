@@ -9,10 +9,6 @@ use Rattle.scan_run.specs.declared.status.Status.{Status}
 use Rattle.scan_run.specs.declared.status.Status.TheVariants.{Trouble}
 use Rattle.scand.specs.Commands.{ServesPort, Unserved, cannot_listen, message_on}
 
--- what was said of one fault was said of the same
-pub said_of : (err_failed : Bool) (old new : Option (List ℕ)) (fault known : Fault) → fault ≡ known → Says err_failed old new (message_on known) → Says err_failed old new (message_on fault)
-said_of err_failed old new fault known is said = subst (λ (f : Fault). Says err_failed old new (message_on f)) (sym is) said
-
 -- that a port cannot be listened on was said, or that there was no memory for the message
 pub unserved : {E : Type 0} (port connections : ℕ) (status : Status) (out_failed err_failed : Bool) (out err_old err_new : Option (List ℕ)) (text : Result (String Global) E) (fault : Fault)
     → IfOk text (λ t. string_bytes t ≡ cannot_listen port) → MatchResult text (λ t. fault ≡ Usage t) (λ _. fault ≡ OutOfMemory)

@@ -1,36 +1,34 @@
 //! What a command does.
 ghost use Rattle.std.specs.Prelude.{◌≡◌, IfOk, string_bytes};
 ghost use Rattle.byte_io.specs.Transfers.{Says};
-ghost use Rattle.scand.specs.Commands.{EndsSomehow, ServesPort, cannot_listen, message_on};
+ghost use Rattle.scand.specs.Commands.{EndsSomehow, Serves, ServesPort, cannot_listen, message_on};
 
-use crate::words::{Request, requested};
-use byte_io::{ByteIn, ByteOut};
+use crate::words::{Request, Service, requested};
+use byte_io::{ByteIn, ByteOut, Opener};
 use plan_store::PlanStore;
 use program_words::{Fault, words};
-use scan_run::{Connections, Status, listen, say_text, serve_alone};
+use scan_run::{Connections, Status, listen, load_named, say_text, serve_alone};
 use std::alloc::{AllocError, Global};
 use std::net::{Ipv4Addr, Net, TcpListener, TcpStream};
 use std::rt::Env;
 use std::sync::Wait;
 use std::thread::Threads;
 
-/// Serves the words of the command line.
-pub fn serve<R, I: ByteIn, O: ByteOut, E: ByteOut>(
+/// Serves the words of the command line. A file of plans that they name is one of `files`.
+pub fn serve<R, F: Opener, I: ByteIn, O: ByteOut, E: ByteOut>(
     rt: &R,
+    files: &mut F,
     input: &mut I,
     out: &mut O,
     err: &mut E,
 ) -> Status
 where
     R: Env + AllocGlobal + Threads + Wait + Sync + Net<Listener = TcpListener, Stream = TcpStream>,
-    ensures { EndsSomehow result (O.has_failed out.new) (E.has_failed err.new)
+    ensures { EndsSomehow result (F.sources files.old) (F.sources files.new) (O.has_failed out.new) (E.has_failed err.new)
         (I.coming input.old) (I.coming input.new) (O.written out.old) (O.written out.new) (E.written err.old) (E.written err.new) }
 {
     match asked(rt) {
-        Ok(Request::Alone) => serve_alone(rt, rt.alloc(), input, out, err),
-        Ok(Request::Listen { port, connections }) => {
-            serve_port(rt, rt.alloc(), port, connections, out, err)
-        }
+        Ok(request) => run(rt, rt.alloc(), &request, files, input, out, err),
         Err(fault) => refuse(&fault, err),
     }
 }
@@ -40,10 +38,62 @@ fn asked<R: Env + AllocGlobal>(rt: &R) -> Result<Request, Fault> {
     requested(rt.alloc(), &words(rt, "scand")?)
 }
 
+/// Serves a request over a new store. If it names a file, its plans are published first; where that
+/// fails, nothing is served.
+fn run<R, F: Opener, I: ByteIn, O: ByteOut, E: ByteOut>(
+    rt: &R,
+    alloc: Global,
+    request: &Request,
+    files: &mut F,
+    input: &mut I,
+    out: &mut O,
+    err: &mut E,
+) -> Status
+where
+    R: Threads + Wait + Sync + Net<Listener = TcpListener, Stream = TcpStream>,
+    ensures { EndsSomehow result (F.sources files.old) (F.sources files.new) (O.has_failed out.new) (E.has_failed err.new)
+        (I.coming input.old) (I.coming input.new) (O.written out.old) (O.written out.new) (E.written err.old) (E.written err.new) }
+{
+    let Ok(store) = PlanStore::new(alloc) else {
+        return refuse(&Fault::OutOfMemory, err);
+    };
+    let Some(name) = &request.plans else {
+        return serve_over(rt, alloc, &store, request.service, input, out, err);
+    };
+    match load_named(rt, alloc, &store, files, name.as_str(), err) {
+        Ok(()) => serve_over(rt, alloc, &store, request.service, input, out, err),
+        Err(_) => Status::Trouble,
+    }
+}
+
+/// Serves one client or connections, over a store.
+fn serve_over<R, I: ByteIn, O: ByteOut, E: ByteOut>(
+    rt: &R,
+    alloc: Global,
+    store: &PlanStore,
+    service: Service,
+    input: &mut I,
+    out: &mut O,
+    err: &mut E,
+) -> Status
+where
+    R: Threads + Wait + Sync + Net<Listener = TcpListener, Stream = TcpStream>,
+    ensures { Serves store.now result (O.has_failed out.new) (E.has_failed err.new)
+        (I.coming input.old) (I.coming input.new) (O.written out.old) (O.written out.new) (E.written err.old) (E.written err.new) }
+{
+    match service {
+        Service::Alone => serve_alone(rt, alloc, store, input, out),
+        Service::Listen { port, connections } => {
+            serve_port(rt, alloc, store, port, connections, out, err)
+        }
+    }
+}
+
 /// Serves connections to a port of this machine.
 fn serve_port<R, O: ByteOut, E: ByteOut>(
     rt: &R,
     alloc: Global,
+    store: &PlanStore,
     port: u16,
     connections: Connections,
     out: &mut O,
@@ -54,13 +104,10 @@ where
     ensures { ServesPort port connections.count result (O.has_failed out.new) (E.has_failed err.new)
         (O.written out.old) (O.written out.new) (E.written err.old) (E.written err.new) }
 {
-    let Ok(store) = PlanStore::new(alloc) else {
-        return refuse(&Fault::OutOfMemory, err);
-    };
     let Ok(listener) = TcpListener::bind(rt, (Ipv4Addr::LOCALHOST, port)) else {
         return refuse(&Fault::usage(cannot_listen(alloc, port)), err);
     };
-    listen(rt, alloc, &store, listener, connections, out, err)
+    listen(rt, alloc, store, listener, connections, out, err)
 }
 
 /// What is said where a port cannot be listened on.

@@ -1,20 +1,23 @@
 //! What `scand` prints of itself.
 
-pub const USAGE: &str = "scand --port P --connections N\n       scand --stdio";
+pub const USAGE: &str =
+    "scand --port P --connections N [--plans FILE]\n       scand --stdio [--plans FILE]";
 
 pub const HELP: &str = "\
 Scans byte streams for many literals at once, for clients that speak frames:
 they publish lists of literals, open streams by them, feed bytes in pieces cut
 anywhere, and are told each place at which a literal ends, once and in order.
 
-Usage: scand --port P --connections N
-       scand --stdio
+Usage: scand --port P --connections N [--plans FILE]
+       scand --stdio [--plans FILE]
 
       --port P         listen on this port of 127.0.0.1, from 1 to 65535
       --connections N  accept so many connections, from 1 to 64, serve each in
                        a thread of its own, and end when all have ended
       --stdio          serve one client over standard input and output; the
-                       other options then count for nothing
+                       port and connections then count for nothing
+      --plans FILE     publish the plans of this file before anything is
+                       served; - is a file called -
   -h, --help           print this, to standard error, with status 2
   -V, --version        print the version, likewise
 
@@ -23,6 +26,12 @@ frame is answered before the next one is waited for. Nothing is kept of what
 was fed but the last bytes that a hit may need, and a client takes up to about
 a megabyte beside its plans, whatever it asks. A client may wait for as long
 as it likes: put a limit where one is wanted before the server.
+
+A plan file holds at most 64 plans, made ahead with their certificates. It is
+read whole, each certificate is checked again, and each plan is published in
+order, with a line `scand: plan NUMBER` on standard error: clients open streams
+by that number. With a file that cannot be read (`scand: FILE: cannot be read`)
+or that is no plan file (`scand: FILE: refused (10)`) nothing is served.
 
 When all connections have ended a line tells of each, in order of acceptance:
 `connection I WORD`, WORD being clean, truncated (inside a frame), bad (no
@@ -37,6 +46,8 @@ Limits of a client: 64 plans, 64 open streams, 4096 patterns of at most 4095
 bytes in a list and 1024 different literals, 65536 bytes of payload in a
 frame, into which a list has to fit.
 
-Example: one client, whose frames are in a file
+Examples: one client, whose frames are in a file; a server that begins with the
+plans of a file
   scand --stdio < frames > replies
+  scand --port 5000 --connections 8 --plans words.plans
 ";

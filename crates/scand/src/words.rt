@@ -6,11 +6,19 @@ use scan_run::{Connections, MAX_CONNECTIONS};
 use std::alloc::{AllocError, Global};
 
 /// What the words ask for.
+#[derive(Debug, Drop)]
+pub struct Request {
+    /// The name of a file whose plans are published before anything is served.
+    pub plans: Option<String>,
+    pub service: Service,
+}
+
+/// Who is served.
 #[derive(Clone, Copy, Debug)]
-pub enum Request {
-    /// To serve one client over standard input and output.
+pub enum Service {
+    /// One client over standard input and output.
     Alone,
-    /// To serve so many connections to a port of this machine.
+    /// So many connections to a port of this machine.
     Listen { port: u16, connections: Connections },
 }
 
@@ -22,26 +30,35 @@ pub enum Request {
 /// - `OutOfMemory` where a growth was refused.
 pub fn requested(alloc: Global, words: &[String]) -> Result<Request, Fault> {
     let matches = matches_of(alloc, scand(alloc)?, words)?;
-    match request_of(&matches) {
-        Some(request) => Ok(request),
-        None => Err(Fault::usage(String::from_str(
+    let Some(service) = service_of(&matches) else {
+        return Err(Fault::usage(String::from_str(
             alloc,
             "scand: --stdio or --port and --connections are needed\n",
-        ))),
-    }
+        )));
+    };
+    let plans = plans_of(alloc, &matches)?;
+    Ok(Request { plans, service })
 }
 
-/// The request that clap's matches tell, if no option is missing. Clap lets no other number of
+/// Whom clap's matches tell to serve, if no option is missing. Clap lets no other number of
 /// connections through.
-fn request_of(matches: &ArgMatches<'_>) -> Option<Request> {
+fn service_of(matches: &ArgMatches<'_>) -> Option<Service> {
     if matches.get_count("stdio") > 0 {
-        return Some(Request::Alone);
+        return Some(Service::Alone);
     }
     let port = matches.get_one::<u16>("port")?;
     let connections = matches
         .get_one::<usize>("connections")
         .and_then(Connections::new)?;
-    Some(Request::Listen { port, connections })
+    Some(Service::Listen { port, connections })
+}
+
+/// The file of plans that clap's matches tell, if one is given.
+fn plans_of(alloc: Global, matches: &ArgMatches<'_>) -> Result<Option<String>, AllocError> {
+    match matches.get_str("plans") {
+        Some(name) => Ok(Some(String::from_str(alloc, name)?)),
+        None => Ok(None),
+    }
 }
 
 /// What scand takes.
@@ -59,6 +76,10 @@ fn scand<'a>(alloc: Global) -> Result<Command<'a>, AllocError> {
         .value_name("N")
         .action(ArgAction::Set)
         .value_parser(value_parser!(usize).range(1..=MAX_CONNECTIONS as i64));
+    let plans = Arg::new(alloc, "plans")
+        .long("plans")
+        .value_name("FILE")
+        .action(ArgAction::Set);
     Command::new(alloc, "scand")
         .version(VERSION)
         .no_binary_name(true)
@@ -66,5 +87,6 @@ fn scand<'a>(alloc: Global) -> Result<Command<'a>, AllocError> {
         .override_help(HELP)
         .arg(stdio)?
         .arg(port)?
-        .arg(connections)
+        .arg(connections)?
+        .arg(plans)
 }
