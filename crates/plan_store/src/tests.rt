@@ -244,7 +244,9 @@ fn found_by_each<R: Threads + Wait + Sync>(
 ) -> Option<(Pair, Pair)> {
     let one = plan_of(alloc, one)?;
     let other = plan_of(alloc, other)?;
-    let ((_, by_first), (_, by_second)) = each_finds_the_other(rt, store, one, other).ok()?;
+    let (first, second) = each_finds_the_other(rt, store, one, other).ok()?;
+    let (_, by_first) = first;
+    let (_, by_second) = second;
     Some((
         literal_of(store.at(&by_first?))?,
         literal_of(store.at(&by_second?))?,
