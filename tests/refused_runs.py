@@ -7,11 +7,20 @@ from typing import Callable, NamedTuple
 
 import plain_grep
 import plain_plan
+import plain_plan_file
 import scan_plans
 import session_cases
 from sessions import conversation, feed, open_stream, publish, replies_of, requests_of
 
 TOP = os.path.dirname(os.path.dirname(os.path.abspath(__file__)))
+
+
+# What a program says for want of memory, with status 2.
+NO_MEMORY = {
+    "litgrep": b"litgrep: out of memory\n",
+    "litplan": b"litplan: refused (1)\n",
+    "scand": b"scand: out of memory\n",
+}
 
 
 class Ending(NamedTuple):
@@ -146,7 +155,7 @@ class Search(NamedTuple):
 
     def run(self):
         sources = {name: len(self.text(name)) for name in (*self.files, *self.inputs) if self.text(name) is not None}
-        starved, unwritten = stops_with(b"litgrep: out of memory\n"), stops_with(b"")
+        starved, unwritten = stops_with(NO_MEMORY["litgrep"]), stops_with(b"")
         return Run(self.words(), self.answer, sources, starved, unwritten, self.stdin)
 
 
@@ -180,8 +189,19 @@ def planned(words, names, output, stdin=b"", status=0, messages=b"", **more):
         return Ending(status, output, messages)
 
     sources = {name: len(stdin if name == "-" else FILES[name]) for name in names}
-    starved, unwritten = stops_with(b"litplan: refused (1)\n"), stops_with(b"litplan: refused (18)\n")
+    starved, unwritten = stops_with(NO_MEMORY["litplan"]), stops_with(b"litplan: refused (18)\n")
     return Run([program("litplan"), *words], answer, sources, starved, unwritten, stdin, **more)
+
+
+def packed(words, name, literals, is_folded, stdin=b""):
+    """A run of litplan pack, which reads one file and makes another one."""
+    text = b"".join(plain_plan_file.file_fields([(literals, is_folded, plain_plan.plan_of(literals))]))
+    like = planned(["pack", *words, name, "made"], [name], b"", stdin, made=("made",))
+
+    def answer(faults):
+        return like.answer(faults)._replace(made=(None if faults else text,))
+
+    return like._replace(answer=answer, is_unwritten=stops_with(b"litplan: made: cannot be used\n"))
 
 
 WORDS = plain_plan.literals_of(FILES["w"].split(), False)
@@ -205,6 +225,10 @@ PLANS = [
     planned(["scan", "--count", "--workers", "1", "-", "t"], ["-", "t"], COUNT, FILES["w"]),
     planned(["scan", "--count", "--workers", "16", "-", "t"], ["-", "t"], COUNT, FILES["w"], has_threads=True),
 ]
+PACKS = [
+    packed([], "w", WORDS, False),
+    packed(["-i"], "-", plain_plan.literals_of(MANY.split(), True), True, MANY),
+]
 
 # scand.
 
@@ -212,8 +236,8 @@ PLANS = [
 def is_unserved(whole, got):
     """Whether memory ran out: before serving, with a message, or at some request, with the replies so far."""
     if got.status == 2:
-        return got == Ending(2, b"", b"scand: out of memory\n")
-    return got.status == 1 and are_fronts(got, whole) and not got.messages and not replies_of(got.output)[1]
+        return stops_with(NO_MEMORY["scand"])(whole._replace(output=b""), got)
+    return got.status == 1 and got.messages == whole.messages and are_fronts(got, whole) and not replies_of(got.output)[1]
 
 
 def served(text):
@@ -244,28 +268,33 @@ SESSIONS = [served(text) for text in (session_cases.FIRST_THREE, BAD, MIXED, MAN
 # Words that ask for no run.
 
 
-def told(name, words, message, starved):
+def told(name, words, message):
     """A run that only tells something of words."""
     ending = Ending(2, b"", message)
-    return Run([program(name), *words], lambda faults: ending, {}, stops_with(starved), stops_with(b""))
+    return Run([program(name), *words], lambda faults: ending, {}, stops_with(NO_MEMORY[name]), stops_with(b""))
 
 
 TOLD = [
-    told("litgrep", [], b"litgrep: no pattern given\n", b"litgrep: out of memory\n"),
-    told("litgrep", ["--version"], b"litgrep 0.1.0\n", b"litgrep: out of memory\n"),
-    told("litplan", ["plan", "none"], b"litplan: none: cannot be used\n", b"litplan: refused (1)\n"),
-    told("litplan", ["--version"], b"litplan 0.1.0\n", b"litplan: refused (1)\n"),
-    told("scand", [], b"scand: --stdio or --port and --connections are needed\n", b"scand: out of memory\n"),
-    told("scand", ["--version"], b"scand 0.1.0\n", b"scand: out of memory\n"),
+    told("litgrep", [], b"litgrep: no pattern given\n"),
+    told("litgrep", ["--version"], b"litgrep 0.1.0\n"),
+    told("litplan", ["plan", "none"], b"litplan: none: cannot be used\n"),
+    told("litplan", ["--version"], b"litplan 0.1.0\n"),
+    told("scand", [], b"scand: --stdio or --port and --connections are needed\n"),
+    told("scand", ["--version"], b"scand 0.1.0\n"),
 ]
 
-RUNS = [*(search.run() for search in SEARCHES), *PLANS, *SESSIONS, *TOLD]
+RUNS = [*(search.run() for search in SEARCHES), *PLANS, *PACKS, *SESSIONS, *TOLD]
+CAT, PLAN, SERVED = RUNS[0], PLANS[0], SESSIONS[0]
+
+
+def starved(run):
+    """How a run ends where its first growth is refused."""
+    return Ending(2, b"", NO_MEMORY[os.path.basename(run.words[0])], (None,) * len(run.made))
+
 
 # A run, what it is refused, and how it ends.
-CAT, PLAN, SERVED = RUNS[0], PLANS[0], SESSIONS[0]
-NO_MEMORY = {"litgrep": b"litgrep: out of memory\n", "litplan": b"litplan: refused (1)\n", "scand": b"scand: out of memory\n"}
 ROWS = [
-    *((run, f"growth-1{behind}", Ending(2, b"", NO_MEMORY[os.path.basename(run.words[0])])) for run in RUNS for behind in ("", "-on")),
+    *((run, f"growth-1{behind}", starved(run)) for run in RUNS for behind in ("", "-on")),
     (CAT, "cut-3", Ending(0, b"1:cat\n3:concat\n")),
     (CAT, "short-3", Ending(0, b"1:cat\n3:concat\n")),
     (CAT, "room-3", Ending(2, b"1:c")),

@@ -59,8 +59,8 @@ def sweeps_of(run):
 
 
 @functools.lru_cache
-def own_folder(bench):
-    """This process's folder below the bench's, with the files."""
+def folder_of(process, bench):
+    """The folder of a process below the bench's, with the files."""
     folder = tempfile.mkdtemp(dir=bench)
     for name, text in refused_runs.FILES.items():
         with open(os.path.join(folder, name), "wb") as file:
@@ -80,7 +80,7 @@ def taken(path):
 
 def ended(bench, words, stdin, made, settings):
     """How a run ends under these settings of the shim, and whether it was refused anything."""
-    folder, mark = own_folder(bench), os.path.join(bench, f"mark-{os.getpid()}")
+    folder, mark = folder_of(os.getpid(), bench), os.path.join(bench, f"mark-{os.getpid()}")
     env = dict(os.environ, LD_PRELOAD=os.path.join(bench, "refuse.so"), REFUSED_MARK=mark, **settings)
     near, far = os.pipe()
     with open(near, "rb") as given:
@@ -302,8 +302,11 @@ def main():
     groups = collections.Counter(map(group_of, RUNS))
     print("| program | runs |", " | ".join(COLUMNS), "|")
     for group, runs in groups.items():
-        cells = [tuple(sum(count[group, kind] for kind in kinds) for count in (refused, own)) for kinds in COLUMNS.values()]
-        print(f"| {group} | {runs} |", " | ".join(f"{count:,} ({same:,})" for count, same in cells), "|")
+        cells = []
+        for kinds in COLUMNS.values():
+            count, same = (sum(counted[group, kind] for kind in kinds) for counted in (refused, own))
+            cells.append(f"{count:,} ({same:,})" if count else "")
+        print(f"| {group} | {runs} |", " | ".join(cells), "|")
     print(f"{sum(refused.values()):,} calls refused or cut, {wrong} wrong endings")
     return 1 if wrong else 0
 

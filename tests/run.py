@@ -19,6 +19,7 @@ import plain_grep
 import plain_plan
 import plan_files
 import random_cases
+import refused_connections
 import refusing
 import scan_plans
 import serving
@@ -452,7 +453,7 @@ def random_plans():
 
 
 PARTS = (greps, usages, edges, streams, prompt, own_outputs, plans, scans, packs, random_greps, random_plans)
-PARTS += (refusing.mistakes, refusing.refusals, *plan_files.PARTS)
+PARTS += (refusing.mistakes, refusing.refusals, *refused_connections.PARTS, *plan_files.PARTS)
 
 
 def main():
