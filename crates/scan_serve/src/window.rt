@@ -11,8 +11,9 @@ use std::marker::Model;
 /// The room of a window: four of the longest frames.
 const ROOM: usize = 262_180;
 
-/// The room at first. A client that asks for little needs no more.
-const FIRST_ROOM: usize = 4096;
+/// The room at first: the longest frame, and some of what follows it. A client that asks for little
+/// needs no more.
+const FIRST_ROOM: usize = 73_728;
 
 /// Bytes that were read and not yet answered, in one buffer that is made once. A small part of it is
 /// used at first, and more as reads fill it: memory that is never written is only set aside.
