@@ -1,0 +1,227 @@
+"""Tests of `scand --plans`: plans published from a file before anything is served, beside the plain model of
+sessions.py and the plain plan files of plain_plan_file.py."""
+
+import os
+import resource
+import select
+import socket
+import subprocess
+import tempfile
+
+import plain_plan
+from listening import Server, free_port, lines
+from plain_plan_file import file_fields, number
+from serving import NEEDED, SCAND, SECONDS, ended, is_front, shimmed
+from session_cases import FIRST_THREE, PUBLISH_CAT
+from sessions import Plan, conversation, feed, open_stream, publish, show_plan
+
+A = [b"a"], False
+WORDS = [b"He", b"she", b"HE", b"his"], True
+ANIMALS = [b"cat", b"dog", b"horse"], False
+
+
+def file_of(*lists):
+    """The plan file of some lists, each of patterns and whether case is ignored."""
+    plans = []
+    for patterns, is_folded in lists:
+        literals = plain_plan.literals_of(patterns, is_folded)
+        plans.append((literals, is_folded, plain_plan.plan_of(literals)))
+    return b"".join(file_fields(plans))
+
+
+def store_of(*lists):
+    """The store that has the plans of such a file."""
+    return {place: Plan(*each) for place, each in enumerate(lists)}
+
+
+def told(count):
+    """The lines of so many plans."""
+    return b"".join(b"scand: plan %d\n" % place for place in range(count))
+
+
+def unread(name):
+    return b"scand: %s: cannot be read\n" % name.encode()
+
+
+def refused(name, number):
+    return b"scand: %s: refused (%d)\n" % (name.encode(), number)
+
+
+def served(text, files, words, **how):
+    """What the server answers to these bytes in a folder with these files, None being a folder: its status, its
+    replies, its messages."""
+    with tempfile.TemporaryDirectory() as folder:
+        for name, content in files.items():
+            if content is None:
+                os.mkdir(os.path.join(folder, name))
+                continue
+            with open(os.path.join(folder, name), "wb") as file:
+                file.write(content)
+        how = {"stdout": subprocess.PIPE, "stderr": subprocess.PIPE, "cwd": folder, "timeout": SECONDS, **how}
+        done = subprocess.run([SCAND, *words], input=text, **how)
+        return done.returncode, done.stdout, done.stderr
+
+
+BANANA = open_stream(7, 0) + feed(7, b"banana")
+BOTH = open_stream(1, 1) + open_stream(2, 0) + feed(1, b"usHERSat") + feed(2, b"banana") + show_plan(1) + publish([b"x"]) + open_stream(3, 2)
+STDIO = ["--stdio", "--plans", "f"]
+
+
+def outcome(text, *lists, status=None):
+    """What the model answers over a store with the plans of a file."""
+    replies, ending = conversation(text, store_of(*lists))
+    return int(ending != "clean") if status is None else status, b"".join(replies), told(len(lists))
+
+
+def rows():
+    """Files of plans, and sessions that open streams by their numbers."""
+    hits = b"".join(b"\0\0" + end.to_bytes(8, "big") for end in (2, 4, 6))
+    got = served(BANANA, {"f": file_of(A)}, STDIO)
+    yield "a file of one plan", got, outcome(BANANA, A)
+    yield "its hits", hits in got[1], True
+    yield "a file of no plans", served(BANANA, {"f": file_of()}, STDIO), outcome(BANANA)
+    yield "a first plan behind a file of none", served(FIRST_THREE, {"f": file_of()}, STDIO), outcome(FIRST_THREE)
+    yield "two plans", served(BOTH, {"f": file_of(A, WORDS)}, STDIO), outcome(BOTH, A, WORDS)
+    yield "two plans, in another order", served(BOTH, {"f": file_of(WORDS, A)}, STDIO), outcome(BOTH, WORDS, A)
+    yield "one plan twice", served(BOTH, {"f": file_of(A, A)}, STDIO), outcome(BOTH, A, A)
+    many = [([b"%d" % place, b"end"], place % 2 == 1) for place in range(64)]
+    text = b"".join(open_stream(place, place) + feed(place, b"1, 12, 63 END") for place in range(64)) + publish([b"new"])
+    yield "as many plans as a file may have", served(text, {"f": file_of(*many)}, STDIO), outcome(text, *many)
+    yield "the file, ahead of the other words", served(BANANA, {"f": file_of(A)}, ["--plans=f", "--stdio"]), outcome(BANANA, A)
+    words = [*STDIO, "--port", "1", "--connections", "1"]
+    yield "a port that counts for nothing", served(BANANA, {"f": file_of(A)}, words), outcome(BANANA, A)
+    yield "a truncated session", served(BANANA[:-1], {"f": file_of(A)}, STDIO), outcome(BANANA[:-1], A)
+    got = served(PUBLISH_CAT, {"-": file_of(ANIMALS)}, ["--stdio", "--plans", "-"])
+    yield "a file called -", got, outcome(PUBLISH_CAT, ANIMALS)
+    yield "no file called -", served(file_of(A), {}, ["--stdio", "--plans", "-"]), (2, b"", unread("-"))
+
+
+def refusals():
+    """Files that are not there, that cannot be read, or that are no plan files: nothing is served."""
+    one, two = file_of(A), file_of(ANIMALS, A)
+    for name, text in (
+        ("an empty file", b""),
+        ("another magic", b"\0" + one[1:]),
+        ("another version", one[:5] + b"\2" + one[6:]),
+        ("65 plans", one[:6] + number(65, 2) + one[8:] + one[8:] * 64),
+        ("a second plan with another cost", two[:-72] + number(4297, 8) + two[-64:]),
+        ("a plan less than told", one[:6] + number(2, 2) + one[8:]),
+        ("a byte behind the last plan", two + b"\0"),
+        ("frames", FIRST_THREE),
+    ):
+        yield name, served(FIRST_THREE, {"f": text}, STDIO), (2, b"", refused("f", 10))
+    for place in range(len(one)):
+        yield f"a plan file cut off at {place}", served(BANANA, {"f": one[:place]}, STDIO), (2, b"", refused("f", 10))
+    yield "a file that is not there", served(BANANA, {}, STDIO), (2, b"", unread("f"))
+    yield "a name without letters", served(BANANA, {}, ["--stdio", "--plans", ""]), (2, b"", unread(""))
+    yield "a folder", served(BANANA, {"f": None}, STDIO), (2, b"", unread("f"))
+    yield "a file in no folder", served(BANANA, {"f": b""}, ["--stdio", "--plans", "f/g"]), (2, b"", unread("f/g"))
+    yield "a file whose reading fails", served(BANANA, {}, ["--stdio", "--plans", "/proc/self/mem"]), (2, b"", unread("/proc/self/mem"))
+
+
+def orders():
+    """Wrong words and missing options are told before the file, and the file before the port."""
+    good = {"f": file_of(A)}
+    yield "a missing option", served(b"", {}, ["--plans", "f"]), (2, b"", NEEDED)
+    yield "a missing number", served(b"", good, ["--plans", "f", "--port", "5000"]), (2, b"", NEEDED)
+    for words in ["--stdio", "--plans"], [*STDIO, "--plans", "f"], [*STDIO, "-z"], ["--stdio", "--plans", "f", "x"]:
+        got = served(b"", good, words)
+        yield f"scand {words}", (*got[:2], got[2][:7]), (2, b"", b"error: ")
+    with socket.create_server(("127.0.0.1", 0)) as taken:
+        port = taken.getsockname()[1]
+        words = ["--port", str(port), "--connections", "1", "--plans", "f"]
+        yield "a missing file and a port in use", served(b"", {}, words), (2, b"", unread("f"))
+        yield "a file and a port in use", served(b"", good, words), (2, b"", told(1) + b"scand: cannot listen on port %d\n" % port)
+
+
+def heard(stream, size):
+    """The next bytes of a stream, as many as these, or those that come in time."""
+    got = b""
+    while len(got) < size and select.select([stream], [], [], SECONDS)[0]:
+        piece = os.read(stream.fileno(), size - len(got))
+        if not piece:
+            break
+        got += piece
+    return got
+
+
+def before_serving():
+    """The plans are told before a client says anything."""
+    with tempfile.TemporaryDirectory() as folder:
+        name = os.path.join(folder, "f")
+        with open(name, "wb") as file:
+            file.write(file_of(A, ANIMALS))
+        pipes = {"stdin": subprocess.PIPE, "stdout": subprocess.PIPE, "stderr": subprocess.PIPE}
+        with subprocess.Popen([SCAND, "--stdio", "--plans", name], **pipes) as program:
+            yield "two lines before any frame", heard(program.stderr, len(told(2))), told(2)
+            want = outcome(BANANA, A, ANIMALS)[1]
+            program.stdin.write(BANANA)
+            program.stdin.flush()
+            yield "a session behind them", heard(program.stdout, len(want)), want
+            yield "its end", ended(program), (0, b"", b"")
+
+
+def connections():
+    """Connections share the plans of the file, and go on counting behind them."""
+    with tempfile.TemporaryDirectory() as folder:
+        name = os.path.join(folder, "f")
+        with open(name, "wb") as file:
+            file.write(file_of(A, WORDS))
+        with Server(2, "--plans", name) as server:
+            server.store.update(store_of(A, WORDS))
+            with server.client() as first, server.client() as second:
+                for request in open_stream(1, 0), open_stream(2, 1), feed(1, b"banana"), feed(2, b"usHERS"), publish([b"cat"]):
+                    for place, client in enumerate((first, second)):
+                        got, want = client.asks(request)
+                        yield f"connection {place + 1}, {request.hex():.40}", got, want
+                yield "numbers of plans", sorted(server.store), [0, 1, 2, 3]
+                yield "the ends", (first.leaves(), second.leaves()), (b"", b"")
+            yield "what is told of them", server.ends(), (0, lines(["clean"] * 2), told(2))
+        words = ["--port", str(free_port()), "--connections", "1", "--plans", name + "x"]
+        done = subprocess.run([SCAND, *words], capture_output=True, timeout=SECONDS)
+        yield "a port and no file", (done.returncode, done.stdout, done.stderr), (2, b"", unread(name + "x"))
+
+
+def refused_writes():
+    """Standard error takes only so many bytes: a front of what is to be said is there, and nothing is served."""
+    for files, whole, status in (
+        ({"f": file_of(A, ANIMALS)}, told(2), 0),
+        ({"f": b"x"}, refused("f", 10), 2),
+        ({}, unread("f"), 2),
+    ):
+        for most in range(len(whole) + 1):
+            with tempfile.TemporaryFile() as err:
+                limit = {"preexec_fn": lambda: resource.setrlimit(resource.RLIMIT_FSIZE, (most, most)), "restore_signals": False}
+                got = served(BANANA, files, STDIO, stderr=err, **limit)
+                err.seek(0)
+                is_told = most == len(whole) and status == 0
+                want = outcome(BANANA, A, ANIMALS)[:2] if is_told else (2, b"")
+                yield f"{whole!r}, of which {most} bytes are taken", (*got[:2], err.read()), (*want, whole[:most])
+    with open("/dev/full", "wb") as full:
+        yield "no place for a line", served(BANANA, {"f": file_of(A)}, STDIO, stderr=full)[:2], (2, b"")
+        yield "no place for none", served(BANANA, {"f": file_of()}, STDIO, stderr=full)[:2], outcome(BANANA)[:2]
+
+
+def refused_growths():
+    """Each growth refused in turn, until none is: nothing is served behind a plan that was not published, and what
+    was published is told."""
+    files, whole, loading = {"f": file_of(A, WORDS)}, outcome(BOTH, A, WORDS), 0
+    with tempfile.TemporaryDirectory() as folder:
+        mark = os.path.join(folder, "mark")
+        env = dict(shimmed("refuse_growth.c", folder), REFUSED_MARK=mark)
+        for count in range(1, 2000):
+            got = served(BOTH, files, STDIO, env=dict(env, REFUSED=str(count)))
+            if not os.path.exists(mark):
+                break
+            os.remove(mark)
+            if got[0] == 2:
+                lost = [told(plans) + refused("f", 1) for plans in range(3)]
+                loading += got[2] in lost
+                yield f"growth {count} refused before serving", (got[1], got[2] in [*lost, b"scand: out of memory\n"]), (b"", True)
+            else:
+                want = (1, got[1], whole[2]) if got[0] == 1 and is_front(got[1], whole[1]) else whole
+                yield f"growth {count} refused", got, want
+        yield "growths to refuse", (loading > 10, *got), (True, *whole)
+
+
+PARTS = (rows, refusals, orders, before_serving, connections, refused_writes, refused_growths)
