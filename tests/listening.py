@@ -91,11 +91,11 @@ def free_port():
 
 
 class Server:
-    """The server on a free port, for so many connections."""
+    """The server on a free port, for so many connections, with these further words."""
 
-    def __init__(self, connections, **how):
+    def __init__(self, connections, *further, **how):
         self.port, self.store = free_port(), {}
-        words = [SCAND, "--port", str(self.port), "--connections", str(connections)]
+        words = [SCAND, "--port", str(self.port), "--connections", str(connections), *further]
         how.setdefault("stdout", subprocess.PIPE)
         self.program = subprocess.Popen(words, stderr=subprocess.PIPE, **how)
 

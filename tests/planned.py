@@ -2,7 +2,6 @@
 sessions.py and the plain plan files of plain_plan_file.py."""
 
 import os
-import resource
 import select
 import socket
 import subprocess
@@ -11,7 +10,7 @@ import tempfile
 import plain_plan
 from listening import Server, free_port, lines
 from plain_plan_file import file_fields, number
-from serving import NEEDED, SCAND, SECONDS, ended, is_front, shimmed
+from serving import NEEDED, SCAND, SECONDS, ended
 from session_cases import FIRST_THREE, PUBLISH_CAT
 from sessions import Plan, conversation, feed, open_stream, publish, show_plan
 
@@ -47,7 +46,7 @@ def refused(name, number):
     return b"scand: %s: refused (%d)\n" % (name.encode(), number)
 
 
-def served(text, files, words, **how):
+def served(text, files, words):
     """What the server answers to these bytes in a folder with these files, None being a folder: its status, its
     replies, its messages."""
     with tempfile.TemporaryDirectory() as folder:
@@ -57,20 +56,22 @@ def served(text, files, words, **how):
                 continue
             with open(os.path.join(folder, name), "wb") as file:
                 file.write(content)
-        how = {"stdout": subprocess.PIPE, "stderr": subprocess.PIPE, "cwd": folder, "timeout": SECONDS, **how}
-        done = subprocess.run([SCAND, *words], input=text, **how)
+        done = subprocess.run([SCAND, *words], input=text, capture_output=True, cwd=folder, timeout=SECONDS)
         return done.returncode, done.stdout, done.stderr
 
 
 BANANA = open_stream(7, 0) + feed(7, b"banana")
-BOTH = open_stream(1, 1) + open_stream(2, 0) + feed(1, b"usHERSat") + feed(2, b"banana") + show_plan(1) + publish([b"x"]) + open_stream(3, 2)
+BOTH = (
+    open_stream(1, 1) + open_stream(2, 0) + feed(1, b"usHERSat") + feed(2, b"banana") + show_plan(1) + publish([b"x"])
+    + open_stream(3, 2)
+)
 STDIO = ["--stdio", "--plans", "f"]
 
 
-def outcome(text, *lists, status=None):
+def outcome(text, *lists):
     """What the model answers over a store with the plans of a file."""
     replies, ending = conversation(text, store_of(*lists))
-    return int(ending != "clean") if status is None else status, b"".join(replies), told(len(lists))
+    return int(ending != "clean"), b"".join(replies), told(len(lists))
 
 
 def rows():
@@ -116,7 +117,8 @@ def refusals():
     yield "a name without letters", served(BANANA, {}, ["--stdio", "--plans", ""]), (2, b"", unread(""))
     yield "a folder", served(BANANA, {"f": None}, STDIO), (2, b"", unread("f"))
     yield "a file in no folder", served(BANANA, {"f": b""}, ["--stdio", "--plans", "f/g"]), (2, b"", unread("f/g"))
-    yield "a file whose reading fails", served(BANANA, {}, ["--stdio", "--plans", "/proc/self/mem"]), (2, b"", unread("/proc/self/mem"))
+    unreadable = "/proc/self/mem"
+    yield "a file whose reading fails", served(BANANA, {}, ["--stdio", "--plans", unreadable]), (2, b"", unread(unreadable))
 
 
 def orders():
@@ -131,7 +133,8 @@ def orders():
         port = taken.getsockname()[1]
         words = ["--port", str(port), "--connections", "1", "--plans", "f"]
         yield "a missing file and a port in use", served(b"", {}, words), (2, b"", unread("f"))
-        yield "a file and a port in use", served(b"", good, words), (2, b"", told(1) + b"scand: cannot listen on port %d\n" % port)
+        message = b"scand: cannot listen on port %d\n" % port
+        yield "a file and a port in use", served(b"", good, words), (2, b"", told(1) + message)
 
 
 def heard(stream, size):
@@ -182,46 +185,4 @@ def connections():
         yield "a port and no file", (done.returncode, done.stdout, done.stderr), (2, b"", unread(name + "x"))
 
 
-def refused_writes():
-    """Standard error takes only so many bytes: a front of what is to be said is there, and nothing is served."""
-    for files, whole, status in (
-        ({"f": file_of(A, ANIMALS)}, told(2), 0),
-        ({"f": b"x"}, refused("f", 10), 2),
-        ({}, unread("f"), 2),
-    ):
-        for most in range(len(whole) + 1):
-            with tempfile.TemporaryFile() as err:
-                limit = {"preexec_fn": lambda: resource.setrlimit(resource.RLIMIT_FSIZE, (most, most)), "restore_signals": False}
-                got = served(BANANA, files, STDIO, stderr=err, **limit)
-                err.seek(0)
-                is_told = most == len(whole) and status == 0
-                want = outcome(BANANA, A, ANIMALS)[:2] if is_told else (2, b"")
-                yield f"{whole!r}, of which {most} bytes are taken", (*got[:2], err.read()), (*want, whole[:most])
-    with open("/dev/full", "wb") as full:
-        yield "no place for a line", served(BANANA, {"f": file_of(A)}, STDIO, stderr=full)[:2], (2, b"")
-        yield "no place for none", served(BANANA, {"f": file_of()}, STDIO, stderr=full)[:2], outcome(BANANA)[:2]
-
-
-def refused_growths():
-    """Each growth refused in turn, until none is: nothing is served behind a plan that was not published, and what
-    was published is told."""
-    files, whole, loading = {"f": file_of(A, WORDS)}, outcome(BOTH, A, WORDS), 0
-    with tempfile.TemporaryDirectory() as folder:
-        mark = os.path.join(folder, "mark")
-        env = dict(shimmed("refuse_growth.c", folder), REFUSED_MARK=mark)
-        for count in range(1, 2000):
-            got = served(BOTH, files, STDIO, env=dict(env, REFUSED=str(count)))
-            if not os.path.exists(mark):
-                break
-            os.remove(mark)
-            if got[0] == 2:
-                lost = [told(plans) + refused("f", 1) for plans in range(3)]
-                loading += got[2] in lost
-                yield f"growth {count} refused before serving", (got[1], got[2] in [*lost, b"scand: out of memory\n"]), (b"", True)
-            else:
-                want = (1, got[1], whole[2]) if got[0] == 1 and is_front(got[1], whole[1]) else whole
-                yield f"growth {count} refused", got, want
-        yield "growths to refuse", (loading > 10, *got), (True, *whole)
-
-
-PARTS = (rows, refusals, orders, before_serving, connections, refused_writes, refused_growths)
+PARTS = (rows, refusals, orders, before_serving, connections)

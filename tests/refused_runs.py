@@ -10,7 +10,7 @@ import plain_plan
 import plain_plan_file
 import scan_plans
 import session_cases
-from sessions import conversation, feed, open_stream, publish, replies_of, requests_of
+from sessions import Plan, conversation, feed, open_stream, publish, replies_of, requests_of
 
 TOP = os.path.dirname(os.path.dirname(os.path.abspath(__file__)))
 
@@ -240,12 +240,12 @@ def is_unserved(whole, got):
     return got.status == 1 and got.messages == whole.messages and are_fronts(got, whole) and not replies_of(got.output)[1]
 
 
-def served(text):
-    """A run of scand over standard input and output."""
+def served(text, store=dict):
+    """A run of scand over standard input and output, and over such a store."""
 
     @functools.lru_cache
     def replies_to(size):
-        return b"".join(conversation(text[:size])[0])
+        return b"".join(conversation(text[:size], store())[0])
 
     def answer(faults):
         front = text[: faults.get("-", len(text))]
@@ -265,6 +265,34 @@ MANY_HITS = publish([b"a", b"aa"]) + open_stream(1, 0) + feed(1, b"a" * 5000) + 
 BAD = session_cases.FIRST_THREE + b"\0\0\0\4"
 SESSIONS = [served(text) for text in (session_cases.FIRST_THREE, BAD, MIXED, MANY_HITS)]
 
+
+def preplanned(name, lists, text):
+    """A run of scand over a store with the plans of a file, which are told before any reply."""
+    plans = [Plan(*each) for each in lists]
+    lines = [b"scand: plan %d\n" % place for place in range(len(plans))]
+    entries = [(plan.literals, plan.is_folded, plain_plan.plan_of(plan.literals)) for plan in plans]
+    FILES[name] = b"".join(plain_plan_file.file_fields(entries))
+    session = served(text, lambda: dict(enumerate(plans)))
+
+    def answer(faults):
+        if name in faults:
+            return Ending(2, b"", f"scand: {name}: cannot be read\n".encode())
+        return session.answer(faults)._replace(messages=b"".join(lines))
+
+    def is_starved(whole, got):
+        unloaded = [b"".join(lines[:count]) + f"scand: {name}: refused (1)\n".encode() for count in range(len(lines) + 1)]
+        return got in [Ending(2, b"", messages) for messages in unloaded] or is_unserved(whole, got)
+
+    sources = {name: len(FILES[name]), **session.sources}
+    return session._replace(words=[*session.words, "--plans", name], answer=answer, sources=sources, is_starved=is_starved)
+
+
+ASKED = open_stream(1, 1) + open_stream(2, 0) + feed(1, b"usHERS") + feed(2, b"banana") + publish([b"cat"]) + open_stream(3, 2)
+PREPLANNED = [
+    preplanned("two.plans", [([b"a"], False), ([b"He", b"she", b"HE", b"hers"], True)], ASKED),
+    preplanned("no.plans", [], session_cases.FIRST_THREE),
+]
+
 # Words that ask for no run.
 
 
@@ -283,7 +311,7 @@ TOLD = [
     told("scand", ["--version"], b"scand 0.1.0\n"),
 ]
 
-RUNS = [*(search.run() for search in SEARCHES), *PLANS, *PACKS, *SESSIONS, *TOLD]
+RUNS = [*(search.run() for search in SEARCHES), *PLANS, *PACKS, *SESSIONS, *PREPLANNED, *TOLD]
 CAT, PLAN, SERVED = RUNS[0], PLANS[0], SESSIONS[0]
 
 

@@ -18,6 +18,7 @@ import packing
 import plain_grep
 import plain_plan
 import plan_files
+import planned
 import random_cases
 import refused_connections
 import refusing
@@ -458,7 +459,7 @@ PARTS += (refusing.mistakes, refusing.refusals, *refused_connections.PARTS, *pla
 
 def main():
     passed = failed = 0
-    for part in PARTS + manuals.PARTS + guide.PARTS + serving.PARTS + listening.parts() + clients.PARTS + c_header.PARTS:
+    for part in PARTS + manuals.PARTS + guide.PARTS + serving.PARTS + planned.PARTS + listening.parts() + clients.PARTS + c_header.PARTS:
         for name, got, want in part():
             if got == want:
                 passed += 1

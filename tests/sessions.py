@@ -204,11 +204,11 @@ class Session:
         return [*hits_replies(stream, plan.hits(text, len(before))), fed(stream, len(text))]
 
 
-def conversation(text):
-    """The replies to the bytes of one session on a new store, in order, and how it ends: "clean",
+def conversation(text, store=None):
+    """The replies to the bytes of one session on a store, or on a new one, in order, and how it ends: "clean",
     "truncated" or "bad"."""
     requests, _, ending = requests_of(text)
-    session = Session({})
+    session = Session({} if store is None else store)
     replies = [reply for request in requests for reply in session.answers(*request)]
     if ending in ("clean", "truncated"):
         return replies, ending
