@@ -27,11 +27,12 @@ was fed but the last bytes that a hit may need, and a client takes up to about
 a megabyte beside its plans, whatever it asks. A client may wait for as long
 as it likes: put a limit where one is wanted before the server.
 
-A plan file holds at most 64 plans, made ahead with their certificates. It is
-read whole, each certificate is checked again, and each plan is published in
-order, with a line `scand: plan NUMBER` on standard error: clients open streams
-by that number. With a file that cannot be read (`scand: FILE: cannot be read`)
-or that is no plan file (`scand: FILE: refused (10)`) nothing is served.
+A plan file, as `litplan pack` writes one, holds up to 64 plans, each with its
+certificate. It is read whole, each certificate is checked again, and the plans
+are published in order, with a line `scand: plan NUMBER` for each on standard
+error: clients open streams by that number. With a file that cannot be read
+(`scand: FILE: cannot be read`) or that is no plan file (`scand: FILE: refused
+(10)`) nothing is served.
 
 When all connections have ended a line tells of each, in order of acceptance:
 `connection I WORD`, WORD being clean, truncated (inside a frame), bad (no
