@@ -1,5 +1,5 @@
 -- The end of a command, from what was said.
-use Rattle.std.proofs.Common.{◌≡◌, ℕ, Bool, Global, List, Option, Result, Ok, Err, IfOk, MatchResult, inl, inr, sym, ap, subst, ◌∙◌, string_bytes}
+use Rattle.std.proofs.Common.{◌≡◌, ℕ, Bool, Global, List, Option, Result, Ok, Err, IfOk, MatchResult, inl, inr, ap, subst, ◌∙◌, string_bytes}
 use Rattle.std.proofs.KnownBytes.{Appends-nil}
 use Rattle.std.specs.declared.string.String.{String}
 use Rattle.byte_io.specs.Transfers.{Says}
