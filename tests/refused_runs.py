@@ -194,14 +194,17 @@ def planned(words, names, output, stdin=b"", status=0, messages=b"", **more):
 
 
 def packed(words, name, literals, is_folded, stdin=b""):
-    """A run of litplan pack, which reads one file and makes another one."""
+    """A run of litplan pack, which reads one file and makes another one, that is whole only where the run went well."""
     text = b"".join(plain_plan_file.file_fields([(literals, is_folded, plain_plan.plan_of(literals))]))
     like = planned(["pack", *words, name, "made"], [name], b"", stdin, made=("made",))
 
     def answer(faults):
         return like.answer(faults)._replace(made=(None if faults else text,))
 
-    return like._replace(answer=answer, is_unwritten=stops_with(b"litplan: made: cannot be used\n"))
+    def is_starved(whole, got):
+        return like.is_starved(whole, got) and got.made != whole.made
+
+    return like._replace(answer=answer, is_starved=is_starved, is_unwritten=stops_with(b"litplan: made: cannot be used\n"))
 
 
 WORDS = plain_plan.literals_of(FILES["w"].split(), False)
@@ -312,6 +315,46 @@ TOLD = [
 ]
 
 RUNS = [*(search.run() for search in SEARCHES), *PLANS, *PACKS, *SESSIONS, *PREPLANNED, *TOLD]
+
+# Random runs.
+
+
+def random_text(source, letters, most):
+    """A text of at most so many of these letters."""
+    return bytes(source.choices(letters, k=source.randrange(most + 1)))
+
+
+def random_search(source):
+    """Flags, lists, pattern files and inputs."""
+    flags = "".join(flag for flag in "clqinsvx" if source.random() < 0.2)
+    lists = tuple(random_text(source, b"acdogt\n", 6).decode() for _ in range(source.randrange(3)))
+    files = source.sample(["p", "w", "e"], source.randrange(0 if lists else 1, 3))
+    inputs = source.sample(["f", "g", "t", "none", "-"], source.randrange(1, 5))
+    return Search(flags, lists, tuple(files), tuple(inputs), random_text(source, b"acdogt \n", 200)).run()
+
+
+def random_plan(source):
+    """A plan of a random list, or a scan by it."""
+    patterns = random_text(source, b"abcd\n\n", 60) + b"ab"
+    literals = plain_plan.literals_of(patterns.split(b"\n"), False)
+    if source.random() < 0.3:
+        return planned(["plan", "-"], ["-"], plain_plan.spelled(plain_plan.plan_of(literals)), patterns)
+    name, workers = source.choice(["f", "t", "w"]), source.randrange(1, 17)
+    hits = scan_plans.plain_scan(literals, FILES[name], False)
+    return planned(["scan", f"--workers={workers}", "-", name], ["-", name], hits, patterns)
+
+
+def random_session(source):
+    """A session of the scan server."""
+    return served(session_cases.random_session(source)[0])
+
+
+def random_runs(source):
+    """Runs of all programs, without end."""
+    while True:
+        yield source.choice([random_search, random_plan, random_session])(source)
+
+
 CAT, PLAN, SERVED = RUNS[0], PLANS[0], SESSIONS[0]
 
 

@@ -8,17 +8,21 @@ import collections
 import concurrent.futures
 import contextlib
 import functools
+import itertools
 import os
+import random
 import subprocess
 import sys
 import tempfile
-from typing import NamedTuple
+from typing import NamedTuple, Sequence
 
 import refused_runs
 from refused_runs import ROWS, RUNS, Ending, Run, are_fronts
 
 TOP = os.path.dirname(os.path.dirname(os.path.abspath(__file__)))
 SECONDS, NO_END = 20, "no end"
+# How many random runs there are.
+RANDOM = 2000
 # More than any run asks for.
 ALL = 10**6
 FIBONACCI = (1, 2, 3, 5, 8, 13, 21, 34, 55, 89, 144, 233, 377, 610, 987, 1597, 4181, 17711, 75025, ALL)
@@ -29,7 +33,7 @@ class Sweep(NamedTuple):
     With "-on" behind it all later calls are refused too. Each read and write may be cut to so many bytes besides."""
 
     kind: str
-    numbers: range = range(1, ALL)
+    numbers: Sequence = range(1, ALL)
     behind: str = ""
     piece: int = 0
 
@@ -105,7 +109,7 @@ def swept(bench, words, stdin, made, sweep):
         if not was_refused:
             return found, got
         found.append((number, got))
-    raise AssertionError(f"no end of {sweep}")
+    return found, ended(bench, words, stdin, made, piece)[0]
 
 
 @contextlib.contextmanager
@@ -269,6 +273,30 @@ def mistakes():
     for mistake, wanted in MISTAKES.items():
         yield f"the mistake {mistake!r}", found[mistake].intersection(wanted or found[mistake]), set(wanted)
 
+
+# How far random calls go, by their kinds.
+FARTHEST = {"growth": 150, "read": 9, "given": 150, "write": 9, "take": 9, "room": 300, "message": 3, "interrupt": 9, "cut": 20}
+
+
+def random_refusals():
+    """Random runs, in each of which a random call is refused."""
+    source = random.Random(7)
+    jobs = []
+    for run in itertools.islice(refused_runs.random_runs(source), RANDOM):
+        kind, farthest = source.choice(list(FARTHEST.items()))
+        behind = source.choice(["", "-on"]) if kind not in ("given", "room", "interrupt", "cut") else ""
+        jobs.append((run, Sweep(kind, [source.randrange(1, farthest)], behind, source.choice([0, 0, 7, 50]))))
+    with bench() as (_, endings):
+        for (run, sweep), (found, last) in endings(jobs):
+            whole = run.answer({})
+            is_right = judge_of(run, whole, sweep)
+            name = f"{name_of(run)}, {sweep}"
+            yield name, last, whole
+            for number, got in found:
+                yield f"{name} {number} refused", got, got if is_right(number, got) else (whole, "or a refusal")
+
+
+PARTS = (mistakes, refusals, random_refusals)
 
 # The columns of the table, by what was refused.
 COLUMNS = {

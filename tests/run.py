@@ -454,7 +454,7 @@ def random_plans():
 
 
 PARTS = (greps, usages, edges, streams, prompt, own_outputs, plans, scans, packs, random_greps, random_plans)
-PARTS += (refusing.mistakes, refusing.refusals, *refused_connections.PARTS, *plan_files.PARTS)
+PARTS += (*refusing.PARTS, *refused_connections.PARTS, *plan_files.PARTS)
 
 
 def main():
