@@ -1,6 +1,7 @@
 """Tests of `scand --stdio`, run as a peer meets it: over pipes and sockets, with faults of both, beside the plain
 model of sessions.py. SCAND in the environment names another program to test."""
 
+import bisect
 import concurrent.futures
 import functools
 import os
@@ -20,8 +21,8 @@ SERVER = [SCAND, "--stdio"]
 NEEDED = b"scand: --stdio or --port and --connections are needed\n"
 # How long a reply or an end may take, and the status of a program that did not end.
 SECONDS, NO_END = 20, "no end"
-# More than this is never sent at once where each piece is to be one read.
-PACKET = 4096
+# What a read has room for: the frame that has begun is held, up to a multiple of so many bytes of it.
+ROOM = 4096
 SESSIONS = 10000
 
 
@@ -39,13 +40,26 @@ def served(text, **how):
     return done.returncode, done.stdout, done.stderr
 
 
+def frame_starts(text):
+    """Where the frames of a text begin, up to one that is not whole or has a bad length."""
+    starts = [0]
+    while True:
+        size = 4 + int.from_bytes(text[starts[-1] : starts[-1] + 4], "big")
+        if not 9 <= size <= min(65545, len(text) - starts[-1]):
+            return starts
+        starts.append(starts[-1] + size)
+
+
 def pieces_of(text, sizes):
-    """A text in pieces of these sizes, and its rest."""
-    at = 0
+    """A text in pieces of these sizes, and its rest. Each is one read, if that has room for it, and else some."""
+    starts, at = frame_starts(text), 0
     for size in [*sizes, len(text)]:
-        for start in range(at, min(at + size, len(text)), PACKET):
-            yield text[start : min(start + PACKET, at + size)]
-        at += size
+        end = min(at + size, len(text))
+        while at < end:
+            begun = starts[bisect.bisect(starts, at) - 1]
+            stop = min(end, at + ROOM - (at - begun) % ROOM)
+            yield text[at:stop]
+            at = stop
 
 
 def in_pieces(text, sizes, **how):
@@ -158,8 +172,10 @@ class Talk:
         self.program.kill()
         self.program.communicate()
 
-    def says(self, piece):
-        self.near.send(piece)
+    def says(self, text):
+        """Sends a part of a frame, or frames, in pieces that a read has room for."""
+        for piece in pieces_of(text, []):
+            self.near.send(piece)
 
     def hears(self, size, seconds=None):
         """The next bytes, as many as these, or those that come in time."""
