@@ -2,6 +2,7 @@
 connections that are lost, and of servers that reply what they should not."""
 
 import os
+import pickle
 import random
 import socket
 import subprocess
@@ -111,6 +112,8 @@ def refusals():
         streams[9].close()
         yield "a Feed of a closed stream", fault_of(streams[9].feed, bytes(200000)), ("NoSuchStream", 0)
         yield "another Close of it", fault_of(streams[9].close), ("NoSuchStream", 0)
+        fault = pickle.loads(pickle.dumps(scand_client.EmptyLiteral(4, 7)))
+        yield "a refusal carried elsewhere", (type(fault).__name__, fault.code, fault.detail), ("EmptyLiteral", 4, 7)
         yield "the session goes on", streams[63].feed(b"63"), [Hit(0, 2)]
         yield "a free number", client.open(plans[9]).number, 9
         client._send(bytes(4))
@@ -309,7 +312,8 @@ def resuming():
     way = Cut(*[(20, None)] * 3)
     with Resumed(way.dial, PRONOUNS, tries=3, pause=0) as stream:
         yield "three in vain", (fault_of(stream.feed, b"ushers")[0], stream.losses, way.dialed), ("ConnectionLost", 3, 3)
-        yield "and no more", (fault_of(stream.feed, b"ushers")[0], way.dialed), ("ConnectionLost", 3)
+        again = fault_of(stream.feed, b"ushers")[0], stream.losses, way.dialed
+        yield "and no more", again, ("ConnectionLost", 3, 3)
     way = Cut(*[(60, None)] * 7)
     with Resumed(way.dial, PRONOUNS, tries=2, pause=0) as stream:
         got = list(stream.scan([b"%d" % digit for digit in range(10)] + [b"ushers"], 1))

@@ -118,6 +118,9 @@ class Refused(ScandError):
         self.code, self.detail, self.stream = code, detail, stream
         super().__init__(f"{type(self).__name__} ({code}), detail {detail}, stream {stream}")
 
+    def __reduce__(self) -> Tuple[Type[Refused], Tuple[int, int, int]]:
+        return type(self), (self.code, self.detail, self.stream)
+
 
 class TooManyPatterns(Refused):
     """More than 4,096 literals in a list."""
@@ -605,6 +608,8 @@ class Resumed:
 
     def scan(self, pieces: Iterable[bytes], ahead: int = 4) -> Generator[Hit, None, None]:
         """As `Stream.scan`, over as many connections as it takes."""
+        if self._fault is not None:
+            raise self._fault
         source = self._noted(_cut(pieces))
         is_over = False
         try:
@@ -658,8 +663,6 @@ class Resumed:
 
     def _taken_up(self) -> Stream:
         """The stream, on a new connection where there is none, fed with the lead."""
-        if self._fault is not None:
-            raise self._fault
         if self._stream is None:
             client = self.dial()
             try:
@@ -680,7 +683,7 @@ class Resumed:
         self.losses += 1
         self._failed = self._failed + 1 if self.place == self._place_failed else 1
         self._place_failed = self.place
-        if self._fault is not None or self._failed >= self.tries:
+        if self._failed >= self.tries:
             self._fault = fault
             raise fault
         time.sleep(min(self.pause * 2 ** (self._failed - 1), 2.0))
