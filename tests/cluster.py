@@ -9,7 +9,7 @@ import tempfile
 import time
 
 from clients import plain_hits
-from hosts import LITGREP
+from hosts import DYING, LITGREP
 from serving import SCAND, SECONDS, TOP
 
 SCRIPT = os.path.join(TOP, "deploy", "dask", "scan_archive.py")
@@ -51,7 +51,7 @@ class Cluster:
 
     def run(self, *words, killed_at=None):
         """The status and output of a search, in whose middle a worker may be killed."""
-        own = ["--scheduler", self.address(), "--litgrep", LITGREP, "--scand", SCAND]
+        own = ["--scheduler", self.address(), "--scand", SCAND, "--litgrep", LITGREP]
         pipes = {"stdout": subprocess.PIPE, "stderr": subprocess.PIPE}
         with tempfile.TemporaryFile() as out:
             pipes["stdout"] = out
@@ -72,9 +72,12 @@ def lay_out(folder):
     levels = [b"info", b"Error", b"error", b"debug"]
     lines = [b"%d %s request took %d ms" % (place, source.choice(levels), source.randrange(400)) for place in range(150000)]
     texts = {"log": b"\n".join(lines), "short": b"\n".join(lines[:300]) + b"\n", "empty": b"", "long": b"error " * 100000}
-    for name, text in {**texts, "words": b"\n".join(WORDS), "none": b"nowhere"}.items():
+    texts["tiny"] = b"x\n\nerror request took 1" + b"error request took 17 ms\n"
+    dying = DYING.format(folder=folder, name="litgrep", program=LITGREP).encode()
+    for name, text in {**texts, "words": b"\n".join(WORDS), "none": b"nowhere", "dying": dying}.items():
         with open(os.path.join(folder, name), "wb") as file:
             file.write(text)
+        os.chmod(os.path.join(folder, name), 0o755)
     return texts
 
 
@@ -104,6 +107,14 @@ def searches():
             got = cluster.run("--part", "99999", "hits", "words", *several)
             want = b"".join(hit_lines(texts[name], name.encode() + b":") for name in several)
             yield "hits of several files", (got[0], got[1] == want), (0, True)
+            tiny = texts["tiny"]
+            for size in 1, 7, 19, 20:
+                got = cluster.run("--part", str(size), "hits", "words", "tiny")
+                yield f"hits in parts of {size} bytes", got, (0, hit_lines(tiny))
+            got = cluster.run("--part", "7", "lines", "words", "tiny")
+            yield "lines in parts of 7 bytes", got, grep(folder, "-f", "words", "tiny")
+            got = cluster.run("--part", "200000", "--litgrep", os.path.join(folder, "dying"), "lines", "words", "log")
+            yield "a litgrep that is killed", got, grep(folder, "-f", "words", "log")
             yield "nothing found", cluster.run("lines", "none", "log"), (1, b"")
             status, told = cluster.run("lines", "words", "log", "missing")
             yield "a missing file", (status, b"missing" in told), (2, True)
