@@ -333,6 +333,7 @@ def resuming():
         for _ in range(3):
             yield "a stream begun anew", (stream.feed(b"ush"), stream.feed(b"ers"), stream.place, way.dialed), ([], FOUND, 6, 1)
             stream.restart()
+    yield from by_number()
     for limits in (), [(130, None)], [(None, 150)]:
         with Resumed(Cut(*limits).dial, PRONOUNS, pause=0) as stream:
             hits = stream.scan([b"ushers"] * 9, 3)
@@ -342,6 +343,25 @@ def resuming():
             rest = stream.feed(b"ushers")
             want = [hit for hit in plain_hits(PRONOUNS, False, b"ushers" * 10) if behind < hit.end <= behind + 6]
             yield f"a scan that is left, lost at {limits}", (first, rest, stream.place), (FOUND[:2], want, behind + 6)
+
+
+def by_number():
+    """Streams by a plan that servers have under a number, which is checked."""
+    with Server(6) as server, server.client() as first:
+        first.asks(sessions.publish(PRONOUNS))
+
+        def dial():
+            return Client.connect("127.0.0.1", server.port)
+
+        with Resumed(dial, PRONOUNS, number=0) as stream:
+            yield "a stream by a number", (stream.feed(b"ush"), stream.place), ([], 3)
+            stream._client.close()
+            yield "taken up by its number", (stream.feed(b"ers"), stream.losses), (FOUND, 1)
+        for literals, is_folded in (PRONOUNS[:3], False), (PRONOUNS, True):
+            with Resumed(dial, literals, is_folded, number=0) as stream:
+                yield f"another plan than {literals}, {is_folded}", fault_of(stream.feed, b"a")[0], "BadReply"
+        with Resumed(dial, PRONOUNS, number=1) as stream:
+            yield "a number of no plan", fault_of(stream.feed, b"a")[0], "NoSuchPlan"
 
 
 def files():

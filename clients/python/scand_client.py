@@ -559,7 +559,10 @@ class Resumed:
     may need, `longest - 1` of them, and what was not told as fed. Hits that were given are left out and places shifted,
     so that each hit of the whole stream is given once, in order.
 
-    Only a stream of a list that one has oneself can be taken up again: another client's plan is gone with its server.
+    Only a stream of a list that one has oneself can be taken up again: another client's plan is gone with its server. With a
+    `number` nothing is published, and streams are opened by that plan, which each server has from the same plan file. It
+    is to be the plan of this list: BadReply where it has another number of literals, or tells otherwise whether case
+    counts.
 
         with Resumed(lambda: Client.connect("127.0.0.1", 7000), [b"cat"]) as stream:
             for hit in stream.scan(pieces_of(file)):
@@ -571,8 +574,9 @@ class Resumed:
 
     def __init__(
         self, dial: Callable[[], Client], literals: Iterable[bytes], ignore_case: bool = False, *,
-        tries: int = 6, pause: float = 0.05,
+        number: Optional[int] = None, tries: int = 6, pause: float = 0.05,
     ) -> None:
+        self.number = number
         self.dial, self.ignore_case, self.tries, self.pause = dial, ignore_case, tries, pause
         self.words = _texts(literals)
         self.literals = ordered(self.words, ignore_case)
@@ -583,7 +587,7 @@ class Resumed:
         """How many connections were lost or not to be had."""
         self._client: Optional[Client] = None
         self._stream: Optional[Stream] = None
-        self._plan: Optional[Plan] = None
+        self._plan: Union[Plan, int, None] = number
         self._base, self._lead = 0, b""
         self._unfed: Deque[bytes] = deque()
         self._told = (0, 0)
@@ -666,8 +670,7 @@ class Resumed:
         if self._stream is None:
             client = self.dial()
             try:
-                self._plan = client.publish(self.words, self.ignore_case)
-                stream = client.open(self._plan)
+                stream = self._opened(client)
                 if self._lead:
                     stream.feed(self._lead)
             except BaseException:
@@ -675,6 +678,17 @@ class Resumed:
                 raise
             self._client, self._stream, self._base = client, stream, self.place - len(self._lead)
         return self._stream
+
+    def _opened(self, client: Client) -> Stream:
+        """A stream by the list, on a new connection."""
+        if self.number is None:
+            self._plan = client.publish(self.words, self.ignore_case)
+            return client.open(self._plan)
+        stream = client.open(self.number)
+        shown = stream.show_plan()
+        if (shown.literals, shown.ignore_case) != (len(self.literals), self.ignore_case):
+            raise BadReply(f"plan {self.number} is another one: {shown}")
+        return stream
 
     def _lose(self, fault: ScandError) -> None:
         """Leaves a lost connection behind, and waits. Raises the fault where it is one too many."""
