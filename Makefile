@@ -63,7 +63,7 @@ check:
 test: all $(PROBES:%=bin/%)
 	python3 tests/run.py
 
-check-deploy: bin/litgrep bin/scand
+check-deploy: all
 	python3 tests/deploy.py
 
 # A report of the server under load.

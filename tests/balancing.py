@@ -14,7 +14,7 @@ from clients import Client, Resumed, plain_hits
 from listening import free_port
 from scand_client import ConnectionLost
 from serving import SECONDS, TOP
-from supervising import Activated
+from supervising import Activated, packed
 
 CONFIG = os.path.join(TOP, "deploy", "haproxy", "haproxy.cfg")
 WORDS = [b"error", b"warn", b"cat", b"concat", b"e", b"timeout reached", b"x" * 300]
@@ -22,7 +22,7 @@ LOADED = 12
 
 
 class Balancer:
-    """The balancer of deploy/haproxy on free ports, before as many servers as it names."""
+    """The balancer of deploy/haproxy on free ports, before as many servers as it names, each with the same plan file."""
 
     def __init__(self):
         self.folder = tempfile.TemporaryDirectory()
@@ -30,7 +30,8 @@ class Balancer:
             text = file.read()
         ports = {port: str(free_port()) for port in re.findall(r"127\.0\.0\.1:(\d+)", text)}
         self.port = int(ports["7000"])
-        self.servers = [Activated(int(ports[port])) for port in sorted(ports) if port != "7000"]
+        plans = ["--plans", packed(self.folder.name, WORDS)]
+        self.servers = [Activated(int(ports[port]), plans) for port in sorted(ports) if port != "7000"]
         path = os.path.join(self.folder.name, "haproxy.cfg")
         with open(path, "w") as file:
             file.write(re.sub(r"(127\.0\.0\.1:)(\d+)", lambda found: found[1] + ports[found[2]], text))
@@ -68,9 +69,9 @@ def log_of(number):
 class Load:
     """Clients that scan a text each, piece by piece, and all stop where the test says."""
 
-    def __init__(self, balancer):
+    def __init__(self, balancer, number):
         self.texts = [log_of(number) for number in range(LOADED)]
-        self.streams = [Resumed(balancer.dial, WORDS, tries=20) for _ in range(LOADED)]
+        self.streams = [Resumed(balancer.dial, WORDS, number=number, tries=20) for _ in range(LOADED)]
         self.found, self.gate = [None] * LOADED, threading.Event()
         self.threads = [threading.Thread(target=self.scan, args=(number,)) for number in range(LOADED)]
         for thread in self.threads:
@@ -118,19 +119,35 @@ def connected(server):
         return len(file.read().split())
 
 
+def same_plans():
+    """The plan of the file has the same number in each server, and what a client publishes another one."""
+    with Balancer() as balancer:
+        for server in balancer.servers:
+            with Client.connect("127.0.0.1", server.port) as client, client.open(0) as stream:
+                yield "a plan of the file", stream.feed(b"concat"), plain_hits(WORDS, False, b"concat")
+                yield "a published plan", client.publish([b"cat"]).number, 1
+
+
 def killed():
-    """One of three servers is killed under load: each hit is given once, and the clients of the others lose nothing."""
+    """One of three servers is killed under load: each hit is given once, and the clients of the others lose nothing. By
+    plans that the clients publish, and by the plan of the file."""
+    yield from killed_by(None)
+    yield from killed_by(0)
+
+
+def killed_by(number):
+    """The same by the plan of this number, or by published ones."""
     with Balancer() as balancer:
         yield "haproxy -c", (balancer.checked.returncode, balancer.checked.stderr), (0, "")
         yield "through the balancer", balancer.waited(), plain_hits(WORDS, False, b"concat")
-        load = Load(balancer)
+        load = Load(balancer, number)
         yield "half the load", soon(load.is_half_way), True
         yield "each server has a third", all(3 <= connected(server) <= 6 for server in balancer.servers), True
         balancer.servers[0].kill()
         load.gate.set()
-        for number, found in enumerate(load.ends()):
-            want = plain_hits(WORDS, False, load.texts[number])
-            yield f"hits of client {number}", found if isinstance(found, str) else found == want, True
+        for place, found in enumerate(load.ends()):
+            want = plain_hits(WORDS, False, load.texts[place])
+            yield f"hits of client {place}", found if isinstance(found, str) else found == want, True
         losses = [stream.losses for stream in load.streams]
         yield f"clients that lost a connection, {losses}", sum(map(bool, losses)), LOADED // 3
         print(f"one of three servers killed: {sum(map(bool, losses))} of {LOADED} clients lost a connection, none a hit")
@@ -161,4 +178,4 @@ def untended():
         yield "no server left", (clients.fault_of(lost.feed, b"cat")[0], lost.losses), ("ConnectionLost", 3)
 
 
-PARTS = (killed, untended)
+PARTS = (same_plans, killed, untended)

@@ -15,6 +15,7 @@ import sessions
 from listening import Client, free_port
 from serving import SCAND, SECONDS, TOP
 
+LITPLAN = os.path.join(TOP, "bin", "litplan")
 UNITS = os.path.join(TOP, "deploy", "systemd")
 # The most of systemd's marks for what a service is exposed to that the units may have, in tenths.
 EXPOSURE = 12
@@ -33,13 +34,13 @@ def connected(port):
 
 
 class Activated:
-    """A supervisor that starts `scand --stdio` for each connection to a port, as scand.socket does."""
+    """A supervisor that starts `scand --stdio` for each connection to a port, as scand.socket does, with these options."""
 
-    def __init__(self, port=None):
+    def __init__(self, port=None, options=()):
         self.port = port or free_port()
         listen = ["systemd-socket-activate", "--accept", "--inetd", "-l", f"127.0.0.1:{self.port}"]
         self.program = subprocess.Popen(
-            [*listen, SCAND, "--stdio"], stdin=subprocess.DEVNULL, stderr=subprocess.DEVNULL, start_new_session=True
+            [*listen, SCAND, "--stdio", *options], stdin=subprocess.DEVNULL, stderr=subprocess.DEVNULL, start_new_session=True
         )
         self.client().socket.close()
 
@@ -114,6 +115,40 @@ def started():
             yield "connections that end, one of them killed", ended, 80
 
 
+def packed(folder, literals):
+    """A plan file of these literals."""
+    words, path = os.path.join(folder, "words"), os.path.join(folder, "words.plan")
+    with open(words, "wb") as file:
+        file.write(b"".join(literal + b"\n" for literal in literals))
+    subprocess.run([LITPLAN, "pack", words, path], check=True)
+    return path
+
+
+def planned():
+    """Connections whose servers have the plan of a file; a file put in its place; and one that cannot be used."""
+    with tempfile.TemporaryDirectory() as folder:
+        path = packed(folder, [b"cat"])
+        with Activated(options=["--plans", path]) as supervisor:
+            for literals in [b"cat"], [b"dog", b"og"]:
+                os.replace(packed(folder, literals), path)
+                model = sessions.Session({0: sessions.Plan(literals, False)})
+                for _ in range(3):
+                    with supervisor.client() as client:
+                        client.model = model
+                        requests = sessions.open_stream(1, 0), sessions.feed(1, b"concat dog"), sessions.publish([b"a"])
+                        for request in requests:
+                            yield f"by a file of {literals}", *client.asks(request)
+                        model.streams.clear()
+            for name, text in ("a file that is cut", b"LPLF"), ("a file that is missing", None):
+                os.remove(path)
+                if text:
+                    with open(path, "wb") as file:
+                        file.write(text)
+                with supervisor.client() as client:
+                    client.sends(session_cases.PUBLISH_CAT)
+                    yield f"{name} gets a reply", client.leaves()[:1] == b"\0", False
+
+
 def children(pid):
     """The processes that a process has started, and that live."""
     with open(f"/proc/{pid}/task/{pid}/children") as file:
@@ -151,15 +186,17 @@ def calls():
     yield "lists of system calls", {"read", "write", "mmap", "futex", "accept4"} <= allowed, True
     with tempfile.TemporaryDirectory() as folder:
         trace = os.path.join(folder, "trace")
+        plans = ["--plans", packed(folder, [b"dog", b"bird"])]
         many = session_cases.FIRST_THREE + sessions.publish(session_cases.PAIRS) + sessions.feed(7, b"cat" * 20000)
-        done = subprocess.run(["strace", "-f", "-o", trace, SCAND, "--stdio"], input=many, capture_output=True, timeout=SECONDS)
+        words = ["strace", "-f", "-o", trace, SCAND, "--stdio", *plans]
+        done = subprocess.run(words, input=many, capture_output=True, timeout=SECONDS)
         if done.returncode != 0:
             print(f"left out: the system calls of scand ({done.stderr.decode()[-100:].strip()})")
             return
         yield "system calls of --stdio that are not allowed", traced(trace) - allowed, set()
         port = free_port()
-        words = ["strace", "-f", "-o", trace, SCAND, "--port", str(port), "--connections", "2"]
-        with subprocess.Popen(words, stdout=subprocess.DEVNULL) as program:
+        words = ["strace", "-f", "-o", trace, SCAND, "--port", str(port), "--connections", "2", *plans]
+        with subprocess.Popen(words, stdout=subprocess.DEVNULL, stderr=subprocess.DEVNULL) as program:
             for _ in range(2):
                 with connected(port) as client:
                     client.sends(many)
@@ -173,4 +210,4 @@ def traced(path):
         return set(re.findall(r"^\d+ +(?:<\.\.\. )?([a-z0-9_]+)", file.read(), re.M)) - {"exited", "killed"}
 
 
-PARTS = (units, started, calls)
+PARTS = (units, started, planned, calls)
