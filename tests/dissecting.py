@@ -130,7 +130,7 @@ def written():
 
 def live():
     """A capture of the loopback, of a talk with the server."""
-    with tempfile.TemporaryDirectory() as folder, Server(1) as server:
+    with tempfile.TemporaryDirectory() as folder, Server(5) as server:
         path = os.path.join(folder, "capture")
         words = ["tshark", "-i", "lo", "-f", f"tcp port {server.port}", "-w", path, "-q"]
         with subprocess.Popen(words, stderr=subprocess.PIPE, text=True) as capturing:
@@ -138,28 +138,29 @@ def live():
             if not is_at_work:
                 print("left out: a live capture, which this machine does not allow")
                 return
-            time.sleep(0.5)
-            with server.client() as client:
-                text = session_cases.FIRST_THREE + session_cases.SHOW_PLAN_7 + session_cases.CLOSE_7
-                client.sends(text)
-                replies, own = client.leaves(), client.socket.getsockname()[1]
-            is_taken = until(lambda: dissected(path, server.port).get((own, 1), [[]])[-1:] == [[sessions.CLOSED, 7]])
+            for _ in range(5):  # the first of them may come before the capture has begun
+                time.sleep(0.5)
+                with server.client() as client:
+                    text = session_cases.FIRST_THREE + session_cases.SHOW_PLAN_7 + session_cases.CLOSE_7
+                    client.sends(text)
+                    replies, own = client.leaves(), client.socket.getsockname()[1]
+                if is_captured(path, server.port, own):
+                    break
             capturing.terminate()
             capturing.communicate()
         shown = dissected(path, server.port)
-        yield "a live capture", is_taken, True
-        yield "its requests", shown.get((own, 0)), side_told(text, True)
-        yield "its replies", shown.get((own, 1)), side_told(replies, False)
+        yield "requests captured", shown.get((own, 0)), side_told(text, True)
+        yield "replies captured", shown.get((own, 1)), side_told(replies, False)
 
 
-def until(holds):
-    """Whether something holds soon."""
-    deadline = time.monotonic() + SECONDS
-    while not holds():
-        if time.monotonic() > deadline:
-            return False
-        time.sleep(0.1)
-    return True
+def is_captured(path, port, client):
+    """Whether the last reply to this client is soon in a capture."""
+    deadline = time.monotonic() + SECONDS / 4
+    while time.monotonic() < deadline:
+        if dissected(path, port).get((client, 1), [])[-1:] == [[sessions.CLOSED, 7]]:
+            return True
+        time.sleep(0.2)
+    return False
 
 
 PARTS = (written, live)
