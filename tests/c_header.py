@@ -67,6 +67,9 @@ def header_texts():
         yield b"p", b"".join(sessions.conversation(text)[0])
     for _, text, _ in CANNED:
         yield b"p", text
+    for count in range(1, 4):
+        yield b"q", frame(sessions.PUBLISH, 0, bytes([0, 0, count, 0, 4]) + b"cat")
+        yield b"q", frame(sessions.PUBLISH, 0, bytes([0, 0, count, 0, 1]) + b"a" + bytes([0, 2]) + b"b")
     for kind in range(0x20):
         for size in 0, 1, 2, 3, 7, 8, 9, 11, 12, 14:
             for stream in 0, 1:

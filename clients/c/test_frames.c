@@ -144,9 +144,29 @@ static void print_text(int side, const uint8_t *text, size_t size)
     }
 }
 
+/* Payloads that fill a frame, and ones that have a byte more. */
+static void check_limits(void)
+{
+    enum { ROOM = SCAND_FRAME + 100 };
+    static uint8_t room[ROOM], text[ROOM];
+    struct scand_text full = {text, SCAND_PAYLOAD}, more = {text, SCAND_PAYLOAD + 1};
+    check(scand_put_feed(room, ROOM, 1, full) == SCAND_FRAME, "a full Feed");
+    check(scand_put_feed(room, ROOM, 1, more) == 0, "a Feed with a byte more");
+    check(scand_put_head(room, ROOM, SCAND_FEED, 1, full.size) == SCAND_HEAD, "the head of a full Feed");
+    check(scand_put_head(room, ROOM, SCAND_FEED, 1, more.size) == 0, "the head of a Feed with a byte more");
+    check(scand_put_head(room, SCAND_HEAD - 1, SCAND_FEED, 1, 0) == 0, "a head in too little room");
+    struct scand_text literals[2] = {{text, 10}, {text, SCAND_PAYLOAD - 3 - 2 - 10 - 2}};
+    check(scand_put_publish(room, ROOM, 0, literals, 2) == SCAND_FRAME, "a full Publish");
+    literals[1].size++;
+    check(scand_put_publish(room, ROOM, 0, literals, 2) == 0, "a Publish with a byte more");
+    literals[0].size = SIZE_MAX;
+    check(scand_put_publish(room, ROOM, 0, literals, 2) == 0, "a Publish of the longest literal");
+}
+
 int main(void)
 {
     int side;
+    check_limits();
     while ((side = getchar()) != EOF) {
         uint8_t head[4];
         check(fread(head, 1, 4, stdin) == 4, "a text without a size");
