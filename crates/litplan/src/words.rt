@@ -69,7 +69,7 @@ fn litplan<'a>(alloc: Global) -> Result<Command<'a>, AllocError> {
     Command::new(alloc, "litplan")
         .version(VERSION)
         .about(
-            "Plans how literals are grouped, certifies that no grouping is cheaper, and finds them",
+            "Plans how the literals of a list are grouped, checks such plans, and finds where literals end",
         )
         .override_usage(
             "litplan plan [-i] FILE\n       litplan check [-i] FILE CERT\n       \
@@ -174,7 +174,8 @@ fn file<'a>(alloc: Global) -> Arg<'a> {
 }
 
 const PLAN_HELP: &str = "\
-Empty lines are dropped. The certificate is a text that `litplan check` reads. Status 0, or 2 with a message.
+Empty lines are dropped, and so is what stands twice. The certificate is a text that `litplan check` reads. Status 0,
+or 2 with a message.
 
 Example: the plan of three literals
   printf 'horse\\ncat\\ndog\\n' | litplan plan -";
@@ -197,7 +198,8 @@ Example: the plan file of a list
 const SCAN_HELP: &str = "\
 Prints a line `LIT END` for each place at which a pattern ends: its number in the list, from 0, by length and then by
 bytes, and how many bytes of INPUT there are up to its end. The lines stand by END, then by LIT, and are the same for
-each W. INPUT is held in memory, in a buffer that doubles: up to twice its size. Status 0, or 2 with a message.
+each W. INPUT is held in memory, in a buffer that doubles: up to twice its size. A hit takes 16 bytes more. Status 0, or
+2 with a message.
 
 Example: where the words of a list end in a log
   litplan scan --workers 4 words access.log";

@@ -25,7 +25,7 @@ All clients share the plans that they publish, each under its number. Each
 frame is answered before the next one is waited for. Nothing is kept of what
 was fed but the last bytes that a hit may need, and a client takes up to about
 a megabyte beside its plans, whatever it asks. A client may wait for as long
-as it likes: put a limit where one is wanted before the server.
+as it likes: put a limit, where one is wanted, before the server.
 
 A plan file, as `litplan pack` writes one, holds up to 64 plans, each with its
 certificate. It is read whole, each certificate is checked again, and the plans
@@ -35,9 +35,9 @@ error: clients open streams by that number. With a file that cannot be read
 (10)`) nothing is served.
 
 When all connections have ended a line tells of each, in order of acceptance:
-`connection I WORD`, WORD being clean, truncated (inside a frame), bad (no
-frame), read-fault, write-fault, out-of-memory, or not-served where no thread
-could be started.
+`connection I WORD`, WORD being clean, truncated (inside a frame), bad (bytes
+that are no frame), read-fault, write-fault, out-of-memory, or not-served where
+no thread could be started.
 
 Status: 0 if each stream ended between frames, else 1; 2 at an error, with a
 message where one can be written. With --stdio the status alone tells how the
