@@ -1,5 +1,5 @@
-"""Tests of tools/scand.lua by tshark: on written captures of the worked and of random sessions, cut into segments
-anywhere, and on a live one of the loopback. tests/deploy.py runs them."""
+"""Tests of tools/scand.lua by tshark: on written captures of the worked and of random sessions and of replies that are
+none, cut into segments anywhere, and on a live one of the loopback. tests/deploy.py runs them."""
 
 import os
 import random
@@ -11,6 +11,8 @@ import xml.etree.ElementTree
 
 import session_cases
 import sessions
+from c_header import reply_line
+from clients import CANNED
 from listening import Server
 from serving import SECONDS, TOP
 
@@ -92,10 +94,23 @@ def told(frame):
     return [kind, stream, *struct.unpack(f">{len(payload) // 8}Q", payload)]
 
 
+def replies_told(text):
+    """The same for replies, up to the first that is none."""
+    found, rest = sessions.replies_of(text)
+    rows = []
+    for reply in found + ([rest] if len(rest) >= 4 and int.from_bytes(rest[:4], "big") > 65541 else []):
+        if not 9 <= 4 + int.from_bytes(reply[:4], "big") <= 65545:
+            return [*rows, ["bad"]]
+        if reply_line(reply) is None:
+            return [*rows, [reply[4], int.from_bytes(reply[5:9], "big"), "bad"]]
+        rows.append(told(reply))
+    return rows
+
+
 def side_told(text, is_request):
     """The same for all frames of one side, up to the first bad one."""
     if not is_request:
-        return [told(reply) for reply in sessions.replies_of(text)[0]]
+        return replies_told(text)
     found, at, ending = sessions.requests_of(text)
     rows = [told(sessions.frame(*request)) for request in found]
     if ending == sessions.LENGTH:
@@ -115,6 +130,7 @@ def written():
     cases = [(name, text, replies) for name, text, replies, _ in session_cases.ROWS]
     for number, (text, _) in enumerate(session_cases.random_sessions(200)):
         cases.append((f"random session {number}", text, b"".join(sessions.conversation(text)[0])))
+    cases += [(f"a server that sends {name}", b"", replies) for name, replies, _ in CANNED]
     with tempfile.TemporaryDirectory() as folder:
         path = os.path.join(folder, "capture")
         for start in range(0, len(cases), 50):
