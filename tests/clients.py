@@ -205,6 +205,11 @@ def canned():
         taken.bind(("127.0.0.1", 0))
         yield "a port that nobody serves", fault_of(Client.connect, "127.0.0.1", taken.getsockname()[1])[0], "ConnectionLost"
     yield "a program that is not there", fault_of(Client.spawn, ["/none"])[0], "ConnectionLost"
+    with tempfile.TemporaryFile() as file:
+        with Client.spawn([*SERVER, "--plans", "/none"], stderr=file) as client:
+            yield "a plan file that is not there", fault_of(client.open, 0)[0], "ConnectionLost"
+        file.seek(0)
+        yield "what the server says of it", file.read(), b"scand: /none: cannot be read\n"
 
 
 class Cut:

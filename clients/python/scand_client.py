@@ -330,10 +330,13 @@ class Client:
         return cls(link, peer.close, timeout)
 
     @classmethod
-    def spawn(cls, words: Sequence[str] = ("scand", "--stdio"), *, timeout: Optional[float] = 30.0) -> Client:
-        """A server of its own, over the standard streams of a subprocess, which `close` ends."""
+    def spawn(
+        cls, words: Sequence[str] = ("scand", "--stdio"), *, timeout: Optional[float] = 30.0, stderr: Optional[BinaryIO] = None
+    ) -> Client:
+        """A server of its own, over the standard streams of a subprocess, which `close` ends. Its messages, among them the
+        numbers of a plan file's plans, go to `stderr`, or else to this program's own."""
         try:
-            child = subprocess.Popen(words, stdin=subprocess.PIPE, stdout=subprocess.PIPE, bufsize=0)
+            child = subprocess.Popen(words, stdin=subprocess.PIPE, stdout=subprocess.PIPE, stderr=stderr, bufsize=0)
         except OSError as fault:
             raise ConnectionLost(f"{words[0]}: {fault}") from fault
         assert child.stdin is not None and child.stdout is not None
