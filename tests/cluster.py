@@ -1,9 +1,10 @@
-"""Tests of deploy/dask on a cluster of this machine: answers beside one process's, and a worker that is killed.
-tests/deploy.py runs them."""
+"""Tests of deploy/dask on a cluster of this machine: answers beside one process's, workers that are killed, and what they
+refuse. tests/deploy.py runs them."""
 
 import json
 import os
 import random
+import re
 import subprocess
 import tempfile
 import time
@@ -11,12 +12,21 @@ import time
 from clients import plain_hits
 from hosts import DYING, LITGREP
 from serving import SCAND, SECONDS, TOP
+from supervising import LITPLAN
 
 SCRIPT = os.path.join(TOP, "deploy", "dask", "scan_archive.py")
 WORDS = [b"error", b"timeout", b"17 ms", b"r", b"error request took 1", b"Unreachable"]
 WORKERS = 3
 # The Python that Debian's packages are for.
 PYTHON = "/usr/bin/python3"
+# A litplan that serves once, and one that changes the greatest byte of the last potential of the plan file that it made.
+ONCE = """#!/bin/sh
+mkdir {folder}/planned && exec {program} "$@"
+"""
+CHANGING = """#!/bin/sh
+for out; do :; done
+{program} "$@" && printf '\377' | dd of="$out" bs=1 seek=$(($(stat -c %s "$out") - 8)) conv=notrunc status=none
+"""
 
 
 class Cluster:
@@ -30,8 +40,23 @@ class Cluster:
         while not os.path.exists(self.file) and time.monotonic() < deadline:
             time.sleep(0.05)
         for number in range(WORKERS):
-            own = ["--local-directory", os.path.join(folder, f"worker{number}"), "--scheduler-file", self.file]
-            self.programs.append(self.start("dask-worker", "--nthreads", "1", "--no-nanny", "--no-dashboard", *own))
+            self.add(f"worker{number}")
+
+    def add(self, name):
+        """Starts a worker."""
+        own = ["--local-directory", os.path.join(self.folder, name), "--scheduler-file", self.file]
+        self.programs.append(self.start("dask-worker", "--nthreads", "1", "--no-nanny", "--no-dashboard", *own))
+
+    def lose(self):
+        """Kills a worker."""
+        self.programs[-1].kill()
+        self.programs.pop().wait()
+
+    def renew(self):
+        """Kills each worker, and starts another one."""
+        while len(self.programs) > 1:
+            self.lose()
+        self.add("another")
 
     def start(self, *words):
         quiet = {"stdin": subprocess.DEVNULL, "stdout": subprocess.DEVNULL, "stderr": subprocess.DEVNULL}
@@ -49,9 +74,9 @@ class Cluster:
             program.kill()
             program.wait()
 
-    def run(self, *words, killed_at=None):
-        """The status and output of a search, in whose middle a worker may be killed."""
-        own = ["--scheduler", self.address(), "--scand", SCAND, "--litgrep", LITGREP]
+    def run(self, *words, midway=None):
+        """The status and output of a search, in whose middle something may be done to the cluster."""
+        own = ["--scheduler", self.address(), "--scand", SCAND, "--litgrep", LITGREP, "--litplan", LITPLAN]
         pipes = {"stdout": subprocess.PIPE, "stderr": subprocess.PIPE}
         with tempfile.TemporaryFile() as out:
             pipes["stdout"] = out
@@ -59,9 +84,9 @@ class Cluster:
                 told = b""
                 while piece := os.read(program.stderr.fileno(), 1000):
                     told += piece
-                    if killed_at and b"%d parts" % killed_at in told:
-                        self.programs.pop().kill()
-                        killed_at = None
+                    if midway and b"5 parts" in told:
+                        midway()
+                        midway = None
             out.seek(0)
             return program.returncode, out.read() if program.returncode < 2 else told
 
@@ -73,8 +98,10 @@ def lay_out(folder):
     lines = [b"%d %s request took %d ms" % (place, source.choice(levels), source.randrange(400)) for place in range(150000)]
     texts = {"log": b"\n".join(lines), "short": b"\n".join(lines[:300]) + b"\n", "empty": b"", "long": b"error " * 100000}
     texts["tiny"] = b"x\n\nerror request took 1" + b"error request took 17 ms\n"
-    dying = DYING.format(folder=folder, name="litgrep", program=LITGREP).encode()
-    for name, text in {**texts, "words": b"\n".join(WORDS), "none": b"nowhere", "dying": dying}.items():
+    lists = {"words": b"\n".join(WORDS), "none": b"nowhere", "null": b"error\n\n", "nulls": b"\n\n"}
+    programs = {"dying": DYING.format(folder=folder, name="litgrep", program=LITGREP)}
+    programs.update(once=ONCE.format(folder=folder, program=LITPLAN), changing=CHANGING.format(program=LITPLAN))
+    for name, text in {**texts, **lists, **{name: text.encode() for name, text in programs.items()}}.items():
         with open(os.path.join(folder, name), "wb") as file:
             file.write(text)
         os.chmod(os.path.join(folder, name), 0o755)
@@ -91,38 +118,66 @@ def grep(folder, *words):
     return done.returncode, done.stdout
 
 
-def searches():
-    """Lines, counts and hits, of a file and of several, are those of one process; a worker killed in the middle too."""
+def searches(folder, texts, cluster):
+    """Lines, counts and hits, of a file and of several, are those of one process."""
+    several = ["long", "empty", "short", "log"]
+    for flags in [], ["-i"]:
+        got = cluster.run(*flags, "--part", "300000", "lines", "words", "log")
+        yield f"lines {flags}", got, grep(folder, *flags, "-f", "words", "log")
+    got = cluster.run("--part", "99999", "lines", "words", *several)
+    yield "lines of several files", got, grep(folder, "-f", "words", *several)
+    got = cluster.run("--part", "99999", "count", "words", *several)
+    yield "counts of several files", got, grep(folder, "-c", "-f", "words", *several)
+    for patterns in "null", "empty":
+        yield f"lines by the list {patterns}", cluster.run("lines", patterns, "tiny"), grep(folder, "-f", patterns, "tiny")
+    got = cluster.run("--part", "99999", "--litplan", os.path.join(folder, "once"), "hits", "words", *several)
+    want = b"".join(hit_lines(texts[name], name.encode() + b":") for name in several)
+    yield "hits of several files, planned once", (got[0], got[1] == want), (0, True)
+    got, want = cluster.run("-i", "hits", "null", "short"), plain_hits([b"error"], True, texts["short"])
+    yield "hits, case ignored", got, (0, b"".join(b"%d %d\n" % hit for hit in want))
+    tiny = texts["tiny"]
+    for size in 1, 7, 19, 20:
+        got = cluster.run("--part", str(size), "hits", "words", "tiny")
+        yield f"hits in parts of {size} bytes", got, (0, hit_lines(tiny))
+    got = cluster.run("--part", "7", "lines", "words", "tiny")
+    yield "lines in parts of 7 bytes", got, grep(folder, "-f", "words", "tiny")
+    for what in "lines", "hits":
+        yield f"no {what} found", cluster.run(what, "none", "log"), (1, b"")
+
+
+def refusals(folder, _, cluster):
+    """What cannot be searched, or not by this, is told."""
+    status, told = cluster.run("lines", "words", "log", "missing")
+    yield "a missing file", (status, b"missing" in told), (2, True)
+    status, told = cluster.run("hits", "nulls", "log")
+    yield "a list of no literals", (status, b"refused (5)" in told), (2, True)
+    status, told = cluster.run("--litplan", os.path.join(folder, "changing"), "hits", "words", "log")
+    refused = rb"scan_archive: tcp://[0-9.:]+: scand: %s/\S+/scan_archive-\w+\.plan: refused \(10\)\n" % os.fsencode(folder)
+    yield f"a plan file that was changed, {told!r}", (status, bool(re.fullmatch(refused, told))), (2, True)
+
+
+def losses(folder, texts, cluster):
+    """The same answers where a litgrep, a worker or all of them are killed in the middle."""
+    got = cluster.run("--part", "200000", "--litgrep", os.path.join(folder, "dying"), "lines", "words", "log")
+    yield "a litgrep that is killed", got, grep(folder, "-f", "words", "log")
+    want = hit_lines(texts["log"])
+    got = cluster.run("--part", "150000", "hits", "words", "log", midway=cluster.lose)
+    yield "hits, a worker killed", (got[0], got[1] == want), (0, True)
+    got = cluster.run("--part", "150000", "lines", "words", "log", midway=cluster.lose)
+    yield "lines, another worker killed", got, grep(folder, "-f", "words", "log")
+    yield "workers left", len(cluster.programs), 2
+    got = cluster.run("--part", "150000", "hits", "words", "log", midway=cluster.renew)
+    yield "hits, the last worker killed and another one started", (got[0], got[1] == want), (0, True)
+    yield "the other one was started", os.path.isdir(os.path.join(folder, "another")), True
+
+
+def on_a_cluster():
+    """Each test, on one cluster."""
     with tempfile.TemporaryDirectory() as folder:
         texts = lay_out(folder)
         with Cluster(folder) as cluster:
-            several = ["long", "empty", "short", "log"]
-            for flags in [], ["-i"]:
-                got = cluster.run(*flags, "--part", "300000", "lines", "words", "log")
-                yield f"lines {flags}", got, grep(folder, *flags, "-f", "words", "log")
-            got = cluster.run("--part", "99999", "lines", "words", *several)
-            yield "lines of several files", got, grep(folder, "-f", "words", *several)
-            got = cluster.run("--part", "99999", "count", "words", *several)
-            yield "counts of several files", got, grep(folder, "-c", "-f", "words", *several)
-            got = cluster.run("--part", "99999", "hits", "words", *several)
-            want = b"".join(hit_lines(texts[name], name.encode() + b":") for name in several)
-            yield "hits of several files", (got[0], got[1] == want), (0, True)
-            tiny = texts["tiny"]
-            for size in 1, 7, 19, 20:
-                got = cluster.run("--part", str(size), "hits", "words", "tiny")
-                yield f"hits in parts of {size} bytes", got, (0, hit_lines(tiny))
-            got = cluster.run("--part", "7", "lines", "words", "tiny")
-            yield "lines in parts of 7 bytes", got, grep(folder, "-f", "words", "tiny")
-            got = cluster.run("--part", "200000", "--litgrep", os.path.join(folder, "dying"), "lines", "words", "log")
-            yield "a litgrep that is killed", got, grep(folder, "-f", "words", "log")
-            yield "nothing found", cluster.run("lines", "none", "log"), (1, b"")
-            status, told = cluster.run("lines", "words", "log", "missing")
-            yield "a missing file", (status, b"missing" in told), (2, True)
-            got = cluster.run("--part", "150000", "hits", "words", "log", killed_at=5)
-            yield "hits, a worker killed", (got[0], got[1] == hit_lines(texts["log"])), (0, True)
-            got = cluster.run("--part", "150000", "lines", "words", "log", killed_at=5)
-            yield "lines, another worker killed", got, grep(folder, "-f", "words", "log")
-            yield "workers left", len(cluster.programs), 2
+            for test in searches, refusals, losses:
+                yield from test(folder, texts, cluster)
 
 
-PARTS = (searches,)
+PARTS = (on_a_cluster,)

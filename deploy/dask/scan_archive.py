@@ -7,12 +7,14 @@
 
 `lines` prints the lines that `litgrep -f WORDS` selects, `count` how many they are, and `hits` a line `LIT END` for each
 hit: the literal's number in the list by length and bytes, and how many bytes of the file there are up to its end. With
-several files each line begins with `NAME:`. WORDS has one literal a line.
+several files each line begins with `NAME:`. WORDS has one literal a line; for hits, empty lines count for nothing.
 
-Files are searched in parts: for lines and counts cut at newlines, for hits anywhere, with the `longest - 1` bytes before
-a part fed first and their hits dropped. Each worker needs the files under the same names, and litgrep or scand. A part
-whose worker is lost is searched by another one. Progress goes to standard error. Status 0: something was found; 1:
-nothing; 2: some part could not be searched, and the output is a front of what it should be.
+Each worker, also one that comes later, is sent one file, which stays in its folder until it ends: the list for litgrep,
+or for hits the plan file that litplan makes of it here, once, and that the scand of each part checks again. Files are
+searched in parts: for lines and counts cut at newlines, for hits anywhere, with the `longest - 1` bytes before a part fed
+first and their hits dropped. Each worker needs the files under the same names, and litgrep or scand. A part whose worker
+is lost is searched by another one. Progress goes to standard error. Status 0: something was found; 1: nothing; 2: some
+part could not be searched, or the list could not be planned, and the output is a front of what it should be.
 """
 
 import argparse
@@ -42,19 +44,26 @@ def line_start(file, at):
     return file.tell()
 
 
-def selected(litgrep, words, flags, path, start, end):
+def output(words, text, statuses):
+    """What a program writes for an input. RuntimeError where it ends with another status than these."""
+    done = subprocess.run(words, input=text, capture_output=True)
+    if done.returncode not in statuses:
+        raise RuntimeError(f"{words[0]}: status {done.returncode}: {done.stderr.decode(errors='replace').strip()}")
+    return done.stdout
+
+
+def sent(name):
+    """Where a worker has a file that it was sent."""
+    return os.path.join(distributed.get_worker().local_directory, name)
+
+
+def selected(litgrep, flags, words, path, start, end):
     """What litgrep writes for the lines that begin in a part of a file."""
     with open(path, "rb") as file:
         last, first = line_start(file, end), line_start(file, start)
         file.seek(first)
         text = file.read(last - first)
-    with tempfile.NamedTemporaryFile() as patterns:
-        patterns.write(b"".join(word + b"\n" for word in words))
-        patterns.flush()
-        done = subprocess.run([litgrep, *flags, "-f", patterns.name], input=text, capture_output=True)
-    if done.returncode not in (0, 1):
-        raise RuntimeError(f"{litgrep}: status {done.returncode}: {done.stderr.decode(errors='replace')}")
-    return done.stdout
+    return output([litgrep, *flags, "-f", sent(words)], text, {0, 1})
 
 
 def chunks(file, size):
@@ -67,18 +76,31 @@ def chunks(file, size):
         size -= len(piece)
 
 
-def hits(scand, words, ignore_case, path, start, end):
-    """A line for each hit that ends in a part of a file."""
+def begun(scand, plan_file):
+    """A scand that began with the plan of a file, which it checked, and the number that it told for the plan."""
     from scand_client import Client
 
-    with Client.spawn([scand, "--stdio"]) as client, open(path, "rb") as file:
-        plan = client.publish(words, ignore_case)
-        lead = min(plan.longest - 1, start)
+    reader, writer = os.pipe()
+    with open(reader, errors="replace") as messages:
+        with open(writer, "wb") as file:
+            client = Client.spawn([scand, "--stdio", "--plans", plan_file], stderr=file)
+        told = messages.readline().strip()
+    number = told.removeprefix("scand: plan ")
+    if not number.isdecimal():
+        client.close()
+        raise RuntimeError(f"{distributed.get_worker().address}: {told or f'{scand} told no plan of {plan_file}'}")
+    return client, int(number)
+
+
+def hits(scand, plan_file, longest, path, start, end):
+    """A line for each hit that ends in a part of a file."""
+    client, plan = begun(scand, sent(plan_file))
+    with client, client.open(plan) as stream, open(path, "rb") as file:
+        lead = min(longest - 1, start)
         file.seek(start - lead)
-        with client.open(plan) as stream:
-            stream.feed(file.read(lead))
-            found = stream.scan(chunks(file, end - start))
-            return b"".join(b"%d %d\n" % (literal, start - lead + end) for literal, end in found)
+        stream.feed(file.read(lead))
+        found = stream.scan(chunks(file, end - start))
+        return b"".join(b"%d %d\n" % (literal, start - lead + end) for literal, end in found)
 
 
 def arguments():
@@ -87,6 +109,7 @@ def arguments():
     parser.add_argument("--part", type=int, default=64 << 20, metavar="BYTES", help="the size of a part (64 MiB)")
     parser.add_argument("--litgrep", default="litgrep", help="litgrep on each worker")
     parser.add_argument("--scand", default="scand", help="scand on each worker")
+    parser.add_argument("--litplan", default="litplan", help="litplan on this machine, for hits")
     parser.add_argument("-i", "--ignore-case", action="store_true", help="ignore ASCII case")
     parser.add_argument("what", choices=["lines", "count", "hits"])
     parser.add_argument("words", metavar="WORDS", help="the literals, one a line")
@@ -94,37 +117,52 @@ def arguments():
     return parser.parse_args()
 
 
-def tasks(given, words):
-    """The parts in their order: each with its file's name, whether it is the last of it, and the call that searches it."""
+def send(cluster, given):
+    """Sends each worker what it searches by, and gives the call that searches a part."""
+    flags, is_planned = ["-i"] * given.ignore_case, given.what == "hits"
+    with open(given.words, "rb") as file:
+        text = file.read()
+    with tempfile.NamedTemporaryFile(prefix="scan_archive-", suffix=".plan" if is_planned else ".words") as file:
+        name = os.path.basename(file.name)
+        if is_planned:
+            output([given.litplan, "pack", *flags, "-", file.name], text, {0})
+            call = hits, given.scand, name, max(map(len, text.split(b"\n")))
+        else:
+            file.write(text)
+            file.flush()
+            call = selected, given.litgrep, flags + ["-c"] * (given.what == "count"), name
+        cluster.upload_file(file.name)
+    cluster.upload_file(CLIENT)
+    return call
+
+
+def parts(given):
+    """The parts in their order: each with its file's name, whether it is the last of it, and where it is."""
     for name in given.files:
         path, size = os.path.abspath(name), os.path.getsize(name)
         for start in range(0, max(size, 1), given.part):
             end = min(start + given.part, size)
-            if given.what == "hits":
-                call = hits, given.scand, words, given.ignore_case, path, start, end
-            else:
-                flags = ["-i"] * given.ignore_case + ["-c"] * (given.what == "count")
-                call = selected, given.litgrep, words, flags, path, start, end
-            yield name, end == size, call
+            yield name, end == size, (path, start, end)
 
 
-def answers(cluster, given, words):
+def answers(cluster, given):
     """The answer to each part, in order, with a few parts for each worker on their way."""
-    source, running = tasks(given, words), collections.deque()
+    call, source, running = send(cluster, given), parts(given), collections.deque()
     while True:
         most = 3 * max(len(cluster.scheduler_info()["workers"]), 1)
-        while len(running) < most and (task := next(source, None)):
-            running.append((*task[:2], cluster.submit(*task[2], pure=False, retries=3)))
+        while len(running) < most and (part := next(source, None)):
+            name, is_last, place = part
+            running.append((name, is_last, cluster.submit(*call, *place, pure=False, retries=3)))
         if not running:
             return
         name, is_last, answer = running.popleft()
         yield name, is_last, answer.result()
 
 
-def search(cluster, given, words):
+def search(cluster, given):
     """Prints the answers, and tells whether anything was found."""
     found, count, out = False, 0, sys.stdout.buffer
-    for number, (name, is_last, text) in enumerate(answers(cluster, given, words), 1):
+    for number, (name, is_last, text) in enumerate(answers(cluster, given), 1):
         front = os.fsencode(name) + b":" if len(given.files) > 1 else b""
         if given.what == "count":
             count += int(text)
@@ -141,11 +179,8 @@ def search(cluster, given, words):
 def main():
     given = arguments()
     try:
-        with open(given.words, "rb") as file:
-            words = [word for word in file.read().split(b"\n") if word]
         with distributed.Client(given.scheduler) as cluster:
-            cluster.upload_file(CLIENT)
-            return 0 if search(cluster, given, words) else 1
+            return 0 if search(cluster, given) else 1
     except Exception as fault:
         print(f"scan_archive: {fault}", file=sys.stderr)
         return 2
