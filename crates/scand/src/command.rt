@@ -1,7 +1,7 @@
 //! What a command does.
 ghost use Rattle.std.specs.Prelude.{◌≡◌, IfOk, string_bytes};
 ghost use Rattle.byte_io.specs.Transfers.{Says};
-ghost use Rattle.scand.specs.Commands.{EndsSomehow, Serves, ServesPort, cannot_listen, message_on};
+ghost use Rattle.scand.specs.Commands.{EndsSomehow, Runs, Serves, ServesPort, cannot_listen, message_on};
 
 use crate::words::{Request, Service, requested};
 use byte_io::{ByteIn, ByteOut, Opener};
@@ -51,7 +51,7 @@ fn run<R, F: Opener, I: ByteIn, O: ByteOut, E: ByteOut>(
 ) -> Status
 where
     R: Threads + Wait + Sync + Net<Listener = TcpListener, Stream = TcpStream>,
-    ensures { EndsSomehow result (F.sources files.old) (F.sources files.new) (O.has_failed out.new) (E.has_failed err.new)
+    ensures { Runs request.now result (F.sources files.old) (F.sources files.new) (O.has_failed out.new) (E.has_failed err.new)
         (I.coming input.old) (I.coming input.new) (O.written out.old) (O.written out.new) (E.written err.old) (E.written err.new) }
 {
     let Ok(store) = PlanStore::new(alloc) else {
@@ -78,7 +78,7 @@ fn serve_over<R, I: ByteIn, O: ByteOut, E: ByteOut>(
 ) -> Status
 where
     R: Threads + Wait + Sync + Net<Listener = TcpListener, Stream = TcpStream>,
-    ensures { Serves store.now result (O.has_failed out.new) (E.has_failed err.new)
+    ensures { Serves service store.now result (O.has_failed out.new) (E.has_failed err.new)
         (I.coming input.old) (I.coming input.new) (O.written out.old) (O.written out.new) (E.written err.old) (E.written err.new) }
 {
     match service {

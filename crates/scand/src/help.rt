@@ -39,9 +39,9 @@ When all connections have ended a line tells of each, in order of acceptance:
 that are no frame), read-fault, write-fault, out-of-memory, or not-served where
 no thread could be started.
 
-Status: 0 if each stream ended between frames, else 1; 2 at an error, with a
-message where one can be written. With --stdio the status alone tells how the
-stream ended.
+Status: 0 if each client ended between two frames, else 1; 2 at an error, with
+a message where one can be written. With --stdio the status alone tells how
+the client ended.
 
 Limits of a client: 64 plans, 64 open streams, 4096 patterns of at most 4095
 bytes in a list and 1024 different literals, 65536 bytes of payload in a
