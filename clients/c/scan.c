@@ -2,7 +2,8 @@
 
        cc -std=c99 -Wall -Wextra -o scan clients/c/scan.c && ./scan 7000 cat dog < text
 
-   The words behind the port are the literals. Status 0, or 2 with a message. */
+   The words behind the port are the literals. Status 0, or 2 at an error: with a message, unless standard input or
+   output fails. */
 
 #define _POSIX_C_SOURCE 200809L
 

@@ -7,7 +7,8 @@ by length and bytes, and how many bytes of the file there are up to its end. Wit
     python3 clients/python/scan_files.py --stdio bin/scand -f WORDS FILE...
 
 WORDS has one literal a line; empty lines count for nothing. FILE `-` is standard input. A lost connection is taken up
-again. Status 0: hits were found; 1: none; 2: a file could not be read, or the server was lost for good.
+again. Status 0: hits were found; 1: none; 2: a file could not be read, the list was refused, or the server was lost for
+good.
 """
 
 import argparse

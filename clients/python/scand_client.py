@@ -366,8 +366,8 @@ class Client:
         return Plan(number, ordered(words, ignore_case), ignore_case)
 
     def open(self, plan: Union[Plan, int], number: Optional[int] = None) -> Stream:
-        """Opens a stream by a plan, or by the number of one that another client published. The stream gets this number,
-        or the first free one."""
+        """Opens a stream by a plan, or by the number of one that another client published or the server began with. The
+        stream gets this number, or the first free one."""
         if number is None:
             number = next(free for free in range(len(self._streams) + 1) if free not in self._streams)
         self._ask(open_frame(number, plan.number if isinstance(plan, Plan) else plan), number, Reply.OPENED)
