@@ -14,8 +14,7 @@ or for hits the plan file that litplan makes of it here, once, and that the scan
 searched in parts: for lines and counts cut at newlines, for hits anywhere, with the `longest - 1` bytes before a part fed
 first and their hits dropped. Each worker needs the files under the same names, and litgrep or scand. A part whose worker
 is lost is searched by another one. Progress goes to standard error. Status 0: something was found; 1: nothing; 2: some
-part could not be searched, or the list could not be planned, and the output is the first part of what it
-should be.
+part could not be searched, or the list could not be planned, and the output is the first part of what it should be.
 """
 
 import argparse
