@@ -195,6 +195,12 @@ def peers():
     return [(name, words) for name, words, tool in known if shutil.which(tool)]
 
 
+def litgreps(given):
+    """The builds of litgrep that are measured, of words NAME=PATH: without any, the one in bin/."""
+    named = [words.split("=", 1) for words in given] or [["litgrep", os.path.join(HERE, "../bin/litgrep")]]
+    return [(name, [os.path.abspath(path), "-F"]) for name, path in named]
+
+
 class Run:
     def __init__(self, status, digest, size, cpu, wall, memory):
         self.status, self.digest, self.size, self.cpu, self.wall, self.memory = status, digest, size, cpu, wall, memory
@@ -309,8 +315,7 @@ def main():
     parser.add_argument("--litgrep", action="append", default=[], metavar="NAME=PATH")
     parser.add_argument("--write", action="store_true")
     options = parser.parse_args()
-    given = [g.split("=", 1) for g in options.litgrep] or [["litgrep", os.path.join(HERE, "../bin/litgrep")]]
-    programs = [(name, [os.path.abspath(path), "-F"]) for name, path in given] + peers()
+    programs = litgreps(options.litgrep) + peers()
     names = [name for name, _ in programs]
     results, wrong = [], []
     with tempfile.TemporaryDirectory(prefix="litgrep-bench-") as folder:
