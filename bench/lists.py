@@ -125,7 +125,7 @@ class Text:
 
 
 def make_texts(folder, size, seed):
-    """The four texts that lists are drawn from, in an order in which neighbours differ much."""
+    """Writes the files of all texts, and gives the four that lists are drawn from."""
     path = lambda name: os.path.join(folder, name)
     seeded = lambda block: lambda number, length: block(100 * seed + number, length)
     fill(path("log"), size, seeded(log_block))
@@ -291,7 +291,7 @@ class Searches:
         """Lists of the words of all texts, on the texts that change their kind."""
         union = {kind: sorted({literal for pool in self.pools.values() for literal in pool[kind]})
                  for kind in ("rare", "short", "frequent")}
-        for name, file in (("changing each 64 KiB", "changing"), ("changing each 16 MiB", "turning")):
+        for name, file in (("changing every 64 KiB", "changing"), ("changing every 16 MiB", "turning")):
             for kind, counts in (("rare", COUNTS), ("rare -i", FEWER), ("rare, some short", FEWER), ("frequent", FEWER)):
                 yield from self.drawn(name, self.path(file), union, kind, counts)
 
@@ -300,7 +300,7 @@ class Searches:
         union = sorted({literal for pool in self.pools.values() for literal in pool["rare"]})
         for count in COUNTS:
             literals = self.rng.sample(union, count)
-            path = self.path("spoilt%d" % count)
+            path = self.path("spoilt")
             fill(path, size, spoilt_block(literals, self.seed))
             for options in ([], ["-i"]):
                 yield self.list_row("spoilt literals", " ".join(["spoilt: %d" % count] + options), options, path, literals)
@@ -423,7 +423,7 @@ def options_given():
     parser = argparse.ArgumentParser(description=__doc__, formatter_class=argparse.RawDescriptionHelpFormatter)
     parser.add_argument("--size", type=int, default=64, help="megabytes of each text")
     parser.add_argument("--turns", type=int, default=3)
-    parser.add_argument("--lists", type=int, default=3, help="lists of each kind and length")
+    parser.add_argument("--lists", type=int, default=3, help="lists of each kind and length, and single literals of each kind")
     parser.add_argument("--seed", type=int, default=0)
     parser.add_argument("--only", default="", help="rows whose name holds this")
     parser.add_argument("--litgrep", action="append", default=[], metavar="NAME=PATH")
