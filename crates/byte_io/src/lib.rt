@@ -19,4 +19,4 @@ pub use limits::{MAX_TURNS, turns_law};
 pub use opener::{Missing, Opener, open_operand};
 pub use std_device::{FileOrInput, FromRead, ToWrite};
 pub use system_files::SystemFiles;
-pub use transfer::{ReadError, read_to_end, write_all};
+pub use transfer::{ReadError, read_to_end, say_text, write_all};

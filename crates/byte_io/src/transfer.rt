@@ -2,7 +2,7 @@
 ghost use Rattle.std.specs.Prelude.{◌≡◌, ◌≢◌, ◌+◌, ◌^◌, ◌<◌, ◌≤◌, ◌||◌, ◌⊎◌, vec_len, length, IsTrue, IfOk, IfSome, OnOk, OnErr, is_err};
 ghost use Rattle.std.specs.Io.KnownBytes.{Appends};
 ghost use Rattle.byte_io.specs.Devices.{EndsHere, MayFail, Told};
-ghost use Rattle.byte_io.specs.Transfers.{AppendsPrefix, FaultFollows, ReadsAll, ReadsInto};
+ghost use Rattle.byte_io.specs.Transfers.{AppendsPrefix, FaultFollows, ReadsAll, ReadsInto, Says};
 
 use crate::device::{ByteIn, ByteOut, Failed};
 use crate::limits::MAX_TURNS;
@@ -46,6 +46,14 @@ pub fn write_all<W: ByteOut>(out: &mut W, piece: &[u8]) -> Result<(), Failed>
         rest = &rest[taken..];
     }
     Ok(())
+}
+
+/// Writes a text, as far as that is possible. What cannot be written is not written again: the flag of
+/// the device alone tells it.
+pub fn say_text<W: ByteOut>(text: &str, out: &mut W)
+    ensures { Says (W.has_failed out.new) (W.written out.old) (W.written out.new) text.now }
+{
+    let _ = write_all(out, text.as_bytes());
 }
 
 /// Reads to the end, and appends what it reads to `text`: at most `limit` bytes.

@@ -5,8 +5,8 @@ ghost use Rattle.byte_io.specs.Sources.{AreShort};
 ghost use Rattle.litplan.specs.Commands.{EndsSomehow, IsUnserved};
 
 use crate::words::requested;
-use byte_io::{ByteOut, Files};
-use plan_run::{Status, Stop, run, say, say_text};
+use byte_io::{ByteOut, Files, say_text};
+use plan_run::{Status, Stop, run, say};
 use program_words::{Fault, words};
 use std::alloc::Global;
 use std::rt::Env;

@@ -1,5 +1,5 @@
 //! A text in parts, each scanned by a worker of its own.
-ghost use Rattle.std.specs.Prelude.{◌≡◌, ◌-◌, ◌<◌, ◌≤◌, IfOk, IsOk, IsOkUnless, length};
+ghost use Rattle.std.specs.Prelude.{◌≡◌, ◌+◌, ◌-◌, ◌*◌, ◌<◌, ◌≤◌, IfOk, IsOk, IsOkUnless, length};
 ghost use Rattle.lit_base.specs.Occurrences.{IsHits};
 ghost use Rattle.flow_scan.specs.NextEnds.{NoEndAfter};
 ghost use Rattle.flow_scan.specs.Tails.{Continues};
@@ -39,7 +39,7 @@ pub fn scan_parts<R: Threads + Sync, G: Gate>(
     if workers == 1 {
         return scan_part(alloc, gate, compiled, text, 0, 1);
     }
-    let from = text.len() - text.len() / workers;
+    let from = text.len() - last_part(text.len(), workers);
     let (front, _) = text.split_at(from);
     let (last, before) = join(
         rt,
@@ -60,6 +60,15 @@ pub fn scan_parts<R: Threads + Sync, G: Gate>(
     let mut more = last?;
     hits.append(&mut more)?;
     Ok(hits)
+}
+
+/// How much of so many bytes the last worker takes where all take as much as each other, or a byte more.
+fn last_part(len: usize, workers: usize) -> usize
+    requires { 1 ≤ workers }
+    ensures most { workers * result ≤ len }
+    ensures all { len < workers * (result + 1) }
+{
+    len / workers
 }
 
 /// A worker's scan, of what ends in the text behind a place.

@@ -16,7 +16,7 @@ mod stop;
 mod telling;
 mod workers;
 
-pub use message::{say, say_text};
+pub use message::say;
 pub use packing::{pack, pack_into};
 pub use request::{Request, Scan};
 pub use running::{answer, run};

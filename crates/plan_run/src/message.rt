@@ -1,11 +1,10 @@
 //! Messages on standard error, each a line behind the program's name.
 ghost use Rattle.std.specs.Prelude.{◌≡◌, IfOk, string_bytes};
-ghost use Rattle.byte_io.specs.Transfers.{Says};
 ghost use Rattle.plan_run.specs.Messages.{message_on, refused};
 ghost use Rattle.plan_run.specs.Running.{SaysStop};
 
 use crate::stop::{Refusal, Stop};
-use byte_io::{ByteOut, write_all};
+use byte_io::{ByteOut, say_text};
 use std::alloc::{AllocError, Global};
 
 /// Says why a run stopped. Where there is no memory for a message, that is said in its place. A
@@ -27,13 +26,6 @@ fn say_refusal<E: ByteOut>(alloc: Global, refusal: Refusal<'_>, err: &mut E)
         Ok(message) => say_text(message.as_str(), err),
         Err(_) => say_text("litplan: refused (1)\n", err),
     }
-}
-
-/// Writes a text, as far as that is possible.
-pub fn say_text<E: ByteOut>(text: &str, err: &mut E)
-    ensures { Says (E.has_failed err.new) (E.written err.old) (E.written err.new) text.now }
-{
-    let _ = write_all(err, text.as_bytes());
 }
 
 /// The message on a refusal.

@@ -6,7 +6,7 @@ use Rattle.std.proofs.KnownBytes.{Appends-nil, Appends-trans}
 use Rattle.std.proofs.lemmas.List.Concat.{flat_map-append}
 use Rattle.std.proofs.lemmas.List.Elements.{All-nil, All-cons, All-append}
 use Rattle.boxcar.specs.Table.{Shelves}
-use Rattle.byte_io.specs.Devices.{Clean, Coming}
+use Rattle.byte_io.specs.Devices.{Clean, Coming, Faulty}
 use Rattle.byte_io.specs.Sources.{Content, OpensAs, Sources, coming_of, source_of}
 use Rattle.byte_io.specs.Transfers.{AppendsFront}
 use Rattle.byte_io.specs.declared.opener.Missing.{Missing}
@@ -242,11 +242,14 @@ pub judges-unread : (x : Option Coming) (fault : Fault)
     → IfSome x (λ c. c.ending ≡ Clean → length c.text < 2 ^ 40 → (place : ℕ) (cause : Cause) → IsFirstFault 8 1024 c.text place cause → unread fault ≢ unread OutOfMemory → unread fault ≡ unread (BadPlanFile place cause))
     → IfSome x (λ c. c.ending ≡ Clean → length c.text < 2 ^ 40 → unread fault ≢ unread ReadFault) → IfSome x (λ c. Judges c (stopped fault))
 judges-unread None fault only exact ends = tt
-judges-unread (Some c) fault only exact ends = λ clean short memory write. record {
-  loaded = λ plans are text. absurd (only clean plans are text (λ e. memory (as-stopped fault OutOfMemory e)));
-  refused = λ place cause first. as-stopped fault (BadPlanFile place cause) (exact clean short place cause first (λ e. memory (as-stopped fault OutOfMemory e)));
-  read = λ e. ends clean short (as-unread fault ReadFault e);
-}
+judges-unread (Some c) fault only exact ends = (
+  λ loaded. absurd (cc),
+  λ clean short memory write. record {
+    loaded = λ plans are text. absurd (only clean plans are text (λ e. memory (as-stopped fault OutOfMemory e)));
+    refused = λ place cause first. as-stopped fault (BadPlanFile place cause) (exact clean short place cause first (λ e. memory (as-stopped fault OutOfMemory e)));
+    read = λ e. ends clean short (as-unread fault ReadFault e);
+  },
+)
 
 -- publishing answers nothing else
 is-loaded : (more : List Plan) (r : Result (Unit {0}) Fault) → MayLeave more r → r ≢ Err OutOfMemory → r ≢ Err WriteFault → IsOk r
@@ -266,13 +269,16 @@ was-read more (Err WriteFault) left = λ e. cc
 -- a file that was read is judged so
 pub judges-read : (x : Option Coming) (v : Vec Compiled) (more : List Plan) (r : Result (Unit {0}) Fault)
     → IfSome x (λ c. c.ending ≡ Clean → length c.text < 2 ^ 40 → (place : ℕ) (cause : Cause) → IsFirstFault 8 1024 c.text place cause → as_read v ≢ unread OutOfMemory → as_read v ≡ unread (BadPlanFile place cause))
-    → MayLeave more r → IfSome x (λ c. Judges c r)
-judges-read None v more r exact left = tt
-judges-read (Some c) v more r exact left = λ clean short memory write. record {
-  loaded = λ plans are text. is-loaded more r left memory write;
-  refused = λ place cause first. let wrong : as_read v ≡ unread (BadPlanFile place cause) = exact clean short place cause first (λ e. cc) in absurd (cc);
-  read = was-read more r left;
-}
+    → IfSome x (λ c. c.ending ≢ Faulty) → MayLeave more r → IfSome x (λ c. Judges c r)
+judges-read None v more r exact whole left = tt
+judges-read (Some c) v more r exact whole left = (
+  λ loaded. whole,
+  λ clean short memory write. record {
+    loaded = λ plans are text. is-loaded more r left memory write;
+    refused = λ place cause first. let wrong : as_read v ≡ unread (BadPlanFile place cause) = exact clean short place cause first (λ e. cc) in absurd (cc);
+    read = was-read more r left;
+  },
+)
 
 -- ---- by name
 
@@ -308,10 +314,10 @@ named-missing coming None name e r opens missing = tt
 named-missing coming (Some s) name e r opens missing = source-missing coming (source_of name s.named) e r opens missing
 
 -- a message alone, where nothing was loaded
-pub loads-missing : (store : Shelves) (name : List ℕ) (a b : Option (List ℕ)) (result : Fault) → IsSaid (message_on name ReadFault) (Err ReadFault) (Err result) a b
-    → Loads store name None None [] [] a b (Err result)
-loads-missing store name a b result said =
-    loads-refused store name None None [] [] a a b ReadFault result (loads-unread store None None [] a ReadFault tt tt) said
+pub loads-missing : (store : Shelves) (name : List ℕ) (ts : List Told) (a b : Option (List ℕ)) (result : Fault) → IsSaid (message_on name ReadFault) (Err ReadFault) (Err result) a b
+    → Loads store name None None ts ts a b (Err result)
+loads-missing store name ts a b result said =
+    loads-refused store name None None ts ts a a b ReadFault result (loads-unread store None None ts a ReadFault tt tt) said
 
 -- it was told, or could not be
 pub unread-said : (name : List ℕ) (a b : Option (List ℕ)) (result : Fault) → IsSaid (message_on name ReadFault) (Err ReadFault) (Err result) a b → IsUnread (Err result)

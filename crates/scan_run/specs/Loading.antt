@@ -2,7 +2,7 @@
 use Rattle.std.specs.Prelude.{◌≡◌, ◌≢◌, ℕ, ◌^◌, ◌<◌, Bool, true, false, List, [], ◌++◌, ◌⊎◌, All, IfSome, MatchOption, Option, Some, Result, Ok, Err, IsOk, ⊤, codes, decimal, flat_map, length, map}
 use Rattle.std.specs.Io.KnownBytes.{Appends}
 use Rattle.boxcar.specs.Table.{Shelves}
-use Rattle.byte_io.specs.Devices.{Clean, Coming, EndsHere, Told}
+use Rattle.byte_io.specs.Devices.{Clean, Coming, EndsHere, Faulty, Told}
 use Rattle.byte_io.specs.Sources.{Sources, coming_of, source_of}
 use Rattle.byte_io.specs.Transfers.{AppendsFront}
 use Rattle.flow_scan.specs.Plans.{Plan}
@@ -77,9 +77,11 @@ pub record IsJudged (text : List ℕ) (result : Result (Unit {0}) Fault) : Type 
   pub refused : (place : ℕ) (cause : Cause) → IsFirstFault 8 1024 text place cause → result ≡ Err (BadPlanFile place cause)
   pub read : result ≢ Err ReadFault
 
--- so it is unless memory runs out or a write fails
+-- so it is unless memory runs out or a write fails; and no file is loaded behind whose bytes a read fault comes
 abbrev pub Judges : Coming → Result (Unit {0}) Fault → Type 0
-Judges x result = x.ending ≡ Clean → length x.text < 2 ^ 40 → result ≢ Err OutOfMemory → result ≢ Err WriteFault → IsJudged x.text result
+Judges x result =
+    (IsOk result → x.ending ≢ Faulty)
+    × (x.ending ≡ Clean → length x.text < 2 ^ 40 → result ≢ Err OutOfMemory → result ≢ Err WriteFault → IsJudged x.text result)
 
 -- Tickets of the store were gained, which show the plans that were published. Where a write failed, the answer is the
 -- one that loading had come to.
@@ -96,11 +98,10 @@ abbrev pub IsUnread : Result (Unit {0}) Fault → Type 0
 IsUnread result = (result ≡ Err ReadFault) ⊎ (result ≡ Err WriteFault)
 
 -- What an opener gives under a name was loaded: where it tells what that is, it is judged by it.
-pub record LoadsNamed (store : Shelves) (name : List ℕ) (sources : Option Sources) (err_old err_new : Option (List ℕ)) (result : Result (Unit {0}) Fault) : Type 0 where
+pub record LoadsNamed (store : Shelves) (name : List ℕ) (sources : Option Sources) (tickets_old tickets_new : List tickets.Told) (err_old err_new : Option (List ℕ)) (result : Result (Unit {0}) Fault) : Type 0 where
   pub coming_old : Option Coming
   pub coming_new : Option Coming
-  pub tickets : List tickets.Told
-  pub loads : Loads store name coming_old coming_new [] tickets err_old err_new result
+  pub loads : Loads store name coming_old coming_new tickets_old tickets_new err_old err_new result
   pub source : IfSome sources (λ s. MatchOption (source_of name s.named) (IsUnread result) (λ c. (coming_old ≡ Some (coming_of c)) × Judges (coming_of c) result))
 
 -- ---- inside the crate: lines before a message

@@ -1,5 +1,5 @@
 -- What is told of connections that have ended.
-use Rattle.std.specs.Prelude.{◌≡◌, ℕ, ◌+◌, ◌≤◌, Bool, true, false, List, [], ◌∷◌, ◌++◌, Option, Some, None, codes, decimal, length, if◌then◌else◌}
+use Rattle.std.specs.Prelude.{◌≡◌, ℕ, ◌+◌, ◌≤◌, ◌⊎◌, Bool, true, false, All, List, [], ◌∷◌, ◌++◌, Option, Some, None, codes, decimal, length}
 use Rattle.std.specs.Io.KnownBytes.{Appends}
 use Rattle.byte_io.specs.Transfers.{AppendsFront, Says}
 use Rattle.scan_serve.specs.declared.ended.Ended.{Ended}
@@ -27,25 +27,15 @@ abbrev pub lines_from : ℕ → List (Option Ended) → List ℕ
 lines_from number [] = []
 lines_from number (ended ∷ endings) = line_text number (word_of ended) ++ lines_from (number + 1) endings
 
--- whether a connection ended cleanly
-abbrev pub is_clean : Option Ended → Bool
-is_clean None = false
-is_clean (Some ended.Clean) = true
-is_clean (Some ended.Truncated) = false
-is_clean (Some ended.Bad) = false
-is_clean (Some ended.ReadFault) = false
-is_clean (Some ended.WriteFault) = false
-is_clean (Some ended.OutOfMemory) = false
-
--- the status of connections: clean if all were
-abbrev pub status_of_all : List (Option Ended) → Status
-status_of_all [] = Clean
-status_of_all (ended ∷ endings) = if is_clean ended then status_of_all endings else Unclean
+-- the status of connections: clean where all ended cleanly, and else unclean
+abbrev pub IsStatusOf : List (Option Ended) → Status → Type 0
+IsStatusOf endings status =
+    ((status ≡ Clean) × All (λ e. e ≡ Some ended.Clean) endings) ⊎ ((status ≡ Unclean) × ¬ All (λ e. e ≡ Some ended.Clean) endings)
 
 -- All lines are told, and then a fault of accepting, where there was one. Or a write of the lines failed; or there was no
 -- memory for them.
 pub data Reports (endings : List (Option Ended)) (faulty : Bool) (status : Status) (out_failed err_failed : Bool) (out_old out_new err_old err_new : Option (List ℕ)) : Type 0 where
-  Told : faulty ≡ false → status ≡ status_of_all endings → Appends out_old out_new (lines_from 1 endings) → Appends err_old err_new []
+  Told : faulty ≡ false → IsStatusOf endings status → Appends out_old out_new (lines_from 1 endings) → Appends err_old err_new []
       → Reports endings faulty status out_failed err_failed out_old out_new err_old err_new
   Faulty : faulty ≡ true → status ≡ Trouble → Appends out_old out_new (lines_from 1 endings) → Says err_failed err_old err_new accept_fault
       → Reports endings faulty status out_failed err_failed out_old out_new err_old err_new

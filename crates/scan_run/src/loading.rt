@@ -70,7 +70,8 @@ pub fn load_tickets<R: Wait, I: ByteIn, E: ByteOut>(
 }
 
 /// Opens the file of a name, whatever the name is, and publishes its plans: `-` is a file too. A file
-/// that cannot be opened is answered and told as one that cannot be read.
+/// that cannot be opened is answered and told as one that cannot be read. `tickets` gains those of the
+/// plans, in order.
 ///
 /// # Errors
 /// Those of `load_plans`.
@@ -80,15 +81,16 @@ pub fn load_named<R: Wait, F: Opener, E: ByteOut>(
     store: &PlanStore,
     files: &mut F,
     name: &str,
+    tickets: &mut Vec<Ticket>,
     err: &mut E,
 ) -> Result<(), Fault>
     ensures takes { Told (F.sources files.old) (F.sources files.new) (λ old new. new ≡ after (Named name.now) old) }
-    ensures loads { LoadsNamed store.now name.now (F.sources files.old) (E.written err.old) (E.written err.new) result }
+    ensures loads { LoadsNamed store.now name.now (F.sources files.old) tickets.old.items tickets.new.items (E.written err.old) (E.written err.new) result }
     ensures broken { result ≡ Err Fault.WriteFault → IsTrue (E.has_failed err.new) }
     ensures flag { result ≢ Err Fault.WriteFault → E.has_failed err.new ≡ E.has_failed err.old }
 {
     match files.open_named(name) {
-        Ok(mut input) => load_plans(rt, alloc, store, &mut input, name, err),
+        Ok(mut input) => load_tickets(rt, alloc, store, &mut input, name, tickets, err),
         Err(Missing) => Err(refused(Fault::ReadFault, name, err)),
     }
 }

@@ -1,10 +1,9 @@
 //! Telling how connections ended.
 ghost use Rattle.std.specs.Prelude.{◌≡◌, ◌++◌, IfOk, OnOk, length, string_bytes};
-ghost use Rattle.scan_run.specs.Reports.{Reports, is_clean, line_text, lines_from, status_of_all, word_of};
+ghost use Rattle.scan_run.specs.Reports.{IsStatusOf, Reports, line_text, lines_from, word_of};
 
-use crate::message::say_text;
 use crate::status::Status;
-use byte_io::{ByteOut, write_all};
+use byte_io::{ByteOut, say_text, write_all};
 use scan_serve::Ended;
 use std::alloc::{AllocError, Global};
 use std::fmt::Write;
@@ -72,18 +71,11 @@ fn word_of(ended: Option<Ended>) -> &'static str
 
 /// The status of connections: clean if all were.
 fn status_of_all(endings: &[Option<Ended>]) -> Status
-    ensures { result ≡ status_of_all endings.now }
+    ensures { IsStatusOf endings.now result }
 {
-    for ended in endings {
-        if !is_clean(*ended) {
-            return Status::Unclean;
-        }
+    if endings.iter().all(|ended| *ended == Some(Ended::Clean)) {
+        Status::Clean
+    } else {
+        Status::Unclean
     }
-    Status::Clean
-}
-
-fn is_clean(ended: Option<Ended>) -> bool
-    ensures { result ≡ is_clean ended }
-{
-    matches!(ended, Some(Ended::Clean))
 }

@@ -1,5 +1,5 @@
 //! Replies on their way.
-ghost use Rattle.std.specs.Prelude.{◌≡◌, [], length, IsTrue, OnErr, OnOk};
+ghost use Rattle.std.specs.Prelude.{◌≡◌, ◌<◌, [], length, IsTrue, OnErr, OnOk};
 ghost use Rattle.std.specs.Io.KnownBytes.{Appends};
 ghost use Rattle.scan_wire.specs.Frames.{FitsReply, IsBlock, reply_text};
 ghost use Rattle.scan_wire.specs.Messages.{Hits, reply_parts};
@@ -49,6 +49,7 @@ impl Outbox {
         ensures err { OnErr result (SendsFront (W.written out.old) (W.written out.new)
             self.old (reply_text (reply_parts reply.now))) }
         ensures fault { result ≡ Err Stop.WriteFault → IsTrue (W.has_failed out.new) }
+        ensures few { OnOk result (length self.new < 65536) }
     {
         let Ok(()) = append_reply(&mut self.bytes, reply) else {
             return Err(Stop::OutOfMemory);
@@ -71,6 +72,7 @@ impl Outbox {
         ensures err { OnErr result (SendsFront (W.written out.old) (W.written out.new)
             self.old (reply_text (Hits stream hits.now))) }
         ensures fault { result ≡ Err Stop.WriteFault → IsTrue (W.has_failed out.new) }
+        ensures few { OnOk result (length self.new < 65536) }
     {
         let Ok(()) = append_hits(&mut self.bytes, stream, hits) else {
             return Err(Stop::OutOfMemory);
@@ -83,6 +85,7 @@ impl Outbox {
         ensures ok { OnOk result (Sends (W.written out.old) (W.written out.new) self.old self.new []) }
         ensures err { OnErr result (SendsFront (W.written out.old) (W.written out.new) self.old []) }
         ensures fault { result ≡ Err Stop.WriteFault → IsTrue (W.has_failed out.new) }
+        ensures few { OnOk result (length self.new < 65536) }
     {
         if self.bytes.len() < FULL {
             return Ok(());

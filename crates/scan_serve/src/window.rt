@@ -33,15 +33,17 @@ impl Model for Window {
 
     ghost invariant = { λ w. (w.len ≤ length w.buffer.items)
         × ((w.len < length w.buffer.items) ⊎ (ROOM ≤ length w.buffer.items))
-        × (ROOM ≤ vec_capacity w.buffer) };
+        × (ROOM ≤ vec_capacity w.buffer) × (length w.buffer.items ≤ ROOM) };
 }
 
 /// Doubles the room, up to `ROOM` bytes. That much was set aside at first, so it cannot be refused.
 fn enlarge(buffer: &mut Vec<u8>)
-    requires { ROOM ≤ vec_capacity buffer.old }
+    requires room { ROOM ≤ vec_capacity buffer.old }
+    requires few { length buffer.old.items ≤ ROOM }
     ensures kept { take (length buffer.old.items) buffer.new.items ≡ buffer.old.items }
     ensures more { min ROOM (length buffer.old.items + length buffer.old.items) ≤ length buffer.new.items }
     ensures capacity { ROOM ≤ vec_capacity buffer.new }
+    ensures few { length buffer.new.items ≤ ROOM }
 {
     let len = buffer.len();
     if len < ROOM {
@@ -61,7 +63,8 @@ impl Window {
 
     /// What was read and not yet answered.
     pub fn bytes(&self) -> &[u8]
-        ensures { result.now ≡ self.now }
+        ensures value { result.now ≡ self.now }
+        ensures few { length result.now ≤ 262180 }
     {
         &self.buffer[..self.len]
     }

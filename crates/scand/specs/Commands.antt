@@ -9,6 +9,7 @@ use Rattle.byte_io.specs.Devices.{Coming, Told}
 use Rattle.byte_io.specs.Sources.{Named, Sources, after}
 use Rattle.byte_io.specs.Transfers.{Says}
 use Rattle.plan_file.specs.declared.fault.Fault as plan_fault
+use Rattle.plan_store.specs.Tickets as tickets
 use Rattle.program_words.specs.declared.fault.Fault.{Fault}
 use Rattle.program_words.specs.declared.fault.Fault.TheVariants.{OutOfMemory, Usage}
 use Rattle.scan_run.specs.declared.status.Status.{Status}
@@ -56,11 +57,11 @@ named plans = option_map (λ name. string_bytes name) plans
 pub data Runs (request : Request) (status : Status) (files_old files_new : Option Sources) (out_failed err_failed : Bool) (coming_old coming_new : Option Coming) (out_old out_new err_old err_new : Option (List ℕ)) : Type 0 where
   Served : (store : Shelves) → named request.plans ≡ None → files_new ≡ files_old → Serves request.service store status out_failed err_failed coming_old coming_new out_old out_new err_old err_new
       → Runs request status files_old files_new out_failed err_failed coming_old coming_new out_old out_new err_old err_new
-  Planned : (store : Shelves) (name : List ℕ) (err_mid : Option (List ℕ)) → named request.plans ≡ Some name → AsksFor name files_old files_new
-      → LoadsNamed store name files_old err_old err_mid (Ok tt) → Serves request.service store status out_failed err_failed coming_old coming_new out_old out_new err_mid err_new
+  Planned : (store : Shelves) (name : List ℕ) (gained : List tickets.Told) (err_mid : Option (List ℕ)) → named request.plans ≡ Some name → AsksFor name files_old files_new
+      → LoadsNamed store name files_old [] gained err_old err_mid (Ok tt) → Serves request.service store status out_failed err_failed coming_old coming_new out_old out_new err_mid err_new
       → Runs request status files_old files_new out_failed err_failed coming_old coming_new out_old out_new err_old err_new
-  Unplanned : (store : Shelves) (name : List ℕ) (fault : plan_fault.Fault) → named request.plans ≡ Some name → status ≡ Trouble → coming_new ≡ coming_old
-      → Appends out_old out_new [] → AsksFor name files_old files_new → LoadsNamed store name files_old err_old err_new (Err fault)
+  Unplanned : (store : Shelves) (name : List ℕ) (gained : List tickets.Told) (fault : plan_fault.Fault) → named request.plans ≡ Some name → status ≡ Trouble → coming_new ≡ coming_old
+      → Appends out_old out_new [] → AsksFor name files_old files_new → LoadsNamed store name files_old [] gained err_old err_new (Err fault)
       → Runs request status files_old files_new out_failed err_failed coming_old coming_new out_old out_new err_old err_new
   Starved : status ≡ Trouble → files_new ≡ files_old → coming_new ≡ coming_old → Appends out_old out_new [] → Says err_failed err_old err_new out_of_memory
       → Runs request status files_old files_new out_failed err_failed coming_old coming_new out_old out_new err_old err_new

@@ -4,10 +4,10 @@ ghost use Rattle.byte_io.specs.Transfers.{Says};
 ghost use Rattle.scand.specs.Commands.{EndsSomehow, Runs, Serves, ServesPort, cannot_listen, message_on};
 
 use crate::words::{Request, Service, requested};
-use byte_io::{ByteIn, ByteOut, Opener};
+use byte_io::{ByteIn, ByteOut, Opener, say_text};
 use plan_store::PlanStore;
 use program_words::{Fault, words};
-use scan_run::{Connections, Status, listen, load_named, say_text, serve_alone};
+use scan_run::{Connections, Status, listen, load_named, serve_alone};
 use std::alloc::{AllocError, Global};
 use std::net::{Ipv4Addr, Net, TcpListener, TcpStream};
 use std::rt::Env;
@@ -60,7 +60,8 @@ where
     let Some(name) = &request.plans else {
         return serve_over(rt, alloc, &store, request.service, input, out, err);
     };
-    match load_named(rt, alloc, &store, files, name.as_str(), err) {
+    let mut tickets = Vec::new(alloc);
+    match load_named(rt, alloc, &store, files, name.as_str(), &mut tickets, err) {
         Ok(()) => serve_over(rt, alloc, &store, request.service, input, out, err),
         Err(_) => Status::Trouble,
     }

@@ -1,5 +1,0 @@
-use Rattle.byte_io.proofs.SayLemmas.{says}
-use Rattle.scan_run.proofs.message.say_text.Goals as goal
-
-pub returns : goal.returns
-returns g c = rw c.as_bytes.ensures.value at (says _ (g.E.ByteOut.has_failed c.args.err.now) c.write_all.result _ _ _ c.write_all.ensures.ok c.write_all.ensures.err c.write_all.ensures.flag)
