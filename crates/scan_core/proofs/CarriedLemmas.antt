@@ -17,7 +17,7 @@ use Rattle.scan_core.specs.declared.refusal.Refusal.TheVariants.{StreamInUse, St
 use Rattle.scan_core.specs.Carried.{AreCarried, EventLaw, IsCarried, IsEventOf, IsSeen}
 use Rattle.scan_core.specs.Refusals.{publish_refusal}
 use Rattle.scan_core.specs.Sessions.{Bound, by_tails}
-use Rattle.scan_core.specs.Steps.{Entry, IsAccepted, Outcome, SessionParts, closed, moved, refusal_of, refused, shown, stream_at, stream_refusal}
+use Rattle.scan_core.specs.Steps.{AgreeWith, Entry, IsAccepted, Outcome, SessionParts, closed, moved, refusal_of, refused, shown, stream_at, stream_refusal}
 use Rattle.scan_core.specs.Worlds.{AreHitsPast, Streamed, by_bytes}
 
 -- Literals in normal form are no longer than the carry and one byte.
@@ -137,6 +137,10 @@ hits_past l tail bytes piece place hits bounds last reached added =
       );
     }
 
+-- the session was told the same
+agreed_seen : (tails : SessionParts Bound) (bytes : SessionParts Streamed) (entry : Entry) → IsSeen tails bytes → AgreeWith tails.told entry → AgreeWith bytes.told entry
+agreed_seen tails bytes entry seen agreed = subst (λ (told : List Entry). AgreeWith told entry) (sym seen.told) agreed
+
 -- the same replies and the same entry met
 abbrev Follows : SessionParts Streamed → RequestParts → Outcome Bound → Type 0
 Follows bytes request outcome = (after : SessionParts Streamed) × IsSeen outcome.after after × IsAccepted by_bytes bytes request record { replies = outcome.replies; met = outcome.met; after = after }
@@ -145,7 +149,7 @@ follows : (tails : SessionParts Bound) (bytes : SessionParts Streamed) (request 
 follows tails bytes (Publish folding literals) outcome seen a = subst (Follows bytes (Publish folding literals)) (sym a.is) (
   record bytes { told = bytes.told ++ a.entry ∷ [] },
   record { told = ap (λ (es : List Entry). es ++ a.entry ∷ []) seen.told; streams = seen.streams },
-  record { entry = a.entry; plan = a.plan; sound = a.sound; is = refl },
+  record { entry = a.entry; plan = a.plan; sound = a.sound; agreed = agreed_seen tails bytes a.entry seen a.agreed; is = refl },
 )
 follows tails bytes (Open stream number) outcome seen a = elim a [
   | inl o ↦
@@ -160,7 +164,7 @@ follows tails bytes (Open stream number) outcome seen a = elim a [
       subst (Follows bytes (Open stream number)) (sym o.is) (
         record bytes { streams = bytes.streams ++ (stream, state) ∷ [] },
         record { told = seen.told; streams = carried_push tails.streams bytes.streams stream o.state state seen.streams here },
-        inl record { entry = o.entry; state = state; asked = o.asked; sound = o.sound; begins = refl; is = refl },
+        inl record { entry = o.entry; state = state; asked = o.asked; sound = o.sound; agreed = agreed_seen tails bytes o.entry seen o.agreed; begins = refl; is = refl },
       )
   | inr o ↦ subst (Follows bytes (Open stream number)) (sym o.is) (
     bytes,

@@ -21,7 +21,7 @@ use Rattle.scan_core.specs.Blocks.{AreBlocks}
 use Rattle.scan_core.specs.Publishing.{IsPlanFor}
 use Rattle.scan_core.specs.Refusals.{crowd_refusal, earlier, publish_refusal, raw_refusal}
 use Rattle.scan_core.specs.Sessions.{Bound, IsEvent, Serving, by_tails, entry_of, parts_of}
-use Rattle.scan_core.specs.Steps.{Entry, IsAccepted, IsSound, IsStep, Outcome, Reading, SessionParts, closed, fed_replies, moved, opened, plan_reply, published, refusal_of, refused, refused_reply, shown, stream_at, stream_of, stream_refusal}
+use Rattle.scan_core.specs.Steps.{AgreeWith, Entry, IsAccepted, IsSound, IsStep, Outcome, Reading, SessionParts, closed, fed_replies, moved, opened, plan_reply, published, refusal_of, refused, refused_reply, shown, stream_at, stream_of, stream_refusal}
 use Rattle.scan_core.specs.Streams.{MovesTo, StandsAt}
 use Rattle.scan_core.proofs.StreamLemmas.{lookup_at, remove_at, set_at}
 
@@ -60,8 +60,8 @@ published_crowd s fold literals reply raw many told =
     (told_count s fold literals ∙ ap (λ o. earlier o (crowd_refusal (normal_form fold literals))) (sym raw) ∙ crowd) told
 
 -- a Publish that is stored
-pub published_entry : (s : Serving) (fold : Fold) (literals : List (List ℕ)) (ticket : Told) (reply : ReplyParts) (new : Serving) → None ≡ raw_refusal (length s.told) literals → IsPlanFor fold literals ticket.plan → reply ≡ Published ticket.number → new ≡ record s { told = s.told ++ ticket ∷ [] } → IsEvent s (Publish fold literals) (reply ∷ []) new
-published_entry s fold literals ticket reply new raw planned told after =
+pub published_entry : (s : Serving) (fold : Fold) (literals : List (List ℕ)) (ticket : Told) (reply : ReplyParts) (new : Serving) → None ≡ raw_refusal (length s.told) literals → IsPlanFor fold literals ticket.plan → AgreeWith (map entry_of s.told) (entry_of ticket) → reply ≡ Published ticket.number → new ≡ record s { told = s.told ++ ticket ∷ [] } → IsEvent s (Publish fold literals) (reply ∷ []) new
+published_entry s fold literals ticket reply new raw planned agreed told after =
     let few = planned.few in
     let crowd : crowd_refusal (normal_form fold literals) ≡ None = grind (arith, nat_tests) in
     let none : refusal_of by_tails (parts_of s) (Publish fold literals) ≡ None =
@@ -74,7 +74,7 @@ published_entry s fold literals ticket reply new raw planned told after =
     record {
       met = Some (entry_of ticket);
       step = step_accepted by_tails (parts_of s) (Publish fold literals) outcome none
-          record { entry = entry_of ticket; plan = planned.planned; sound = planned.sound; is = is };
+          record { entry = entry_of ticket; plan = planned.planned; sound = planned.sound; agreed = agreed; is = is };
       store = ap (λ (n : Serving). n.store) after;
     }
 
@@ -164,8 +164,8 @@ opened_free s stream number none few =
     ∙ ap (λ b. if b then Some StreamQuota else None) room
 
 -- an Open that finds an entry
-pub opened_stream : (s : Serving) (stream number : ℕ) (ticket : Told) (reply : ReplyParts) (new : Serving) → refusal_of by_tails (parts_of s) (Open stream number) ≡ None → IsSound ticket.plan → ticket.number ≡ number → reply ≡ Opened stream → new ≡ record s { streams = s.streams ++ (stream, record { ticket = ticket; scan = started ticket.plan 0 }) ∷ [] } → IsEvent s (Open stream number) (reply ∷ []) new
-opened_stream s stream number ticket reply new none sound asked told after =
+pub opened_stream : (s : Serving) (stream number : ℕ) (ticket : Told) (reply : ReplyParts) (new : Serving) → refusal_of by_tails (parts_of s) (Open stream number) ≡ None → IsSound ticket.plan → AgreeWith (map entry_of s.told) (entry_of ticket) → ticket.number ≡ number → reply ≡ Opened stream → new ≡ record s { streams = s.streams ++ (stream, record { ticket = ticket; scan = started ticket.plan 0 }) ∷ [] } → IsEvent s (Open stream number) (reply ∷ []) new
+opened_stream s stream number ticket reply new none sound agreed asked told after =
     let state : Bound = record { ticket = ticket; scan = started ticket.plan 0 } in
     let outcome : Outcome Bound = record { replies = reply ∷ []; met = Some (entry_of ticket); after = parts_of new } in
     let is : outcome ≡ opened (parts_of s) stream (entry_of ticket) state =
@@ -173,7 +173,7 @@ opened_stream s stream number ticket reply new none sound asked told after =
     record {
       met = Some (entry_of ticket);
       step = step_accepted by_tails (parts_of s) (Open stream number) outcome none
-          (inl record { entry = entry_of ticket; state = state; asked = asked; sound = sound; begins = (refl, refl); is = is });
+          (inl record { entry = entry_of ticket; state = state; asked = asked; sound = sound; agreed = agreed; begins = (refl, refl); is = is });
       store = ap (λ (n : Serving). n.store) after;
     }
 

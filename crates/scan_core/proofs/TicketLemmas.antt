@@ -1,7 +1,12 @@
--- Numbers of tickets.
-use Rattle.std.proofs.Common.{◌≡◌, ◌≢◌, ℕ, zero, suc, ◌<◌, List, [], ◌∷◌, length, get_or, map, Some, Contains, refl, arith}
+-- Numbers of tickets, and the entries that they show.
+use Rattle.std.proofs.Common.{◌≡◌, ◌≢◌, ℕ, zero, suc, ◌<◌, List, [], ◌∷◌, length, get_or, map, Option, Some, None, Contains, refl, sym, ap, ◌∙◌, arith}
+use Rattle.std.specs.Prelude.{option_map}
 use Rattle.std.specs.List.{slice_get}
+use Rattle.std.proofs.lemmas.Option.{none-some, same_Some, slice_get-get_or, slice_get-map}
 use Rattle.plan_store.specs.Tickets.{Told}
+use Rattle.scan_core.specs.Sessions.{entry_of}
+use Rattle.scan_core.specs.Steps.{AgreeWith, Entry}
+use Rattle.scan_core.specs.Together.{AreAgreed}
 
 none_at : (tickets : List Told) (n k : ℕ) → ((i : ℕ) (other : Told) → i < length tickets → slice_get tickets i ≡ Some other → other.number ≢ n) → k < length (map (λ (t : Told). t.number) tickets) → get_or (map (λ (t : Told). t.number) tickets) k n ≡ n → ⊥
 none_at [] n k none within at = omega arith
@@ -12,3 +17,29 @@ none_at (t ∷ tickets) n (suc k) none within at =
 -- where no ticket has a number, it is not among those told
 pub number_stranger : (tickets : List Told) (n : ℕ) → ((i : ℕ) (other : Told) → i < length tickets → slice_get tickets i ≡ Some other → other.number ≢ n) → Contains (map (λ (t : Told). t.number) tickets) n → ⊥
 number_stranger tickets n none told = none_at tickets n told.0 none told.1 told.2
+
+-- an entry is that of one of the tickets
+pub record IsShown (tickets : List Told) (entry : Entry) : Type 0 where
+  pub place : ℕ
+  pub ticket : Told
+  pub at : slice_get tickets place ≡ Some ticket
+  pub is : entry_of ticket ≡ entry
+
+shown_at : (tickets : List Told) (entry : Entry) (k : ℕ) (o : Option Told) → slice_get tickets k ≡ o → option_map entry_of o ≡ Some entry → IsShown tickets entry
+shown_at tickets entry k None at shows = absurd (none-some entry shows)
+shown_at tickets entry k (Some ticket) at shows = record { place = k; ticket = ticket; at = at; is = same_Some (entry_of ticket) entry shows }
+
+-- an entry among those of tickets is that of one of them
+pub shown_of : (tickets : List Told) (entry : Entry) → Contains (map entry_of tickets) entry → IsShown tickets entry
+shown_of tickets entry known =
+    shown_at tickets entry known.0 (slice_get tickets known.0) refl
+    (sym (slice_get-map entry_of tickets known.0)
+    ∙ slice_get-get_or (map entry_of tickets) known.0 entry known.1
+    ∙ ap Some known.2)
+
+-- tickets that each agree with another show entries that do
+pub entries_agree : (tickets : List Told) (ticket : Told) → ((i : ℕ) (other : Told) → slice_get tickets i ≡ Some other → AreAgreed other ticket) → AgreeWith (map entry_of tickets) (entry_of ticket)
+entries_agree tickets ticket agreed entry known same =
+    let shown = shown_of tickets entry known in
+    sym (ap (λ (e : Entry). e.plan) shown.is)
+    ∙ agreed shown.place shown.ticket shown.at (ap (λ (e : Entry). e.number) shown.is ∙ same)

@@ -10,6 +10,7 @@ use Rattle.scan_core.specs.Sessions.{Bound, Serving, entry_of}
 use Rattle.scan_core.specs.Steps.{Entry, IsSound, SessionParts}
 use Rattle.scan_core.specs.Together.{AgreeAll, Meet, ShowSound, TogetherLaw, known_to, tickets_of, world_of}
 use Rattle.scan_core.specs.Worlds.{Event, Happens, HasOnePlan, IsFirst, MeetsEntries, Runs, Streamed, World, is_publish}
+use Rattle.scan_core.proofs.TicketLemmas.{IsShown, shown_of}
 
 -- a ticket that the session was told
 pub told_at : (s : Serving) (place : ℕ) (t : Told) → place < length s.told → place < length (tickets_of s) → t ≡ get_or s.told place t → slice_get (tickets_of s) place ≡ Some t
@@ -28,50 +29,32 @@ open_at s k stream within inside here =
     slice_get_read (tickets_of s) (length (tickets_of s)) (length s.told + k) t refl inside
     (sym (get_or-append-add s.told tickets k t ∙ get_or_from_slice_get tickets k t t read))
 
--- an entry that a session knows is that of one of its tickets
-record IsShown (s : Serving) (entry : Entry) : Type 0 where
-  place : ℕ
-  ticket : Told
-  at : slice_get (tickets_of s) place ≡ Some ticket
-  is : entry_of ticket ≡ entry
-
-shown_at : (s : Serving) (entry : Entry) (k : ℕ) (o : Option Told) → slice_get (tickets_of s) k ≡ o → option_map entry_of o ≡ Some entry → IsShown s entry
-shown_at s entry k None at shows = absurd (none-some entry shows)
-shown_at s entry k (Some ticket) at shows = record { place = k; ticket = ticket; at = at; is = same_Some (entry_of ticket) entry shows }
-
-shown_of : (s : Serving) (entry : Entry) → Contains (known_to s) entry → IsShown s entry
-shown_of s entry known =
-    shown_at s entry known.0 (slice_get (tickets_of s) known.0) refl
-    (sym (slice_get-map entry_of (tickets_of s) known.0)
-    ∙ slice_get-get_or (known_to s) known.0 entry known.1
-    ∙ ap Some known.2)
-
 -- entries of two sessions whose tickets agree
-agree_on : (s t : Serving) → AgreeAll s t → (first second : Entry) → IsShown s first → IsShown t second → first.number ≡ second.number → first.plan ≡ second.plan
+agree_on : (s t : Serving) → AgreeAll s t → (first second : Entry) → IsShown (tickets_of s) first → IsShown (tickets_of t) second → first.number ≡ second.number → first.plan ≡ second.plan
 agree_on s t agreed first second one other same =
     let numbers : one.ticket.number ≡ other.ticket.number =
     ap (λ (e : Entry). e.number) one.is ∙ same ∙ sym (ap (λ (e : Entry). e.number) other.is) in
     let plans = agreed one.place one.ticket one.at other.place other.ticket other.at numbers in
     sym (ap (λ (e : Entry). e.plan) one.is) ∙ plans ∙ ap (λ (e : Entry). e.plan) other.is
 
-sound_of : (s : Serving) → ShowSound s → (entry : Entry) → IsShown s entry → IsSound entry.plan
+sound_of : (s : Serving) → ShowSound s → (entry : Entry) → IsShown (tickets_of s) entry → IsSound entry.plan
 sound_of s sound entry shown = subst (λ (e : Entry). IsSound e.plan) shown.is (sound shown.place shown.ticket shown.at)
 
 -- what two sessions know are the entries of one world, if all their tickets agree
 pub fit : (s t : Serving) → AgreeAll s s → AgreeAll s t → AgreeAll t t → ShowSound s → ShowSound t → IsFirst (world_of (known_to s ++ known_to t))
 fit s t ss st tt sound_s sound_t = record {
   sound = λ entry known. elim (Contains-append_cases (known_to s) (known_to t) entry known) [
-    | inl in_s ↦ sound_of s sound_s entry (shown_of s entry in_s)
-    | inr in_t ↦ sound_of t sound_t entry (shown_of t entry in_t)
+    | inl in_s ↦ sound_of s sound_s entry (shown_of (tickets_of s) entry in_s)
+    | inr in_t ↦ sound_of t sound_t entry (shown_of (tickets_of t) entry in_t)
   ];
   one_plan = λ first second in_first in_second same. elim (Contains-append_cases (known_to s) (known_to t) first in_first) [
     | inl one_s ↦ elim (Contains-append_cases (known_to s) (known_to t) second in_second) [
-      | inl two_s ↦ agree_on s s ss first second (shown_of s first one_s) (shown_of s second two_s) same
-      | inr two_t ↦ agree_on s t st first second (shown_of s first one_s) (shown_of t second two_t) same
+      | inl two_s ↦ agree_on s s ss first second (shown_of (tickets_of s) first one_s) (shown_of (tickets_of s) second two_s) same
+      | inr two_t ↦ agree_on s t st first second (shown_of (tickets_of s) first one_s) (shown_of (tickets_of t) second two_t) same
     ]
     | inr one_t ↦ elim (Contains-append_cases (known_to s) (known_to t) second in_second) [
-      | inl two_s ↦ sym (agree_on s t st second first (shown_of s second two_s) (shown_of t first one_t) (sym same))
-      | inr two_t ↦ agree_on t t tt first second (shown_of t first one_t) (shown_of t second two_t) same
+      | inl two_s ↦ sym (agree_on s t st second first (shown_of (tickets_of s) second two_s) (shown_of (tickets_of t) first one_t) (sym same))
+      | inr two_t ↦ agree_on t t tt first second (shown_of (tickets_of t) first one_t) (shown_of (tickets_of t) second two_t) same
     ]
   ];
   sessions = λ name. refl;

@@ -116,19 +116,25 @@ closed before stream = record {
 abbrev pub shown : {S : Type 0} → SessionParts S → ℕ → plans.Plan → Outcome S
 shown before stream plan = record { replies = plan_reply stream plan ∷ []; met = None; after = before }
 
--- a Publish that is not refused: an entry of the plan of its literals
+-- each of these entries that has the number of another one has its plan
+abbrev pub AgreeWith : List Entry → Entry → Type 0
+AgreeWith entries entry = (other : Entry) → Contains entries other → other.number ≡ entry.number → other.plan ≡ entry.plan
+
+-- a Publish that is not refused: an entry of the plan of its literals, with which those agree that the session was told
 pub record Publishes {S : Type 0} (fold : Fold) (literals : List (List ℕ)) (before : SessionParts S) (outcome : Outcome S) : Type 0 where
   pub entry : Entry
   pub plan : IsPlanOf fold literals entry.plan
   pub sound : IsSound entry.plan
+  pub agreed : AgreeWith before.told entry
   pub is : outcome ≡ published before entry
 
--- an Open that finds an entry of the number
+-- an Open that finds an entry of the number, with which those agree that the session was told
 pub record Opens {S : Type 0} (reading : Reading S) (stream number : ℕ) (before : SessionParts S) (outcome : Outcome S) : Type 0 where
   pub entry : Entry
   pub state : S
   pub asked : entry.number ≡ number
   pub sound : IsSound entry.plan
+  pub agreed : AgreeWith before.told entry
   pub begins : reading.Begins entry state
   pub is : outcome ≡ opened before stream entry state
 

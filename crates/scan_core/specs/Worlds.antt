@@ -8,7 +8,7 @@ use Rattle.flow_scan.specs.Plans as plans
 use Rattle.scan_wire.specs.Messages.{RequestParts, ReplyParts, Publish, Open, Feed, Close, ShowPlan, Published, Opened, Hits, Fed, Closed, Plan, Refused}
 use Rattle.scan_wire.specs.declared.message.TheConstants.{MAX_HITS}
 use Rattle.scan_core.specs.Blocks.{AreBlocks}
-use Rattle.scan_core.specs.Steps.{Entry, IsSound, IsStep, Reading, SessionParts, fed_replies, new_session}
+use Rattle.scan_core.specs.Steps.{AgreeWith, Entry, IsSound, IsStep, Reading, SessionParts, fed_replies, new_session}
 
 -- a stream as its client sees it: the plan it was opened with, and all bytes fed since
 pub record Streamed : Type 0 where
@@ -62,7 +62,7 @@ is_publish (ShowPlan stream) = false
 -- the entries behind an event: what a Publish met is added, and has this plan wherever the number stands; what another request met is there
 abbrev pub MeetsEntries : Bool → Option Entry → List Entry → List Entry → Type 0
 MeetsEntries publishes None old new = new ≡ old
-MeetsEntries true (Some entry) old new = ((other : Entry) → Contains old other → other.number ≡ entry.number → other.plan ≡ entry.plan) × (new ≡ entry ∷ old)
+MeetsEntries true (Some entry) old new = AgreeWith old entry × (new ≡ entry ∷ old)
 MeetsEntries false (Some entry) old new = Contains old entry × (new ≡ old)
 
 -- an event happens: it is a step of its session, and all others stay

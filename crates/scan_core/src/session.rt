@@ -16,7 +16,7 @@ use crate::limits::MAX_STREAMS;
 use crate::publishing::planned;
 use crate::refusal::{Refusal, refusal_of_literals};
 use crate::stream::{Stream, find_stream};
-use crate::tickets::find_told;
+use crate::tickets::{agrees_with_told, find_told};
 use flow_scan::Hit;
 use lit_base::Fold;
 use plan_store::{PlanStore, Ticket};
@@ -153,6 +153,7 @@ impl<'s> Session<'s> {
             return Err(Fault::OutOfMemory);
         };
         let number = self.store.number(&ticket);
+        agrees_with_told(self.store, &self.told, &ticket);
         self.told.push(ticket);
         Ok(Reply::Published { number })
     }
@@ -173,6 +174,7 @@ impl<'s> Session<'s> {
         let Some(ticket) = self.ticket_of(number) else {
             return Ok(Refusal::NoSuchPlan.reply(stream));
         };
+        agrees_with_told(self.store, &self.told, &ticket);
         self.streams
             .push(Stream::open(alloc, self.store, stream, ticket)?);
         Ok(Reply::Opened { stream })

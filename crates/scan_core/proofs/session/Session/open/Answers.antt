@@ -57,4 +57,4 @@ returns-clause-ok c =
     c.push.ensures ∙ ap (λ (item : ℕ × Bound). s.streams ++ item ∷ []) c.in_ok-open.ensures.ok in
     subst (λ (t : Serving). IsEvent t request (Opened c.args.stream ∷ []) new) c.self.view_is
     (opened_stream s c.args.stream c.args.number c.in-Some.ticket (Opened c.args.stream) new (opened_free s c.args.stream c.args.number free few)
-    c.in_ok-open.ensures.sound c.in-Some.ensures.number refl (ap (λ (streams : List (ℕ × Bound)). record s { streams = streams }) grown))
+    c.in_ok-open.ensures.sound c.agrees_with_told.ensures c.in-Some.ensures.number refl (ap (λ (streams : List (ℕ × Bound)). record s { streams = streams }) grown))

@@ -27,5 +27,6 @@ returns-clause-ok g c =
     subst (λ (t : Serving). IsEvent t (Publish c.args.fold texts) (Published c.number-number.result ∷ []) new) c.self.view_is
     (published_entry s c.args.fold texts ticket (Published c.number-number.result) new raw
     (subst (IsPlanFor c.args.fold texts) (sym c.in-Ok.ensures.plan) planned)
+    c.agrees_with_told.ensures
     (ap Published c.number-number.ensures)
     (ap (λ (told : List Told). record s { told = told }) c.push.ensures))
