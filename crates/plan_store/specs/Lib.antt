@@ -1,2 +1,3 @@
 pub mod Tickets
 pub mod Meetings
+pub mod Faults

@@ -1,5 +1,6 @@
 //! Why a plan is not stored.
 ghost use Rattle.std.specs.Prelude.{◌≡◌};
+ghost use Rattle.plan_store.specs.Faults.{number_of};
 ghost use Rattle.plan_store.specs.declared.fault.Fault.TheVariants.{OutOfMemory};
 
 use std::alloc::AllocError;
@@ -10,6 +11,17 @@ use thiserror::Error;
 pub enum Fault {
     #[error("out of memory")]
     OutOfMemory,
+}
+
+impl Fault {
+    /// The number by which messages name the refusal, the same in every crate.
+    pub fn number(&self) -> u8
+        ensures { result ≡ number_of self.now }
+    {
+        match self {
+            Fault::OutOfMemory => 1,
+        }
+    }
 }
 
 impl From<AllocError> for Fault {

@@ -11,3 +11,4 @@ pub mod Answers
 pub mod Publishing
 pub mod Carried
 pub mod Fronts
+pub mod Faults
