@@ -1,14 +1,16 @@
 -- Plans published one after the other, and their lines.
-use Rattle.std.proofs.Common.{◌≡◌, ◌≢◌, ℕ, ◌^◌, ◌<◌, List, [], ◌∷◌, ◌++◌, Option, Some, None, IfSome, Result, Ok, Err, OnErr, IsOk, IsOkAnd, MatchOption, inl, inr, length, refl, sym, ap, subst, ◌∙◌, append_assoc, append-nil}
+use Rattle.std.proofs.Common.{◌≡◌, ◌≢◌, ℕ, ◌+◌, ◌^◌, ◌<◌, List, [], ◌∷◌, ◌++◌, Option, Some, None, IfSome, Result, Ok, Err, OnErr, IsOk, IsOkAnd, MatchOption, inl, inr, length, refl, sym, ap, subst, ◌∙◌, append_assoc, append-nil, arith, take, length-append}
 use Rattle.std.specs.Global.{Vec}
 use Rattle.std.specs.Io.KnownBytes.{Appends}
 use Rattle.std.proofs.KnownBytes.{Appends-nil, Appends-trans}
+use Rattle.std.proofs.Math.Seq.{take-append-add}
+use Rattle.std.proofs.lemmas.List.{take-append-le}
 use Rattle.std.proofs.lemmas.List.Concat.{flat_map-append}
 use Rattle.std.proofs.lemmas.List.Elements.{All-nil, All-cons, All-append}
 use Rattle.boxcar.specs.Table.{Shelves}
 use Rattle.byte_io.specs.Devices.{Clean, Coming, Faulty}
 use Rattle.byte_io.specs.Sources.{Content, OpensAs, Sources, coming_of, source_of}
-use Rattle.byte_io.specs.Transfers.{AppendsFront}
+use Rattle.byte_io.specs.Transfers.{AppendsPrefix}
 use Rattle.byte_io.specs.declared.opener.Missing.{Missing}
 use Rattle.flow_scan.specs.Plans.{Plan}
 use Rattle.flow_scan.specs.declared.compiled.Compiled.{Compiled}
@@ -19,24 +21,22 @@ use Rattle.plan_file.specs.Faults.{IsReadersFault}
 use Rattle.plan_file.specs.FirstFaults.{IsFirstFault}
 use Rattle.plan_file.specs.Spelling.{ArePlans, spelling}
 use Rattle.plan_store.specs.Tickets.{Told, IsOf}
-use Rattle.scan_run.specs.Loading.{Broken, IsUnread, Judges, Loads, LoadsFile, MayLeave, PublishesFront, IsSaid, SaysLines, Whole, message_on, plan_line, plan_lines, plans_of}
+use Rattle.scan_run.specs.Loading.{AppendsUpTo, Cut, EndsInLine, InLine, InMessage, IsMessage, IsUnread, Judges, Loads, LoadsFile, MayLeave, PublishesFront, IsSaid, SaysLines, Whole, Written, message_on, plan_line, plan_lines, plans_of}
 
--- a front of a text is a front of a longer one
-pub front-longer : {old new : Option (List ℕ)} {text : List ℕ} (more : List ℕ) → AppendsFront old new text → AppendsFront old new (text ++ more)
-front-longer {old} {new} {text} more f = record {
-  front = f.front;
-  rest = f.rest ++ more;
-  parts = ap (λ t. t ++ more) f.parts ∙ append_assoc f.front f.rest more;
-  grown = f.grown;
+-- a front of a text, and not all of it, is one of a longer one
+pub prefix-longer : {old new : Option (List ℕ)} {text : List ℕ} (more : List ℕ) → AppendsPrefix old new text → AppendsPrefix old new (text ++ more)
+prefix-longer {old} {new} {text} more p = record {
+  count = p.count;
+  fewer = omega (arith, p.fewer, length-append text more);
+  text = subst (Appends old new) (sym (take-append-le p.count text more (omega (arith, p.fewer)))) p.text;
 }
 
--- a front was written behind a whole text
-pub front-behind : (a b c : Option (List ℕ)) (done text : List ℕ) → Appends a b done → AppendsFront b c text → AppendsFront a c (done ++ text)
-front-behind a b c done text whole f = record {
-  front = done ++ f.front;
-  rest = f.rest;
-  parts = ap (λ t. done ++ t) f.parts ∙ sym (append_assoc done f.front f.rest);
-  grown = Appends-trans a b c done f.front whole f.grown;
+-- and one of a text behind another, which was written whole
+pub prefix-behind : (a b c : Option (List ℕ)) (done text : List ℕ) → Appends a b done → AppendsPrefix b c text → AppendsPrefix a c (done ++ text)
+prefix-behind a b c done text whole p = record {
+  count = length done + p.count;
+  fewer = omega (arith, p.fewer, length-append done text);
+  text = subst (Appends a c) (sym (take-append-add done text p.count)) (Appends-trans a b c done (take p.count text) whole p.text);
 }
 
 -- what follows from a refusal
@@ -44,13 +44,34 @@ pub OnErr-then : {T E P Q : Type 0} (r : Result T E) → OnErr r P → (P → Q)
 OnErr-then (Ok x) p then = tt
 OnErr-then (Err e) p then = then p
 
+-- a text and a front of one behind it, behind a text that was written whole
+up-to-behind : (a b c : Option (List ℕ)) (done text behind : List ℕ) → Appends a b done → AppendsUpTo b c text behind → AppendsUpTo a c (done ++ text) behind
+up-to-behind a b c done text behind whole part = record {
+  count = part.count;
+  fewer = part.fewer;
+  grown = subst (Appends a c) (sym (append_assoc done text (take part.count behind))) (Appends-trans a b c done (text ++ take part.count behind) whole part.grown);
+}
+
+-- the lines of plans behind others
+lines_of-append : (xs ys : List Told) → plan_lines (xs ++ ys) ≡ plan_lines xs ++ plan_lines ys
+lines_of-append xs ys = flat_map-append (λ ticket. plan_line ticket.number) xs ys
+
+lines-behind : (a b c : Option (List ℕ)) (xs ys : List Told) → Appends a b (plan_lines xs) → Appends b c (plan_lines ys) → Appends a c (plan_lines (xs ++ ys))
+lines-behind a b c xs ys whole said = subst (Appends a c) (sym (lines_of-append xs ys)) (Appends-trans a b c (plan_lines xs) (plan_lines ys) whole said)
+
 -- lines behind lines that were written whole
-says-behind : (a b c : Option (List ℕ)) (done text : List ℕ) (r : Result (Unit {0}) Fault) → Appends a b done → SaysLines text r b c → SaysLines (done ++ text) r a c
-says-behind a b c done text (Ok _) whole said = Appends-trans a b c done text whole said
-says-behind a b c done text (Err OutOfMemory) whole said = Appends-trans a b c done text whole said
-says-behind a b c done text (Err (BadPlanFile place cause)) whole said = Appends-trans a b c done text whole said
-says-behind a b c done text (Err ReadFault) whole said = Appends-trans a b c done text whole said
-says-behind a b c done text (Err WriteFault) whole said = front-behind a b c done text whole said
+says-behind : (a b c : Option (List ℕ)) (xs ys : List Told) (r : Result (Unit {0}) Fault) → Appends a b (plan_lines xs) → SaysLines ys r b c → SaysLines (xs ++ ys) r a c
+says-behind a b c xs ys (Ok _) whole said = lines-behind a b c xs ys whole said
+says-behind a b c xs ys (Err OutOfMemory) whole said = lines-behind a b c xs ys whole said
+says-behind a b c xs ys (Err (BadPlanFile place cause)) whole said = lines-behind a b c xs ys whole said
+says-behind a b c xs ys (Err ReadFault) whole said = lines-behind a b c xs ys whole said
+says-behind a b c xs ys (Err WriteFault) whole ends = record {
+  before = xs ++ ends.before;
+  last = ends.last;
+  all = ap (λ ts. xs ++ ts) ends.all ∙ sym (append_assoc xs ends.before (ends.last ∷ []));
+  said = subst (λ t. AppendsUpTo a c t (plan_line ends.last.number)) (sym (lines_of-append xs ends.before))
+      (up-to-behind a b c (plan_lines xs) (plan_lines ends.before) (plan_line ends.last.number) whole ends.said);
+}
 
 plans_of-append : (xs ys : List Told) → plans_of (xs ++ ys) ≡ plans_of xs ++ plans_of ys
 plans_of-append [] ys = refl
@@ -95,7 +116,7 @@ published-told store ticket plan tickets a b here shows said = record {
 
 -- a plan was published, and its line not written
 pub published-untold : (store : Shelves) (ticket : Told) (plan : Plan) (tickets : List Told) (a b : Option (List ℕ)) → IsOf store ticket → ticket.plan ≡ plan
-    → AppendsFront a b (plan_line ticket.number) → PublishesFront store (plan ∷ []) tickets (tickets ++ ticket ∷ []) a b (Err WriteFault)
+    → AppendsPrefix a b (plan_line ticket.number) → PublishesFront store (plan ∷ []) tickets (tickets ++ ticket ∷ []) a b (Err WriteFault)
 published-untold store ticket plan tickets a b here shows said = record {
   published = ticket ∷ [];
   more = [];
@@ -103,7 +124,7 @@ published-untold store ticket plan tickets a b here shows said = record {
   here = All-cons (IsOf store) ticket [] here (All-nil (IsOf store));
   parts = ap (λ p. p ∷ []) (sym shows);
   left = tt;
-  said = subst (AppendsFront a b) (sym (append-nil (plan_line ticket.number))) said;
+  said = record { before = []; last = ticket; all = refl; said = record { count = said.count; fewer = said.fewer; grown = said.text } };
 }
 
 -- plans behind others that were all published
@@ -119,8 +140,7 @@ published-then store xs ys ts us vs a b c r p q =
       parts = ap (λ t. t ++ ys) all ∙ ap (λ t. plans_of p.published ++ t) q.parts ∙ sym (append_assoc (plans_of p.published) (plans_of q.published) q.more)
           ∙ ap (λ t. t ++ q.more) (sym (plans_of-append p.published q.published));
       left = q.left;
-      said = subst (λ t. SaysLines t r a c) (sym (flat_map-append (λ ticket. plan_line ticket.number) p.published q.published))
-          (says-behind a b c (plan_lines p.published) (plan_lines q.published) r p.said q.said);
+      said = says-behind a b c p.published q.published r p.said q.said;
     }
 
 left-more : (xs ys : List Plan) (fault : Fault) → MayLeave xs (Err fault) → MayLeave (xs ++ ys) (Err fault)
@@ -144,45 +164,64 @@ published-front store xs ys ts us a b fault p = record {
 
 -- ---- what is said
 
-nothing-first : (xs ys : List ℕ) → [] ≡ xs ++ ys → xs ≡ []
-nothing-first [] ys e = refl
-nothing-first (x ∷ xs) ys e = absurd (cc)
-
--- a front of nothing is nothing
-front-nothing : (a b : Option (List ℕ)) → AppendsFront a b [] → Appends a b []
-front-nothing a b f = subst (Appends a b) (nothing-first f.front f.rest f.parts) f.grown
-
--- nothing behind a front
-front-still : (a b c : Option (List ℕ)) (text : List ℕ) → AppendsFront a b text → Appends b c [] → AppendsFront a c (text ++ [])
-front-still a b c text f still = front-longer [] (record {
-  front = f.front;
-  rest = f.rest;
-  parts = f.parts;
-  grown = subst (Appends a c) (append-nil f.front) (Appends-trans a b c f.front [] f.grown still);
-})
+-- what loading answers
+abbrev stopped : Fault → Result (Unit {0}) Fault
+stopped fault = Err fault
 
 -- a message behind lines
-says-message : (a b c : Option (List ℕ)) (lines name : List ℕ) (fault : Fault) (result : Result (Unit {0}) Fault) → SaysLines lines (Err fault) a b
-    → IsSaid (message_on name fault) (Err fault) result b c → IsSaid (lines ++ message_on name fault) (Err fault) result a c
-says-message a b c lines name OutOfMemory result said (Whole is all) = Whole is (Appends-trans a b c lines (message_on name OutOfMemory) said all)
-says-message a b c lines name OutOfMemory result said (Broken is part) = Broken is (front-behind a b c lines (message_on name OutOfMemory) said part)
-says-message a b c lines name (BadPlanFile place cause) result said (Whole is all) = Whole is (Appends-trans a b c lines (message_on name (BadPlanFile place cause)) said all)
-says-message a b c lines name (BadPlanFile place cause) result said (Broken is part) = Broken is (front-behind a b c lines (message_on name (BadPlanFile place cause)) said part)
-says-message a b c lines name ReadFault result said (Whole is all) = Whole is (Appends-trans a b c lines (message_on name ReadFault) said all)
-says-message a b c lines name ReadFault result said (Broken is part) = Broken is (front-behind a b c lines (message_on name ReadFault) said part)
-says-message a b c lines name WriteFault result said (Whole is all) = Broken is (front-still a b c lines said all)
-says-message a b c lines name WriteFault result said (Broken is part) = Broken is (front-still a b c lines said (front-nothing b c part))
+message-behind : (a b c : Option (List ℕ)) (name : List ℕ) (published : List Told) (fault result : Fault) → Appends a b (plan_lines published) → fault ≢ WriteFault
+    → IsMessage (message_on name fault) fault result b c → IsSaid name published (Err fault) (Err result) a c
+message-behind a b c name published fault result lines other (Written is all) =
+    Whole (ap stopped is) (λ e. other (let same : fault ≡ WriteFault = cc in same)) (Appends-trans a b c (plan_lines published) (message_on name fault) lines all)
+message-behind a b c name published fault result lines other (Cut is part) =
+    InMessage fault refl (ap stopped is) record {
+      count = part.count;
+      fewer = part.fewer;
+      grown = Appends-trans a b c (plan_lines published) (take part.count (message_on name fault)) lines part.text;
+    }
+
+-- behind a line that could not be written nothing more is said
+line-still : (a b c : Option (List ℕ)) (published : List Told) → EndsInLine published a b → Appends b c [] → EndsInLine published a c
+line-still a b c published ends still = record {
+  before = ends.before;
+  last = ends.last;
+  all = ends.all;
+  said = record {
+    count = ends.said.count;
+    fewer = ends.said.fewer;
+    grown = subst (Appends a c) (append-nil _) (Appends-trans a b c _ [] ends.said.grown still);
+  };
+}
+
+says-message : (a b c : Option (List ℕ)) (name : List ℕ) (published : List Told) (fault result : Fault) → SaysLines published (stopped fault) a b
+    → IsMessage (message_on name fault) fault result b c → IsSaid name published (stopped fault) (stopped result) a c
+says-message a b c name published OutOfMemory result said message = message-behind a b c name published OutOfMemory result said (λ e. cc) message
+says-message a b c name published (BadPlanFile place cause) result said message = message-behind a b c name published (BadPlanFile place cause) result said (λ e. cc) message
+says-message a b c name published ReadFault result said message = message-behind a b c name published ReadFault result said (λ e. cc) message
+says-message a b c name published WriteFault result said (Written is all) = InLine refl (ap stopped is) (line-still a b c published said all)
+says-message a b c name published WriteFault result said (Cut is part) = absurd (omega (arith, part.fewer))
 
 -- a file that was not loaded, and why
 pub loads-refused : (store : Shelves) (name : List ℕ) (x y : Option Coming) (ts us : List Told) (a b c : Option (List ℕ)) (fault result : Fault)
-    → LoadsFile store x y ts us a b (Err fault) → IsSaid (message_on name fault) (Err fault) (Err result) b c → Loads store name x y ts us a c (Err result)
+    → LoadsFile store x y ts us a b (Err fault) → IsMessage (message_on name fault) fault result b c → Loads store name x y ts us a c (Err result)
 loads-refused store name x y ts us a b c fault result loads said = record {
   published = loads.published;
   answer = Err fault;
   grown = loads.grown;
   here = loads.here;
   plans = loads.plans;
-  said = says-message a b c (plan_lines loads.published) name fault (Err result) loads.said said;
+  said = says-message a b c name loads.published fault result loads.said said;
+}
+
+-- a file that was loaded
+pub loads-done : (store : Shelves) (name : List ℕ) (x y : Option Coming) (ts us : List Told) (a b : Option (List ℕ)) → LoadsFile store x y ts us a b (Ok tt) → Loads store name x y ts us a b (Ok tt)
+loads-done store name x y ts us a b loads = record {
+  published = loads.published;
+  answer = Ok tt;
+  grown = loads.grown;
+  here = loads.here;
+  plans = loads.plans;
+  said = Whole refl (λ e. cc) loads.said;
 }
 
 -- ---- from a file that was read, or not
@@ -193,9 +232,6 @@ unread fault = Err fault
 
 abbrev as_read : Vec Compiled → Result (Vec Compiled) Fault
 as_read plans = Ok plans
-
-abbrev stopped : Fault → Result (Unit {0}) Fault
-stopped fault = Err fault
 
 -- the first fault of a file, where one is told
 first-fault : (x : Option Coming) (fault : Fault) (place : ℕ) (cause : Cause) → fault ≡ BadPlanFile place cause
@@ -314,12 +350,12 @@ named-missing coming None name e r opens missing = tt
 named-missing coming (Some s) name e r opens missing = source-missing coming (source_of name s.named) e r opens missing
 
 -- a message alone, where nothing was loaded
-pub loads-missing : (store : Shelves) (name : List ℕ) (ts : List Told) (a b : Option (List ℕ)) (result : Fault) → IsSaid (message_on name ReadFault) (Err ReadFault) (Err result) a b
+pub loads-missing : (store : Shelves) (name : List ℕ) (ts : List Told) (a b : Option (List ℕ)) (result : Fault) → IsMessage (message_on name ReadFault) ReadFault result a b
     → Loads store name None None ts ts a b (Err result)
 loads-missing store name ts a b result said =
     loads-refused store name None None ts ts a a b ReadFault result (loads-unread store None None ts a ReadFault tt tt) said
 
 -- it was told, or could not be
-pub unread-said : (name : List ℕ) (a b : Option (List ℕ)) (result : Fault) → IsSaid (message_on name ReadFault) (Err ReadFault) (Err result) a b → IsUnread (Err result)
-unread-said name a b result (Whole is all) = inl is
-unread-said name a b result (Broken is part) = inr is
+pub unread-said : (name : List ℕ) (a b : Option (List ℕ)) (result : Fault) → IsMessage (message_on name ReadFault) ReadFault result a b → IsUnread (stopped result)
+unread-said name a b result (Written is all) = inl (ap stopped is)
+unread-said name a b result (Cut is part) = inr (ap stopped is)

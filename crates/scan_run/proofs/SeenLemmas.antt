@@ -1,5 +1,5 @@
 -- What a session serves by what its scanners keep, it serves by all bytes that its streams were fed.
-use Rattle.std.proofs.Common.{ℕ, List, [], ◌∷◌, Option, refl, sym, subst}
+use Rattle.std.proofs.Common.{◌≡◌, ◌≢◌, ℕ, List, [], ◌∷◌, Option, refl, sym, ap, ◌∙◌, subst}
 use Rattle.byte_io.specs.Devices.{Coming}
 use Rattle.scan_wire.specs.Messages.{ReplyParts, RequestParts}
 use Rattle.scan_serve.specs.declared.ended.Ended.{Ended}
@@ -22,6 +22,11 @@ run_seen s t b (r ∷ rs) replies seen (first, others, mid, is, event, rest) =
     event_law_lem (parts_of s) b r record { replies = first; met = event.met; after = parts_of mid } seen event.step in
     let more = run_seen mid t one.after rs others one.seen rest in
     (more.0, more.1, (first, others, one.after, is, (event.met, one.step), more.2))
+
+-- they stay with their store
+run_store : (s t : Serving) (rs : List RequestParts) (replies : List ReplyParts) → Run IsEvent s rs replies t → t.store ≡ s.store
+run_store s t [] replies run = ap (λ (x : Serving). x.store) run.1
+run_store s t (r ∷ rs) replies (first, others, mid, is, event, rest) = run_store mid t rs others rest ∙ event.store
 
 -- a text of requests and a rest
 text_seen : (s t : Serving) (b : SessionParts Streamed) (v w : Option (List ℕ)) (text rest : List ℕ) (last : List ReplyParts) → IsSeen (parts_of s) b → AnswersText IsEvent s t v w text rest last
@@ -74,3 +79,12 @@ ends_seen s t b c d v w held ended.ReadFault seen (rest, waits, is) =
     (served.0, (rest, waits, served.1))
 ends_seen s t b c d v w held ended.WriteFault seen a = (b, served_front_seen s b c d v w held seen a)
 ends_seen s t b c d v w held ended.OutOfMemory seen a = (b, served_front_seen s b c d v w held seen a)
+
+-- a session that was served to its end, or to a bad frame or a read fault, is of its store
+pub ends_store : (s t : Serving) (c d : Option Coming) (v w : Option (List ℕ)) (held : List ℕ) (end : Ended) → EndsAs IsEvent s t c d v w held end → end ≢ ended.WriteFault → end ≢ ended.OutOfMemory → t.store ≡ s.store
+ends_store s t c d v w held ended.Clean a written memory = run_store s t _ _ a.0.answers.run
+ends_store s t c d v w held ended.Truncated (rest, any, waits, is, at) written memory = run_store s t _ _ is.answers.run
+ends_store s t c d v w held ended.Bad (rest, cause, has, is) written memory = run_store s t _ _ is.answers.run
+ends_store s t c d v w held ended.ReadFault (rest, waits, is) written memory = run_store s t _ _ is.answers.run
+ends_store s t c d v w held ended.WriteFault a written memory = absurd (written refl)
+ends_store s t c d v w held ended.OutOfMemory a written memory = absurd (memory refl)

@@ -1,10 +1,10 @@
 -- Plans published from a plan file before anything is served, and what is said of it.
-use Rattle.std.specs.Prelude.{◌≡◌, ◌≢◌, ℕ, ◌^◌, ◌<◌, Bool, true, false, List, [], ◌++◌, ◌⊎◌, All, IfSome, MatchOption, Option, Some, Result, Ok, Err, IsOk, ⊤, codes, decimal, flat_map, length, map}
+use Rattle.std.specs.Prelude.{◌≡◌, ◌≢◌, ℕ, ◌^◌, ◌<◌, Bool, true, false, List, [], ◌∷◌, ◌++◌, ◌⊎◌, All, IfSome, MatchOption, Option, Some, Result, Ok, Err, IsOk, ⊤, codes, decimal, flat_map, length, map, take}
 use Rattle.std.specs.Io.KnownBytes.{Appends}
 use Rattle.boxcar.specs.Table.{Shelves}
 use Rattle.byte_io.specs.Devices.{Clean, Coming, EndsHere, Faulty, Told}
 use Rattle.byte_io.specs.Sources.{Sources, coming_of, source_of}
-use Rattle.byte_io.specs.Transfers.{AppendsFront}
+use Rattle.byte_io.specs.Transfers.{AppendsPrefix}
 use Rattle.flow_scan.specs.Plans.{Plan}
 use Rattle.plan_file.specs.declared.fault.Cause.{Cause}
 use Rattle.plan_file.specs.declared.fault.Fault.{Fault}
@@ -42,10 +42,26 @@ abbrev pub said_of : List ℕ → List tickets.Told → Result (Unit {0}) Fault 
 said_of name published (Ok _) = plan_lines published
 said_of name published (Err fault) = plan_lines published ++ message_on name fault
 
--- all of it was said, or a front of it, since a write failed
-pub data IsSaid (text : List ℕ) (answer result : Result (Unit {0}) Fault) (err_old err_new : Option (List ℕ)) : Type 0 where
-  Whole : result ≡ answer → Appends err_old err_new text → IsSaid text answer result err_old err_new
-  Broken : result ≡ Err WriteFault → AppendsFront err_old err_new text → IsSaid text answer result err_old err_new
+-- a text was written, and of one behind it a front that is not all of it
+pub record AppendsUpTo (old new : Option (List ℕ)) (text behind : List ℕ) : Type 0 where
+  pub count : ℕ
+  pub fewer : count < length behind
+  pub grown : Appends old new (text ++ take count behind)
+
+-- the lines of plans were written, but of the plan published last a front, and not all
+pub record EndsInLine (published : List tickets.Told) (old new : Option (List ℕ)) : Type 0 where
+  pub before : List tickets.Told
+  pub last : tickets.Told
+  pub all : published ≡ before ++ last ∷ []
+  pub said : AppendsUpTo old new (plan_lines before) (plan_line last.number)
+
+-- All of it was said. Or a write failed: in the message behind all lines, or in the line of the plan published last,
+-- which the answer then was that loading had come to.
+pub data IsSaid (name : List ℕ) (published : List tickets.Told) (answer result : Result (Unit {0}) Fault) (err_old err_new : Option (List ℕ)) : Type 0 where
+  Whole : result ≡ answer → answer ≢ Err WriteFault → Appends err_old err_new (said_of name published answer) → IsSaid name published answer result err_old err_new
+  InMessage : (fault : Fault) → answer ≡ Err fault → result ≡ Err WriteFault → AppendsUpTo err_old err_new (plan_lines published) (message_on name fault)
+      → IsSaid name published answer result err_old err_new
+  InLine : answer ≡ Err WriteFault → result ≡ Err WriteFault → EndsInLine published err_old err_new → IsSaid name published answer result err_old err_new
 
 -- ---- what is published
 
@@ -91,7 +107,7 @@ pub record Loads (store : Shelves) (name : List ℕ) (coming_old coming_new : Op
   pub grown : tickets_new ≡ tickets_old ++ published
   pub here : All (tickets.IsOf store) published
   pub plans : Publishes coming_old coming_new (plans_of published) answer
-  pub said : IsSaid (said_of name published answer) answer result err_old err_new
+  pub said : IsSaid name published answer result err_old err_new
 
 -- a file that cannot be opened is told as one that cannot be read
 abbrev pub IsUnread : Result (Unit {0}) Fault → Type 0
@@ -106,13 +122,18 @@ pub record LoadsNamed (store : Shelves) (name : List ℕ) (sources : Option Sour
 
 -- ---- inside the crate: lines before a message
 
--- the lines were written, or, where a write failed, a front of them
-abbrev pub SaysLines : List ℕ → Result (Unit {0}) Fault → Option (List ℕ) → Option (List ℕ) → Type 0
-SaysLines text (Ok _) old new = Appends old new text
-SaysLines text (Err OutOfMemory) old new = Appends old new text
-SaysLines text (Err (BadPlanFile place cause)) old new = Appends old new text
-SaysLines text (Err ReadFault) old new = Appends old new text
-SaysLines text (Err WriteFault) old new = AppendsFront old new text
+-- the lines of plans were written, or, where a write failed, all before that of the last one and a front of it
+abbrev pub SaysLines : List tickets.Told → Result (Unit {0}) Fault → Option (List ℕ) → Option (List ℕ) → Type 0
+SaysLines published (Ok _) old new = Appends old new (plan_lines published)
+SaysLines published (Err OutOfMemory) old new = Appends old new (plan_lines published)
+SaysLines published (Err (BadPlanFile place cause)) old new = Appends old new (plan_lines published)
+SaysLines published (Err ReadFault) old new = Appends old new (plan_lines published)
+SaysLines published (Err WriteFault) old new = EndsInLine published old new
+
+-- the message on a fault was written, or a front of it that is not all, since a write failed
+pub data IsMessage (text : List ℕ) (fault result : Fault) (old new : Option (List ℕ)) : Type 0 where
+  Written : result ≡ fault → Appends old new text → IsMessage text fault result old new
+  Cut : result ≡ WriteFault → AppendsPrefix old new text → IsMessage text fault result old new
 
 -- which plans may be left where publishing comes to this answer: none, or any
 abbrev pub MayLeave : List Plan → Result (Unit {0}) Fault → Type 0
@@ -130,7 +151,7 @@ pub record PublishesFront (store : Shelves) (plans : List Plan) (tickets_old tic
   pub here : All (tickets.IsOf store) published
   pub parts : plans ≡ plans_of published ++ more
   pub left : MayLeave more result
-  pub said : SaysLines (plan_lines published) result err_old err_new
+  pub said : SaysLines published result err_old err_new
 
 -- plans of a file were published, each with its line, before anything is said of a fault
 pub record LoadsFile (store : Shelves) (coming_old coming_new : Option Coming) (tickets_old tickets_new : List tickets.Told) (err_old err_new : Option (List ℕ)) (result : Result (Unit {0}) Fault) : Type 0 where
@@ -138,7 +159,7 @@ pub record LoadsFile (store : Shelves) (coming_old coming_new : Option Coming) (
   pub grown : tickets_new ≡ tickets_old ++ published
   pub here : All (tickets.IsOf store) published
   pub plans : Publishes coming_old coming_new (plans_of published) result
-  pub said : SaysLines (plan_lines published) result err_old err_new
+  pub said : SaysLines published result err_old err_new
 
 -- whether a write failed
 abbrev pub is_write_fault : Result (Unit {0}) Fault → Bool

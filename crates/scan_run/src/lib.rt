@@ -18,5 +18,5 @@ pub use listening::listen;
 pub use loading::{load_named, load_plans, load_tickets};
 pub use plan_file::Fault;
 pub use scan_serve::Ended;
-pub use serving::serve;
+pub use serving::{serve, serve_session};
 pub use status::Status;

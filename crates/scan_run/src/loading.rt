@@ -3,9 +3,9 @@ ghost use Rattle.std.specs.Prelude.{◌≡◌, ◌≢◌, ◌++◌, ◌∷◌, �
 ghost use Rattle.std.specs.Io.KnownBytes.{Appends};
 ghost use Rattle.byte_io.specs.Devices.{Told};
 ghost use Rattle.byte_io.specs.Sources.{Named, after};
-ghost use Rattle.byte_io.specs.Transfers.{AppendsFront};
+ghost use Rattle.byte_io.specs.Transfers.{AppendsPrefix};
 ghost use Rattle.plan_store.specs.Tickets as tickets;
-ghost use Rattle.scan_run.specs.Loading.{Judges, Loads, LoadsFile, LoadsNamed, PublishesFront, IsSaid, is_write_fault, message_on, plan_line};
+ghost use Rattle.scan_run.specs.Loading.{Judges, Loads, LoadsFile, LoadsNamed, PublishesFront, IsMessage, is_write_fault, message_on, plan_line};
 
 use byte_io::{ByteIn, ByteOut, Failed, Missing, Opener, write_all};
 use flow_scan::Compiled;
@@ -21,7 +21,8 @@ use std::sync::Wait;
 /// # Errors
 /// - `ReadFault`, where a read failed, and `BadPlanFile`, where the file is none: nothing was published.
 /// - `OutOfMemory`, where a growth was refused: the plans published so far stay.
-/// - `WriteFault`, where a line or a message could not be written: what was published stays.
+/// - `WriteFault`, where a line or a message could not be written: what was published stays, and behind
+///   the plan of such a line no other is.
 ///
 /// All but the last are told on `err`, by the name of the file.
 pub fn load_plans<R: Wait, I: ByteIn, E: ByteOut>(
@@ -97,7 +98,7 @@ pub fn load_named<R: Wait, F: Opener, E: ByteOut>(
 
 /// Says why a file is not loaded. The answer is the fault, or that this could not be written.
 fn refused<E: ByteOut>(fault: Fault, name: &str, err: &mut E) -> Fault
-    ensures said { IsSaid (message_on name.now fault) (Err fault) (Err result) (E.written err.old) (E.written err.new) }
+    ensures said { IsMessage (message_on name.now fault) fault result (E.written err.old) (E.written err.new) }
     ensures broken { result ≡ Fault.WriteFault → fault ≢ Fault.WriteFault → IsTrue (E.has_failed err.new) }
     ensures flag { result ≢ Fault.WriteFault → E.has_failed err.new ≡ E.has_failed err.old }
     ensures kept { fault ≡ Fault.WriteFault → E.has_failed err.new ≡ E.has_failed err.old }
@@ -177,7 +178,7 @@ fn publish_plan<R: Wait, E: ByteOut>(
 /// Writes the line of a plan's number.
 fn say_number<E: ByteOut>(number: u64, err: &mut E) -> Result<(), Failed>
     ensures ok { OnOk result (Appends (E.written err.old) (E.written err.new) (plan_line number)) }
-    ensures err { OnErr result (AppendsFront (E.written err.old) (E.written err.new) (plan_line number)) }
+    ensures err { OnErr result (AppendsPrefix (E.written err.old) (E.written err.new) (plan_line number)) }
     ensures flag { E.has_failed err.new ≡ (E.has_failed err.old || is_err result) }
 {
     let mut digits = Buffer::new();
@@ -192,7 +193,7 @@ fn say_number<E: ByteOut>(number: u64, err: &mut E) -> Result<(), Failed>
 /// Writes a line that stands in three parts, for which it needs no memory.
 fn say<E: ByteOut>(front: &[u8], middle: &[u8], end: &[u8], err: &mut E) -> Result<(), Failed>
     ensures ok { OnOk result (Appends (E.written err.old) (E.written err.new) (front.now ++ (middle.now ++ end.now))) }
-    ensures err { OnErr result (AppendsFront (E.written err.old) (E.written err.new) (front.now ++ (middle.now ++ end.now))) }
+    ensures err { OnErr result (AppendsPrefix (E.written err.old) (E.written err.new) (front.now ++ (middle.now ++ end.now))) }
     ensures flag { E.has_failed err.new ≡ (E.has_failed err.old || is_err result) }
 {
     write_all(err, front)?;

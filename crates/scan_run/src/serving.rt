@@ -1,5 +1,5 @@
 //! Serving a session of a store over a stream of frames.
-ghost use Rattle.std.specs.Prelude.{◌≡◌, ◌+◌, ◌^◌, ◌≤◌, ◌⊎◌, [], IsTrue, OnErr, OnOk};
+ghost use Rattle.std.specs.Prelude.{◌≡◌, ◌≢◌, ◌+◌, ◌^◌, ◌≤◌, ◌⊎◌, [], IsTrue, OnErr, OnOk};
 ghost use Rattle.scan_wire.specs.Messages.{lent_parts};
 ghost use Rattle.scan_serve.specs.Answering.{Answered, Stopped};
 ghost use Rattle.scan_serve.specs.Serving.{EndsAs};
@@ -74,13 +74,52 @@ impl<'r, 's, R: Wait> Answer for Served<'r, 's, R> {
     }
 }
 
+/// Serves a session over a stream of frames to its end, and hands it back: requests are read from
+/// `input`, and answered in order on `out`. The replies to all frames that are whole are written before
+/// the next read.
+///
+/// The session goes on from what it was told and has open, and what it has behind that are tickets of
+/// its store. Behind `WriteFault` and `OutOfMemory` it is of no use any more.
+///
+/// Whatever is asked, it holds at most 262,180 bytes of what was read, at most 106,506 bytes of replies,
+/// which are written once they are 65,536, and a few thousand hits, beside the plans that it publishes
+/// and the tails of its streams. Only a Publish may wait for another thread.
+pub fn serve_session<'s, R: Wait, I: ByteIn, O: ByteOut>(
+    rt: &R,
+    alloc: Global,
+    session: Session<'s>,
+    input: &mut I,
+    out: &mut O,
+) -> (Ended, Session<'s>)
+    ensures ends { EndsAs IsEvent session.entry result.1
+        (I.coming input.old) (I.coming input.new)
+        (O.written out.old) (O.written out.new) [] result.0 }
+    ensures store { result.0 ≢ Ended.WriteFault → result.0 ≢ Ended.OutOfMemory
+        → result.1.store ≡ session.entry.store }
+    ensures read_fault { result.0 ≡ Ended.ReadFault
+        → IsTrue (I.has_failed input.new) ⊎ (I.given input.old + 2 ^ 40 ≤ I.given input.new) }
+    ensures write_fault { result.0 ≡ Ended.WriteFault → IsTrue (O.has_failed out.new) }
+{
+    let mut served = Served {
+        rt,
+        alloc,
+        session,
+        hits: Vec::new(alloc),
+    };
+    let ended = scan_serve::serve(alloc, &mut served, input, out);
+    let Served {
+        session,
+        hits: _hits,
+        ..
+    } = served;
+    (ended, session)
+}
+
 /// Serves a session of the store over a stream of frames to its end: requests are read from `input`,
 /// and answered in order on `out`. The replies to all frames that are whole are written before the
 /// next read.
 ///
-/// Whatever is asked, it holds at most 262,180 bytes of what was read, about 64 KiB of replies and a few
-/// thousand hits, beside the plans that it publishes and the tails of its streams. Only a Publish may
-/// wait for another thread.
+/// It is `serve_session` of a session that was told nothing, which it drops, and holds no more.
 pub fn serve<R: Wait, I: ByteIn, O: ByteOut>(
     rt: &R,
     alloc: Global,
@@ -100,11 +139,6 @@ pub fn serve<R: Wait, I: ByteIn, O: ByteOut>(
         → IsTrue (I.has_failed input.new) ⊎ (I.given input.old + 2 ^ 40 ≤ I.given input.new) }
     ensures write_fault { result ≡ Ended.WriteFault → IsTrue (O.has_failed out.new) }
 {
-    let mut served = Served {
-        rt,
-        alloc,
-        session: Session::new(store),
-        hits: Vec::new(alloc),
-    };
-    scan_serve::serve(alloc, &mut served, input, out)
+    let (ended, _session) = serve_session(rt, alloc, Session::new(store), input, out);
+    ended
 }
