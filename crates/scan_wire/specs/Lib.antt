@@ -1,4 +1,5 @@
 pub mod Numbers
+pub mod Growth
 pub mod Messages
 pub mod Frames
 pub mod Causes

@@ -1,8 +1,9 @@
 //! The one text of each reply.
-ghost use Rattle.std.specs.Prelude.{◌≡◌, ◌+◌, [], ◌∷◌, ◌++◌, ◌≤◌, length, IfOk, IsOkUnless, OnOk};
+ghost use Rattle.std.specs.Prelude.{◌≡◌, ◌+◌, [], ◌∷◌, ◌++◌, ◌≤◌, length, IfOk, IsOkUnless, OnErr, OnOk};
 ghost use Rattle.std.specs.List.{flat_map};
 ghost use Rattle.scan_wire.specs.declared.fault.Fault.TheVariants.{OutOfMemory};
 ghost use Rattle.scan_wire.specs.Frames.{FitsReply, IsBlock, flag_of, frame_text, hit_text, reply_text};
+ghost use Rattle.scan_wire.specs.Growth.{Extends};
 ghost use Rattle.scan_wire.specs.Messages.{Hits, Plan, Refused, reply_parts};
 ghost use Rattle.scan_wire.specs.Numbers.{u16_text, u32_text, u64_text};
 
@@ -16,8 +17,9 @@ use std::alloc::{AllocError, Global};
 /// Appends what stands before a payload of so many bytes.
 fn push_head(out: &mut Vec<u8>, kind: u8, stream: u32, len: u32) -> Result<(), AllocError>
     requires { len ≤ 65536 }
-    ensures { OnOk result
+    ensures ok { OnOk result
         (out.new.items ≡ out.old.items ++ (u32_text (5 + len) ++ (kind ∷ u32_text stream))) }
+    ensures kept { Extends out.old.items out.new.items }
 {
     push_u32(out, 5 + len)?;
     out.push(kind)?;
@@ -27,16 +29,18 @@ fn push_head(out: &mut Vec<u8>, kind: u8, stream: u32, len: u32) -> Result<(), A
 /// Appends a frame without payload.
 #[tactic(auto, using(crate::proofs::ReplyLemmas::frame_done))]
 fn push_bare(out: &mut Vec<u8>, kind: u8, stream: u32) -> Result<(), AllocError>
-    ensures { OnOk result (out.new.items ≡ out.old.items
+    ensures ok { OnOk result (out.new.items ≡ out.old.items
         ++ frame_text (record { kind = kind; stream = stream; payload = [] })) }
+    ensures kept { Extends out.old.items out.new.items }
 {
     push_head(out, kind, stream, 0)
 }
 
 /// Appends a frame whose payload is a number of eight bytes.
 fn push_number(out: &mut Vec<u8>, kind: u8, stream: u32, number: u64) -> Result<(), AllocError>
-    ensures { OnOk result (out.new.items ≡ out.old.items
+    ensures ok { OnOk result (out.new.items ≡ out.old.items
         ++ frame_text (record { kind = kind; stream = stream; payload = u64_text number })) }
+    ensures kept { Extends out.old.items out.new.items }
 {
     push_head(out, kind, stream, 8)?;
     push_u64(out, number)
@@ -44,7 +48,8 @@ fn push_number(out: &mut Vec<u8>, kind: u8, stream: u32, number: u64) -> Result<
 
 /// Appends hits, one after the other.
 fn push_hits(out: &mut Vec<u8>, hits: &[Hit]) -> Result<(), AllocError>
-    ensures { OnOk result (out.new.items ≡ out.old.items ++ flat_map hit_text hits.now) }
+    ensures ok { OnOk result (out.new.items ≡ out.old.items ++ flat_map hit_text hits.now) }
+    ensures kept { Extends out.old.items out.new.items }
 {
     for hit in hits {
         push_u16(out, hit.lit)?;
@@ -55,7 +60,8 @@ fn push_hits(out: &mut Vec<u8>, hits: &[Hit]) -> Result<(), AllocError>
 
 /// Appends ends, one after the other.
 fn push_ends(out: &mut Vec<u8>, ends: &[u16]) -> Result<(), AllocError>
-    ensures { OnOk result (out.new.items ≡ out.old.items ++ flat_map u16_text ends.now) }
+    ensures ok { OnOk result (out.new.items ≡ out.old.items ++ flat_map u16_text ends.now) }
+    ensures kept { Extends out.old.items out.new.items }
 {
     for end in ends {
         push_u16(out, *end)?;
@@ -66,7 +72,8 @@ fn push_ends(out: &mut Vec<u8>, ends: &[u16]) -> Result<(), AllocError>
 /// Appends a Hits reply.
 fn push_block(out: &mut Vec<u8>, stream: u32, hits: &[Hit]) -> Result<(), AllocError>
     requires { IsBlock (length hits.now) }
-    ensures { OnOk result (out.new.items ≡ out.old.items ++ reply_text (Hits stream hits.now)) }
+    ensures ok { OnOk result (out.new.items ≡ out.old.items ++ reply_text (Hits stream hits.now)) }
+    ensures kept { Extends out.old.items out.new.items }
 {
     let count = hits.len() as u32;
     push_head(out, 0x13, stream, 2 + 10 * count)?;
@@ -84,8 +91,9 @@ fn push_plan(
     ends: &[u16],
 ) -> Result<(), AllocError>
     requires { length ends.now ≤ 8 }
-    ensures { OnOk result
+    ensures ok { OnOk result
         (out.new.items ≡ out.old.items ++ reply_text (Plan stream fold count cost ends.now)) }
+    ensures kept { Extends out.old.items out.new.items }
 {
     let ends_count = ends.len() as u8;
     push_head(out, 0x16, stream, 12 + 2 * u32::from(ends_count))?;
@@ -108,8 +116,9 @@ fn flag(fold: Fold) -> u8
 
 /// Appends a Refused reply.
 fn push_refusal(out: &mut Vec<u8>, stream: u32, code: u8, detail: u16) -> Result<(), AllocError>
-    ensures { OnOk result
+    ensures ok { OnOk result
         (out.new.items ≡ out.old.items ++ reply_text (Refused stream code detail)) }
+    ensures kept { Extends out.old.items out.new.items }
 {
     push_head(out, 0x17, stream, 3)?;
     out.push(code)?;
@@ -119,7 +128,8 @@ fn push_refusal(out: &mut Vec<u8>, stream: u32, code: u8, detail: u16) -> Result
 /// Appends a reply.
 fn push_reply(out: &mut Vec<u8>, reply: &Reply) -> Result<(), AllocError>
     requires { FitsReply (reply_parts reply.now) }
-    ensures { OnOk result (out.new.items ≡ out.old.items ++ reply_text (reply_parts reply.now)) }
+    ensures ok { OnOk result (out.new.items ≡ out.old.items ++ reply_text (reply_parts reply.now)) }
+    ensures kept { Extends out.old.items out.new.items }
 {
     match reply {
         Reply::Published { number } => push_number(out, 0x11, 0, *number),
@@ -142,26 +152,35 @@ fn push_reply(out: &mut Vec<u8>, reply: &Reply) -> Result<(), AllocError>
     }
 }
 
-/// Appends the text of a reply. The only refusal is `OutOfMemory`, after which an unknown front of
-/// the text was appended.
+/// Appends the text of a reply. The only refusal is `OutOfMemory`, after which the buffer is as before.
 pub fn append_reply(out: &mut Vec<u8>, reply: &Reply) -> Result<(), Fault>
     requires { FitsReply (reply_parts reply.now) }
     ensures ok { OnOk result
         (out.new.items ≡ out.old.items ++ reply_text (reply_parts reply.now)) }
+    ensures same { OnErr result (out.new.items ≡ out.old.items) }
     ensures refused { IsOkUnless result OutOfMemory }
 {
-    push_reply(out, reply)?;
+    let before = out.len();
+    let Ok(()) = push_reply(out, reply) else {
+        out.truncate(before);
+        return Err(Fault::OutOfMemory);
+    };
     Ok(())
 }
 
 /// Appends the text of a Hits reply, without a list of its own for the hits. The only refusal is
-/// `OutOfMemory`, after which an unknown front of the text was appended.
+/// `OutOfMemory`, after which the buffer is as before.
 pub fn append_hits(out: &mut Vec<u8>, stream: u32, hits: &[Hit]) -> Result<(), Fault>
     requires { IsBlock (length hits.now) }
     ensures ok { OnOk result (out.new.items ≡ out.old.items ++ reply_text (Hits stream hits.now)) }
+    ensures same { OnErr result (out.new.items ≡ out.old.items) }
     ensures refused { IsOkUnless result OutOfMemory }
 {
-    push_block(out, stream, hits)?;
+    let before = out.len();
+    let Ok(()) = push_block(out, stream, hits) else {
+        out.truncate(before);
+        return Err(Fault::OutOfMemory);
+    };
     Ok(())
 }
 

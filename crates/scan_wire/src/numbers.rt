@@ -1,5 +1,6 @@
 //! Numbers as bytes, the greatest byte first.
 ghost use Rattle.std.specs.Prelude.{◌≡◌, ◌^◌, ◌<◌, ◌++◌, length, IfNone, IfSome, OnOk};
+ghost use Rattle.scan_wire.specs.Growth.{Extends};
 ghost use Rattle.scan_wire.specs.Numbers.{u16_text, u32_text, u64_text};
 
 use std::alloc::AllocError;
@@ -47,7 +48,8 @@ pub fn first_u64(bytes: &[u8]) -> Option<(u64, &[u8])>
 /// Appends a number as two bytes.
 #[tactic(auto, unfolding(crate::specs::Numbers::u16_text))]
 pub fn push_u16(out: &mut Vec<u8>, number: u16) -> Result<(), AllocError>
-    ensures { OnOk result (out.new.items ≡ out.old.items ++ u16_text number) }
+    ensures ok { OnOk result (out.new.items ≡ out.old.items ++ u16_text number) }
+    ensures kept { Extends out.old.items out.new.items }
 {
     out.extend_from_slice(&number.to_be_bytes())
 }
@@ -55,7 +57,8 @@ pub fn push_u16(out: &mut Vec<u8>, number: u16) -> Result<(), AllocError>
 /// Appends a number as four bytes.
 #[tactic(auto, unfolding(crate::specs::Numbers::u32_text))]
 pub fn push_u32(out: &mut Vec<u8>, number: u32) -> Result<(), AllocError>
-    ensures { OnOk result (out.new.items ≡ out.old.items ++ u32_text number) }
+    ensures ok { OnOk result (out.new.items ≡ out.old.items ++ u32_text number) }
+    ensures kept { Extends out.old.items out.new.items }
 {
     out.extend_from_slice(&number.to_be_bytes())
 }
@@ -63,7 +66,8 @@ pub fn push_u32(out: &mut Vec<u8>, number: u32) -> Result<(), AllocError>
 /// Appends a number as eight bytes.
 #[tactic(auto, unfolding(crate::specs::Numbers::u64_text))]
 pub fn push_u64(out: &mut Vec<u8>, number: u64) -> Result<(), AllocError>
-    ensures { OnOk result (out.new.items ≡ out.old.items ++ u64_text number) }
+    ensures ok { OnOk result (out.new.items ≡ out.old.items ++ u64_text number) }
+    ensures kept { Extends out.old.items out.new.items }
 {
     out.extend_from_slice(&number.to_be_bytes())
 }
