@@ -144,9 +144,9 @@ pub fn encode(alloc: Global, plans: &[Compiled]) -> Result<Vec<u8>, Fault>
 ///
 /// # Errors
 /// - `WriteFault`, where a write failed or took nothing.
-/// - `OutOfMemory`, where a growth was refused.
+/// - `OutOfMemory`, where a growth was refused. Nothing was written then.
 ///
-/// After both of them a front of the text was written.
+/// After a write fault a front of the text was written.
 pub fn write_plans<W: ByteOut>(alloc: Global, plans: &[Compiled], out: &mut W) -> Result<(), Fault>
     requires few { length plans.now ≤ 64 }
     // What is written is what `read_plans` reads.
@@ -154,6 +154,7 @@ pub fn write_plans<W: ByteOut>(alloc: Global, plans: &[Compiled], out: &mut W) -
         × Appends (W.written out.old) (W.written out.new) (spelling plans.now)) }
     ensures err { OnErr result
         (AppendsPrefix (W.written out.old) (W.written out.new) (spelling plans.now)) }
+    ensures same { result ≡ Err Fault.OutOfMemory → out.new ≡ out.old }
 
     // A fault is told only where a write failed.
     ensures fault { result ≡ Err Fault.WriteFault → IsTrue (W.has_failed out.new) }
