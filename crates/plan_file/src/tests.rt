@@ -2,7 +2,7 @@
 use crate::{Cause, Fault, decode, encode, read_plans, write_plans};
 use lit_base::{CutIn, CutOut};
 use lit_cert::Reason;
-use std::alloc::Global;
+use std::alloc::{AllocError, Global};
 use std::test::Fail;
 
 /// The file of one plan, that of the literal `a`.
@@ -19,18 +19,23 @@ const ONE: [u8; 89] = [
     0x00, 0x00, 0x00, 0x00, 0x00, 0x00, 0x10, 0xC8,
 ];
 
-/// The fault of a text, or none where it is read.
-fn fault_of(alloc: Global, text: &[u8]) -> Option<Fault> {
-    decode(alloc, text).err()
-}
-
 /// Whether a text is refused at this place for this cause.
-fn is_wrong(alloc: Global, text: &[u8], place: usize, cause: Cause) -> bool {
-    fault_of(alloc, text) == Some(Fault::BadPlanFile { place, cause })
+fn is_wrong(alloc: Global, text: &[u8], place: usize, cause: Cause) -> Result<bool, AllocError> {
+    match decode(alloc, text) {
+        Err(Fault::OutOfMemory) => Err(AllocError),
+        Err(fault) => Ok(fault == Fault::BadPlanFile { place, cause }),
+        Ok(_) => Ok(false),
+    }
 }
 
 /// Whether the file with one byte altered is refused so.
-fn is_wrong_with(alloc: Global, at: usize, byte: u8, place: usize, cause: Cause) -> bool {
+fn is_wrong_with(
+    alloc: Global,
+    at: usize,
+    byte: u8,
+    place: usize,
+    cause: Cause,
+) -> Result<bool, AllocError> {
     let mut text = ONE;
     if at < text.len() {
         text[at] = byte;
@@ -52,28 +57,30 @@ fn reads_and_writes_the_file_of_one_literal(rt: HostRuntime) -> Result<(), Fail>
 }
 
 #[test]
-fn refuses_each_altered_field_of_the_head(rt: HostRuntime) {
+fn refuses_each_altered_field_of_the_head(rt: HostRuntime) -> Result<(), Fail> {
     let alloc = rt.alloc();
-    assert!(rt; is_wrong_with(alloc, 0, 0x00, 0, Cause::Magic));
-    assert!(rt; is_wrong_with(alloc, 3, 0x00, 0, Cause::Magic));
-    assert!(rt; is_wrong_with(alloc, 5, 0x02, 4, Cause::Version));
-    assert!(rt; is_wrong_with(alloc, 7, 0x41, 6, Cause::Count));
+    assert!(rt; is_wrong_with(alloc, 0, 0x00, 0, Cause::Magic)?);
+    assert!(rt; is_wrong_with(alloc, 3, 0x00, 0, Cause::Magic)?);
+    assert!(rt; is_wrong_with(alloc, 5, 0x02, 4, Cause::Version)?);
+    assert!(rt; is_wrong_with(alloc, 7, 0x41, 6, Cause::Count)?);
+    Ok(())
 }
 
 #[test]
-fn refuses_each_altered_field_of_the_literals(rt: HostRuntime) {
+fn refuses_each_altered_field_of_the_literals(rt: HostRuntime) -> Result<(), Fail> {
     let alloc = rt.alloc();
-    assert!(rt; is_wrong_with(alloc, 8, 0x02, 8, Cause::Flags));
-    assert!(rt; is_wrong_with(alloc, 10, 0x00, 9, Cause::Count));
-    assert!(rt; is_wrong_with(alloc, 9, 0x05, 9, Cause::Count));
-    assert!(rt; is_wrong_with(alloc, 12, 0x00, 11, Cause::Literal));
-    assert!(rt; is_wrong_with(alloc, 11, 0x10, 11, Cause::Literal));
+    assert!(rt; is_wrong_with(alloc, 8, 0x02, 8, Cause::Flags)?);
+    assert!(rt; is_wrong_with(alloc, 10, 0x00, 9, Cause::Count)?);
+    assert!(rt; is_wrong_with(alloc, 9, 0x05, 9, Cause::Count)?);
+    assert!(rt; is_wrong_with(alloc, 12, 0x00, 11, Cause::Literal)?);
+    assert!(rt; is_wrong_with(alloc, 11, 0x10, 11, Cause::Literal)?);
+    Ok(())
 }
 
 #[test]
-fn refuses_each_altered_field_of_the_certificate(rt: HostRuntime) {
+fn refuses_each_altered_field_of_the_certificate(rt: HostRuntime) -> Result<(), Fail> {
     let alloc = rt.alloc();
-    assert!(rt; is_wrong_with(alloc, 14, 0x09, 14, Cause::Runs));
+    assert!(rt; is_wrong_with(alloc, 14, 0x09, 14, Cause::Runs)?);
     assert!(rt;
         is_wrong_with(
             alloc,
@@ -83,7 +90,7 @@ fn refuses_each_altered_field_of_the_certificate(rt: HostRuntime) {
             Cause::NotCertified {
                 reason: Reason::Ends
             }
-        )
+        )?
     );
     assert!(rt;
         is_wrong_with(
@@ -94,7 +101,7 @@ fn refuses_each_altered_field_of_the_certificate(rt: HostRuntime) {
             Cause::NotCertified {
                 reason: Reason::Total
             }
-        )
+        )?
     );
     assert!(rt;
         is_wrong_with(
@@ -105,8 +112,9 @@ fn refuses_each_altered_field_of_the_certificate(rt: HostRuntime) {
             Cause::NotCertified {
                 reason: Reason::EndRow { r: 1, p: 0 }
             }
-        )
+        )?
     );
+    Ok(())
 }
 
 /// The file with the literal `A` under folding.
@@ -118,8 +126,9 @@ fn unfolded() -> [u8; 89] {
 }
 
 #[test]
-fn refuses_an_unfolded_letter_at_its_own_place(rt: HostRuntime) {
-    assert!(rt; is_wrong(rt.alloc(), &unfolded(), 13, Cause::Literal));
+fn refuses_an_unfolded_letter_at_its_own_place(rt: HostRuntime) -> Result<(), Fail> {
+    assert!(rt; is_wrong(rt.alloc(), &unfolded(), 13, Cause::Literal)?);
+    Ok(())
 }
 
 /// The first byte of the field in which this byte of the file lies.
@@ -139,25 +148,26 @@ fn field_at(place: usize) -> usize {
 }
 
 /// The first front of the file that is not refused as short at its first field that is not whole.
-fn front_that_passes(alloc: Global) -> Option<usize> {
+fn front_that_passes(alloc: Global) -> Result<Option<usize>, AllocError> {
     for len in 0..ONE.len() {
-        if !is_wrong(alloc, &ONE[..len], field_at(len), Cause::Short) {
-            return Some(len);
+        if !is_wrong(alloc, &ONE[..len], field_at(len), Cause::Short)? {
+            return Ok(Some(len));
         }
     }
-    None
+    Ok(None)
 }
 
 #[test]
-fn refuses_each_front_as_short(rt: HostRuntime) {
-    assert_eq!(rt; front_that_passes(rt.alloc()), None);
+fn refuses_each_front_as_short(rt: HostRuntime) -> Result<(), Fail> {
+    assert_eq!(rt; front_that_passes(rt.alloc())?, None);
+    Ok(())
 }
 
 /// Whether the file with one byte more is refused at that byte.
 fn refuses_a_byte_more(alloc: Global) -> Result<bool, Fail> {
     let mut text = ONE.to_vec(alloc)?;
     text.push(0)?;
-    Ok(is_wrong(alloc, &text, 89, Cause::Trailing))
+    Ok(is_wrong(alloc, &text, 89, Cause::Trailing)?)
 }
 
 #[test]
@@ -179,9 +189,10 @@ const TWICE: [u8; 17] = [
 ];
 
 #[test]
-fn refuses_literals_that_do_not_rise(rt: HostRuntime) {
-    assert!(rt; is_wrong(rt.alloc(), &NOT_IN_ORDER, 14, Cause::Order));
-    assert!(rt; is_wrong(rt.alloc(), &TWICE, 14, Cause::Order));
+fn refuses_literals_that_do_not_rise(rt: HostRuntime) -> Result<(), Fail> {
+    assert!(rt; is_wrong(rt.alloc(), &NOT_IN_ORDER, 14, Cause::Order)?);
+    assert!(rt; is_wrong(rt.alloc(), &TWICE, 14, Cause::Order)?);
+    Ok(())
 }
 
 /// A front of a file with 257 rising literals of 4,095 bytes, of which the last does not fit.
@@ -201,7 +212,7 @@ fn too_many_bytes(alloc: Global) -> Result<Vec<u8>, Fail> {
 #[test]
 fn refuses_the_literal_that_passes_the_bytes_of_a_list(rt: HostRuntime) -> Result<(), Fail> {
     let text = too_many_bytes(rt.alloc())?;
-    assert!(rt; is_wrong(rt.alloc(), &text, 1_048_843, Cause::Literal));
+    assert!(rt; is_wrong(rt.alloc(), &text, 1_048_843, Cause::Literal)?);
     Ok(())
 }
 
@@ -238,7 +249,7 @@ fn two_are_read(alloc: Global) -> Result<bool, Fail> {
         return Ok(false);
     }
     text[89] = 0x80;
-    Ok(count == 2 && is_wrong(alloc, &text, 89, Cause::Flags))
+    Ok(count == 2 && is_wrong(alloc, &text, 89, Cause::Flags)?)
 }
 
 #[test]
@@ -252,7 +263,10 @@ fn written_within(alloc: Global, room: usize) -> Result<(Vec<u8>, bool), Fail> {
     let plans = decode(alloc, &ONE)?;
     let mut space = vec![in alloc; 0u8; room]?;
     let mut out = CutOut::within(&mut space);
-    let fails = write_plans(alloc, &plans, &mut out) == Err(Fault::WriteFault);
+    let fails = match write_plans(alloc, &plans, &mut out) {
+        Err(Fault::OutOfMemory) => return Err(Fault::OutOfMemory.into()),
+        answer => answer == Err(Fault::WriteFault),
+    };
     Ok((out.written().to_vec(alloc)?, fails))
 }
 
