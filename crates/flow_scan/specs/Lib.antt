@@ -4,4 +4,5 @@ pub mod NextEnds
 pub mod Plans
 pub mod Scanners
 pub mod Seams
+pub mod Starts
 pub mod Tails

@@ -1,16 +1,21 @@
 //! Literals with a certified plan.
-ghost use Rattle.std.specs.Prelude.{◌≡◌, ◌<◌, ◌↔◌, IfErr, IfOk, IsOk, OnOk};
+ghost use Rattle.std.specs.Prelude.{◌≡◌, ℕ, ◌<◌, ◌↔◌, IfErr, IfOk, IsOk, List, MatchOption, None, OnOk, Some};
+ghost use Rattle.std.specs.List.{slice_get};
+ghost use Rattle.std.specs.Option.{IsSome};
 ghost use Rattle.lit_base.specs.Literals.{lengths};
 ghost use Rattle.lit_base.specs.Assignments.{NoAssignmentBelow, assign_price, assignment_of};
+ghost use Rattle.lit_base.specs.Occurrences.{Occurs};
 ghost use Rattle.lit_cert.specs.Certified.{IsCertified};
 ghost use Rattle.lit_base.specs.declared.limits.TheConstants.{MAX_LITERAL_LEN};
 ghost use Rattle.nib_mask.specs.Candidates.{CoversBy};
 ghost use Rattle.lane_filter.specs.Sieves.{Passes};
 ghost use Rattle.flow_scan.specs.Plans.{IsRefusalOf, Plan};
+ghost use Rattle.flow_scan.specs.Starts.{StartsAt};
 ghost use Rattle.flow_scan.specs.Tails.{HasBounds, carry_of};
 
 use crate::carry::carry;
 use crate::fault::Fault;
+use crate::hit::Hit;
 use lane_filter::Sieve;
 use lit_base::LitList;
 use lit_cert::{Certificate, certified_law, check};
@@ -66,6 +71,33 @@ impl Compiled {
         ensures certified { IsCertified 8 self.now.literals self.now.certificate }
     {
         &self.certificate
+    }
+
+    /// The literal of a hit that a scan by this plan found, as it stands in the list. A hit of another plan
+    /// may have none here.
+    pub fn literal_of(&self, hit: Hit) -> Option<&[u8]>
+        ensures literal { MatchOption result (slice_get self.now.literals.texts hit.0 ≡ None)
+            (λ literal. slice_get self.now.literals.texts hit.0 ≡ Some literal.now) }
+    {
+        let place = usize::from(hit.lit);
+        if place < self.list.len() {
+            Some(self.list.get(place))
+        } else {
+            None
+        }
+    }
+
+    /// Where the occurrence starts that a scan by this plan found: how many bytes the stream has before it,
+    /// which are those up to its end but for the literal's. A hit of another plan may start nowhere.
+    pub fn start_of(&self, hit: Hit) -> Option<u64>
+        ensures start { MatchOption result ((start : ℕ) → ¬ StartsAt self.now.literals hit.0 hit.1 start)
+            (StartsAt self.now.literals hit.0 hit.1) }
+
+        // Each hit in a text starts somewhere in it.
+        ensures found { (text : List ℕ) → Occurs self.now.literals text hit.0 hit.1 → IsSome result }
+    {
+        let literal = self.literal_of(hit)?;
+        hit.end_at.checked_sub(literal.len() as u64)
     }
 
     /// The sieve that suits the literals, which lets each occurrence through.

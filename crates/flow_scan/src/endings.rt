@@ -10,7 +10,7 @@ use crate::strides::next_end_within_budget;
 use lane_filter::Candidates;
 use lit_base::LitList;
 
-/// Where the list is tried again on a text on which it gave up: exponential backoff, in bytes.
+/// Where the search by strides is tried again on a text on which it gave up: exponential backoff, in bytes.
 #[derive(Clone, Copy)]
 pub(crate) struct Backoff {
     retry_at: usize,
@@ -18,7 +18,7 @@ pub(crate) struct Backoff {
 }
 
 impl Backoff {
-    /// The list may be tried at once.
+    /// It may be tried at once.
     pub(crate) fn new() -> Backoff {
         Backoff {
             retry_at: 0,
@@ -26,13 +26,13 @@ impl Backoff {
         }
     }
 
-    /// The list gave up at a place, and waits behind it.
+    /// It gave up at a place, and waits behind it.
     fn wait_behind(&mut self, place: usize) {
         self.retry_at = place.saturating_add(self.delay);
         self.delay = self.delay.saturating_mul(2).min(LONGEST_DELAY);
     }
 
-    /// The list suited the text.
+    /// It suited the text.
     fn reset(&mut self) {
         self.delay = SHORTEST_DELAY;
     }
@@ -47,7 +47,7 @@ struct Crowd {
 
 /// The first place behind the last candidate handed out at which some literal ends, with the first
 /// of these literals. The candidates are those of the text, by a sieve for the literals; where they
-/// crowd, the list goes on by itself for a while, as long as that is cheaper. It takes no memory.
+/// crowd, the search by strides goes on for a while, as long as that is cheaper. It takes no memory.
 pub(crate) fn next_verified(
     list: &LitList,
     text: &[u8],
@@ -122,8 +122,8 @@ fn are_close(list: &LitList, bytes: usize) -> bool {
     bytes < CROWD * LOOKS * list.stride()
 }
 
-/// What the list finds by itself behind a crowd, or a place up to which nothing ends: there it gave
-/// up, or the sieve is to be tried again.
+/// What the search by strides finds behind a crowd, or a place up to which nothing ends: there it
+/// gave up, or its window ends.
 fn next_by_list(
     list: &LitList,
     text: &[u8],
