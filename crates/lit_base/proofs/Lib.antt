@@ -1,6 +1,7 @@
 pub mod Assigned
 pub mod Buckets
 pub mod ChainLemmas
+pub mod CheckLemmas
 pub mod Cuts
 pub mod EndedLemmas
 pub mod InsertLemmas

@@ -1,5 +1,6 @@
 pub mod Assignments
 pub mod Chains
+pub mod Checks
 pub mod Costs
 pub mod Cuts
 pub mod Faults

@@ -2,9 +2,8 @@
 use Rattle.std.specs.Prelude.{◌≡◌, ℕ, ◌+◌, ◌-◌, ◌^◌, ◌<◌, ◌≤◌, List, length, slice_index}
 use Rattle.std.specs.Int.{bit_at}
 use Rattle.lit_base.specs.declared.fold.Fold.{Fold}
-use Rattle.lit_base.specs.declared.suffixes.Suffixes.{Suffixes}
 use Rattle.lit_base.specs.declared.suffixes.marks.SuffixMarks.{SuffixMarks}
-use Rattle.lit_base.specs.Chains.{AreChainsOf, literal_at}
+use Rattle.lit_base.specs.Chains.{literal_at}
 use Rattle.lit_base.specs.Literals.{Literals}
 use Rattle.lit_base.specs.Strides.{stride_of}
 use Rattle.lit_base.specs.Suffixes.{case_bits, hash_of, last_bits, suffix_key}
@@ -28,8 +27,3 @@ pub record AreMarksOf (l : Literals) (marks : SuffixMarks) : Type 0 where
   pub room : length marks.marks.items ≡ 2 ^ HASH_BITS
   pub wide : (place : ℕ) → place < length l.texts → marks.width + marks.stride ≤ length (literal_at l place) + 1
   pub marked : (place : ℕ) → place < length l.texts → IsMarkedFor marks.marks.items l.folding (literal_at l place) marks.width marks.stride
-
--- chains and marks of the literals
-pub record AreSuffixesOf (l : Literals) (suffixes : Suffixes) : Type 0 where
-  pub chains : AreChainsOf l suffixes.chains
-  pub marks : AreMarksOf l suffixes.marks

@@ -28,7 +28,7 @@ pub struct LitList {
 
 impl Model for LitList {
     ghost use Rattle.lit_base.specs.Literals.{Literals, IsNormal};
-    ghost use Rattle.lit_base.specs.Marks.{AreSuffixesOf};
+    ghost use Rattle.lit_base.specs.Checks.{AreSuffixesOf};
 
     ghost Value = { Literals };
 

@@ -1,12 +1,13 @@
 //! The last bytes of a list's literals, by which it is told what ends at a place of a text.
 mod chains;
+mod checks;
 mod class;
 mod key;
 mod marks;
 
 ghost use Rattle.std.specs.Prelude.{ℕ, ◌<◌, ◌≤◌, All, IfOk, IfSome, MatchOption, length, map};
 ghost use Rattle.std.specs.List.Sorted.{IsNonDecreasing};
-ghost use Rattle.lit_base.specs.Marks.{AreSuffixesOf};
+ghost use Rattle.lit_base.specs.Checks.{AreSuffixesOf};
 ghost use Rattle.lit_base.specs.Occurrences.{IsFirstEnding, NoneEnds};
 ghost use Rattle.lit_base.specs.declared.limits.TheConstants.{MAX_LITERALS};
 
@@ -14,15 +15,17 @@ use crate::fold::Fold;
 use crate::folded_list::FoldedList;
 use crate::literal::Literal;
 use crate::suffixes::chains::SuffixChains;
+use crate::suffixes::checks::SuffixChecks;
 use crate::suffixes::marks::SuffixMarks;
 use std::alloc::{AllocError, Global};
 
-/// Marks, which tell at once most places where no literal ends, and chains, which tell for the others
-/// which literals do.
+/// Marks, which tell at once most places where no literal ends, checks, which tell most of the others,
+/// and chains, which tell for the rest which literals do.
 #[derive(Debug, Drop)]
 pub(crate) struct Suffixes {
     pub chains: SuffixChains,
     pub marks: SuffixMarks,
+    pub checks: SuffixChecks,
 }
 
 impl Suffixes {
@@ -36,6 +39,7 @@ impl Suffixes {
         Ok(Suffixes {
             chains: SuffixChains::new(alloc, fold, literals)?,
             marks: SuffixMarks::new(alloc, fold, literals)?,
+            checks: SuffixChecks::new(alloc, fold, literals)?,
         })
     }
 
@@ -55,8 +59,13 @@ impl Suffixes {
             (NoneEnds literals.now text.now from end)
             (λ place. IsFirstEnding literals.now text.now from end place) }
     {
-        if from == 0 && self.marks.rules_out(text, end) {
-            return None;
+        if from == 0 {
+            if self.marks.rules_out(text, end) {
+                return None;
+            }
+            if self.checks.rules_out(text, end) {
+                return None;
+            }
         }
         self.chains.next_ending(literals, text, end, from)
     }

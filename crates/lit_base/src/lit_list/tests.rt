@@ -1,4 +1,6 @@
 //! Worked lists, the limits by their numbers, and literals found by where they end.
+mod spoilt;
+
 use super::*;
 
 /// A raw list of these patterns.

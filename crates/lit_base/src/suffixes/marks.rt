@@ -90,7 +90,7 @@ fn stride_for(len: usize) -> usize
 
 /// How many of its last bytes each literal is marked by: as many as the shortest has, at most
 /// fifteen.
-fn marked_len(literals: &[Literal]) -> usize
+pub(crate) fn marked_len(literals: &[Literal]) -> usize
     requires nonempty { All (λ t. 0 < length t) literals.now }
     requires rising { IsNonDecreasing (map length literals.now) }
     ensures some { 0 < result }
@@ -121,7 +121,8 @@ fn mark_literal(marks: &mut Vec<u8>, fold: Fold, literal: &[u8], width: usize, s
     }
 }
 
-fn mark(marks: &mut Vec<u8>, number: usize, back: usize)
+/// Marks a number as one that stands so far back.
+pub(crate) fn mark(marks: &mut Vec<u8>, number: usize, back: usize)
     requires room { number < vec_len marks.old }
     requires bit { back < 8 }
     ensures len { vec_len marks.new ≡ vec_len marks.old }
@@ -133,7 +134,7 @@ fn mark(marks: &mut Vec<u8>, number: usize, back: usize)
 
 /// Whether a byte of marks has one so far back.
 #[inline(always)]
-fn is_marked(marks: u8, back: usize) -> bool
+pub(crate) fn is_marked(marks: u8, back: usize) -> bool
     requires { back < 8 }
     ensures { IsTrue result ↔ (bit_at marks back ≡ 1) }
 {

@@ -1,7 +1,7 @@
 -- The marks are those of the bytes before the first place.
 use Rattle.std.proofs.Common.{◌∙◌, ap, subst, arith}
 use Rattle.std.specs.Int.{bit_at}
-use Rattle.lit_base.specs.Marks.{AreSuffixesOf}
+use Rattle.lit_base.specs.Checks.{AreSuffixesOf}
 use Rattle.lit_base.proofs.MarkLemmas.{marked_ahead}
 use Rattle.lit_base.proofs.SuffixLemmas.{are_bytes}
 use Rattle.lit_base.proofs.lit_list.LitList.marks_before.Goals as goal

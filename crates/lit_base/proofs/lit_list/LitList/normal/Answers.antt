@@ -3,7 +3,7 @@ use Rattle.std.proofs.Common.{◌≡◌, subst, sym, ◌∙◌, All, length, map
 use Rattle.std.specs.List.{AllZip}
 use Rattle.std.specs.List.Sorted.{IsNonDecreasing}
 use Rattle.lit_base.specs.Literals.{IsNormal}
-use Rattle.lit_base.specs.Marks.{AreSuffixesOf}
+use Rattle.lit_base.specs.Checks.{AreSuffixesOf}
 use Rattle.lit_base.specs.NormalForm.{IsNormalForm, IsPlaceOf, normal_form}
 use Rattle.lit_base.proofs.LengthLemmas.{lengths_rise}
 use Rattle.lit_base.proofs.NormalForms.{is_normal, normal_form_is}

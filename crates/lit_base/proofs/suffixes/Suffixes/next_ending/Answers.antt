@@ -1,4 +1,4 @@
--- Where the hash is not marked, no literal ends.
+-- Where the hash is not marked, or no check is met, no literal ends.
 use Rattle.std.proofs.Common.{add-zero, arith}
 use Rattle.lit_base.proofs.MarkLemmas.{marked-occurs}
 use Rattle.lit_base.proofs.SuffixLemmas.{are_bytes}
@@ -10,3 +10,6 @@ returns-then-rules_out c = λ place low occurs.
     let is = c.requires.of.marks in
     let out = c.rules_out.ensures.0 c.if-rules_out.true in
     out.1 (marked-occurs c.args.literals.now c.args.self.now.marks text place c.args.end 0 c.args.end is (are_bytes text c.type_inv.text) (add-zero c.args.end) (omega (arith, is.stride)) out.0 occurs)
+
+pub returns-then-rules_out-2 : goal.returns-then-rules_out-2
+returns-then-rules_out-2 c = λ place low occurs. c.rules_out-then-from-eq0.ensures c.if-rules_out-2.true c.args.literals.now c.requires.of.checks (place, occurs)

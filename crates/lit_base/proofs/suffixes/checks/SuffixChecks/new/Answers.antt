@@ -1,0 +1,28 @@
+-- There is a bit for each hash, and in the end every literal has its own set.
+use Rattle.std.proofs.Common.{◌≡◌, ◌<◌, [], length, get_or, min, ◌∙◌, subst, arith, below_more}
+use Rattle.std.proofs.lemmas.List.{get_or_read}
+use Rattle.lit_base.specs.Checks.{IsChecked}
+use Rattle.lit_base.specs.Suffixes.{suffix_key}
+use Rattle.lit_base.proofs.suffixes.checks.SuffixChecks.new.Goals as goal
+
+pub loop-place-preserved : goal.loop-place-preserved
+loop-place-preserved c =
+    let inside : c.loop-place.place < length c.args.literals.now = omega (arith, c.loop-place-test.true) in
+    let here : c.as_slice.result.now ≡ get_or c.args.literals.now c.loop-place.place [] =
+    c.as_slice.ensures ∙ get_or_read c.args.literals.now c.loop-place.place c.index-literals-place.result inside c.index-literals-place.is [] in
+    record {
+      len = c.check_literal.ensures.len ∙ c.loop-place.invariant.len;
+      checked = below_more _ _
+          (λ place low. c.check_literal.ensures.kept _ (c.loop-place.invariant.checked place low))
+          (subst (λ t. IsChecked c.check_literal.new.bits.items (suffix_key c.args.fold t (length t) (min (length t) 8))) here c.check_literal.ensures.checked);
+    }
+
+pub returns : goal.returns
+returns c = record {
+  some = omega (arith, c.marked_len.ensures.some, c.min.ensures);
+  narrow = omega (arith, c.min.ensures);
+  case = c.case_bits.ensures;
+  room = omega (arith, c.loop-place.invariant.len);
+  wide = λ place inside. omega (arith, c.marked_len.ensures.shared place inside, c.min.ensures);
+  checked = λ place inside. c.loop-place.invariant.checked place (omega (arith, inside, c.loop-place-test.false));
+}
