@@ -1,7 +1,7 @@
 -- The next place at which a literal ends, seen from a place before the one that a search has come to.
 use Rattle.std.proofs.Common.{◌≡◌, ℕ, suc, ◌+◌, ◌-◌, ◌*◌, ◌<◌, ◌≤◌, List, Option, Some, None, MatchOption, Result, Ok, Err, IfOk, IfErr, inl, inr, subst, arith}
 use Rattle.std.proofs.lemmas.Bool.{cases_lt}
-use Rattle.std.proofs.Math.Nat.{mul-le-mul_left, mul-suc}
+use Rattle.std.proofs.Math.Nat.{mul-add, mul-le-mul_left, mul_comm}
 use Rattle.lit_base.specs.Occurrences.{HasEnd}
 use Rattle.flow_scan.specs.NextEnds.{IsNextEnd, IsPassed, NoEndAfter, NoEndUpTo}
 use Rattle.lit_base.specs.Literals.{Literals}
@@ -52,10 +52,20 @@ module _ (l : Literals) (text : List ℕ) (from seen : ℕ) (none : NoEndUpTo l 
     | inr sooner ↦ none other after sooner here
   ]
 
--- what is paid with one more mark is within a price for each place passed, once a place is passed
-pub paid_further : (paid more price from seen next : ℕ) → from ≤ seen → seen < next
-    → paid ≤ from + price * (seen - from) → more ≤ paid + price → more ≤ from + price * (next - from)
-paid_further paid more price from seen next ahead further before after =
-    let here : price * suc (seen - from) ≤ price * (next - from) = mul-le-mul_left price (omega (arith, ahead, further)) in
-    let one : price * suc (seen - from) ≡ price * (seen - from) + price = mul-suc price (seen - from) in
-    omega (arith, here, one, before, after)
+-- what is paid with some more marks is within a price for each place passed, once as many places are passed
+pub paid_further : (paid more price from seen next met : ℕ) → from ≤ seen → seen + met ≤ next
+    → paid ≤ from + price * (seen - from) → more ≤ paid + price * met → more ≤ from + price * (next - from)
+paid_further paid more price from seen next met ahead further before after =
+    let here : price * (seen - from + met) ≤ price * (next - from) = mul-le-mul_left price (omega (arith, ahead, further)) in
+    let sum : price * (seen - from + met) ≡ price * (seen - from) + price * met = mul-add price (seen - from) met in
+    omega (arith, here, sum, before, after)
+
+-- and what is spent beyond the free marks was met in more places than those
+pub tried_enough : (more price free from next : ℕ) → from ≤ next → more ≤ from + price * (next - from) → next + free * price < more → from + free ≤ next
+tried_enough more price free from next ahead within spent = elim (cases_lt next (from + free)) [
+  | inl sooner ↦
+      let few : price * (next - from) ≤ price * free = mul-le-mul_left price (omega (arith, ahead, sooner)) in
+      let turned : price * free ≡ free * price = mul_comm price free in
+      absurd (omega (arith, few, turned, within, spent, ahead))
+  | inr enough ↦ enough
+]

@@ -1,8 +1,10 @@
 -- Marks that a search by strides meets: which places they leave.
-use Rattle.std.proofs.Common.{◌≡◌, ℕ, suc, ◌+◌, ◌-◌, ◌/◌, ◌%◌, ◌^◌, ◌<◌, ◌≤◌, List, inl, inr, sym, ap, ◌∙◌, subst, arith, shr-shr}
+use Rattle.std.proofs.Common.{◌≡◌, ℕ, suc, ◌+◌, ◌-◌, ◌*◌, ◌/◌, ◌%◌, ◌^◌, ◌<◌, ◌≤◌, List, inl, inr, sym, ap, ◌∙◌, subst, arith, shr-shr}
 use Rattle.std.specs.Int.{bit_at}
+use Rattle.std.specs.Int.RustNames.{bit_or}
 use Rattle.std.proofs.lemmas.Bool.{cases_lt}
-use Rattle.std.proofs.lemmas.Nat.Bits.{bit_at-suc, bit_at-zero}
+use Rattle.std.proofs.lemmas.Nat.{pow_pos}
+use Rattle.std.proofs.lemmas.Nat.Bits.{bit_at-lt, bit_at-suc, bit_at-zero, bit_at_cat_high, bit_at_cat_low, bit_at_or}
 use Rattle.lit_base.specs.Literals.{Literals}
 use Rattle.lit_base.specs.Occurrences.{HasEnd}
 
@@ -39,3 +41,22 @@ module _ (l : Literals) (text : List ℕ) (seen count back rest : ℕ) (marked :
       ] in
       let place : low + 1 + (other - (back + low + 1)) ≡ other - back = omega (arith, behind) in
       (omega (arith, behind), shifted_bit rest low (other - (back + low + 1)) ∙ ap (bit_at rest) place ∙ (marked other near here).1)
+
+-- marks are joined with others that are shifted above them, in a word
+module _ (marks more at back : ℕ) (short : back < 64) where
+  abbrev joined_marks : ℕ
+  joined_marks = bit_or marks (more * 2 ^ at % 2 ^ 64)
+
+  -- the marks below stay
+  pub marked_below : bit_at marks back ≡ 1 → bit_at joined_marks back ≡ 1
+  marked_below set = omega (arith, bit_at_or marks (more * 2 ^ at % 2 ^ 64) back, set, bit_at-lt (more * 2 ^ at % 2 ^ 64) back)
+
+  -- and each mark above stands so much higher
+  pub marked_above : at ≤ back → bit_at more (back - at) ≡ 1 → bit_at joined_marks back ≡ 1
+  marked_above above set =
+      let shifted : ℕ = more * 2 ^ at in
+      let whole : shifted / 2 ^ 64 * 2 ^ 64 + shifted % 2 ^ 64 ≡ shifted = omega arith in
+      let plain : shifted + 0 ≡ shifted = omega arith in
+      let low : bit_at shifted back ≡ bit_at (shifted % 2 ^ 64) back = ap (λ n. bit_at n back) (sym whole) ∙ bit_at_cat_low (shifted / 2 ^ 64) 64 (shifted % 2 ^ 64) back short in
+      let high : bit_at shifted back ≡ bit_at more (back - at) = ap (λ n. bit_at n back) (sym plain) ∙ bit_at_cat_high more at 0 back (pow_pos at) above in
+      omega (arith, bit_at_or marks (shifted % 2 ^ 64) back, low, high, set, bit_at-lt marks back)

@@ -24,19 +24,20 @@ impl MarkBudget {
         }
     }
 
-    /// Whether one more mark, met at a place of the text, is too many. It stands apart from the loop
-    /// that asks it, which then keeps what it needs for each look in registers.
+    /// Whether so many more marks, met before a place of the text, are too many. It stands apart from
+    /// the loop that asks it, which then keeps what it needs for each look in registers.
     #[inline(never)]
-    pub fn is_spent_at(&mut self, place: usize) -> bool
+    pub fn is_spent_at(&mut self, place: usize, marks: usize) -> bool
         ensures price { self.new.bytes_per_mark ≡ self.old.bytes_per_mark }
-        ensures paid { self.new.paid_up_to ≤ self.old.paid_up_to + self.old.bytes_per_mark }
+        ensures paid { self.new.paid_up_to ≤ self.old.paid_up_to + self.old.bytes_per_mark * marks }
         ensures patient { IsTrue result → 0 < self.old.bytes_per_mark }
-        ensures spent { IsTrue result → place + FREE_MARKS * self.old.bytes_per_mark < self.old.paid_up_to + self.old.bytes_per_mark }
+        ensures spent { IsTrue result → place + FREE_MARKS * self.old.bytes_per_mark < self.old.paid_up_to + self.old.bytes_per_mark * marks }
     {
         if self.bytes_per_mark == 0 {
             return false;
         }
-        self.paid_up_to = self.paid_up_to.saturating_add(self.bytes_per_mark);
+        let price = self.bytes_per_mark.saturating_mul(marks);
+        self.paid_up_to = self.paid_up_to.saturating_add(price);
         self.paid_up_to > place.saturating_add(self.bytes_per_mark.saturating_mul(FREE_MARKS))
     }
 }

@@ -27,3 +27,7 @@ pub(crate) const LONGEST_DELAY: usize = 65536;
 
 /// So many marks more than the bytes passed pay for do not end a search by strides.
 pub(crate) const FREE_MARKS: usize = 4;
+
+/// So many ends at most are looked at together behind a look that had a mark: as many as a word has
+/// bits.
+pub(crate) const BLOCK: usize = 64;

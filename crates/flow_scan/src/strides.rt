@@ -4,15 +4,25 @@ ghost use Rattle.std.specs.Prelude.{◌≡◌, ℕ, ◌+◌, ◌<◌, ◌≤◌,
 ghost use Rattle.std.specs.Int.{bit_at};
 ghost use Rattle.lit_base.specs.Occurrences.{HasEnd, IsFirstEnding};
 ghost use Rattle.flow_scan.specs.NextEnds.{IsNextEnd, IsPassed, NoEndAfter, NoEndUpTo};
-ghost use Rattle.flow_scan.specs.declared.pace.TheConstants.{FREE_MARKS};
+ghost use Rattle.flow_scan.specs.declared.pace.TheConstants.{BLOCK, FREE_MARKS};
 
 use crate::mark_budget::MarkBudget;
+use crate::pace::BLOCK;
 use lit_base::LitList;
 
 /// A search has given up. No literal ends up to this place.
 #[derive(Clone, Copy, Debug, PartialEq, Eq)]
 pub(crate) struct GaveUp {
     pub at: usize,
+}
+
+/// What a search by strides looks at next: so many ends behind a place, and a bit for each at which a
+/// literal may end.
+#[derive(Clone, Copy)]
+struct Look {
+    seen: usize,
+    count: usize,
+    marks: u64,
 }
 
 /// The first place of the text behind `from` at which some literal ends, wherever it begins, with
@@ -43,7 +53,7 @@ pub(crate) fn next_end_within_budget(
         return next_by_strides(list, text, from, bytes_per_mark);
     }
     // Before the first seven ends stand fewer than eight bytes, so each is looked at.
-    if let Some(found) = first_marked(list, text, from, 7 - from, u8::MAX) {
+    if let Some(found) = first_marked(list, text, from, 7 - from, u64::MAX) {
         return Ok(Some(found));
     }
     if text.len() <= 7 {
@@ -53,7 +63,8 @@ pub(crate) fn next_end_within_budget(
 }
 
 /// The search of `next_end_within_budget` behind at least seven bytes: of as many ends as a stride has
-/// places, the bytes before the first have the marks of all.
+/// places, the bytes before the first have the marks of all. What was looked at is paid for once it is
+/// known that nothing ends there.
 #[inline(never)]
 fn next_by_strides(
     list: &LitList,
@@ -71,24 +82,78 @@ fn next_by_strides(
     ensures patient { IfErr result (λ _. 0 < bytes_per_mark) }
     ensures tried { IfErr result (λ stop. from + FREE_MARKS ≤ stop.at) }
 {
-    let stride = list.stride();
     let mut budget = MarkBudget::new(bytes_per_mark, from);
+    let mut is_crowded = false;
     let mut seen = from;
     'strides: loop {
-        seen = skip_unmarked(list, text, seen);
-        let marks = list.marks_before(text, seen + 1);
-        if marks != 0 {
-            if budget.is_spent_at(seen) {
-                return Err(GaveUp { at: seen });
-            }
-            if let Some(found) = first_marked(list, text, seen, stride, marks) {
-                return Ok(Some(found));
-            }
+        let look = look_ahead(list, text, seen, is_crowded);
+        if let Some(found) = first_marked(list, text, look.seen, look.count, look.marks) {
+            return Ok(Some(found));
         }
-        if text.len() - seen <= stride {
+        if text.len() - look.seen <= look.count {
             return Ok(None);
         }
-        seen += stride;
+        seen = look.seen + look.count;
+        if budget.is_spent_at(seen, marks_of(look)) {
+            return Err(GaveUp { at: seen });
+        }
+        is_crowded = look.marks != 0;
+    }
+}
+
+/// How many marks a look met, no more than it has ends.
+fn marks_of(look: Look) -> usize
+    ensures { result ≤ look.count }
+{
+    (look.marks.count_ones() as usize).min(look.count)
+}
+
+/// What to look at from `from` on: the first stride that has a mark, or is the last; and a block,
+/// where the look before had a mark. False marks crowd in most texts that have some, and to leave
+/// the loop over strides for each takes longer than to tell that it is false.
+#[inline(always)]
+fn look_ahead(list: &LitList, text: &[u8], from: usize, is_crowded: bool) -> Look
+    requires seven { 7 ≤ from }
+    requires inside { from < length text.now }
+    ensures ahead { from ≤ result.seen }
+    ensures inside { result.seen < length text.now }
+    ensures none { NoEndUpTo list.now text.now from result.seen }
+    ensures some { 0 < result.count }
+    ensures few { result.count ≤ 64 }
+    ensures marked { (back : ℕ) → back < result.count → HasEnd list.now text.now (result.seen + 1 + back) → bit_at result.marks back ≡ 1 }
+{
+    if is_crowded && text.len() - from > BLOCK {
+        return block_behind(list, text, from);
+    }
+    let seen = skip_unmarked(list, text, from);
+    Look {
+        seen,
+        count: list.stride(),
+        marks: list.marks_before(text, seen + 1) as u64,
+    }
+}
+
+/// As many ends behind `from` as whole strides of a block have. No jump depends on a mark here.
+#[inline(never)]
+fn block_behind(list: &LitList, text: &[u8], from: usize) -> Look
+    requires seven { 7 ≤ from }
+    requires inside { from + BLOCK < length text.now }
+    ensures here { result.seen ≡ from }
+    ensures some { 0 < result.count }
+    ensures few { result.count ≤ 64 }
+    ensures marked { (back : ℕ) → back < result.count → HasEnd list.now text.now (from + 1 + back) → bit_at result.marks back ≡ 1 }
+{
+    let stride = list.stride();
+    let mut count = 0;
+    let mut marks = 0u64;
+    'looks: while count + stride <= BLOCK {
+        marks |= (list.marks_before(text, from + 1 + count) as u64) << count;
+        count += stride;
+    }
+    Look {
+        seen: from,
+        count,
+        marks,
     }
 }
 
@@ -124,9 +189,9 @@ fn first_marked(
     text: &[u8],
     seen: usize,
     count: usize,
-    marks: u8,
+    marks: u64,
 ) -> Option<(usize, usize)>
-    requires few { count ≤ 8 }
+    requires few { count ≤ 64 }
     requires inside { seen < length text.now }
     requires marked { (back : ℕ) → back < count → HasEnd list.now text.now (seen + 1 + back) → bit_at marks back ≡ 1 }
     ensures next { MatchOption result

@@ -1,5 +1,6 @@
 //! Worked scans, and what no clause says.
 mod single;
+mod spoilt;
 
 use crate::compiled::{Compiled, least_law};
 use crate::fault::Fault;

@@ -1,5 +1,5 @@
 -- Up to the lowest mark that is left, and behind the text, no literal ends.
-use Rattle.std.proofs.Common.{◌≡◌, ◌+◌, ◌-◌, ap, sym, ◌∙◌, subst, arith, w8}
+use Rattle.std.proofs.Common.{◌≡◌, ◌+◌, ◌-◌, ap, sym, ◌∙◌, subst, arith, w64}
 use Rattle.std.specs.Int.{bit_at}
 use Rattle.std.proofs.lemmas.Nat.Bits.{bit_at-trailing_zeros, bit_at-zero}
 use Rattle.lit_base.specs.Occurrences.{HasEnd}
@@ -16,12 +16,12 @@ loop-rest-init c = record {
 
 pub overflow_add-back : goal.overflow_add-back
 overflow_add-back c =
-    let lowest = bit_at-trailing_zeros w8 c.loop-rest.rest (omega (arith, c.loop-rest-test.true)) c.loop-rest.auto.rest-fits.fits in
+    let lowest = bit_at-trailing_zeros w64 c.loop-rest.rest (omega (arith, c.loop-rest-test.true)) c.loop-rest.auto.rest-fits.fits in
     omega (arith, lowest.0, c.loop-rest.invariant.near, c.requires.few)
 
 pub returns-then-back-room-clause-next : goal.returns-then-back-room-clause-next
 returns-then-back-room-clause-next c = λ other near here.
-    let lowest = bit_at-trailing_zeros w8 c.loop-rest.rest (omega (arith, c.loop-rest-test.true)) c.loop-rest.auto.rest-fits.fits in
+    let lowest = bit_at-trailing_zeros w64 c.loop-rest.rest (omega (arith, c.loop-rest-test.true)) c.loop-rest.auto.rest-fits.fits in
     let before = c.loop-rest.invariant in
     let first = marked_first c.args.list.now c.args.text.now c.args.seen c.args.count c.loop-rest.back c.loop-rest.rest before.marked _ lowest.2 other near here in
     absurd (omega (arith, first, near, here.1.ends, c.if-back-room.true, c.min-room.ensures))
@@ -31,7 +31,7 @@ returns-in-Some-clause-next c =
     let l = c.args.list.now in
     let text = c.args.text.now in
     let seen = c.args.seen in
-    let lowest = bit_at-trailing_zeros w8 c.loop-rest.rest (omega (arith, c.loop-rest-test.true)) c.loop-rest.auto.rest-fits.fits in
+    let lowest = bit_at-trailing_zeros w64 c.loop-rest.rest (omega (arith, c.loop-rest-test.true)) c.loop-rest.auto.rest-fits.fits in
     let before = c.loop-rest.invariant in
     let occurs = c.in-Some.ensures.first.occurs in
     record {
@@ -49,7 +49,7 @@ pub loop-rest-preserved : goal.loop-rest-preserved
 loop-rest-preserved c =
     let l = c.args.list.now in
     let text = c.args.text.now in
-    let lowest = bit_at-trailing_zeros w8 c.loop-rest.rest (omega (arith, c.loop-rest-test.true)) c.loop-rest.auto.rest-fits.fits in
+    let lowest = bit_at-trailing_zeros w64 c.loop-rest.rest (omega (arith, c.loop-rest-test.true)) c.loop-rest.auto.rest-fits.fits in
     let before = c.loop-rest.invariant in
     record {
       near = omega (arith, c.if-back-room.false, c.min-room.ensures);

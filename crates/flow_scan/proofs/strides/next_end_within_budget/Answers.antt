@@ -8,7 +8,7 @@ use Rattle.flow_scan.proofs.strides.next_end_within_budget.Goals as goal
 use Rattle.flow_scan.proofs.strides.next_end_within_budget.Goals.{In_default}
 
 pub first_marked-requires-clause-marked : goal.first_marked-requires-clause-marked
-first_marked-requires-clause-marked c = λ back near here. bit_at_ones 8 back (omega (arith, near))
+first_marked-requires-clause-marked c = λ back near here. bit_at_ones 64 back (omega (arith, near))
 
 -- none ends at the first seven places
 none_first : (c : In_default) → NoEndUpTo c.args.list.now c.args.text.now c.args.from 7
