@@ -13,9 +13,9 @@ returns-in_default-plans g c = Served c.in-Ok.store (ap named c.in_default-plans
 pub returns-in-Ok-load_named : goal.returns-in-Ok-load_named
 returns-in-Ok-load_named g c =
     Planned c.in-Ok.store c.as_str.result.now c.load_named.new.tickets.items (g.E.ByteOut.written c.load_named.new.err) (ap named c.in-Some.is ∙ ap Some (sym c.as_str.ensures.value))
-    c.load_named.ensures.takes c.in-Ok-load_named.ensures.loads c.serve_over-in-Ok-load_named.ensures
+    c.load_named.ensures.takes (rw c.new-tickets.ensures.items at c.in-Ok-load_named.ensures.loads) c.serve_over-in-Ok-load_named.ensures
 
 pub returns : goal.returns
 returns g c =
     Unplanned c.in-Ok.store c.as_str.result.now c.load_named.new.tickets.items c.in-Err.field-0 (ap named c.in-Some.is ∙ ap Some (sym c.as_str.ensures.value)) refl refl
-    (Appends-nil (g.O.ByteOut.written c.args.out.now)) c.load_named.ensures.takes c.in-Err.ensures.loads
+    (Appends-nil (g.O.ByteOut.written c.args.out.now)) c.load_named.ensures.takes (rw c.new-tickets.ensures.items at c.in-Err.ensures.loads)
