@@ -1,0 +1,4 @@
+pub mod Appends
+pub mod EndingLemmas
+pub mod Prices
+pub mod Ranges

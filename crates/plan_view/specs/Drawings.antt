@@ -1,0 +1,86 @@
+-- A plan as a drawing, in SVG: the list by length from left to right, cut at the ends of buckets, and costs as heights.
+use Rattle.std.specs.Prelude.{ℕ, ◌+◌, ◌-◌, ◌*◌, ◌/◌, ◌==◌, List, [], ◌∷◌, ◌++◌, codes, decimal, flat_map, if◌then◌else◌, length, max, nat_lt, slice_index}
+use Rattle.lit_base.specs.Costs.{run_cost}
+use Rattle.lit_base.specs.Literals.{Literals, lengths}
+use Rattle.plan_view.specs.Rows.{percent, span, total_of}
+use Rattle.plan_view.specs.Texts.{eighths, single}
+
+-- a byte as XML has it
+abbrev pub xml_byte : ℕ → List ℕ
+xml_byte b = if b == 38 then codes "&amp;" else if b == 60 then codes "&lt;" else if b == 62 then codes "&gt;" else b ∷ []
+
+-- a number behind a text
+unfoldable pub said : List ℕ → ℕ → List ℕ
+said label number = label ++ decimal number
+
+-- how far right of the first literal place p stands, of n places
+abbrev pub across : ℕ → ℕ → ℕ
+across n p = p * 640 / n
+
+-- how high a cost stands
+abbrev pub height : ℕ → ℕ → ℕ
+height cost highest = cost * 200 / highest
+
+-- the highest cost of the runs from place p on, or this one
+abbrev pub highest_from : List ℕ → ℕ → ℕ → List ℕ → ℕ
+highest_from ls least p [] = least
+highest_from ls least p (q ∷ more) = highest_from ls (max least (run_cost ls p q)) q more
+
+-- what a bucket is told by where a pointer rests on it
+unfoldable pub numbers_told : Literals → List ℕ → ℕ → ℕ → ℕ → List ℕ
+numbers_told l ends b p q =
+    let cost = run_cost (lengths l) p q in
+    said (codes "<title>bucket ") (b + 1) ++ (said (codes ": literals ") (q - p) ++ (said (codes ", shortest ") (slice_index (lengths l) p)
+    ++ (said (codes ", cost ") cost ++ said (codes ", % of all ") (percent cost (total_of l ends)))))
+
+unfoldable pub title : Literals → List ℕ → ℕ → ℕ → ℕ → List ℕ
+title l ends b p q = numbers_told l ends b p q ++ (flat_map xml_byte (span l p q) ++ codes "</title>\n")
+
+-- a bar that stands on the line, x to the right, so wide and so high
+unfoldable pub bar : ℕ → ℕ → ℕ → List ℕ
+bar x width high =
+    said (codes "<rect x=\"") (40 + x) ++ (said (codes "\" y=\"") (260 - high) ++ (said (codes "\" width=\"") width
+    ++ (said (codes "\" height=\"") high ++ codes "\"/>\n")))
+
+-- a number at a place
+unfoldable pub number_at : ℕ → ℕ → ℕ → List ℕ
+number_at x y number =
+    said (codes "<text x=\"") (40 + x) ++ (said (codes "\" y=\"") y ++ (said (codes "\">") number ++ codes "</text>\n"))
+
+-- the cost above a bar and the shortest length below it, where it is wide enough for them
+unfoldable pub marks : ℕ → ℕ → ℕ → ℕ → ℕ → List ℕ
+marks x width high cost shortest =
+    if nat_lt width 48 then [] else number_at (x + 3) (255 - high) cost ++ number_at (x + 3) 275 shortest
+
+-- a bucket: what is told of it, its bar, and its marks
+unfoldable pub drawn : Literals → List ℕ → ℕ → ℕ → ℕ → ℕ → List ℕ
+drawn l ends highest b p q =
+    let n = length l.texts in
+    let cost = run_cost (lengths l) p q in
+    let width = across n q - across n p in
+    codes "<g>" ++ (title l ends b p q ++ (bar (across n p) width (height cost highest)
+    ++ (marks (across n p) width (height cost highest) cost (slice_index (lengths l) p) ++ codes "</g>\n")))
+
+-- the buckets from b on, which begin at place p and have these ends
+abbrev pub drawn_from : Literals → List ℕ → ℕ → ℕ → ℕ → List ℕ → List ℕ
+drawn_from l ends highest b p [] = []
+drawn_from l ends highest b p (q ∷ more) = drawn l ends highest b p q ++ drawn_from l ends highest (b + 1) q more
+
+-- what the drawing is headed by: what the plan costs, and what one bucket and even eighths would
+unfoldable pub caption : Literals → List ℕ → List ℕ
+caption l ends =
+    said (codes "<text x=\"40\" y=\"24\">cost ") (total_of l ends) ++ (said (codes "; one bucket for all ") (single l)
+    ++ (said (codes "; even eighths ") (eighths l) ++ codes "</text>\n"))
+
+-- the head of the file: its size, and colours for light and dark pages
+unfoldable pub head : List ℕ
+head =
+    codes "<svg xmlns=\"http://www.w3.org/2000/svg\" viewBox=\"0 0 720 310\" font-family=\"sans-serif\" font-size=\"13\">\n<style>text { fill: #24292f } rect { fill: #4f8fd0; stroke: #fff } path { stroke: #24292f }\n@media (prefers-color-scheme: dark) { text { fill: #e6edf3 } rect { stroke: #0d1117 } path { stroke: #e6edf3 } }</style>\n"
+
+unfoldable pub foot : List ℕ
+foot = codes "<path d=\"M40 260H680\"/>\n<text x=\"40\" y=\"300\">literals by length; below a bucket the bytes of its shortest, above it its cost</text>\n</svg>\n"
+
+-- the plan of a list that is cut at these ends
+unfoldable pub plan_svg : Literals → List ℕ → List ℕ
+plan_svg l ends =
+    head ++ (caption l ends ++ (drawn_from l ends (highest_from (lengths l) 1 0 ends) 0 0 ends ++ foot))

@@ -1,0 +1,8 @@
+pub mod Columns
+pub mod Drawings
+pub mod Endings
+pub mod Quotes
+pub mod Repeats
+pub mod Rows
+pub mod Terms
+pub mod Texts

@@ -1,0 +1,59 @@
+-- A plan as a text: what `litplan explain` prints.
+use Rattle.std.specs.Prelude.{ℕ, ◌+◌, ◌*◌, ◌/◌, List, [], ◌∷◌, ◌++◌, codes, decimal, flat_map, if◌then◌else◌, length, nat_lt, Option, take}
+use Rattle.lit_base.specs.Costs.{run_cost}
+use Rattle.lit_base.specs.Literals.{Literals, lengths}
+use Rattle.plan_view.specs.Columns.{columns}
+use Rattle.plan_view.specs.Repeats.{nulls, repeats}
+use Rattle.plan_view.specs.Rows.{percent, rows_from, total_of}
+use Rattle.plan_view.specs.Terms.{sum_below}
+
+-- the names of the columns
+abbrev pub heading : List ℕ
+heading = codes "bucket  literals  shortest  bytes  weight        cost    %   endings  first and last literal\n"
+
+-- what one bucket for all literals costs
+abbrev pub single : Literals → ℕ
+single l = run_cost (lengths l) 0 (length l.texts)
+
+-- what the literals from place p up to but not including q cost, if there are any
+abbrev pub part_cost : List ℕ → ℕ → ℕ → ℕ
+part_cost ls p q = if nat_lt p q then run_cost ls p q else 0
+
+-- where the k-th eighth of n literals begins
+abbrev pub eighth : ℕ → ℕ → ℕ
+eighth n k = k * n / 8
+
+-- what the list costs in even eighths
+unfoldable pub eighths : Literals → ℕ
+eighths l = let n = length l.texts in sum_below 8 (λ k. part_cost (lengths l) (eighth n k) (eighth n (k + 1)))
+
+-- a cost below the rows, with its share of the total
+unfoldable pub sum_line : List ℕ → ℕ → ℕ → List ℕ
+sum_line label cost share = label ++ (columns ((12, cost) ∷ (5, share) ∷ []) ++ codes "\n")
+
+-- what the plan costs, and what one bucket and even eighths would
+abbrev pub sums : Literals → List ℕ → List ℕ
+sums l ends =
+    let total = total_of l ends in
+    sum_line (codes "total                                    ") total 100
+    ++ (sum_line (codes "one bucket for all                       ") (single l) (percent (single l) total)
+    ++ sum_line (codes "even eighths                             ") (eighths l) (percent (eighths l) total))
+
+-- a line that says again what an earlier one says
+abbrev pub repeat_line : ℕ × ℕ → List ℕ
+repeat_line r = codes "  line " ++ (decimal r.0 ++ (codes " is line " ++ (decimal r.1 ++ codes " again\n")))
+
+-- a number behind what it counts
+unfoldable pub count_line : List ℕ → ℕ → List ℕ
+count_line label count = label ++ (decimal count ++ codes "\n")
+
+-- how many patterns were dropped since an earlier one is equal, with the first ten; and how many since they are null
+abbrev pub drops : List (Option ℕ) → List ℕ
+drops places =
+    let found = repeats places (length places) in
+    count_line (codes "equal to an earlier line: ") (length found)
+    ++ (flat_map repeat_line (take 10 found) ++ count_line (codes "null patterns: ") (nulls places))
+
+-- the plan of a list that is cut at these ends, whose patterns stand at these places
+unfoldable pub plan_text : Literals → List ℕ → List (Option ℕ) → List ℕ
+plan_text l ends places = heading ++ (rows_from l ends 0 0 ends ++ (sums l ends ++ drops places))

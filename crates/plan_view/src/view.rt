@@ -1,0 +1,38 @@
+//! A plan, with what its rows are told by.
+ghost use Rattle.std.specs.Prelude.{◌≡◌, ◌<◌, length};
+ghost use Rattle.lit_base.specs.Cuts.{IsCut};
+ghost use Rattle.nib_mask.specs.Candidates.{GivesFilterSets};
+ghost use Rattle.plan_view.specs.Rows.{total_of};
+
+use lit_base::{Ends, LitList, cut_cost};
+use nib_mask::Masks;
+
+/// A list that is cut, with the tables of its filter and what the cut costs.
+#[derive(Clone, Copy)]
+pub struct View<'a> {
+    pub list: &'a LitList,
+    pub ends: &'a Ends,
+    pub masks: &'a Masks,
+    pub total: u64,
+    ghost some: { 0 < length list.now.texts },
+    ghost set: { GivesFilterSets list.now ends.now.items masks.now },
+    ghost sum: { total ≡ total_of list.now ends.now.items },
+    ghost positive: { 0 < total },
+}
+
+impl<'a> View<'a> {
+    /// The view of a list that is cut at these ends, by the tables that were made for them.
+    pub fn new(list: &'a LitList, ends: &'a Ends, masks: &'a Masks) -> View<'a>
+        requires cut { IsCut 8 (length list.now.texts) ends.now.items }
+        requires set { GivesFilterSets list.now ends.now.items masks.now }
+        ensures list { result.list.now ≡ list.now }
+        ensures ends { result.ends.now ≡ ends.now }
+    {
+        View {
+            list,
+            ends,
+            masks,
+            total: cut_cost(list, ends),
+        }
+    }
+}
