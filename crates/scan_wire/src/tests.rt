@@ -4,7 +4,7 @@ ghost use Rattle.scan_wire.specs.Frames.{FitsReply};
 ghost use Rattle.scan_wire.specs.Messages.{reply_parts};
 
 use crate::decoder::Decoder;
-use crate::encoding::encode_reply;
+use crate::encoding::{append_hits, append_reply, encode_reply};
 use crate::fault::{Cause, Fault};
 use crate::frames::next;
 use crate::message::{Lent, Reply, Request};
@@ -102,12 +102,12 @@ fn empty_literals(alloc: Global, count: u16) -> Result<Vec<u8>, AllocError> {
 }
 
 /// Whether the front of the bytes is the Publish of `cat`.
-fn publishes_cat(alloc: Global, bytes: &[u8]) -> bool {
-    match next(alloc, bytes) {
-        Ok(Some((Lent::Publish { fold, literals }, 17))) => {
-            fold == Fold::No && literals.len() == 1 && literals[0].as_slice() == b"cat".as_slice()
-        }
-        _ => false,
+fn publishes_cat(alloc: Global, bytes: &[u8]) -> Option<bool> {
+    match next(alloc, bytes).ok()? {
+        Some((Lent::Publish { fold, literals }, 17)) => Some(
+            fold == Fold::No && literals.len() == 1 && literals[0].as_slice() == b"cat".as_slice(),
+        ),
+        _ => Some(false),
     }
 }
 
@@ -150,7 +150,7 @@ fn read(alloc: Global, bytes: &[u8]) -> Option<((u8, u32, u64), usize)> {
 #[test]
 fn reads_a_publish_and_a_feed(rt: HostRuntime) {
     let alloc = rt.alloc();
-    assert!(rt; publishes_cat(alloc, &FRAMES));
+    assert_eq!(rt; publishes_cat(alloc, &FRAMES), Some(true));
     assert_eq!(rt; fed(alloc, &FEED), Some(b"concat".as_slice()));
 }
 
@@ -192,20 +192,30 @@ fn tells_other_causes_of_whole_frames(rt: HostRuntime) {
     );
 }
 
-/// Whether the front of the bytes is a frame with a wrong payload.
-fn has_wrong_payload(alloc: Global, bytes: &[u8]) -> bool {
-    cause_of(alloc, bytes) == Some(Cause::Payload)
-}
-
 #[test]
 fn tells_wrong_payloads_of_a_publish(rt: HostRuntime) {
     let alloc = rt.alloc();
     // No flags, unknown flags, no count, a cut literal, a rest.
-    assert!(rt; has_wrong_payload(alloc, &[0, 0, 0, 5, 1, 0, 0, 0, 0]));
-    assert!(rt; has_wrong_payload(alloc, &[0, 0, 0, 8, 1, 0, 0, 0, 0, 2, 0, 0]));
-    assert!(rt; has_wrong_payload(alloc, &[0, 0, 0, 7, 1, 0, 0, 0, 0, 0, 0]));
-    assert!(rt; has_wrong_payload(alloc, &[0, 0, 0, 10, 1, 0, 0, 0, 0, 0, 0, 1, 0, 1]));
-    assert!(rt; has_wrong_payload(alloc, &[0, 0, 0, 9, 1, 0, 0, 0, 0, 0, 0, 0, 9]));
+    assert_eq!(rt;
+        cause_of(alloc, &[0, 0, 0, 5, 1, 0, 0, 0, 0]),
+        Some(Cause::Payload)
+    );
+    assert_eq!(rt;
+        cause_of(alloc, &[0, 0, 0, 8, 1, 0, 0, 0, 0, 2, 0, 0]),
+        Some(Cause::Payload)
+    );
+    assert_eq!(rt;
+        cause_of(alloc, &[0, 0, 0, 7, 1, 0, 0, 0, 0, 0, 0]),
+        Some(Cause::Payload)
+    );
+    assert_eq!(rt;
+        cause_of(alloc, &[0, 0, 0, 10, 1, 0, 0, 0, 0, 0, 0, 1, 0, 1]),
+        Some(Cause::Payload)
+    );
+    assert_eq!(rt;
+        cause_of(alloc, &[0, 0, 0, 9, 1, 0, 0, 0, 0, 0, 0, 0, 9]),
+        Some(Cause::Payload)
+    );
 }
 
 #[test]
@@ -213,9 +223,15 @@ fn tells_other_wrong_payloads(rt: HostRuntime) {
     let alloc = rt.alloc();
     // A number of seven bytes; something where nothing is wanted.
     let seven = [0, 0, 0, 12, 2, 0, 0, 0, 7, 0, 0, 0, 0, 0, 0, 0];
-    assert!(rt; has_wrong_payload(alloc, &seven));
-    assert!(rt; has_wrong_payload(alloc, &[0, 0, 0, 6, 4, 0, 0, 0, 7, 0]));
-    assert!(rt; has_wrong_payload(alloc, &[0, 0, 0, 6, 5, 0, 0, 0, 7, 0]));
+    assert_eq!(rt; cause_of(alloc, &seven), Some(Cause::Payload));
+    assert_eq!(rt;
+        cause_of(alloc, &[0, 0, 0, 6, 4, 0, 0, 0, 7, 0]),
+        Some(Cause::Payload)
+    );
+    assert_eq!(rt;
+        cause_of(alloc, &[0, 0, 0, 6, 5, 0, 0, 0, 7, 0]),
+        Some(Cause::Payload)
+    );
 }
 
 #[test]
@@ -349,5 +365,23 @@ fn writes_a_plan(rt: HostRuntime) -> Result<(), Fail> {
         0, 0, 0, 19, 0x16, 0, 0, 0, 7, 0, 0, 1, 0, 0, 0, 0, 0, 0, 1, 0x5f, 1, 0, 1,
     ];
     assert!(rt; is_written(rt.alloc(), &reply, &text)?);
+    Ok(())
+}
+
+/// The Hits of one hit and a Closed, behind a byte.
+fn replies_behind_a_byte(alloc: Global) -> Result<Vec<u8>, Fault> {
+    let mut out = vec![in alloc; 9u8]?;
+    append_hits(&mut out, 7, &[Hit { lit: 0, end_at: 6 }])?;
+    append_reply(&mut out, &Reply::Closed { stream: 7 })?;
+    Ok(out)
+}
+
+#[test]
+fn appends_behind_what_is_there(rt: HostRuntime) -> Result<(), Fail> {
+    let text = [
+        9, 0, 0, 0, 17, 0x13, 0, 0, 0, 7, 0, 1, 0, 0, 0, 0, 0, 0, 0, 0, 0, 6, 0, 0, 0, 5, 0x15, 0,
+        0, 0, 7,
+    ];
+    assert!(rt; replies_behind_a_byte(rt.alloc())?.as_slice() == text.as_slice());
     Ok(())
 }
