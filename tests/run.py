@@ -21,6 +21,7 @@ import plan_files
 import planned
 import random_cases
 import refused_connections
+import refused_crates
 import refusing
 import scan_plans
 import serving
@@ -454,7 +455,7 @@ def random_plans():
 
 
 PARTS = (greps, usages, edges, streams, prompt, own_outputs, plans, scans, packs, random_greps, random_plans)
-PARTS += (*refusing.PARTS, *refused_connections.PARTS, *plan_files.PARTS)
+PARTS += (*refusing.PARTS, *refused_connections.PARTS, *refused_crates.PARTS, *plan_files.PARTS)
 
 
 def main():

@@ -1,0 +1,127 @@
+#!/usr/bin/env python3
+"""The tests of the crates with growths of memory refused in turn, by the shim refuse.c. Each test ends well, or tells
+that memory ran out, and no other answer comes in its place. It needs the programs that `rt test` leaves behind.
+
+    python3 tests/refused_crates.py [CRATE..]       a table of what is seen"""
+
+import collections
+import concurrent.futures
+import os
+import re
+import subprocess
+import sys
+import tempfile
+from typing import NamedTuple
+
+from refusing import built, taken
+
+TOP = os.path.dirname(os.path.dirname(os.path.abspath(__file__)))
+SECONDS = 60
+# Each of the first growths of a test is refused, and behind them those whose numbers grow by this factor.
+FIRST, BEHIND = 400, 1.3
+# How a test that fails shows what it was answered: a fault, or a value that it makes of one.
+STARVED = re.compile(rb"error: (OutOfMemory|AllocError|AllocFailed|Kind\(OutOfMemory\))|left: (None|(Err|Some)\(OutOfMemory\))$", re.M)
+# Tests of workers that wait for each other: where memory for a thread is refused, one worker does it all.
+TOGETHER = {"tests::runs_two_workers_at_once", "tests::runs_sixteen_workers_at_once"}
+
+
+class Test(NamedTuple):
+    """A test of a program of tests."""
+
+    program: str
+    name: str
+
+
+def program_of(crate):
+    return os.path.join(TOP, "crates", crate, "out", f"{crate}_tests")
+
+
+def tests_of(program):
+    """The tests of a program, but those that wait for threads."""
+    listed = subprocess.run([program, "--list"], capture_output=True, check=True).stdout.decode()
+    names = [line.removesuffix(": test") for line in listed.splitlines() if line.endswith(": test")]
+    return [Test(program, name) for name in names if name not in TOGETHER]
+
+
+def ended(folder, test, refused, seconds):
+    """How a test ends where this growth is refused: `own`, `starved` or else what it shows; and whether any was."""
+    mark = os.path.join(folder, f"mark-{os.getpid()}")
+    env = dict(os.environ, LD_PRELOAD=os.path.join(folder, "refuse.so"), REFUSED=refused, REFUSED_MARK=mark)
+    try:
+        done = subprocess.run(test, env=env, cwd=folder, capture_output=True, timeout=seconds)
+    except subprocess.TimeoutExpired:
+        return "no end", taken(mark) is not None
+    was_refused, shown = taken(mark) is not None, done.stdout + done.stderr
+    if done.returncode == 0:
+        return "own", was_refused
+    # A failed assertion ends by an abort, behind its message. Nothing else may end by a signal.
+    is_told = STARVED.search(shown) and (done.returncode > 0 or b"test stopped at" in shown)
+    return "starved" if is_told else f"{done.returncode}: {shown[-300:]!r}", was_refused
+
+
+def swept(folder, test, behind, seconds=SECONDS):
+    """The endings of a test by the growth that is refused, alone or with all behind it, and the last one, in which none
+    was."""
+    found, number = [], 1
+    while True:
+        how, was_refused = ended(folder, test, f"growth-{number}{behind}", seconds)
+        if not was_refused:
+            return found, how
+        found.append((number, how))
+        number = number + 1 if number < FIRST else int(number * BEHIND)
+
+
+def wrong_of(found, last):
+    """The growths at whose refusal a test ends as it may not."""
+    wrong = [(number, how) for number, how in found if how not in ("own", "starved")]
+    return wrong + [(None, last)] * (last != "own")
+
+
+# What the tests of mistaken_tests.c show, of which the first three are right.
+MISTAKES = {
+    "tells": [],
+    "compares": [],
+    "asks again": [],
+    "loses a byte": [1],
+    "takes a fault for nothing": [1],
+    "ends by a signal": [1],
+    "is silent": [1],
+    "waits": [1],
+}
+
+
+def mistakes():
+    """That a wrong ending is found, and no other."""
+    with tempfile.TemporaryDirectory() as folder:
+        built(folder, "refuse.c", "refuse.so", "-shared", "-fPIC")
+        for test in tests_of(built(folder, "mistaken_tests.c", "mistaken_tests", "-fno-builtin")):
+            found = wrong_of(*swept(folder, test, "", 1))
+            yield f"the mistaken test {test.name!r}", [number for number, _ in found], MISTAKES[test.name]
+
+
+PARTS = (mistakes,)
+
+
+def main(crates):
+    """What was wrong, and a table."""
+    crates = crates or [crate for crate in sorted(os.listdir(os.path.join(TOP, "crates"))) if os.path.exists(program_of(crate))]
+    jobs = [(crate, test, behind) for crate in crates for test in tests_of(program_of(crate)) for behind in ("", "-on")]
+    seen, all_wrong = collections.defaultdict(collections.Counter), 0
+    with tempfile.TemporaryDirectory() as folder, concurrent.futures.ProcessPoolExecutor(os.cpu_count()) as pool:
+        built(folder, "refuse.c", "refuse.so", "-shared", "-fPIC")
+        _, tests, behinds = zip(*jobs)
+        for (crate, test, behind), (found, last) in zip(jobs, pool.map(swept, [folder] * len(jobs), tests, behinds)):
+            for number, how in wrong_of(found, last):
+                all_wrong += 1
+                print(f"FAILED: {crate} {test.name}, growth{behind} {number} refused: {how}")
+            own = sum(how == "own" for _, how in found)
+            seen[crate].update(tests=not behind, growths=len(found), own=own)
+    print("| crate | tests | growths |")
+    for crate, counted in seen.items():
+        print(f"| {crate} | {counted['tests']} | {counted['growths']:,} ({counted['own']:,}) |")
+    print(f"{sum(counted['growths'] for counted in seen.values()):,} growths refused, {all_wrong} wrong endings")
+    return 1 if all_wrong else 0
+
+
+if __name__ == "__main__":
+    sys.exit(main(sys.argv[1:]))
