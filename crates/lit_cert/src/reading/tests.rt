@@ -43,8 +43,8 @@ fn reads_the_certificate_of_three_literals(rt: HostRuntime) -> Result<(), Fail> 
     Ok(())
 }
 
-/// Whether the text is what is written of the certificate of three literals.
-fn is_written_of_three(alloc: Global) -> Result<bool, Fault> {
+/// What is written of the certificate of three literals where there is so much room, and the answer.
+fn written_of_three(alloc: Global, room: usize) -> Result<(Vec<u8>, Option<Fault>), AllocError> {
     let mut ends = ArrayVec::new();
     ends.push(1);
     ends.push(2);
@@ -54,15 +54,25 @@ fn is_written_of_three(alloc: Global) -> Result<bool, Fault> {
         cost: 934,
         potentials: POTENTIALS.to_vec(alloc)?,
     };
-    let mut room = [0; 300];
-    let mut out = CutOut::within(&mut room);
-    write_cert(alloc, &certificate, &mut out)?;
-    Ok(out.written() == TEXT)
+    let mut space = vec![in alloc; 0u8; room]?;
+    let mut out = CutOut::within(&mut space);
+    let fault = write_cert(alloc, &certificate, &mut out).err();
+    Ok((out.written().to_vec(alloc)?, fault))
 }
 
 #[test]
 fn writes_the_text_of_three_literals(rt: HostRuntime) -> Result<(), Fail> {
-    assert!(rt; is_written_of_three(rt.alloc())?);
+    let (text, fault) = written_of_three(rt.alloc(), 300)?;
+    assert_eq!(rt; fault, None);
+    assert!(rt; text.as_slice() == TEXT);
+    Ok(())
+}
+
+#[test]
+fn writes_as_much_of_it_as_there_is_room_for(rt: HostRuntime) -> Result<(), Fail> {
+    let (text, fault) = written_of_three(rt.alloc(), 12)?;
+    assert_eq!(rt; fault, Some(Fault::WriteFault));
+    assert!(rt; text.as_slice() == b"litcert 1\nli".as_slice());
     Ok(())
 }
 
@@ -214,19 +224,26 @@ fn cost_read_with_refusal(alloc: Global, call: u64) -> Result<u64, Fault> {
 }
 
 /// Whether the reader answers a refusal of this call, or the cost where it makes fewer calls.
-fn is_refusal_told(alloc: Global, call: u64) -> bool {
+fn is_refusal_told(alloc: Global, call: u64) -> Result<bool, AllocError> {
     let cost = cost_read_with_refusal(alloc, call);
-    // Reads of at most 50 bytes, and the one that finds the end.
-    if call < TEXT.len().div_ceil(50) as u64 + 1 {
-        cost == Err(Fault::ReadFault)
-    } else {
-        cost == Ok(934)
+    if cost == Err(Fault::OutOfMemory) {
+        return Err(AllocError);
     }
+    // Reads of at most 50 bytes, and the one that finds the end.
+    let is_read = call >= TEXT.len().div_ceil(50) as u64 + 1;
+    Ok(
+        cost == if is_read {
+            Ok(934)
+        } else {
+            Err(Fault::ReadFault)
+        },
+    )
 }
 
 #[test]
-fn tells_each_refused_read(rt: HostRuntime) {
+fn tells_each_refused_read(rt: HostRuntime) -> Result<(), Fail> {
     for call in 0..9 {
-        assert!(rt; is_refusal_told(rt.alloc(), call), "at call {call}");
+        assert!(rt; is_refusal_told(rt.alloc(), call)?, "at call {call}");
     }
+    Ok(())
 }
