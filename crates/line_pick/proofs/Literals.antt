@@ -150,3 +150,10 @@ module _ (l : Literals) (normal : IsNormal l) (line : List ℕ) where
         let w = (matching.matches l.folding true l.texts line).0 e in
         let o = occurs_whole w.0 w.1 w.2 w.3 w.4 in none w.0 o.0 o.1)
     whole-matches (Some place) found = sym ((matching.matches l.folding true l.texts line).1 (whole_at place found.counted found.occurs))
+
+  -- where all literals are shorter than a line it is none of them
+  pub whole-shorter : ((place : ℕ) → place < length l.texts → get_or (lengths l) place 0 < length line) → false ≡ matches l.folding true l.texts line
+  whole-shorter shorter = not_passed (matches l.folding true l.texts line) (λ e.
+      let w = (matching.matches l.folding true l.texts line).0 e in
+      let same : length line ≡ length w.1 = sym (length-map line (folded l.folding)) ∙ ap length w.4 ∙ length-map w.1 (folded l.folding) in
+      omega (arith, shorter w.0 w.2, own_length w.0 w.1 (own w.0 w.1 w.2 w.3), same))

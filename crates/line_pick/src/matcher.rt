@@ -95,10 +95,13 @@ fn has_literal(compiled: &Compiled, line: &[u8]) -> bool
 }
 
 /// Whether the line as a whole is one of the literals.
-fn is_literal(list: &LitList, line: &[u8]) -> bool
+pub(crate) fn is_literal(list: &LitList, line: &[u8]) -> bool
     ensures { result ≡ matches list.now.folding true list.now.texts line.now }
 {
     list.normal_law();
+    if are_shorter(list, line.len()) {
+        return false;
+    }
     let first = first_as_long(list, line.len());
     list.next_ending(line, line.len(), first).is_some()
 }
@@ -120,6 +123,17 @@ fn first_as_long(list: &LitList, len: usize) -> usize
         }
     }
     low
+}
+
+/// Whether the longest literal is shorter than `len`, as it is for most lines: they need no search.
+fn are_shorter(list: &LitList, len: usize) -> bool
+    ensures { IsTrue result → (place : ℕ) → place < length list.now.texts
+        → slice_index (lengths list.now) place < len }
+{
+    if list.is_empty() {
+        return false;
+    }
+    list.longest() < len
 }
 
 /// Whether no literal of the plan holds a newline, as a picker requires.

@@ -1,8 +1,8 @@
-//! How the lines of a text are lent: without -x those alone that are lent are split.
-ghost use Rattle.std.specs.Prelude.{◌≡◌, ◌≢◌, ◌≤◌, ◌<◌, ◌+◌, ◌^◌, ◌∷◌, [], All, IfOk, false, length};
+//! How the lines of a text are lent: where hits are rare, those alone are split that are lent or hold a literal.
+ghost use Rattle.std.specs.Prelude.{◌≡◌, ◌≢◌, ◌≤◌, ◌<◌, ◌+◌, ◌^◌, ◌∷◌, [], All, IfOk, false, length, true};
 ghost use Rattle.std.specs.Option.{option_copied};
 ghost use Rattle.lit_base.specs.Lines.{IsOnePiece, ended_lines, open_rest};
-ghost use Rattle.lit_base.specs.Selected.{is_selected};
+ghost use Rattle.lit_base.specs.Selected.{is_selected, matches};
 ghost use Rattle.line_pick.specs.Lending.{Lent, answer_of, numbered};
 ghost use Rattle.line_pick.specs.Matching.{AreInLines, picks};
 
@@ -11,9 +11,18 @@ use crate::fault::Fault;
 use crate::halt::Halt;
 use crate::hit_line::first_hit_line;
 use crate::lending::{lend_if, lend_lines};
-use crate::matcher::Matcher;
+use crate::line_rule::LineRule;
+use crate::matcher::{Matcher, is_literal};
 use crate::sink::Sink;
 use flow_scan::Compiled;
+
+/// A hit that is no whole line takes about as long as splitting so many bytes into lines: 190 ns with 30
+/// words of English, where splitting took 0.8 ns a byte.
+const HIT_COST: usize = 256;
+
+/// So many bytes' worth of such hits are looked at, where nothing was passed over between them, before
+/// the rest of a text is split line by line.
+const CREDIT: usize = 16 * HIT_COST;
 
 /// Lends the selected ones of the lines of a text that a newline ends, and answers how many lines
 /// there are by then. So many stand before the text.
@@ -32,22 +41,22 @@ pub(crate) fn lend_text<S: Sink>(
     ensures bound { IfOk result (λ lines. lines ≤ before + length text.now) }
     ensures faults { result ≢ Err (Halt.Failed Fault.StreamTooLong) }
 {
-    if matcher.rule.whole {
-        return lend_lines(matcher, text, before, sink);
-    }
     if matcher.has_empty {
+        if matcher.rule.whole {
+            return lend_lines(matcher, text, before, sink);
+        }
         return lend_all(!matcher.rule.invert, text, before, sink);
     }
     match matcher.plan {
-        Some(compiled) => lend_hit_lines(compiled, matcher.rule.invert, text, before, sink),
+        Some(compiled) => lend_hit_lines(compiled, matcher.rule, text, before, sink),
         None => lend_all(matcher.rule.invert, text, before, sink),
     }
 }
 
-/// Lends the lines that hold a literal, or under `invert` the others.
+/// Lends the lines that hold a literal, or under -x those that are one, or under -v the others.
 fn lend_hit_lines<S: Sink>(
     compiled: &Compiled,
-    invert: bool,
+    rule: LineRule,
     text: &[u8],
     before: u64,
     sink: &mut S,
@@ -56,7 +65,7 @@ fn lend_hit_lines<S: Sink>(
     requires closed { open_rest text.now ≡ [] }
     requires apart { All IsOnePiece compiled.now.literals.texts }
     ensures lent { let list = compiled.now.literals in Lent S.takes sink.old
-        (numbered (is_selected list.folding false invert list.texts) before (ended_lines text.now))
+        (numbered (is_selected list.folding rule.whole rule.invert list.texts) before (ended_lines text.now))
         (answer_of result) sink.new }
     ensures count { IfOk result (λ lines. lines ≡ before + length (ended_lines text.now)) }
     ensures bound { IfOk result (λ lines. lines ≤ before + length text.now) }
@@ -64,13 +73,77 @@ fn lend_hit_lines<S: Sink>(
 {
     let mut rest = text;
     let mut lines = before;
+    let mut credit = CREDIT;
     while let Some(hit) = first_hit_line(compiled, rest) {
-        lines = lend_all(invert, hit.missed, lines, sink)?;
-        lend_if(!invert, hit.line, lines, sink)?;
+        lines = lend_all(rule.invert, hit.missed, lines, sink)?;
+        let selected = selects_at_hit(compiled, rule, hit.line);
+        lend_if(selected, hit.line, lines, sink)?;
         lines += 1;
         rest = hit.behind;
+        credit = credit_behind(rule, credit, hit.missed);
+        if credit == 0 {
+            return lend_each_line(compiled, rule, rest, lines, sink);
+        }
     }
-    lend_all(invert, rest, lines, sink)
+    lend_all(rule.invert, rest, lines, sink)
+}
+
+/// What is left under -x of a credit behind a hit, with the text that the search for it passed over.
+#[inline(always)]
+fn credit_behind(rule: LineRule, credit: usize, missed: &[u8]) -> usize {
+    if !rule.whole {
+        return credit;
+    }
+    let gained = credit.saturating_add(missed.len()).min(CREDIT);
+    gained.saturating_sub(HIT_COST)
+}
+
+/// Lends the selected lines, each of which is split and compared.
+fn lend_each_line<S: Sink>(
+    compiled: &Compiled,
+    rule: LineRule,
+    text: &[u8],
+    before: u64,
+    sink: &mut S,
+) -> Result<u64, Halt>
+    requires { before + length text.now < 2 ^ 64 }
+    ensures lent { let list = compiled.now.literals in Lent S.takes sink.old
+        (numbered (is_selected list.folding rule.whole rule.invert list.texts) before (ended_lines text.now))
+        (answer_of result) sink.new }
+    ensures count { IfOk result (λ lines. lines ≡ before + length (ended_lines text.now)) }
+    ensures bound { IfOk result (λ lines. lines ≤ before + length text.now) }
+    ensures faults { result ≢ Err (Halt.Failed Fault.StreamTooLong) }
+{
+    let matcher = Matcher {
+        plan: Some(compiled),
+        has_empty: false,
+        rule,
+    };
+    lend_lines(matcher, text, before, sink)
+}
+
+/// Whether a line that holds a literal is selected.
+#[inline(always)]
+fn selects_at_hit(compiled: &Compiled, rule: LineRule, line: &[u8]) -> bool
+    requires { let list = compiled.now.literals in matches list.folding false list.texts line.now ≡ true }
+    ensures { let list = compiled.now.literals in
+        result ≡ is_selected list.folding rule.whole rule.invert list.texts line.now }
+{
+    matches_at_hit(compiled, rule.whole, line) != rule.invert
+}
+
+/// Whether a line that holds a literal matches: under -x it may be more than the literal.
+#[inline(always)]
+fn matches_at_hit(compiled: &Compiled, whole: bool, line: &[u8]) -> bool
+    requires { let list = compiled.now.literals in matches list.folding false list.texts line.now ≡ true }
+    ensures { let list = compiled.now.literals in
+        result ≡ matches list.folding whole list.texts line.now }
+{
+    if whole {
+        is_literal(compiled.list(), line)
+    } else {
+        true
+    }
 }
 
 /// Lends all lines of the text if they are selected, and else counts them.

@@ -1,4 +1,6 @@
 //! What no clause says: worked rows, and the texts of faults.
+mod whole_lines;
+
 use super::*;
 use crate::matcher::{is_in_lines, standing_law};
 use list_plan::compile;

@@ -1,5 +1,5 @@
 -- What is lent of the rest is lent of the text, and the lines of the rest are still to be counted.
-use Rattle.std.proofs.Common.{◌≡◌, ◌≤◌, ◌+◌, [], false, length}
+use Rattle.std.proofs.Common.{◌≡◌, ◌≤◌, ◌+◌, [], length}
 use Rattle.lit_base.specs.Lines.{ended_lines, open_rest}
 use Rattle.lit_base.specs.Selected.{is_selected}
 use Rattle.line_pick.specs.Lending.{numbered}
@@ -11,7 +11,7 @@ invariant-loop-hit g l = record {
   closed : open_rest l.rest ≡ [];
   room : l.lines + length l.rest ≤ l.fn.before + length l.fn.text;
   count : l.lines + length (ended_lines l.rest) ≡ l.fn.before + length (ended_lines l.fn.text);
-  lent : LentOn g.S.Sink.takes l.initial.sink (numbered (is_selected l.compiled.literals.folding false l.invert l.compiled.literals.texts) l.fn.before (ended_lines l.fn.text)) l.sink (numbered (is_selected l.compiled.literals.folding false l.invert l.compiled.literals.texts) l.lines (ended_lines l.rest));
+  lent : LentOn g.S.Sink.takes l.initial.sink (numbered (is_selected l.compiled.literals.folding l.rule.whole l.rule.invert l.compiled.literals.texts) l.fn.before (ended_lines l.fn.text)) l.sink (numbered (is_selected l.compiled.literals.folding l.rule.whole l.rule.invert l.compiled.literals.texts) l.lines (ended_lines l.rest));
 }
 
 abbrev pub decreases-loop-hit : goal.decreases-loop-hit

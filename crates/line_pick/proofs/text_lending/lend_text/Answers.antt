@@ -1,5 +1,5 @@
 -- Each line is selected, or none, or those by the literals.
-use Rattle.std.proofs.Common.{◌≡◌, Some, not, ap, false}
+use Rattle.std.proofs.Common.{◌≡◌, Some, not, ap}
 use Rattle.std.specs.Option.{option_copied}
 use Rattle.lit_base.specs.Lines.{ended_lines}
 use Rattle.lit_base.specs.Selected.{is_selected}
@@ -8,21 +8,21 @@ use Rattle.line_pick.proofs.AroundHitLines.{picks-literals, picks-none, picks-nu
 use Rattle.line_pick.proofs.LentLemmas.{Lent-lines, numbered-same}
 use Rattle.line_pick.proofs.text_lending.lend_text.Goals as goal
 
-pub returns-then-matcher-2-clause-lent : goal.returns-then-matcher-2-clause-lent
-returns-then-matcher-2-clause-lent g c =
+pub returns-then-matcher-clause-lent : goal.returns-then-matcher-clause-lent
+returns-then-matcher-clause-lent g c =
     let m = c.args.matcher in
-    Lent-lines (numbered-same (λ _. not m.rule.invert) (picks m) c.args.before (ended_lines c.args.text.now) (λ k d inside. picks-null m c.if-matcher.false _ c.if-matcher-2.true)) c.lend_all.ensures.lent
+    Lent-lines (numbered-same (λ _. not m.rule.invert) (picks m) c.args.before (ended_lines c.args.text.now) (λ k d inside. picks-null m _ c.if-matcher-2.false c.if-matcher.true)) c.lend_all.ensures.lent
 
 pub returns-in-Some-clause-lent : goal.returns-in-Some-clause-lent
 returns-in-Some-clause-lent g c =
     let m = c.args.matcher in
     let p = c.in-Some.compiled.now in
     let known : option_copied m.plan ≡ Some p = ap option_copied c.in-Some.is in
-    Lent-lines (numbered-same (is_selected p.literals.folding false m.rule.invert p.literals.texts) (picks m) c.args.before (ended_lines c.args.text.now)
-    (λ k d inside. picks-literals m c.if-matcher.false _ p c.if-matcher-2.false known)) c.lend_hit_lines.ensures.lent
+    Lent-lines (numbered-same (is_selected p.literals.folding m.rule.whole m.rule.invert p.literals.texts) (picks m) c.args.before (ended_lines c.args.text.now)
+    (λ k d inside. picks-literals m _ p c.if-matcher.false known)) c.lend_hit_lines.ensures.lent
 
 pub returns-in-None-clause-lent : goal.returns-in-None-clause-lent
 returns-in-None-clause-lent g c =
     let m = c.args.matcher in
     Lent-lines (numbered-same (λ _. m.rule.invert) (picks m) c.args.before (ended_lines c.args.text.now)
-    (λ k d inside. picks-none m c.if-matcher.false _ c.if-matcher-2.false (ap option_copied c.in-None.is))) c.lend_all-in-None.ensures.lent
+    (λ k d inside. picks-none m _ c.if-matcher.false (ap option_copied c.in-None.is))) c.lend_all-in-None.ensures.lent
