@@ -1,18 +1,21 @@
 #!/usr/bin/env python3
 """Measures scand beside `cat` and beside a server of the same frames on Hyperscan's streams, in turns in one run.
 
-    python3 bench/serving.py [--size MB] [--turns N] [--only WORD] [--scand NAME=PATH ..] [--write]
+    python3 bench/serving.py [--size MB] [--turns N] [--only WORD] [--tables NAME ..] [--scand NAME=PATH ..] [--first] [--write]
 
 Over standard input and output: one stream, its Feeds from a file through `cat` and its replies to nowhere, beside
 `cat` in the server's place, and bin/bench_scan where it is built, which feeds the same text in memory; round trips of
-Feeds of 100 bytes, beside `cat` as an echo; and memory. Over the loopback: one connection beside 64. Figures are
-medians; what a session costs before its first Feed is taken off processor and wall time. Replies are compared with
-the peer's. With --write the tables go to bench/SERVING.md. bench/peers/install.sh builds the peer.
+Feeds of 100 bytes, beside `cat` as an echo; and memory. Over the loopback: one connection beside 64, also of a server
+that reads and answers the frames, and looks for nothing. Figures are medians; what a session costs before its first Feed
+is taken off processor and wall time of one stream. Replies are compared with the peer's. With --first all of it runs at
+real-time priority, so that it waits for no other program; that takes root, and others wait. With --write each table
+that was measured takes its place in bench/SERVING.md. bench/peers/install.sh builds the peer.
 """
 import argparse
 import hashlib
 import os
 import random
+import re
 import resource
 import statistics
 import subprocess
@@ -28,6 +31,8 @@ from sessions import feed, open_stream, publish  # noqa: E402
 
 SCAN = os.path.join(HERE, "../bin/bench_scan")
 PEER = os.path.join(HERE, "peers/bin/serve")
+TABLES = os.path.join(HERE, "SERVING.md")
+MANY = 64
 
 
 # ---------------------------------------------------------------- sessions
@@ -206,48 +211,91 @@ def memory(ours):
 
 # ---------------------------------------------------------------- the loopback
 
-def connections(ours, options):
-    """A table of one connection beside 64: throughput, and processor time for a byte."""
+def loaded(words, number, files, blocks, size):
+    """GB/s over all connections, the server's processor seconds for a GB, and the bytes that came."""
+    with Port(words[0], number, *words[1:]) as server:
+        seconds, came = server.load(*files, blocks)
+        return size / seconds / 1e9, server.processor_seconds() / size * 1e9, came
+
+
+def connections(folder, ours, options):
+    """A table of one connection beside 64, and the rows whose replies are not as long as the peer's."""
     text = log_block(0, MB)[:MB // 65536 * 65536]
-    lines = ["| loopback, Feeds of 64 KiB | 1, GB/s | 64, GB/s | ratio | 1, cpu s/GB | 64, cpu s/GB | ratio |", "|---" * 7 + "|"]
-    for kind, count in ("rare", 100), ("frequent", 1000):
-        literals = literals_of(kind, count, text)
-        feeds = b"".join(feed(1, text[at:at + 65536]) for at in range(0, len(text), 65536))
-        for name, path in [*ours, *[(name, words[0]) for name, words in peers()]]:
-            if not Port.is_served_by(path):
-                continue
-            found = {1: [], 64: []}
-            for _ in range(options.turns):
-                for number in found:
-                    blocks = max(1, options.size // (8 if kind == "frequent" else 1) // number)
-                    size = number * blocks * len(text)
-                    with Port(path, number) as server:
-                        wall = server.load(publish(literals), feeds, blocks)
-                        found[number].append((size / wall / 1e9, server.processor_seconds() / size * 1e9))
-            one, many = ([statistics.median(column) for column in zip(*found[number])] for number in (1, 64))
-            lines.append("| %s, %d %s | %.2f | %.2f | %.2f | %.3f | %.3f | %.2f |" % (
-                name, count, kind, one[0], many[0], many[0] / one[0], one[1], many[1], many[1] / one[1]))
+    servers = [(name, [path]) for name, path in ours if Port.is_served_by(path)]
+    servers += [(name, words[:1]) for name, words in peers()] + [("no scan", [PEER, "--unscanned"])] * bool(peers())
+    lines = ["| loopback, Feeds of 64 KiB | 1, GB/s | %d, GB/s | ratio | 1, cpu s/GB | %d, cpu s/GB | ratio | least and greatest ratio |" % (MANY, MANY),
+             "|---" * 8 + "|"]
+    files, wrong = [os.path.join(folder, "publish"), os.path.join(folder, "feeds")], []
+    with open(files[1], "wb") as out:
+        out.write(b"".join(feed(1, text[at:at + 65536]) for at in range(0, len(text), 65536)))
+    for kind, count, share in ("rare", 100, 4), ("rare", 1000, 4), ("frequent", 1000, 1 / 8):
+        with open(files[0], "wb") as out:
+            out.write(publish(literals_of(kind, count, text)))
+        found = {(name, number): [] for name, _ in servers for number in (1, MANY)}
+        blocks = max(1, int(options.size * share) // MANY)
+        for _ in range(options.turns):
+            for name, words in servers:
+                for number in 1, MANY:
+                    times = blocks * MANY // number
+                    found[name, number].append(loaded(words, number, files, times, times * number * len(text)))
+        came = {(number, came) for (name, number), runs in found.items() if name != "no scan" for _, _, came in runs}
+        wrong += ["loopback, %d %s" % (count, kind)] * (len(came) > 2)
+        for name, _ in servers:
+            one, many = (list(zip(*found[name, number])) for number in (1, MANY))
+            speeds, costs = ([statistics.median(column[figure]) for column in (one, many)] for figure in (0, 1))
+            ratios = [high / low for low, high in zip(one[1], many[1])]
+            lines.append("| %s, %d %s | %.2f | %.2f | %.2f | %.3f | %.3f | %.2f | %.2f, %.2f |" % (
+                name, count, kind, *speeds, speeds[1] / speeds[0], *costs, costs[1] / costs[0], min(ratios), max(ratios)))
             print(lines[-1], flush=True)
-    return lines if len(lines) > 2 else []
+    return lines, wrong
+
+
+# ---------------------------------------------------------------- output
+
+TITLES = {"stream": "One stream", "trips": "Round trips", "memory": "Memory", "loopback": "One connection and many"}
+
+
+def write(found, options):
+    """Puts each table in the place of the one before it. What else a part of the file says stays, behind its table."""
+    with open(TABLES) as file:
+        text = file.read()
+    how = ", at real-time priority" * options.first
+    for name, lines in found.items():
+        part = "## %s\n\n%s%s\n\n%s\n" % (TITLES[name], machine(options.size).rstrip("."), how + ".", "\n".join(lines))
+        text, count = re.subn(r"## %s\n\n[^\n]*\n\n(\|[^\n]*\n)*" % TITLES[name], lambda _: part, text)
+        text += "" if count else "\n" + part
+    with open(TABLES, "w") as out:
+        out.write(text)
+
+
+def options_given():
+    parser = argparse.ArgumentParser(description=__doc__, formatter_class=argparse.RawDescriptionHelpFormatter)
+    parser.add_argument("--size", type=int, default=1024,
+                        help="megabytes of a stream, an eighth where literals are frequent; four times that over the loopback")
+    parser.add_argument("--turns", type=int, default=5)
+    parser.add_argument("--only", default="", help="rows of one stream whose name holds this")
+    parser.add_argument("--tables", nargs="+", choices=TITLES, default=list(TITLES), help="what is measured")
+    parser.add_argument("--scand", action="append", default=[], metavar="NAME=PATH")
+    parser.add_argument("--first", action="store_true", help="run before all other programs")
+    parser.add_argument("--write", action="store_true")
+    return parser.parse_args()
 
 
 def main():
-    parser = argparse.ArgumentParser(description=__doc__, formatter_class=argparse.RawDescriptionHelpFormatter)
-    parser.add_argument("--size", type=int, default=1024, help="megabytes of a stream; an eighth where literals are frequent")
-    parser.add_argument("--turns", type=int, default=5)
-    parser.add_argument("--only", default="", help="rows of one stream whose name holds this")
-    parser.add_argument("--scand", action="append", default=[], metavar="NAME=PATH")
-    parser.add_argument("--write", action="store_true")
-    options = parser.parse_args()
+    options = options_given()
     ours = [tuple(given.split("=", 1)) for given in options.scand] or [("scand", os.path.join(HERE, "../bin/scand"))]
     resource.setrlimit(resource.RLIMIT_NOFILE, (4096, 4096))
-    with tempfile.TemporaryDirectory(prefix="scand-bench-") as folder:
-        one, wrong = throughput(folder, ours, options)
-    tables = [one, round_trips(ours, options), memory(ours), connections(ours, options)]
+    if options.first:
+        os.sched_setscheduler(0, os.SCHED_RR, os.sched_param(5))
+    takes = {"stream": lambda folder: throughput(folder, ours, options), "trips": lambda _: (round_trips(ours, options), []),
+             "memory": lambda _: (memory(ours), []), "loopback": lambda folder: connections(folder, ours, options)}
+    found, wrong = {}, []
+    for name in options.tables:
+        with tempfile.TemporaryDirectory(prefix="scand-bench-") as folder:
+            found[name], others = takes[name](folder)
+            wrong += others
     if options.write:
-        with open(os.path.join(HERE, "SERVING.md"), "w") as out:
-            out.write("# scand beside a server on Hyperscan\n\n%s\n\n" % machine(options.size))
-            out.write("\n\n".join("\n".join(table) for table in tables if table) + "\n")
+        write(found, options)
     for title in wrong:
         print("other replies than the peer's: " + title)
     return 1 if wrong else 0

@@ -3,7 +3,6 @@ import os
 import socket
 import subprocess
 import sys
-import threading
 import time
 
 from programs import HERE
@@ -12,6 +11,7 @@ sys.path.insert(0, os.path.join(HERE, "../tests"))
 from sessions import HITS, feed, open_stream  # noqa: E402
 
 MORE = bytes([HITS])
+LOAD = os.path.join(HERE, "peers/bin/load")
 
 
 class Stdio:
@@ -93,25 +93,15 @@ class Connection(Stdio):
     def receive(self):
         return self.socket.recv(1 << 20)
 
-    def sends_blocks(self, feeds, blocks):
-        for _ in range(blocks):
-            self.socket.sendall(feeds)
-        self.socket.shutdown(socket.SHUT_WR)
-
-    def receives_all(self):
-        room = bytearray(1 << 20)
-        while self.socket.recv_into(room):
-            pass
-
 
 class Port:
     """A server on a port of the loopback, for so many connections."""
 
-    def __init__(self, path, count):
+    def __init__(self, path, count, *more):
         with socket.socket() as taken:
             taken.bind(("127.0.0.1", 0))
             self.port = taken.getsockname()[1]
-        words = [path, "--port", str(self.port), "--connections", str(count)]
+        words = [path, "--port", str(self.port), "--connections", str(count), *more]
         self.child = subprocess.Popen(words, stdout=subprocess.DEVNULL)
         self.count, self.clients = count, []
 
@@ -147,19 +137,10 @@ class Port:
         return Stdio.resident(self)
 
     def load(self, plan, feeds, blocks):
-        """The seconds that all connections together take for these Feeds, so many times each."""
-        clients = [self.connect() for _ in range(self.count)]
-        number = int.from_bytes(clients[0].asks(plan)[9:], "big")
-        for client in clients:
-            client.asks(open_stream(1, number))
-        threads = [threading.Thread(target=client.sends_blocks, args=(feeds, blocks)) for client in clients]
-        threads += [threading.Thread(target=client.receives_all) for client in clients]
-        before = time.monotonic()
-        for thread in threads:
-            thread.start()
-        for thread in threads:
-            thread.join()
-        return time.monotonic() - before
+        """The seconds that all connections together take for a file of Feeds, so many times each, and the bytes that come."""
+        words = [LOAD, str(self.port), str(self.count), plan, feeds, str(blocks)]
+        seconds, came = subprocess.run(words, stdout=subprocess.PIPE, check=True).stdout.split()
+        return float(seconds), int(came)
 
     def processor_seconds(self):
         """The processor time of the server, once it has ended."""

@@ -1,15 +1,21 @@
 // Times Hyperscan on a text: all occurrences of the literals of a file, one a line.
 //
-//   hyperscan TEXT LITERALS block|stream TURNS
+//   hyperscan TEXT LITERALS block|stream|WORKERS TURNS
 //
-// It prints the median seconds of a scan and the number of hits.
+// So many workers, at most 16, are threads that share the text; a hit that two parts share is lost. It prints the median
+// seconds of a scan and the number of hits.
 #include <hs/hs.h>
+#include <pthread.h>
 #include <stdio.h>
 #include <stdlib.h>
 #include <string.h>
 #include <time.h>
 
-enum { PIECE = 65536 };
+enum { PIECE = 65536, WORKERS = 16 };
+
+struct part { const char *bytes; size_t length; hs_scratch_t *scratch; unsigned long long hits; };
+
+static hs_database_t *database;
 
 static char *read_file(const char *name, size_t *length) {
     FILE *file = fopen(name, "rb");
@@ -41,11 +47,31 @@ static int by_size(const void *a, const void *b) {
     return (x > y) - (x < y);
 }
 
+static void *scan_part(void *context) {
+    struct part *part = context;
+    part->hits = 0;
+    hs_scan(database, part->bytes, part->length, 0, part->scratch, count_hit, &part->hits);
+    return NULL;
+}
+
+static unsigned long long scan_parts(struct part *parts, int workers) {
+    pthread_t threads[WORKERS];
+    for (int i = 1; i < workers; i++) pthread_create(&threads[i], NULL, scan_part, &parts[i]);
+    scan_part(&parts[0]);
+    unsigned long long hits = parts[0].hits;
+    for (int i = 1; i < workers; i++) {
+        pthread_join(threads[i], NULL);
+        hits += parts[i].hits;
+    }
+    return hits;
+}
+
 int main(int count, char **words) {
-    if (count != 5) { fprintf(stderr, "hyperscan TEXT LITERALS block|stream TURNS\n"); return 2; }
+    if (count != 5) { fprintf(stderr, "hyperscan TEXT LITERALS block|stream|WORKERS TURNS\n"); return 2; }
     size_t length, list_length;
     char *text = read_file(words[1], &length), *list = read_file(words[2], &list_length);
     int streams = !strcmp(words[3], "stream"), turns = atoi(words[4]);
+    int workers = atoi(words[3]) > WORKERS ? WORKERS : atoi(words[3]);
     const char **literals = malloc(sizeof *literals * (list_length + 1));
     unsigned *flags = calloc(list_length + 1, sizeof *flags), *ids = malloc(sizeof *ids * (list_length + 1));
     size_t *lengths = malloc(sizeof *lengths * (list_length + 1));
@@ -56,7 +82,6 @@ int main(int count, char **words) {
         if (end > at) { literals[n] = at; lengths[n] = end - at; ids[n] = n; n++; }
         at = end + 1;
     }
-    hs_database_t *database;
     hs_compile_error_t *error;
     if (hs_compile_lit_multi(literals, flags, ids, lengths, n, streams ? HS_MODE_STREAM : HS_MODE_BLOCK, NULL, &database, &error)) {
         fprintf(stderr, "%s\n", error->message);
@@ -64,12 +89,20 @@ int main(int count, char **words) {
     }
     hs_scratch_t *scratch = NULL;
     hs_alloc_scratch(database, &scratch);
+    struct part parts[WORKERS] = { 0 };
+    for (int i = 0; i < workers; i++) {
+        size_t from = length * i / workers;
+        parts[i] = (struct part){ .bytes = text + from, .length = length * (i + 1) / workers - from };
+        hs_alloc_scratch(database, &parts[i].scratch);
+    }
     double *times = malloc(sizeof *times * turns);
     unsigned long long hits = 0;
     for (int turn = 0; turn < turns; turn++) {
         hits = 0;
         double before = now();
-        if (streams) {
+        if (workers) {
+            hits = scan_parts(parts, workers);
+        } else if (streams) {
             hs_stream_t *stream;
             hs_open_stream(database, 0, &stream);
             for (size_t at = 0; at < length; at += PIECE)

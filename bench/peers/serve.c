@@ -3,7 +3,9 @@
 // client, takes literals that differ in case alone for two, and ends at anything else.
 //
 //   serve --stdio
-//   serve --port P --connections N
+//   serve --port P --connections N [--unscanned]
+//
+// With --unscanned it looks for nothing, and answers each Feed by its Fed: what the frames cost without a scan.
 #include <arpa/inet.h>
 #include <hs/hs.h>
 #include <netinet/tcp.h>
@@ -33,6 +35,7 @@ struct session {
 
 static hs_database_t *plans[PLANS];
 static unsigned published;
+static int unscanned;
 static pthread_mutex_t lock = PTHREAD_MUTEX_INITIALIZER;
 
 static uint64_t number_at(const uint8_t *at, int size) {
@@ -165,7 +168,7 @@ static void answer(struct session *s, const uint8_t *frame, size_t size) {
     case FEED:
         stream = stream_of(s, name, 1);
         s->feeding = name;
-        hs_scan_stream(stream->scan, (const char *)payload, (unsigned)(size - HEAD), 0, s->scratch, on_hit, s);
+        if (!unscanned) hs_scan_stream(stream->scan, (const char *)payload, (unsigned)(size - HEAD), 0, s->scratch, on_hit, s);
         end_group(s);
         end_hits(s);
         stream->place += size - HEAD;
@@ -221,7 +224,8 @@ static int listen_on(int port, int count) {
 }
 
 int main(int count, char **words) {
-    if (count == 5) return listen_on(atoi(words[2]), atoi(words[4]));
+    unscanned = count == 6;
+    if (count >= 5) return listen_on(atoi(words[2]), atoi(words[4]));
     static struct session alone = { .in = 0, .out = 1 };
     serve(&alone);
     return 0;
