@@ -7,3 +7,7 @@ returns-clause-planned c =
     let made : IsPlanned c.args.list c.in_ok-certificate.certificate =
     record { first = c.in_ok-certificate.ensures.first; cost = c.in_ok-certificate.ensures.cost; potentials = c.in_ok-certificate.ensures.potentials } in
     rw c.in-Ok.ensures.ok made
+
+-- and what no assignment costs less than is its cost
+pub returns-clause-least : goal.returns-clause-least
+returns-clause-least c = rw c.in-Ok.ensures.ok c.in-Ok.ensures.least
