@@ -16,10 +16,11 @@ use Rattle.lit_cert.specs.Spelling.{HasText, IsShaped, literals_in, spelling}
 use Rattle.lit_cert.specs.declared.fault.Fault.{Fault}
 use Rattle.lit_cert.specs.declared.fault.Fault.TheVariants.{BadCertText, ReadFault}
 use Rattle.lit_base.specs.declared.fold.Fold.{Fold}
-use Rattle.plan_run.specs.Answers.{Answer, AnswersCheck, AnswersInput, AnswersList, AnswersPlan, AnswersScan, AnswersUnless, AreHitsTold, IsCheckAnswer, IsPlanAnswer, IsVerdict, Judged, Unread, Wrong, certificate_source, check_asks, input_source, refused_with, scan_asks, told}
-use Rattle.plan_run.specs.Lists.{input_message, list_in, list_message, search_message, text_in}
+use Rattle.lit_base.specs.declared.lit_list.Normal.{Normal}
+use Rattle.plan_run.specs.Answers.{Answer, AnswersCheck, AnswersExplain, AnswersInput, AnswersList, AnswersPlan, AnswersScan, AnswersUnless, AreHitsTold, IsCheckAnswer, IsExplainAnswer, IsPlanAnswer, IsVerdict, Judged, Unread, Wrong, certificate_source, check_asks, input_source, refused_with, scan_asks, told}
+use Rattle.plan_run.specs.Lists.{ArePlaces, input_message, list_in, list_message, patterns_in, search_message, text_in}
 use Rattle.plan_run.specs.Messages.{message_on, refused, unusable}
-use Rattle.plan_run.specs.Running.{Asks, Begun, Explains, Silent, TakesList, TakesPlan, TakesText, Tells, Writes}
+use Rattle.plan_run.specs.Running.{Asks, Begun, Explains, Silent, TakesList, TakesPlaces, TakesPlan, TakesText, Tells, Writes}
 use Rattle.plan_run.specs.declared.status.Status.{Status}
 use Rattle.plan_run.specs.declared.stop.Stop.{Stop}
 use Rattle.plan_run.specs.declared.stop.Stop.TheVariants.{OutOfMemory, Refused, WriteFault}
@@ -237,3 +238,30 @@ judged list name certificate r old new (Some x) (Some y) c found clean tells e =
     let same : x ≡ coming_of c = (cc) in
     tells-weaker (IsVerdict list certificate) (IsCheckAnswer list name (Some c)) r old new (λ a verdict.
     Judged c certificate refl (false-if c.is_faulty (λ set. subst (λ z. z.ending ≢ Faulty) same clean (ap (λ b. cond b Faulty Clean) set))) found.0 (ap (λ z. z.text) (sym same) ∙ found.1) verdict) tells
+
+-- ---- a plan that is explained
+
+-- the plan of a list that is had
+pub explain-had : (fold : Fold) (svg : Bool) (file : List ℕ) (known mid : Option Sources) (found : Literals × Normal) (r : Result Status Stop) (old new : Option (List ℕ))
+    → Told known mid (λ s left. AreShort s → (left ≡ after (ask_of file) s) × TakesPlaces fold file (taken_by (ask_of file) s) (Ok found))
+    → ((patterns : List (List ℕ)) → ArePlaces found.0 patterns found.1.place_of.items → Tells (IsExplainAnswer found.0 svg patterns) r old new)
+    → Told known mid (λ s left. AreShort s → Asks r (ask_of file ∷ []) s left × Tells (AnswersExplain fold svg file s) r old new)
+explain-had fold svg file known mid found r old new reads tells =
+    Told-weaker known mid _ (λ s left. AreShort s → Asks r (ask_of file ∷ []) s left × Tells (AnswersExplain fold svg file s) r old new) reads (λ s left h short.
+    let taken = h short in
+    let source : Option Content = taken_by (ask_of file) s in (
+      asks-all r (ask_of file ∷ []) s left taken.0,
+      tells-list fold file source (λ list. IsExplainAnswer list svg (patterns_in source)) found.0 r old new (taken.1.0, taken.1.1) (tells (patterns_in source) taken.1.2),
+    ))
+
+-- and of one that is not
+pub explain-stopped : (fold : Fold) (svg : Bool) (file : List ℕ) (known mid : Option Sources) (stop : Stop) (out : Option (List ℕ))
+    → Told known mid (λ s left. AreShort s → (left ≡ after (ask_of file) s) × TakesPlaces fold file (taken_by (ask_of file) s) (Err stop))
+    → Told known mid (λ s left. AreShort s → Asks {T = Status} (Err stop) (ask_of file ∷ []) s left × Tells (AnswersExplain fold svg file s) (Err stop) out out)
+explain-stopped fold svg file known mid stop out reads =
+    Told-weaker known mid _ (λ s left. AreShort s → Asks {T = Status} (Err stop) (ask_of file ∷ []) s left × Tells (AnswersExplain fold svg file s) (Err stop) out out) reads (λ s left h short.
+    let taken = h short in
+    let source : Option Content = taken_by (ask_of file) s in (
+      asks-all {T = Status} (Err stop) (ask_of file ∷ []) s left taken.0,
+      tells-stop fold file source (λ list. IsExplainAnswer list svg (patterns_in source)) stop out taken.1,
+    ))

@@ -2,7 +2,8 @@
 use Rattle.std.specs.Prelude.{◌≡◌, ℕ, Bool, true, false, List, [], ◌∷◌, length, if◌then◌else◌, is_some, Option, Some, None, MatchOption, string_bytes}
 use Rattle.byte_io.specs.Sources.{Ask, Content, Created, Named, Sources, after, ask_of, can_create, taken_by}
 use Rattle.list_plan.specs.Planned.{IsPlanned}
-use Rattle.lit_base.specs.Literals.{Literals}
+use Rattle.lit_base.specs.Costs.{run_cost}
+use Rattle.lit_base.specs.Literals.{Literals, lengths}
 use Rattle.lit_base.specs.Occurrences.{IsHits}
 use Rattle.lit_base.specs.declared.fold.Fold.{Fold}
 use Rattle.lit_cert.specs.Certificates.{CertificateParts}
@@ -10,11 +11,14 @@ use Rattle.lit_cert.specs.Certified.{IsCertified, IsFirstFailure}
 use Rattle.lit_cert.specs.Reading.{IsFirstBad}
 use Rattle.lit_cert.specs.Spelling.{HasText, spelling}
 use Rattle.lit_cert.specs.declared.reason.Reason.{Reason}
+use Rattle.plan_view.specs.Drawings.{plan_svg}
+use Rattle.plan_view.specs.Texts.{plan_text}
+use Rattle.run_planner.specs.FirstCut.{IsFirstCut}
 use Rattle.plan_run.specs.declared.request.Request.{Request}
-use Rattle.plan_run.specs.declared.request.Request.TheVariants.{Plan, Check, Pack, Scan}
+use Rattle.plan_run.specs.declared.request.Request.TheVariants.{Plan, Check, Pack, Explain, Scan}
 use Rattle.plan_run.specs.declared.status.Status.{Status}
 use Rattle.plan_run.specs.declared.status.Status.TheVariants.{Done, NotCertified, Trouble}
-use Rattle.plan_run.specs.Lists.{input_message, list_in, list_message, search_message, text_in}
+use Rattle.plan_run.specs.Lists.{ArePlaces, input_message, list_in, list_message, patterns_in, search_message, text_in}
 use Rattle.plan_run.specs.Messages.{hits_text, not_certified, optimal, refused, unusable}
 
 -- a text on standard output, a message, and a status
@@ -101,11 +105,34 @@ abbrev pub AnswersPack : Fold → List ℕ → List ℕ → Sources → Answer �
 AnswersPack fold file output s =
     AnswersUnless (search_message fold file (taken_by (ask_of file) s)) (IsPackAnswer output (can_create output s.creatable))
 
+-- a list that is cut at these ends, whose patterns stand at these places: its drawing where that is asked for, else its text
+abbrev pub explained : Bool → Literals → List ℕ → List (Option ℕ) → List ℕ
+explained svg list ends places = if svg then plan_svg list ends else plan_text list ends places
+
+-- on a list of these patterns: what there is to see of the first of its cheapest cuts
+pub record IsExplained (list : Literals) (svg : Bool) (patterns : List (List ℕ)) (a : Answer) : Type 0 where
+  pub ends : List ℕ
+  pub places : List (Option ℕ)
+  pub first : IsFirstCut (run_cost (lengths list)) 8 (length list.texts) ends
+  pub placed : ArePlaces list patterns places
+  pub is : a ≡ told (explained svg list ends places) Done
+
+-- likewise, or that there is nothing to explain
+pub data IsExplainAnswer (list : Literals) (svg : Bool) (patterns : List (List ℕ)) (a : Answer) : Type 0 where
+  Unplanned : length list.texts ≡ 0 → a ≡ refused_with (refused 5) → IsExplainAnswer list svg patterns a
+  Explained : IsExplained list svg patterns a → IsExplainAnswer list svg patterns a
+
+-- to explain
+abbrev pub AnswersExplain : Fold → Bool → List ℕ → Sources → Answer → Type 0
+AnswersExplain fold svg file s =
+    AnswersList fold file (taken_by (ask_of file) s) (λ list. IsExplainAnswer list svg (patterns_in (taken_by (ask_of file) s)))
+
 -- what a request has to answer
 abbrev pub IsAnswerTo : Request → Sources → Answer → Type 0
 IsAnswerTo (Plan fold file) s a = AnswersPlan fold (string_bytes file) s a
 IsAnswerTo (Check fold file certificate) s a = AnswersCheck fold (string_bytes file) (string_bytes certificate) s a
 IsAnswerTo (Pack fold file output) s a = AnswersPack fold (string_bytes file) (string_bytes output) s a
+IsAnswerTo (Explain fold svg file) s a = AnswersExplain fold svg (string_bytes file) s a
 IsAnswerTo (Scan r) s a = AnswersScan r.fold r.count (string_bytes r.file) (string_bytes r.input) s a
 
 -- what is asked for, in order: the file of patterns, and the certificate once there is a list
@@ -127,4 +154,5 @@ abbrev pub asks_of : Request → Sources → List Ask
 asks_of (Plan fold file) s = ask_of (string_bytes file) ∷ []
 asks_of (Check fold file certificate) s = check_asks fold (string_bytes file) (string_bytes certificate) s
 asks_of (Pack fold file output) s = pack_asks fold (string_bytes file) (string_bytes output) s
+asks_of (Explain fold svg file) s = ask_of (string_bytes file) ∷ []
 asks_of (Scan r) s = scan_asks r.fold (string_bytes r.file) (string_bytes r.input) s

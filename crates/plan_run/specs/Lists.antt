@@ -1,11 +1,12 @@
 -- What a file gives: the list of its lines' literals, a text to search, or a message.
 use Rattle.std.specs.Prelude.{ℕ, List, [], length, nat_eq, nat_lt, if◌then◌else◌, Option, Some, None}
+use Rattle.std.specs.List.{AllZip}
 use Rattle.std.specs.Option.{option_map}
 use Rattle.byte_io.specs.Sources.{Content}
 use Rattle.lit_base.specs.Faults.{number_of}
 use Rattle.lit_base.specs.Lines.{lines}
 use Rattle.lit_base.specs.Literals.{Literals}
-use Rattle.lit_base.specs.NormalForm.{normal_form}
+use Rattle.lit_base.specs.NormalForm.{IsPlaceOf, normal_form}
 use Rattle.lit_base.specs.RawLists.{earlier, text_refusal}
 use Rattle.lit_base.specs.declared.fault.Fault.{Fault}
 use Rattle.lit_base.specs.declared.fault.Fault.TheVariants.{TooManyLiterals}
@@ -61,3 +62,12 @@ input_message name (Some c) = if c.is_faulty then Some (unusable name) else None
 abbrev pub text_in : Option Content → List ℕ
 text_in None = []
 text_in (Some c) = c.text
+
+-- the patterns of what was asked for
+abbrev pub patterns_in : Option Content → List (List ℕ)
+patterns_in None = []
+patterns_in (Some c) = lines c.text
+
+-- where these patterns stand in the list: a null one nowhere, another where its folded text does
+abbrev pub ArePlaces : Literals → List (List ℕ) → List (Option ℕ) → Type 0
+ArePlaces list patterns places = AllZip (IsPlaceOf list.folding list.texts) patterns places

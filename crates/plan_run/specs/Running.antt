@@ -7,6 +7,7 @@ use Rattle.byte_io.specs.Sources.{Ask, AsksFront, Content, Sources, after_all}
 use Rattle.flow_scan.specs.Plans.{Plan}
 use Rattle.lit_base.specs.Literals.{Literals}
 use Rattle.lit_base.specs.declared.fold.Fold.{Fold}
+use Rattle.lit_base.specs.declared.lit_list.Normal.{Normal}
 use Rattle.list_plan.specs.Planned.{IsPlanned}
 use Rattle.plan_run.specs.declared.request.Request.{Request}
 use Rattle.plan_run.specs.declared.status.Status.{Status}
@@ -14,7 +15,7 @@ use Rattle.plan_run.specs.declared.status.Status.TheVariants.{Trouble}
 use Rattle.plan_run.specs.declared.stop.Stop.{Stop}
 use Rattle.plan_run.specs.declared.stop.Stop.TheVariants.{OutOfMemory, Refused, WriteFault}
 use Rattle.plan_run.specs.Answers.{Answer, IsAnswerTo, asks_of, refused_with}
-use Rattle.plan_run.specs.Lists.{input_message, list_in, list_message, plan_message, search_message, text_in}
+use Rattle.plan_run.specs.Lists.{ArePlaces, input_message, list_in, list_message, patterns_in, plan_message, search_message, text_in}
 use Rattle.plan_run.specs.Messages.{message_on, out_of_memory, write_fault}
 
 -- the stop is a write that failed
@@ -60,6 +61,12 @@ Explains OutOfMemory message = ⊤
 abbrev pub TakesList : Fold → List ℕ → Option Content → Result Literals Stop → Type 0
 TakesList fold name source (Ok list) = (list_message fold name source ≡ None) × (list ≡ list_in fold source)
 TakesList fold name source (Err stop) = Explains stop (list_message fold name source)
+
+-- likewise, with where each pattern stands in the list
+abbrev pub TakesPlaces : Fold → List ℕ → Option Content → Result (Literals × Normal) Stop → Type 0
+TakesPlaces fold name source (Ok found) =
+    (list_message fold name source ≡ None) × (found.0 ≡ list_in fold source) × ArePlaces found.0 (patterns_in source) found.1.place_of.items
+TakesPlaces fold name source (Err stop) = Explains stop (list_message fold name source)
 
 -- the plan is the list's
 pub record IsPlanOf (list : Literals) (plan : Plan) : Type 0 where

@@ -2,6 +2,7 @@
 #![tactic(auto)]
 
 mod answering;
+mod explaining;
 mod judging;
 mod listing;
 mod message;

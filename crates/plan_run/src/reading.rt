@@ -2,12 +2,13 @@
 ghost use Rattle.std.specs.Prelude.{◌≡◌, ◌≢◌, IfErr, IfOk, MatchResult, None, Some, false};
 ghost use Rattle.byte_io.specs.Devices.{Told};
 ghost use Rattle.byte_io.specs.Sources.{AreShort, Content, IsShort, after, ask_of, coming_of, taken_by};
-ghost use Rattle.plan_run.specs.Lists.{list_refusal, literals_of};
-ghost use Rattle.plan_run.specs.Running.{TakesList, TakesText, is_write};
+ghost use Rattle.lit_base.specs.Lines.{lines};
+ghost use Rattle.plan_run.specs.Lists.{ArePlaces, list_refusal, literals_of};
+ghost use Rattle.plan_run.specs.Running.{TakesList, TakesPlaces, TakesText, is_write};
 
 use crate::stop::{Refusal, Stop};
 use byte_io::{ByteIn, Files, ReadError, open_operand, read_to_end};
-use lit_base::{Fault, Fold, LitList, MAX_TEXT_LEN, RawList};
+use lit_base::{Fault, Fold, LitList, MAX_TEXT_LEN, Normal, RawList};
 use std::alloc::Global;
 
 /// The list of a file of patterns, which is read to its end unless it is too large; `-` is standard
@@ -22,27 +23,44 @@ pub fn list_of<'a, F: Files>(
         → (left ≡ after (ask_of file.now) s) × TakesList fold file.now (taken_by (ask_of file.now) s) result) }
     ensures unwritten { IfErr result (λ stop. is_write stop ≡ false) }
 {
+    match placed_list_of(alloc, fold, file, files) {
+        Ok((list, _normal)) => Ok(list),
+        Err(stop) => Err(stop),
+    }
+}
+
+/// The list of a file of patterns, and where each pattern stands in it.
+pub fn placed_list_of<'a, F: Files>(
+    alloc: Global,
+    fold: Fold,
+    file: &'a str,
+    files: &mut F,
+) -> Result<(LitList, Normal), Stop<'a>>
+    ensures list { Told (F.sources files.old) (F.sources files.new) (λ s left. AreShort s
+        → (left ≡ after (ask_of file.now) s) × TakesPlaces fold file.now (taken_by (ask_of file.now) s) result) }
+    ensures unwritten { IfErr result (λ stop. is_write stop ≡ false) }
+{
     match open_operand(files, file) {
         Ok(mut input) => list_from(alloc, fold, file, &mut input),
         Err(_) => Err(Stop::Refused(Refusal::Unusable(file))),
     }
 }
 
-/// The list of a file of patterns that is open.
+/// The list of a file of patterns that is open, and where each pattern stands in it.
 fn list_from<'a, I: ByteIn>(
     alloc: Global,
     fold: Fold,
     file: &'a str,
     input: &mut I,
-) -> Result<LitList, Stop<'a>>
+) -> Result<(LitList, Normal), Stop<'a>>
     ensures list { (c : Content) → I.coming input.old ≡ Some (coming_of c) → IsShort c
-        → TakesList fold file.now (Some c) result }
+        → TakesPlaces fold file.now (Some c) result }
     ensures unwritten { IfErr result (λ stop. is_write stop ≡ false) }
 {
     let mut text = Vec::new(alloc);
     match read_to_end(input, MAX_TEXT_LEN, &mut text) {
         Ok(()) => match listed(alloc, fold, text.as_slice()) {
-            Ok(list) => Ok(list),
+            Ok(found) => Ok(found),
             Err(Fault::OutOfMemory) => Err(Stop::OutOfMemory),
             Err(fault) => Err(Stop::Refused(Refusal::Patterns(fault))),
         },
@@ -52,17 +70,17 @@ fn list_from<'a, I: ByteIn>(
     }
 }
 
-/// The list of a text's lines.
-fn listed(alloc: Global, fold: Fold, text: &[u8]) -> Result<LitList, Fault>
-    ensures ok { IfOk result (λ list. list ≡ record { folding = fold; texts = literals_of fold text.now }) }
+/// The list of a text's lines, and where each line stands in it.
+fn listed(alloc: Global, fold: Fold, text: &[u8]) -> Result<(LitList, Normal), Fault>
+    ensures ok { IfOk result (λ found. found.0 ≡ record { folding = fold; texts = literals_of fold text.now }) }
+    ensures places { IfOk result (λ found. ArePlaces found.0 (lines text.now) found.1.place_of.items) }
     ensures refusal { MatchResult result
         (λ _. list_refusal fold text.now ≡ None)
         (λ fault. fault ≢ Fault.OutOfMemory → list_refusal fold text.now ≡ Some fault) }
 {
     let mut patterns = RawList::new(alloc);
     patterns.add_file_bytes(text)?;
-    let (list, _) = LitList::normal(alloc, &patterns, fold)?;
-    Ok(list)
+    Ok(LitList::normal(alloc, &patterns, fold)?)
 }
 
 /// The whole text of an operand.

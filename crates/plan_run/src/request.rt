@@ -30,6 +30,15 @@ pub enum Request {
         /// The plan file, which is made or emptied.
         output: String,
     },
+    /// Explain the plan of the patterns of a file.
+    Explain {
+        /// Which case differences are ignored.
+        fold: Fold,
+        /// Whether the plan is drawn, in place of a text.
+        svg: bool,
+        /// The file of patterns; `-` is standard input.
+        file: String,
+    },
     /// Find the patterns of a file in an input.
     Scan(Scan),
 }

@@ -5,6 +5,7 @@ ghost use Rattle.byte_io.specs.Sources.{AreShort};
 ghost use Rattle.plan_run.specs.Running.{Answers, Ends, is_write_fault};
 
 use crate::answering::{answer_check, answer_plan};
+use crate::explaining::answer_explain;
 use crate::message::say;
 use crate::packing::answer_pack;
 use crate::request::Request;
@@ -75,6 +76,9 @@ pub fn answer<'a, R: Threads + Sync, F: Files, W: ByteOut>(
         ),
         Request::Pack { fold, file, output } => {
             answer_pack(alloc, *fold, file.as_str(), output.as_str(), files)
+        }
+        Request::Explain { fold, svg, file } => {
+            answer_explain(alloc, *fold, *svg, file.as_str(), files, out)
         }
         Request::Scan(scan) => answer_scan(rt, alloc, scan, files, out),
     }

@@ -1,7 +1,13 @@
 -- All patterns were taken, and there are not too many literals.
-use Rattle.std.proofs.Common.{rules}
-use Rattle.plan_run.proofs.ListLemmas.{not-refused}
+use Rattle.std.proofs.Common.{rules, ◌≡◌}
+use Rattle.lit_base.specs.Lines.{lines}
+use Rattle.plan_run.proofs.ListLemmas.{not-refused, placed}
 use Rattle.plan_run.proofs.reading.listed.Goals as goal
+
+pub returns-clause-places : goal.returns-clause-places
+returns-clause-places c =
+    let raw : c.add_file_bytes.new.self ≡ lines c.args.text.now = search rules in
+    placed c.args.fold _ c.in_ok-normal.field-0.0 (lines c.args.text.now) c.add_file_bytes.new.self c.in_ok-normal.field-0.1.place_of.items c.in_ok-normal.ensures.list raw c.in_ok-normal.ensures.places
 
 pub returns-clause-refusal : goal.returns-clause-refusal
 returns-clause-refusal c =
