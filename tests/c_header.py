@@ -2,6 +2,7 @@
 talk of its example with the scand in bin/."""
 
 import os
+import socket
 import struct
 import subprocess
 import tempfile
@@ -100,7 +101,28 @@ def headers():
             done = subprocess.run([program, str(server.port), "a", ""], input=b"a", capture_output=True, timeout=60)
             yield "a refusal in C", (done.returncode, done.stdout, done.stderr), (2, b"", b"scan: refused (4), detail 1\n")
         done = subprocess.run([program, str(server.port), "a"], input=b"a", capture_output=True, timeout=60)
-        yield "no server in C", (done.returncode, done.stdout, done.stderr), (2, b"", b"scan: no server\n")
+        told = b"scan: 127.0.0.1:%d: Connection refused\n" % server.port
+        yield "no server in C", (done.returncode, done.stdout, done.stderr), (2, b"", told)
+        for words in ["7000"], ["0", "a"], ["port", "a"], ["65536", "a"]:
+            done = subprocess.run([program, *words], capture_output=True, timeout=60)
+            yield f"words {words} in C", (done.returncode, done.stderr[:27]), (2, b"scan: usage: scan PORT LITE")
+        yield from strangers(program)
+
+
+def strangers(program):
+    """Servers that end at once, and that are another kind of server: the program says which."""
+    for reply, why in (b"", b"it ended the connection"), (b"HTTP/1.1 400", b"what it sent is no reply to what was asked"):
+        with socket.socket() as listener:
+            listener.bind(("127.0.0.1", 0))
+            listener.listen()
+            port = listener.getsockname()[1]
+            with subprocess.Popen([program, str(port), "a"], stdin=subprocess.DEVNULL, stderr=subprocess.PIPE) as talk:
+                peer, _ = listener.accept()
+                with peer:
+                    peer.recv(1000)
+                    peer.sendall(reply)
+                told = talk.stderr.read()
+            yield f"a server that sends {reply!r}, in C", (talk.returncode, told), (2, b"scan: 127.0.0.1:%d: %s\n" % (port, why))
 
 
 PARTS = (headers,)

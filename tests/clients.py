@@ -204,12 +204,55 @@ def canned():
     with socket.socket() as taken:
         taken.bind(("127.0.0.1", 0))
         yield "a port that nobody serves", fault_of(Client.connect, "127.0.0.1", taken.getsockname()[1])[0], "ConnectionLost"
-    yield "a program that is not there", fault_of(Client.spawn, ["/none"])[0], "ConnectionLost"
+    dialed = []
+    with Resumed(lambda: dialed.append(1) or Client.spawn(["/none"]), PRONOUNS) as stream:
+        got = fault_of(stream.feed, b"a")[0], len(dialed)
+    yield "a program that is not there, which is not tried again", got, ("NotStarted", 1)
     with tempfile.TemporaryFile() as file:
         with Client.spawn([*SERVER, "--plans", "/none"], stderr=file) as client:
             yield "a plan file that is not there", fault_of(client.open, 0)[0], "ConnectionLost"
         file.seek(0)
         yield "what the server says of it", file.read(), b"scand: /none: cannot be read\n"
+
+
+def told(call, *words, **named):
+    """What the fault says that a call raises."""
+    try:
+        return f"nothing: {call(*words, **named)!r}"
+    except Exception as fault:
+        return str(fault)
+
+
+def names():
+    """Each fault names the server that it is about."""
+    for port in 0, -1, 65536:
+        yield f"port {port}", told(Client.connect, "127.0.0.1", port), f"127.0.0.1:{port}: a port is a number from 1 to 65535"
+    with socket.socket() as listener:
+        listener.bind(("127.0.0.1", 0))
+        port = listener.getsockname()[1]
+        name = f"127.0.0.1:{port}"
+        yield "nobody listens", told(Client.connect, "127.0.0.1", port), f"{name}: Connection refused"
+        listener.listen()
+        for reply, want in (
+            (b"", f"{name} ended the connection"),
+            (b"HTTP/1.1 400", f"{name} sent what is no reply to what was asked: a length of {0x48545450}"),
+            (None, f"{name}: no byte went either way for 0.1 seconds"),
+        ):
+            with Client.connect("127.0.0.1", port, timeout=0.1 if reply is None else SECONDS) as client:
+                peer, _ = listener.accept()
+                with peer:
+                    client._send(sessions.publish(PRONOUNS))
+                    client._turn()
+                    peer.recv(1000)
+                    if reply is not None:
+                        peer.sendall(reply)
+                        peer.shutdown(socket.SHUT_WR)
+                    yield f"a server that sends {reply!r}", told(client._expect, 0, ()), want
+            yield "and is closed", told(client.publish, PRONOUNS), f"the connection to {name} is closed"
+    yield "a host that is not there", told(Client.connect, "none.invalid", 7000).partition(":7000: ")[0], "none.invalid"
+    yield "a program that is not there", told(Client.spawn, ["/none"]), "/none: No such file or directory"
+    with Client.spawn(["true"]) as client:
+        yield "a program that ends", told(client.publish, PRONOUNS), "true ended the connection"
 
 
 class Cut:
@@ -398,9 +441,13 @@ def files():
         missing = b"scan_files: none: No such file or directory\n"
         yield "a file that is missing", run(*own, "none", "third"), (2, b"third:0 9\n", missing)
         yield "a list that is missing", run("--stdio", SCAND, "-f", "none", "third"), (2, b"", missing)
-        yield "a list that is refused", run(*own[:3], "second", "third")[:2], (2, b"")
+        refused = b"scan_files: second: NoLiterals (5), detail 0, stream 0\n"
+        yield "a list that is refused", run(*own[:3], "second", "third"), (2, b"", refused)
         yield "a list that fits no frame", run(*own[:3], "first", "third")[:2], (2, b"")
-        yield "a server that is missing", run("--stdio", "/none", "-f", "words", "third")[:2], (2, b"")
+        missing = b"scan_files: /none: No such file or directory\n"
+        yield "a server that is missing", run("--stdio", "/none", "-f", "words", "third"), (2, b"", missing)
+        ended = b"scan_files: true ended the connection\n"
+        yield "a program that is no server", run("--stdio", "true", "-f", "words", "third"), (2, b"", ended)
 
 
-PARTS = (frames, talks, refusals, random_talks, canned, lost_everywhere, lost_often, resuming, files)
+PARTS = (frames, talks, refusals, random_talks, canned, names, lost_everywhere, lost_often, resuming, files)

@@ -2,12 +2,12 @@
 
        cc -std=c99 -Wall -Wextra -o scan clients/c/scan.c && ./scan 7000 cat dog < text
 
-   The words behind the port are the literals. Status 0, or 2 at an error: with a message, unless standard input or
-   output fails. */
+   The words behind the port are the literals. Status 0, or 2 at an error, with a message. */
 
 #define _POSIX_C_SOURCE 200809L
 
 #include <arpa/inet.h>
+#include <errno.h>
 #include <inttypes.h>
 #include <netinet/in.h>
 #include <stdio.h>
@@ -21,6 +21,7 @@ enum { STREAM = 1, LITERALS = 4096 };
 
 static uint8_t sent[SCAND_FRAME], got[SCAND_FRAME];
 static size_t held, used;
+static int port;
 
 static void fail(const char *what)
 {
@@ -28,13 +29,20 @@ static void fail(const char *what)
     exit(2);
 }
 
-static int connected(int port)
+/* Ends with the server's name, and why it is of no use. */
+static void lose(const char *why)
+{
+    fprintf(stderr, "scan: 127.0.0.1:%d: %s\n", port, why);
+    exit(2);
+}
+
+static int connected(void)
 {
     struct sockaddr_in to = {.sin_family = AF_INET, .sin_port = htons((uint16_t)port)};
     to.sin_addr.s_addr = htonl(INADDR_LOOPBACK);
     int peer = socket(AF_INET, SOCK_STREAM, 0);
     if (peer < 0 || connect(peer, (struct sockaddr *)&to, sizeof to) != 0) {
-        fail("no server");
+        lose(strerror(errno));
     }
     return peer;
 }
@@ -47,7 +55,7 @@ static void send_frame(int peer, size_t size)
     for (size_t at = 0; at < size;) {
         ssize_t moved = send(peer, sent + at, size - at, MSG_NOSIGNAL);
         if (moved < 0) {
-            fail("the connection is lost");
+            lose(strerror(errno));
         }
         at += (size_t)moved;
     }
@@ -63,7 +71,7 @@ static struct scand_frame reply(int peer)
     for (;;) {
         enum scand_state state = scand_take((struct scand_text){got, held}, &frame, &used);
         if (state == SCAND_WRONG || (state == SCAND_WHOLE && !scand_is_reply(&frame))) {
-            fail("no reply");
+            lose("what it sent is no reply to what was asked");
         }
         if (state == SCAND_WHOLE && frame.kind == SCAND_REFUSED) {
             fprintf(stderr, "scan: refused (%d), detail %d\n", scand_code(&frame), scand_detail(&frame));
@@ -74,7 +82,7 @@ static struct scand_frame reply(int peer)
         }
         ssize_t moved = recv(peer, got + held, sizeof got - held, 0);
         if (moved <= 0) {
-            fail("the connection is lost");
+            lose(moved < 0 ? strerror(errno) : "it ended the connection");
         }
         held += (size_t)moved;
     }
@@ -96,13 +104,14 @@ int main(int count, char **words)
 {
     static struct scand_text literals[LITERALS];
     static uint8_t piece[SCAND_PAYLOAD];
-    if (count < 3 || count - 2 > LITERALS) {
-        fail("usage: scan PORT LITERAL..");
+    port = count < 3 ? 0 : atoi(words[1]);
+    if (port < 1 || port > 65535 || count - 2 > LITERALS) {
+        fail("usage: scan PORT LITERAL.., with a port from 1 to 65535 and at most 4096 literals");
     }
     for (int place = 2; place < count; place++) {
         literals[place - 2] = (struct scand_text){(const uint8_t *)words[place], strlen(words[place])};
     }
-    int peer = connected(atoi(words[1]));
+    int peer = connected();
     send_frame(peer, scand_put_publish(sent, sizeof sent, 0, literals, (size_t)count - 2));
     struct scand_frame published = reply(peer);
     send_frame(peer, scand_put_open(sent, sizeof sent, STREAM, scand_number(&published)));
@@ -111,5 +120,11 @@ int main(int count, char **words)
         feed(peer, (struct scand_text){piece, size});
     }
     close(peer);
-    return ferror(stdin) || fflush(stdout) != 0 ? 2 : 0;
+    if (ferror(stdin)) {
+        fail("standard input cannot be read");
+    }
+    if (fflush(stdout) != 0 || ferror(stdout)) {
+        fail("standard output cannot be written");
+    }
+    return 0;
 }

@@ -7,14 +7,14 @@ by length and bytes, and how many bytes of the file there are up to its end. Wit
     python3 clients/python/scan_files.py --stdio bin/scand -f WORDS FILE...
 
 WORDS has one literal a line; empty lines count for nothing. FILE `-` is standard input. A lost connection is taken up
-again. Status 0: hits were found; 1: none; 2: a file could not be read, the list was refused, or the server was lost for
+again, up to five times in a row and once by a scand of its own. Status 0: hits were found; 1: none; 2: a file could not be read, the list was refused, or the server was lost for
 good.
 """
 
 import argparse
 import sys
 
-from scand_client import Client, Resumed, ScandError, pieces_of
+from scand_client import Client, Refused, Resumed, ScandError, pieces_of
 
 
 def arguments() -> argparse.Namespace:
@@ -67,8 +67,10 @@ def main() -> int:
     try:
         with open(given.file, "rb") as file:
             words = [word for word in file.read().split(b"\n") if word]
-        with Resumed(lambda: dial(given), words, given.ignore_case) as stream:
+        with Resumed(lambda: dial(given), words, given.ignore_case, tries=2 if given.stdio else 6) as stream:
             return scan_all(given, stream)
+    except Refused as fault:
+        print(f"scan_files: {given.file}: {fault}", file=sys.stderr)
     except (ScandError, ValueError) as fault:
         print(f"scan_files: {fault}", file=sys.stderr)
     except OSError as fault:

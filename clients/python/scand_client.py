@@ -12,8 +12,8 @@
 Feeds on their way. `Resumed` is a stream that is taken up again where a connection is lost, by the plan that it
 published: each hit is given once, with its place in the whole stream.
 
-Each fault is a `ScandError`: `Refused` and its classes, one for each number of refusal, `ConnectionLost`, `TimedOut`
-and `BadReply`. A client belongs to one thread. Standard library alone, Python 3.9 and later; frames are described in
+Each fault is a `ScandError`: `Refused` and its classes, one for each number of refusal, `ConnectionLost`, `NotStarted`,
+`TimedOut` and `BadReply`; all but refusals name the server. A client belongs to one thread. Standard library alone, Python 3.9 and later; frames are described in
 docs/FORMATS.md.
 """
 
@@ -35,7 +35,7 @@ from typing import (
 
 __all__ = [
     "BadFrame", "BadReply", "Cause", "Client", "ConnectionLost", "EmptyLiteral", "Hit", "LiteralTooLong", "NoLiterals",
-    "NoSuchPlan", "NoSuchStream", "Plan", "PlanQuota", "PlanShown", "Refusal", "Refused", "Resumed", "ScandError", "Stream",
+    "NoSuchPlan", "NoSuchStream", "NotStarted", "Plan", "PlanQuota", "PlanShown", "Refusal", "Refused", "Resumed", "ScandError", "Stream",
     "StreamInUse", "StreamQuota", "StreamTooLong", "TimedOut", "TooManyLiterals", "TooManyPatterns", "pieces_of",
 ]
 
@@ -100,6 +100,10 @@ class ScandError(Exception):
 
 class ConnectionLost(ScandError, ConnectionError):
     """The connection could not be had, or ended before the reply."""
+
+
+class NotStarted(ConnectionLost):
+    """A server of one's own could not be started. It is not tried again."""
 
 
 class TimedOut(ScandError, TimeoutError):
@@ -308,8 +312,8 @@ class _Link:
 class Client:
     """One connection to a server. Made by `connect` or `spawn`; a context manager that closes it."""
 
-    def __init__(self, link: _Link, leave: Callable[[], None], timeout: Optional[float]) -> None:
-        self.timeout = timeout
+    def __init__(self, link: _Link, leave: Callable[[], None], timeout: Optional[float], name: str = "the server") -> None:
+        self.timeout, self.name = timeout, name
         self._link, self._leave = link, leave
         self._sent, self._got, self._at = bytearray(), bytearray(), 0
         self._streams: Dict[int, Stream] = {}
@@ -317,17 +321,21 @@ class Client:
 
     @classmethod
     def connect(cls, host: str, port: int, *, timeout: Optional[float] = 30.0) -> Client:
-        """A connection to a server. `timeout` bounds each wait in which no byte goes either way, in seconds."""
+        """A connection to a server. `timeout` bounds each wait in which no byte goes either way, in seconds. ValueError where
+        there is no such port."""
+        name = f"{host}:{port}"
+        if not 0 < port < 65536:
+            raise ValueError(f"{name}: a port is a number from 1 to 65535")
         try:
             peer = socket.create_connection((host, port), timeout)
             peer.setsockopt(socket.IPPROTO_TCP, socket.TCP_NODELAY, 1)
             peer.setblocking(False)
         except socket.timeout as fault:
-            raise TimedOut(f"{host}:{port} did not answer") from fault
+            raise TimedOut(f"{name} did not answer for {timeout} seconds") from fault
         except OSError as fault:
-            raise ConnectionLost(f"{host}:{port}: {fault}") from fault
+            raise ConnectionLost(f"{name}: {fault.strerror or fault}") from fault
         link = _Link(peer.recv, peer.send, peer.fileno(), peer.fileno())
-        return cls(link, peer.close, timeout)
+        return cls(link, peer.close, timeout, name)
 
     @classmethod
     def spawn(
@@ -338,13 +346,13 @@ class Client:
         try:
             child = subprocess.Popen(words, stdin=subprocess.PIPE, stdout=subprocess.PIPE, stderr=stderr, bufsize=0)
         except OSError as fault:
-            raise ConnectionLost(f"{words[0]}: {fault}") from fault
+            raise NotStarted(f"{words[0]}: {fault.strerror or fault}") from fault
         assert child.stdin is not None and child.stdout is not None
         reader, writer = child.stdout.fileno(), child.stdin.fileno()
         os.set_blocking(reader, False)
         os.set_blocking(writer, False)
         link = _Link(lambda most: os.read(reader, most), lambda text: os.write(writer, text), reader, writer)
-        return cls(link, lambda: _end(child), timeout)
+        return cls(link, lambda: _end(child), timeout, words[0])
 
     def __enter__(self) -> Client:
         return self
@@ -382,7 +390,7 @@ class Client:
     def _send(self, request: bytes) -> None:
         """Puts a request behind the bytes to go out."""
         if not self._is_open:
-            raise ConnectionLost("the connection is closed")
+            raise ConnectionLost(f"the connection to {self.name} is closed")
         if self._is_scanning:
             raise RuntimeError("a scan of this client has not ended: take its hits to the end, or close it")
         self._sent += request
@@ -430,7 +438,7 @@ class Client:
         try:
             can_read, can_write = self._link.wait(bool(self._sent) and self._can_write, self.timeout)
             if not can_read and not can_write:
-                raise self._closed(TimedOut(f"no byte went either way for {self.timeout} seconds"))
+                raise self._closed(TimedOut(f"{self.name}: no byte went either way for {self.timeout} seconds"))
             if can_write:
                 self._write()
             if can_read:
@@ -440,7 +448,7 @@ class Client:
         except BlockingIOError:
             pass
         except OSError as fault:
-            raise self._closed(ConnectionLost(str(fault))) from fault
+            raise self._closed(ConnectionLost(f"{self.name}: {fault.strerror or fault}")) from fault
 
     def _write(self) -> None:
         """Sends some. Where the server takes no more, its replies so far are still read."""
@@ -456,11 +464,11 @@ class Client:
     def _read(self) -> None:
         piece = self._link.take(TAKEN)
         if not piece:
-            raise self._closed(ConnectionLost("the server ended the connection"))
+            raise self._closed(ConnectionLost(f"{self.name} ended the connection"))
         self._got += piece
 
     def _bad(self, what: str) -> ScandError:
-        return self._closed(BadReply(f"no reply to what was asked: {what}"))
+        return self._closed(BadReply(f"{self.name} sent what is no reply to what was asked: {what}"))
 
     def _closed(self, fault: ScandError) -> ScandError:
         """The fault, once the connection is closed."""
@@ -624,6 +632,8 @@ class Resumed:
                 try:
                     yield from self._hits(self._taken_up(), source, ahead)
                     is_over = True
+                except NotStarted:
+                    raise
                 except (ConnectionLost, TimedOut) as fault:
                     self._lose(fault)
         finally:
@@ -690,7 +700,7 @@ class Resumed:
         stream = client.open(self.number)
         shown = stream.show_plan()
         if (shown.literals, shown.ignore_case) != (len(self.literals), self.ignore_case):
-            raise BadReply(f"plan {self.number} is another one: {shown}")
+            raise BadReply(f"{client.name}: plan {self.number} is another one: {shown}")
         return stream
 
     def _lose(self, fault: ScandError) -> None:
