@@ -146,9 +146,19 @@ def searches(folder, texts, cluster):
 
 
 def refusals(folder, _, cluster):
-    """What cannot be searched, or not by this, is told."""
-    status, told = cluster.run("lines", "words", "log", "missing")
-    yield "a missing file", (status, b"missing" in told), (2, True)
+    """What cannot be searched, or not by this, is told before anything is searched."""
+    for words, want in (
+        (["lines", "words", "log", "missing"], rb"missing: No such file or directory"),
+        (["lines", "missing", "log"], rb"missing: No such file or directory"),
+        (["--scand", "/none/scand", "hits", "words", "log"], rb"tcp://[0-9.:]+: /none/scand: there is no such program"),
+        (["--litgrep", "nope", "count", "words", "log"], rb"tcp://[0-9.:]+: nope: there is no such program"),
+        (["--litplan", "nope", "hits", "words", "log"], rb"nope: No such file or directory"),
+        (["--scand", "true", "hits", "words", "log"], rb"tcp://[0-9.:]+: true told no plan of \S+"),
+    ):
+        status, told = cluster.run(*words)
+        yield f"{words}, {told!r}", (status, bool(re.fullmatch(rb"scan_archive: %s\n" % want, told))), (2, True)
+    status, told = cluster.run("--part", "0", "lines", "words", "log")
+    yield f"parts of no byte, {told!r}", (status, b"--part" in told), (2, True)
     status, told = cluster.run("hits", "nulls", "log")
     yield "a list of no literals", (status, b"refused (5)" in told), (2, True)
     status, told = cluster.run("--litplan", os.path.join(folder, "changing"), "hits", "words", "log")

@@ -78,6 +78,8 @@ def killed():
             yield f"a killed {name}, not tried again", (status, lines == want[1]), (1, False)
         yield "a list that is missing", run(folder, f"{search}x")[0], 9
         yield "a file that is missing", run(folder, search.replace("log", "none"))[0], 9
+        yield "a litgrep that is missing", run(folder, search, LITGREP="none")[0], 9
+        yield "no option", run(folder, f"{PART} 1 9 log"), (2, b"")
 
 
 def many_files():

@@ -12,14 +12,17 @@ several files each line begins with `NAME:`. WORDS has one literal a line; for h
 Each worker, also one that comes later, is sent one file, which stays in its folder until it ends: the list for litgrep,
 or for hits the plan file that litplan makes of it here, once, and that the scand of each part checks again. Files are
 searched in parts: for lines and counts cut at newlines, for hits anywhere, with the `longest - 1` bytes before a part fed
-first and their hits dropped. Each worker needs the files under the same names, and litgrep or scand. A part whose worker
-is lost is searched by another one. Progress goes to standard error. Status 0: something was found; 1: nothing; 2: some
-part could not be searched, or the list could not be planned, and the output is the first part of what it should be.
+first and their hits dropped. Each worker needs the files under the same names, and litgrep or scand; before anything is
+sent, each is asked whether it has the program, and each file is looked for here. A part whose worker is lost is searched by
+another one. Progress goes to standard error. Status 0: something was found; 1: nothing; 2: some part could not be searched,
+or the list could not be planned, and the output is the first part of what it should be.
 """
 
 import argparse
 import collections
+import functools
 import os
+import shutil
 import subprocess
 import sys
 import tempfile
@@ -44,9 +47,28 @@ def line_start(file, at):
     return file.tell()
 
 
+def named(fault):
+    """What a fault says, with the file that it is about."""
+    return f"{fault.filename}: {fault.strerror}" if isinstance(fault, OSError) and fault.filename else str(fault)
+
+
+def located(call):
+    """The call of a worker, whose faults name the worker, and need nothing of it to be read elsewhere."""
+    @functools.wraps(call)
+    def calls(*words):
+        try:
+            return call(*words)
+        except Exception as fault:
+            raise RuntimeError(f"{distributed.get_worker().address}: {named(fault)}") from None
+    return calls
+
+
 def output(words, text, statuses):
     """What a program writes for an input. RuntimeError where it ends with another status than these."""
-    done = subprocess.run(words, input=text, capture_output=True)
+    try:
+        done = subprocess.run(words, input=text, capture_output=True)
+    except OSError as fault:
+        raise RuntimeError(f"{words[0]}: {fault.strerror}") from fault
     if done.returncode not in statuses:
         raise RuntimeError(f"{words[0]}: status {done.returncode}: {done.stderr.decode(errors='replace').strip()}")
     return done.stdout
@@ -57,6 +79,7 @@ def sent(name):
     return os.path.join(distributed.get_worker().local_directory, name)
 
 
+@located
 def selected(litgrep, flags, words, path, start, end):
     """What litgrep writes for the lines that begin in a part of a file."""
     with open(path, "rb") as file:
@@ -88,10 +111,11 @@ def begun(scand, plan_file):
     number = told.removeprefix("scand: plan ")
     if not number.isdecimal():
         client.close()
-        raise RuntimeError(f"{distributed.get_worker().address}: {told or f'{scand} told no plan of {plan_file}'}")
+        raise RuntimeError(told or f"{scand} told no plan of {plan_file}")
     return client, int(number)
 
 
+@located
 def hits(scand, plan_file, longest, path, start, end):
     """A line for each hit that ends in a part of a file."""
     client, plan = begun(scand, sent(plan_file))
@@ -103,10 +127,17 @@ def hits(scand, plan_file, longest, path, start, end):
         return b"".join(b"%d %d\n" % (literal, start - lead + end) for literal, end in found)
 
 
+def part_size(word):
+    """A size of parts, of at least a byte."""
+    if int(word) < 1:
+        raise ValueError
+    return int(word)
+
+
 def arguments():
     parser = argparse.ArgumentParser(description="Searches archives by the workers of a Dask cluster.")
     parser.add_argument("--scheduler", required=True, metavar="HOST:PORT", help="the cluster's scheduler")
-    parser.add_argument("--part", type=int, default=64 << 20, metavar="BYTES", help="the size of a part (64 MiB)")
+    parser.add_argument("--part", type=part_size, default=64 << 20, metavar="BYTES", help="the size of a part (64 MiB)")
     parser.add_argument("--litgrep", default="litgrep", help="litgrep on each worker")
     parser.add_argument("--scand", default="scand", help="scand on each worker")
     parser.add_argument("--litplan", default="litplan", help="litplan on this machine, for hits")
@@ -136,10 +167,21 @@ def send(cluster, given):
     return call
 
 
-def parts(given):
+def ready(cluster, given):
+    """Waits for a worker, and looks whether each has the program that it needs. RuntimeError where one has not."""
+    if not cluster.scheduler_info()["workers"]:
+        print(f"scan_archive: {given.scheduler} has no worker yet", file=sys.stderr, flush=True)
+        cluster.wait_for_workers(1)
+    program = given.scand if given.what == "hits" else given.litgrep
+    for worker, path in cluster.run(shutil.which, program).items():
+        if path is None:
+            raise RuntimeError(f"{worker}: {program}: there is no such program")
+
+
+def parts(sizes, given):
     """The parts in their order: each with its file's name, whether it is the last of it, and where it is."""
-    for name in given.files:
-        path, size = os.path.abspath(name), os.path.getsize(name)
+    for name, size in sizes:
+        path = os.path.abspath(name)
         for start in range(0, max(size, 1), given.part):
             end = min(start + given.part, size)
             yield name, end == size, (path, start, end)
@@ -147,7 +189,9 @@ def parts(given):
 
 def answers(cluster, given):
     """The answer to each part, in order, with a few parts for each worker on their way."""
-    call, source, running = send(cluster, given), parts(given), collections.deque()
+    sizes = [(name, os.path.getsize(name)) for name in given.files]
+    ready(cluster, given)
+    call, source, running = send(cluster, given), parts(sizes, given), collections.deque()
     while True:
         most = 3 * max(len(cluster.scheduler_info()["workers"]), 1)
         while len(running) < most and (part := next(source, None)):
@@ -159,10 +203,22 @@ def answers(cluster, given):
         yield name, is_last, answer.result()
 
 
+def shown(source):
+    """The same answers, with their number told on standard error."""
+    number = 0
+    try:
+        for number, answer in enumerate(source, 1):
+            yield answer
+            print(f"\r{number} parts", end="", file=sys.stderr, flush=True)
+    finally:
+        if number:
+            print(file=sys.stderr)
+
+
 def search(cluster, given):
     """Prints the answers, and tells whether anything was found."""
     found, count, out = False, 0, sys.stdout.buffer
-    for number, (name, is_last, text) in enumerate(answers(cluster, given), 1):
+    for name, is_last, text in shown(answers(cluster, given)):
         front = os.fsencode(name) + b":" if len(given.files) > 1 else b""
         if given.what == "count":
             count += int(text)
@@ -171,8 +227,6 @@ def search(cluster, given):
             count = 0 if is_last else count
         found = found or bool(text and given.what != "count")
         out.write(b"".join(front + line + b"\n" for line in text.split(b"\n")[:-1]) if front else text)
-        print(f"\r{number} parts", end="", file=sys.stderr, flush=True)
-    print(file=sys.stderr)
     return found
 
 
@@ -182,7 +236,7 @@ def main():
         with distributed.Client(given.scheduler) as cluster:
             return 0 if search(cluster, given) else 1
     except Exception as fault:
-        print(f"scan_archive: {fault}", file=sys.stderr)
+        print(f"scan_archive: {named(fault)}", file=sys.stderr)
         return 2
 
 
