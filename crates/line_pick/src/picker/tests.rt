@@ -6,6 +6,7 @@ use crate::matcher::{is_in_lines, standing_law};
 use list_plan::compile;
 use lit_base::{Fold, LitList, RawList};
 use std::alloc::AllocError;
+use std::test::Fail;
 
 const PARTS: LineRule = LineRule {
     invert: false,
@@ -77,21 +78,29 @@ fn plan_of_one(alloc: Global, literal: &[u8]) -> Option<Compiled> {
 type Turn = (Option<&'static [u8]>, Result<Next, Fault>, &'static [u8]);
 
 /// The first of the turns, from 0, whose answer or kept lines are others.
-fn first_wrong(picker: &mut Picker<'_>, sink: &mut Kept, turns: &[Turn]) -> Option<usize> {
+fn first_wrong(
+    picker: &mut Picker<'_>,
+    sink: &mut Kept,
+    turns: &[Turn],
+) -> Result<Option<usize>, AllocError> {
     for (place, turn) in turns.iter().enumerate() {
         let (piece, answer, kept) = *turn;
         let given = match piece {
             Some(piece) => picker.feed(piece, sink),
             None => picker.finish(sink),
         };
-        if given != answer || sink.text.as_slice() != kept {
-            return Some(place);
+        if given == answer && sink.text.as_slice() == kept {
+            continue;
         }
+        if given == Err(Fault::OutOfMemory) && kept.starts_with(sink.text.as_slice()) {
+            return Err(AllocError);
+        }
+        return Ok(Some(place));
     }
-    None
+    Ok(None)
 }
 
-/// What stands for the first wrong turn where there is no picker.
+/// What stands for the first wrong turn where a plan is none of a picker's.
 const NO_PICKER: Option<usize> = Some(usize::MAX);
 
 /// The first wrong turn of a picker by this plan, with a sink of this mood.
@@ -101,9 +110,9 @@ fn first_wrong_by(
     rule: LineRule,
     mood: Mood,
     turns: &[Turn],
-) -> Option<usize> {
+) -> Result<Option<usize>, AllocError> {
     if !is_in_lines(compiled) {
-        return NO_PICKER;
+        return Ok(NO_PICKER);
     }
     let mut picker = Picker::new(alloc, Some(compiled), false, rule);
     let mut sink = Kept::new(alloc, mood);
@@ -117,10 +126,10 @@ fn first_wrong_of(
     rule: LineRule,
     mood: Mood,
     turns: &[Turn],
-) -> Option<usize> {
+) -> Result<Option<usize>, AllocError> {
     match plan_of_one(alloc, literal) {
         Some(compiled) => first_wrong_by(alloc, &compiled, rule, mood, turns),
-        None => NO_PICKER,
+        None => Err(AllocError),
     }
 }
 
@@ -135,9 +144,10 @@ static IN_PIECES: [Turn; 6] = [
 ];
 
 #[test]
-fn compares_a_line_in_pieces_as_a_whole(rt: HostRuntime) {
-    let wrong = first_wrong_of(rt.alloc(), b"cat", WHOLE, Mood::Takes, &IN_PIECES);
+fn compares_a_line_in_pieces_as_a_whole(rt: HostRuntime) -> Result<(), Fail> {
+    let wrong = first_wrong_of(rt.alloc(), b"cat", WHOLE, Mood::Takes, &IN_PIECES)?;
     assert_eq!(rt; wrong, None);
+    Ok(())
 }
 
 /// Turns of which the sink gets the empty line alone.
@@ -147,10 +157,11 @@ static EMPTY_LINE: [Turn; 2] = [
 ];
 
 #[test]
-fn takes_the_null_pattern_as_the_empty_line(rt: HostRuntime) {
+fn takes_the_null_pattern_as_the_empty_line(rt: HostRuntime) -> Result<(), Fail> {
     let mut picker = Picker::new(rt.alloc(), None, true, WHOLE);
     let mut sink = Kept::new(rt.alloc(), Mood::Takes);
-    assert_eq!(rt; first_wrong(&mut picker, &mut sink, &EMPTY_LINE), None);
+    assert_eq!(rt; first_wrong(&mut picker, &mut sink, &EMPTY_LINE)?, None);
+    Ok(())
 }
 
 /// Turns that go on behind a stop.
@@ -161,9 +172,10 @@ static STOPPED: [Turn; 3] = [
 ];
 
 #[test]
-fn lends_nothing_after_a_stop(rt: HostRuntime) {
-    let wrong = first_wrong_of(rt.alloc(), b"a", PARTS, Mood::StopsAt(3), &STOPPED);
+fn lends_nothing_after_a_stop(rt: HostRuntime) -> Result<(), Fail> {
+    let wrong = first_wrong_of(rt.alloc(), b"a", PARTS, Mood::StopsAt(3), &STOPPED)?;
     assert_eq!(rt; wrong, None);
+    Ok(())
 }
 
 /// Turns that go on behind a line that cannot be written.
@@ -183,13 +195,14 @@ static UNKEPT: [Turn; 4] = [
 ];
 
 #[test]
-fn answers_a_fault_of_the_sink_again(rt: HostRuntime) {
+fn answers_a_fault_of_the_sink_again(rt: HostRuntime) -> Result<(), Fail> {
     let unwritten = Mood::FailsAt(2, Fault::WriteFault);
-    let wrong = first_wrong_of(rt.alloc(), b"a", PARTS, unwritten, &UNWRITTEN);
+    let wrong = first_wrong_of(rt.alloc(), b"a", PARTS, unwritten, &UNWRITTEN)?;
     assert_eq!(rt; wrong, None);
     let unkept = Mood::FailsAt(2, Fault::OutOfMemory);
-    let wrong = first_wrong_of(rt.alloc(), b"a", PARTS, unkept, &UNKEPT);
+    let wrong = first_wrong_of(rt.alloc(), b"a", PARTS, unkept, &UNKEPT)?;
     assert_eq!(rt; wrong, None);
+    Ok(())
 }
 
 /// Turns that go on behind the last place.
@@ -201,11 +214,12 @@ static TOO_LONG: [Turn; 4] = [
 ];
 
 #[test]
-fn fails_where_the_stream_is_too_long(rt: HostRuntime) {
+fn fails_where_the_stream_is_too_long(rt: HostRuntime) -> Result<(), Fail> {
     let mut picker = Picker::new(rt.alloc(), None, true, PARTS);
     picker.progress.bytes = u64::MAX - 3;
     let mut sink = Kept::new(rt.alloc(), Mood::Takes);
-    assert_eq!(rt; first_wrong(&mut picker, &mut sink, &TOO_LONG), None);
+    assert_eq!(rt; first_wrong(&mut picker, &mut sink, &TOO_LONG)?, None);
+    Ok(())
 }
 
 /// Whether a fault has this number and text.
