@@ -6,6 +6,7 @@ that memory ran out, and no other answer comes in its place. It needs the progra
 
 import collections
 import concurrent.futures
+import itertools
 import os
 import re
 import subprocess
@@ -71,32 +72,27 @@ def swept(folder, test, behind, seconds=SECONDS):
         number = number + 1 if number < FIRST else int(number * BEHIND)
 
 
-def wrong_of(found, last):
-    """The growths at whose refusal a test ends as it may not."""
-    wrong = [(number, how) for number, how in found if how not in ("own", "starved")]
+def wrong_of(found, last, behind):
+    """The growths at whose refusal a test ends as it may not. What is refused may be asked for again, but not where all
+    behind it is refused."""
+    allowed = ["starved"] if behind else ["starved", "own"]
+    wrong = [(number, how) for number, how in found if how not in allowed]
     return wrong + [(None, last)] * (last != "own")
 
 
-# What the tests of mistaken_tests.c show, of which the first three are right.
-MISTAKES = {
-    "tells": [],
-    "compares": [],
-    "asks again": [],
-    "loses a byte": [1],
-    "takes a fault for nothing": [1],
-    "ends by a signal": [1],
-    "is silent": [1],
-    "waits": [1],
-}
+# The tests of mistaken_tests.c that end as they may; "asks again" where it gets what it asks for.
+RIGHT = {"": {"tells", "compares", "asks again"}, "-on": {"tells", "compares"}}
 
 
 def mistakes():
     """That a wrong ending is found, and no other."""
     with tempfile.TemporaryDirectory() as folder:
         built(folder, "refuse.c", "refuse.so", "-shared", "-fPIC")
-        for test in tests_of(built(folder, "mistaken_tests.c", "mistaken_tests", "-fno-builtin")):
-            found = wrong_of(*swept(folder, test, "", 1))
-            yield f"the mistaken test {test.name!r}", [number for number, _ in found], MISTAKES[test.name]
+        program = built(folder, "mistaken_tests.c", "mistaken_tests", "-fno-builtin")
+        for test, behind in itertools.product(tests_of(program), RIGHT):
+            found = wrong_of(*swept(folder, test, behind, 1), behind)
+            wanted = [] if test.name in RIGHT[behind] else [1]
+            yield f"the mistaken test {test.name!r}, growth{behind}", [number for number, _ in found], wanted
 
 
 PARTS = (mistakes,)
@@ -111,7 +107,7 @@ def main(crates):
         built(folder, "refuse.c", "refuse.so", "-shared", "-fPIC")
         _, tests, behinds = zip(*jobs)
         for (crate, test, behind), (found, last) in zip(jobs, pool.map(swept, [folder] * len(jobs), tests, behinds)):
-            for number, how in wrong_of(found, last):
+            for number, how in wrong_of(found, last, behind):
                 all_wrong += 1
                 print(f"FAILED: {crate} {test.name}, growth{behind} {number} refused: {how}")
             own = sum(how == "own" for _, how in found)
