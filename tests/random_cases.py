@@ -34,6 +34,25 @@ def long_searches():
         yield patterns, flags, [text_of(source, letters, 3000) for _ in range(4)]
 
 
+def whole_lines():
+    """Searches for whole lines: lists of one to thirty words, and texts of lines that are a word or have one in them, close
+    together or far apart, some longer than a word by far."""
+    source = random.Random(6)
+    for number in range(60):
+        patterns = [text_of(source, b"abAB", 6) + b"z" for _ in range(source.choice([1, 1, 2, 10, 30]))]
+        patterns += [b""] * (number % 5 == 0)
+        flags = "x" + "".join(flag for flag in "ivn" if source.random() < 0.4)
+        ends, others = [b"", b"", b"q", b"A", b"y" * 150], [b"", b"c" * 70, b"c" * 600]
+        hits, misses = source.choice([(60, 0), (60, 10), (8, 30)])
+        texts = []
+        for _ in range(3):
+            lines = [source.choice(ends) + source.choice(patterns) + source.choice(ends) for _ in range(hits)]
+            lines += source.choices(others, k=misses)
+            source.shuffle(lines)
+            texts.append(b"\n".join(lines) + source.choice([b"", b"\n"]))
+        yield patterns, flags, texts
+
+
 def long_lines():
     """Texts with one line that holds an `a`, with so many bytes before it and behind, and a size of
     pieces."""

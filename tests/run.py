@@ -428,6 +428,7 @@ def random_greps():
     """Random searches, and lines of each length round a hit, beside plain matching."""
     yield from searches(random_cases.small_searches())
     yield from searches(random_cases.long_searches())
+    yield from searches(random_cases.whole_lines())
     lines = list(random_cases.long_lines())
     named = {b"%03d" % place: text for place, (text, _) in enumerate(lines)}
     with tempfile.TemporaryDirectory() as folder:

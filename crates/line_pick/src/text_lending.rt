@@ -16,12 +16,12 @@ use crate::matcher::{Matcher, is_literal};
 use crate::sink::Sink;
 use flow_scan::Compiled;
 
-/// A hit that is no whole line takes about as long as splitting so many bytes into lines: 190 ns with 30
-/// words of English, where splitting took 0.8 ns a byte.
+/// A hit and its line take about as long as splitting so many bytes into lines: 120 ns with one literal
+/// in English text, where splitting took 0.5 ns a byte. With 1,000 literals a hit takes ten times as long.
 const HIT_COST: usize = 256;
 
-/// So many bytes' worth of such hits are looked at, where nothing was passed over between them, before
-/// the rest of a text is split line by line.
+/// So many bytes' worth of hits are looked at, where nothing is passed over between them, before the rest
+/// of a text is split line by line. With 1,000 words, one in most lines, that is 16 times as fast.
 const CREDIT: usize = 16 * HIT_COST;
 
 /// Lends the selected ones of the lines of a text that a newline ends, and answers how many lines
