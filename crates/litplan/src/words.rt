@@ -32,6 +32,11 @@ fn request_of(alloc: Global, matches: &ArgMatches<'_>) -> Result<Request, Fault>
             file: value(alloc, found, "file")?,
             output: value(alloc, found, "output")?,
         }),
+        Some(("explain", found)) => Ok(Request::Explain {
+            fold: fold_of(found),
+            svg: found.get_count("svg") > 0,
+            file: value(alloc, found, "file")?,
+        }),
         Some(("scan", found)) => scan_of(alloc, found),
         _ => Err(Fault::usage(String::from_str(alloc, "litplan: no command given\n"))),
     }
@@ -74,6 +79,7 @@ fn litplan<'a>(alloc: Global) -> Result<Command<'a>, AllocError> {
         .override_usage(
             "litplan plan [-i] FILE\n       litplan check [-i] FILE CERT\n       \
              litplan pack [-i] FILE OUT\n       \
+             litplan explain [-i] [--svg] FILE\n       \
              litplan scan [-i] [--count] --workers W FILE INPUT",
         )
         .no_binary_name(true)
@@ -81,6 +87,7 @@ fn litplan<'a>(alloc: Global) -> Result<Command<'a>, AllocError> {
         .subcommand(plan(alloc)?)?
         .subcommand(check(alloc)?)?
         .subcommand(pack(alloc)?)?
+        .subcommand(explain(alloc)?)?
         .subcommand(scan(alloc)?)
 }
 
@@ -98,7 +105,7 @@ fn check<'a>(alloc: Global) -> Result<Command<'a>, AllocError> {
         .value_name("CERT")
         .required(true)
         .action(ArgAction::Set)
-        .help("A file with a certificate, as `plan` prints it");
+        .help("A file with a certificate, as `plan` prints it; - is a file of that name");
     Command::new(alloc, "check")
         .about("Says whether a certificate shows that no grouping of a file's patterns is cheaper")
         .override_usage("litplan check [-i] FILE CERT")
@@ -113,7 +120,7 @@ fn pack<'a>(alloc: Global) -> Result<Command<'a>, AllocError> {
         .value_name("OUT")
         .required(true)
         .action(ArgAction::Set)
-        .help("The plan file, which is made or emptied");
+        .help("The plan file, which is made or emptied; - is a file of that name");
     Command::new(alloc, "pack")
         .about("Writes the plan of a file's patterns to a plan file")
         .override_usage("litplan pack [-i] FILE OUT")
@@ -121,6 +128,16 @@ fn pack<'a>(alloc: Global) -> Result<Command<'a>, AllocError> {
         .arg(fold(alloc))?
         .arg(file(alloc))?
         .arg(output)
+}
+
+fn explain<'a>(alloc: Global) -> Result<Command<'a>, AllocError> {
+    Command::new(alloc, "explain")
+        .about("Shows how a file's patterns are grouped, what that costs, and what was dropped")
+        .override_usage("litplan explain [-i] [--svg] FILE")
+        .after_help(EXPLAIN_HELP)
+        .arg(fold(alloc))?
+        .arg(svg(alloc))?
+        .arg(file(alloc))
 }
 
 fn scan<'a>(alloc: Global) -> Result<Command<'a>, AllocError> {
@@ -145,6 +162,13 @@ fn count<'a>(alloc: Global) -> Arg<'a> {
         .long("count")
         .action(ArgAction::Count)
         .help("Print only the number of hits")
+}
+
+fn svg<'a>(alloc: Global) -> Arg<'a> {
+    Arg::new(alloc, "svg")
+        .long("svg")
+        .action(ArgAction::Count)
+        .help("Draw the plan, as an SVG file")
 }
 
 fn workers<'a>(alloc: Global) -> Arg<'a> {
@@ -194,6 +218,16 @@ again. Status 0, or 2 with a message. Where OUT cannot be written to its end, wh
 
 Example: the plan file of a list
   litplan pack words words.plan";
+
+const EXPLAIN_HELP: &str = "\
+Prints a row for each group: how many patterns it has, the bytes of its shortest, those that the filter looks at (bytes),
+its weight and cost, its share of the cost in percent, how many of the 16,777,216 endings of three bytes pass its filter,
+and its first and last pattern, by length and then by bytes. Below: what the plan costs, and what one group and eight even
+ones would; which lines say again what an earlier line says; and how many are empty. Status 0, or 2 with a message.
+
+Example: the plan of a list, and a drawing of it
+  litplan explain words
+  litplan explain --svg words > plan.svg";
 
 const SCAN_HELP: &str = "\
 Prints a line `LIT END` for each place at which a pattern ends: its number in the list, from 0, by length and then by
