@@ -4,9 +4,9 @@ use Rattle.std.specs.Prelude.{Bool, true, false, IfSome, option_map}
 use Rattle.std.specs.List.{slice_get}
 use Rattle.std.proofs.lemmas.List.{get_or_append_left, get_or-append-add}
 use Rattle.std.proofs.lemmas.List.Elements.{Contains-append_cases}
-use Rattle.std.proofs.lemmas.Option.{get_or_from_slice_get, none-some, same_Some, slice_get-get_or, slice_get-map, slice_get_read}
+use Rattle.std.proofs.lemmas.Option.{get_or_from_slice_get, slice_get-map, slice_get_read}
 use Rattle.plan_store.specs.Tickets.{Told}
-use Rattle.scan_core.specs.Sessions.{Bound, Serving, entry_of}
+use Rattle.scan_core.specs.Sessions.{Bound, Serving}
 use Rattle.scan_core.specs.Steps.{Entry, IsSound, SessionParts}
 use Rattle.scan_core.specs.Together.{AgreeAll, Meet, ShowSound, TogetherLaw, known_to, tickets_of, world_of}
 use Rattle.scan_core.specs.Worlds.{Event, Happens, HasOnePlan, IsFirst, MeetsEntries, Runs, Streamed, World, is_publish}
