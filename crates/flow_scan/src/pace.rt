@@ -31,3 +31,6 @@ pub(crate) const FREE_MARKS: usize = 4;
 /// So many ends at most are looked at together behind a look that had a mark: as many as a word has
 /// bits.
 pub(crate) const BLOCK: usize = 64;
+
+/// Marks at which nothing ends crowd where two looks in a row met as many as one in so many ends.
+pub(crate) const NEAR: usize = 32;

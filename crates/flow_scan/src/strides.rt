@@ -7,7 +7,7 @@ ghost use Rattle.flow_scan.specs.NextEnds.{IsNextEnd, IsPassed, NoEndAfter, NoEn
 ghost use Rattle.flow_scan.specs.declared.pace.TheConstants.{BLOCK, FREE_MARKS};
 
 use crate::mark_budget::MarkBudget;
-use crate::pace::BLOCK;
+use crate::pace::{BLOCK, NEAR};
 use lit_base::LitList;
 
 /// A search has given up. No literal ends up to this place.
@@ -84,20 +84,25 @@ fn next_by_strides(
 {
     let mut budget = MarkBudget::new(bytes_per_mark, from);
     let mut is_crowded = false;
+    let mut was_near = false;
     let mut seen = from;
     'strides: loop {
         let look = look_ahead(list, text, seen, is_crowded);
+        let marks = marks_of(look);
         if let Some(found) = first_marked(list, text, look.seen, look.count, look.marks) {
             return Ok(Some(found));
         }
         if text.len() - look.seen <= look.count {
             return Ok(None);
         }
-        seen = look.seen + look.count;
-        if budget.is_spent_at(seen, marks_of(look)) {
-            return Err(GaveUp { at: seen });
+        let next = look.seen + look.count;
+        if budget.is_spent_at(next, marks) {
+            return Err(GaveUp { at: next });
         }
-        is_crowded = look.marks != 0;
+        let is_near = next - seen <= marks.saturating_mul(NEAR);
+        is_crowded = is_near & was_near;
+        was_near = is_near;
+        seen = next;
     }
 }
 
@@ -108,9 +113,9 @@ fn marks_of(look: Look) -> usize
     (look.marks.count_ones() as usize).min(look.count)
 }
 
-/// What to look at from `from` on: the first stride that has a mark, or is the last; and a block,
-/// where the look before had a mark. False marks crowd in most texts that have some, and to leave
-/// the loop over strides for each takes longer than to tell that it is false.
+/// What to look at from `from` on: the first stride that has a mark, or is the last; and a block where
+/// false marks crowd. To leave the loop over strides for each of them takes longer than to tell that
+/// it is false.
 #[inline(always)]
 fn look_ahead(list: &LitList, text: &[u8], from: usize, is_crowded: bool) -> Look
     requires seven { 7 ≤ from }

@@ -20,10 +20,10 @@ none_ahead c =
     passed c.args.list.now c.args.text.now c.args.from c.look_ahead-look.result.seen (none_skipped (goal.at.In_default c).After-look_ahead-look) c.look_ahead-look.result.count c.in_default.ensures.next
 
 -- no more is to be paid than for each place passed
-paid_ahead : (c : After-is_spent_at) → c.strides.budget.paid_up_to + c.args.bytes_per_mark * c.marks_of.result ≤ c.args.from + c.args.bytes_per_mark * (c.look_ahead-look.result.seen + c.look_ahead-look.result.count - c.args.from)
+paid_ahead : (c : After-is_spent_at) → c.strides.budget.paid_up_to + c.args.bytes_per_mark * c.marks_of-marks.result ≤ c.args.from + c.args.bytes_per_mark * (c.look_ahead-look.result.seen + c.look_ahead-look.result.count - c.args.from)
 paid_ahead c =
-    paid_further c.strides.budget.paid_up_to (c.strides.budget.paid_up_to + c.args.bytes_per_mark * c.marks_of.result) c.args.bytes_per_mark c.args.from c.strides.seen (c.look_ahead-look.result.seen + c.look_ahead-look.result.count) c.marks_of.result
-    c.strides.invariant.ahead (omega (arith, c.look_ahead-look.ensures.ahead, c.marks_of.ensures)) c.strides.invariant.paid (omega arith)
+    paid_further c.strides.budget.paid_up_to (c.strides.budget.paid_up_to + c.args.bytes_per_mark * c.marks_of-marks.result) c.args.bytes_per_mark c.args.from c.strides.seen (c.look_ahead-look.result.seen + c.look_ahead-look.result.count) c.marks_of-marks.result
+    c.strides.invariant.ahead (omega (arith, c.look_ahead-look.ensures.ahead, c.marks_of-marks.ensures)) c.strides.invariant.paid (omega arith)
 
 pub strides-preserved : goal.strides-preserved
 strides-preserved c = record {
@@ -31,7 +31,7 @@ strides-preserved c = record {
   paid = omega (
     arith,
     paid_ahead (goal.at.strides-preserved c).After-is_spent_at,
-    subst (λ p. c.is_spent_at.new.self.paid_up_to ≤ c.strides.budget.paid_up_to + p * c.marks_of.result) c.strides.invariant.price c.is_spent_at.ensures.paid,
+    subst (λ p. c.is_spent_at.new.self.paid_up_to ≤ c.strides.budget.paid_up_to + p * c.marks_of-marks.result) c.strides.invariant.price c.is_spent_at.ensures.paid,
   );
   ahead = omega (arith, c.strides.invariant.ahead, c.look_ahead-look.ensures.ahead);
   inside = omega (arith, c.if-text-look.false);
@@ -55,6 +55,6 @@ returns-then-is_spent_at-clause-passed c = record {
 pub returns-then-is_spent_at-clause-tried : goal.returns-then-is_spent_at-clause-tried
 returns-then-is_spent_at-clause-tried c =
     let next : ℕ = c.look_ahead-look.result.seen + c.look_ahead-look.result.count in
-    tried_enough (c.strides.budget.paid_up_to + c.args.bytes_per_mark * c.marks_of.result) c.args.bytes_per_mark FREE_MARKS c.args.from next
+    tried_enough (c.strides.budget.paid_up_to + c.args.bytes_per_mark * c.marks_of-marks.result) c.args.bytes_per_mark FREE_MARKS c.args.from next
     (omega (arith, c.strides.invariant.ahead, c.look_ahead-look.ensures.ahead)) (paid_ahead (goal.at.returns-then-is_spent_at-clause-tried c).After-is_spent_at)
-    (subst (λ p. next + FREE_MARKS * p < c.strides.budget.paid_up_to + p * c.marks_of.result) c.strides.invariant.price (c.is_spent_at.ensures.spent c.if-is_spent_at.true))
+    (subst (λ p. next + FREE_MARKS * p < c.strides.budget.paid_up_to + p * c.marks_of-marks.result) c.strides.invariant.price (c.is_spent_at.ensures.spent c.if-is_spent_at.true))
