@@ -8,12 +8,14 @@
 #   make check-deploy       tries what is in clients/, tools/ and deploy/, with Debian's packages, on this machine
 #   make soak MINUTES=..    the scan server under load, hostile connections among it, for some minutes
 #   make bench              the programs that measure, in bin/
+#   make examples           the programs to copy from, in bin/
 #   make install PREFIX=..  copies what was built into PREFIX/bin, manuals and completions into PREFIX/share
 #   make uninstall ..       removes these files again
 
 PROGRAMS = litgrep litplan scand
 MEASURES = bench_check bench_lanes bench_scan
 PROBES = plan_probe
+EXAMPLES = example_scan example_check
 PREFIX = /usr/local
 
 # What a processor of level x86-64-v3 says of itself.
@@ -38,17 +40,21 @@ crates/$(1)/out/proved: $$(call files_of,$(1)) $$(call marks_below,$(1))
 endef
 $(foreach library,$(LIBRARIES),$(eval $(call library_rule,$(library))))
 
-# A build ends with the program's stored run, whose output is compared.
+# A build ends with the program's stored run, whose output is compared. One that has files in data/ is built by a run
+# without arguments, which prints nothing, and then run beside them.
+run_beside_data = rt run --cpu=$(CPU) < /dev/null && cd data && ../out/$(@F) $$words
+
 define program_rule
 bin/$(1): $$(call files_of,$(1)) $$(call marks_below,$(1)) bin/.cpu
 	@echo "proving and building $(1) for $(CPU)"
 	@cd crates/$(1) && mkdir -p out && \
-	if rt run --cpu=$(CPU) -- $$$$(cat args 2> /dev/null) < $$(if $$(wildcard crates/$(1)/stdin),stdin,/dev/null) \
-		> out/build.stdout 2> out/build.log; \
+	words=$$$$(cat args 2> /dev/null); \
+	if ($$(if $$(wildcard crates/$(1)/data),$$(run_beside_data),rt run --cpu=$(CPU) -- $$$$words)) \
+		< $$(if $$(wildcard crates/$(1)/stdin),stdin,/dev/null) > out/build.stdout 2> out/build.log; \
 	then test ! -f stdout || cmp out/build.stdout stdout; else cat out/build.log >&2; exit 1; fi
 	@cp crates/$(1)/out/$(1) $$@
 endef
-$(foreach program,$(PROGRAMS) $(MEASURES) $(PROBES),$(eval $(call program_rule,$(program))))
+$(foreach program,$(PROGRAMS) $(MEASURES) $(PROBES) $(EXAMPLES),$(eval $(call program_rule,$(program))))
 
 # The processor level of the last build, so that another one builds anew.
 bin/.cpu: FORCE
@@ -59,8 +65,8 @@ check:
 	rt ci
 	$(MAKE) test
 
-# A probe is a program that only the tests ask.
-test: all $(PROBES:%=bin/%)
+# A probe is a program that only the tests ask. The tests run the examples too.
+test: all $(PROBES:%=bin/%) $(EXAMPLES:%=bin/%)
 	python3 tests/run.py
 
 check-deploy: all
@@ -73,6 +79,9 @@ soak: bin/scand
 
 # The programs that measure, and the probe that is measured; bench/README.md says how they are run.
 bench: $(MEASURES:%=bin/%) $(PROBES:%=bin/%)
+
+# Programs that use the libraries, to copy from; docs/LIBRARY.md goes through them.
+examples: $(EXAMPLES:%=bin/%)
 
 # What is installed: files, each with its folder below PREFIX behind a colon.
 BINARIES = $(PROGRAMS:%=bin/%:bin)
@@ -101,5 +110,5 @@ clean:
 
 FORCE:
 
-.PHONY: all check test check-deploy soak bench install uninstall clean FORCE
+.PHONY: all check test check-deploy soak bench examples install uninstall clean FORCE
 .DELETE_ON_ERROR:

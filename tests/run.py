@@ -11,6 +11,7 @@ import tempfile
 
 import c_header
 import clients
+import examples
 import guide
 import listening
 import manuals
@@ -461,7 +462,7 @@ PARTS += (*refusing.PARTS, *refused_connections.PARTS, *refused_crates.PARTS, *p
 
 def main():
     passed = failed = 0
-    for part in PARTS + manuals.PARTS + guide.PARTS + serving.PARTS + planned.PARTS + listening.parts() + clients.PARTS + c_header.PARTS:
+    for part in PARTS + manuals.PARTS + guide.PARTS + serving.PARTS + planned.PARTS + examples.PARTS + listening.parts() + clients.PARTS + c_header.PARTS:
         for name, got, want in part():
             if got == want:
                 passed += 1

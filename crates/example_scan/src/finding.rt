@@ -1,0 +1,53 @@
+//! From a stream to hits.
+use crate::printing::push_hits;
+use anyhow::{Result, bail};
+use byte_io::{ByteIn, ByteOut, write_all};
+use flow_scan::{Compiled, Fault, Hit, Scanner};
+use std::alloc::Global;
+
+/// Feeds the input to a scan by the plan, to its end, and writes the lines of the hits. The buffer has what is read at
+/// once: of any length the hits are the same. What ends in a piece is written before the next one is read.
+pub fn find<I: ByteIn, O: ByteOut>(
+    alloc: Global,
+    plan: &Compiled,
+    lines: &[u64],
+    scanner: &mut Scanner<'_>,
+    buffer: &mut [u8],
+    input: &mut I,
+    out: &mut O,
+) -> Result<()> {
+    for _ in 0..u64::MAX {
+        let Ok(count) = input.read_some(buffer) else {
+            bail!("a read failed");
+        };
+        if count == 0 {
+            break;
+        }
+        let hits = hits_in(alloc, scanner, &buffer[..count])?;
+        write_hits(alloc, plan, lines, &hits, out)?;
+    }
+    Ok(())
+}
+
+/// The hits that end in the next piece.
+fn hits_in(alloc: Global, scanner: &mut Scanner<'_>, piece: &[u8]) -> Result<Vec<Hit>, Fault> {
+    let mut hits = Vec::new(alloc);
+    scanner.feed(piece, &mut hits)?;
+    Ok(hits)
+}
+
+/// Writes the lines of hits.
+fn write_hits<O: ByteOut>(
+    alloc: Global,
+    plan: &Compiled,
+    lines: &[u64],
+    hits: &[Hit],
+    out: &mut O,
+) -> Result<()> {
+    let mut text = Vec::new(alloc);
+    push_hits(plan, lines, hits, &mut text)?;
+    if write_all(out, &text).is_err() {
+        bail!("a write failed");
+    }
+    Ok(())
+}
