@@ -12,6 +12,7 @@ import tempfile
 import c_header
 import clients
 import examples
+import explaining
 import guide
 import listening
 import manuals
@@ -398,6 +399,13 @@ def packs():
     yield from packing.cut_packs(planned)
 
 
+def explained():
+    """Plans that litplan explains: rows, random lists, and the picture of the README."""
+    yield from explaining.rows(planned_in_folder)
+    yield from explaining.random_plans(planned_in_folder)
+    yield from explaining.picture(planned_in_folder, TOP)
+
+
 def in_pieces(words, text, size, **how):
     """Runs litgrep on a text that it reads in pieces of this size."""
     near, far = socket.socketpair(socket.AF_UNIX, socket.SOCK_SEQPACKET)
@@ -456,7 +464,7 @@ def random_plans():
                 yield f"a check of {text!r:.300} for {literals!r:.100}", got, plain_plan.answer(literals, text)
 
 
-PARTS = (greps, usages, edges, streams, prompt, own_outputs, plans, scans, packs, random_greps, random_plans)
+PARTS = (greps, usages, edges, streams, prompt, own_outputs, plans, scans, packs, explained, random_greps, random_plans)
 PARTS += (*refusing.PARTS, *refused_connections.PARTS, *refused_crates.PARTS, *plan_files.PARTS)
 
 
