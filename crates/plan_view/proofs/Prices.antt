@@ -1,5 +1,5 @@
 -- A cut costs something.
-use Rattle.std.proofs.Common.{◌≡◌, ℕ, ◌+◌, ◌<◌, List, [], ◌∷◌, arith}
+use Rattle.std.proofs.Common.{ℕ, ◌<◌, List, [], ◌∷◌, arith}
 use Rattle.lit_base.specs.Costs.{cost, run_cost}
 use Rattle.lit_base.specs.Cuts.{CutsFrom, IsCut, cut_price}
 

@@ -1,6 +1,6 @@
 -- Patterns that stand in the list already, or that are null: what the normal form drops. A pattern is known here by the
 -- place of its literal in the list, where it has one.
-use Rattle.std.specs.Prelude.{ℕ, ◌+◌, Bool, List, [], ◌∷◌, false, flat_map, length, nat_eq, Option, None, Some, is_none, count_by, take}
+use Rattle.std.specs.Prelude.{ℕ, ◌+◌, Bool, List, [], ◌∷◌, false, flat_map, nat_eq, Option, None, Some, is_none, count_by, take}
 use Rattle.std.specs.List.{position, range_with_len, slice_get}
 
 -- it has this literal

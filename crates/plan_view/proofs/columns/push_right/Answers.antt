@@ -1,5 +1,5 @@
 -- One space more was appended.
-use Rattle.std.proofs.Common.{rules, ◌≡◌, ℕ, ◌+◌, ◌-◌, ◌++◌, List, [], ◌∷◌, length, replicate, ap, ◌∙◌, sym, append_assoc, arith}
+use Rattle.std.proofs.Common.{rules, ◌≡◌, ℕ, ◌+◌, ◌-◌, ◌++◌, List, [], ◌∷◌, length, replicate, ap, ◌∙◌, append_assoc, arith}
 use Rattle.std.proofs.lemmas.List.{replicate_more}
 use Rattle.plan_view.proofs.columns.push_right.Goals as goal
 

@@ -1,5 +1,5 @@
 -- Five numbers were appended.
-use Rattle.std.proofs.Common.{◌≡◌, ◌++◌, ◌+◌, ◌-◌, codes, ap, ◌∙◌, slice_index}
+use Rattle.std.proofs.Common.{◌≡◌, ◌++◌, codes, ap, ◌∙◌, slice_index}
 use Rattle.lit_base.specs.Costs.{run_cost}
 use Rattle.lit_base.specs.Literals.{lengths}
 use Rattle.plan_view.specs.Drawings.{numbers_told, said}

@@ -1,4 +1,4 @@
-use Rattle.std.proofs.Common.{◌≡◌, ◌≤◌, ◌*◌, ◌+◌, ◌^◌, ℕ}
+use Rattle.std.proofs.Common.{◌≡◌, ◌≤◌, ◌*◌, ◌+◌, ◌^◌}
 use Rattle.lit_base.specs.Literals.{lengths}
 use Rattle.plan_view.specs.Terms.{sum_below}
 use Rattle.plan_view.specs.Texts.{eighth, part_cost}

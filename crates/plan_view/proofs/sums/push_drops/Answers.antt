@@ -1,5 +1,5 @@
 -- Three parts were appended.
-use Rattle.std.proofs.Common.{rules, ◌≡◌, ◌++◌, ℕ, codes, flat_map, length, take, ap, ◌∙◌}
+use Rattle.std.proofs.Common.{rules, ◌≡◌, ◌++◌, codes, flat_map, length, take, ap, ◌∙◌}
 use Rattle.plan_view.specs.Repeats.{nulls, repeats}
 use Rattle.plan_view.specs.Texts.{count_line, repeat_line}
 use Rattle.plan_view.proofs.Appends.{three_appended}
