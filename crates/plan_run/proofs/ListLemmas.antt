@@ -16,7 +16,6 @@ use Rattle.lit_base.specs.declared.fold.Fold.{Fold}
 use Rattle.lit_base.specs.declared.lit_list.Normal.{Normal}
 use Rattle.plan_run.specs.Lists.{ArePlaces, list_refusal, literals_of}
 use Rattle.plan_run.specs.Running.{TakesList, TakesPlaces}
-use Rattle.plan_run.specs.declared.stop.Stop.{Stop}
 
 -- what was done is not refused
 answered : (refusal : Option Fault) (r : Result (Unit {0}) Fault) → RefusedBy refusal r → r ≡ Ok tt → refusal ≡ None
