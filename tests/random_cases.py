@@ -53,6 +53,23 @@ def whole_lines():
         yield patterns, flags, texts
 
 
+def spoilt_searches():
+    """Lists of words of 1 to 20 bytes, flags, and texts of these words, most of them with one byte spoilt."""
+    source = random.Random(5)
+    for shortest in [1, 2, 4, 4, 5, 7, 8, 9, 12] * 4:
+        words = [bytes(source.choices(b"abcdeABC@`", k=source.randrange(shortest, 21))) for _ in range(source.choice([5, 40, 300]))]
+        yield words, "i" * source.randrange(2), [spoilt_text(source, words) for _ in range(3)]
+
+
+def spoilt_text(source, words):
+    """Lines of these words, each with one byte changed or its letter turned to the other case, now and then whole."""
+    near = []
+    for word in source.choices(words, k=300):
+        place, spoilt = source.randrange(len(word)), source.choice([1, 1, 2, 3, 32]) if source.random() < 0.97 else 0
+        near.append(word[:place] + bytes([word[place] ^ spoilt]) + word[place + 1 :] + source.choice([b"", b".", b"\n"]))
+    return b"".join(near)
+
+
 def long_lines():
     """Texts with one line that holds an `a`, with so many bytes before it and behind, and a size of
     pieces."""

@@ -438,6 +438,7 @@ def random_greps():
     yield from searches(random_cases.small_searches())
     yield from searches(random_cases.long_searches())
     yield from searches(random_cases.whole_lines())
+    yield from searches(random_cases.spoilt_searches())
     lines = list(random_cases.long_lines())
     named = {b"%03d" % place: text for place, (text, _) in enumerate(lines)}
     with tempfile.TemporaryDirectory() as folder:
