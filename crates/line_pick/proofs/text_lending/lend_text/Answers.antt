@@ -19,7 +19,7 @@ returns-in-Some-clause-lent g c =
     let p = c.in-Some.compiled.now in
     let known : option_copied m.plan ≡ Some p = ap option_copied c.in-Some.is in
     Lent-lines (numbered-same (is_selected p.literals.folding m.rule.whole m.rule.invert p.literals.texts) (picks m) c.args.before (ended_lines c.args.text.now)
-    (λ k d inside. picks-literals m _ p c.if-matcher.false known)) c.lend_hit_lines.ensures.lent
+    (λ k d inside. picks-literals m _ p c.if-matcher.false known)) c.lend_listed.ensures.lent
 
 pub returns-in-None-clause-lent : goal.returns-in-None-clause-lent
 returns-in-None-clause-lent g c =
