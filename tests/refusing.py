@@ -171,7 +171,9 @@ def judge_of(run, whole, sweep):
         return got.status == 2 and are_fronts(got, whole) and got.messages != whole.messages
 
     if sweep.kind == "growth":
-        is_needed = sweep.behind  # a growth may be asked for again, but not where all behind it are refused
+        # A growth may be asked for again, but not where all behind it are refused; and the part of a thread that cannot be
+        # started is scanned without one.
+        is_needed = sweep.behind and not run.has_threads
         return lambda number, got: run.is_starved(whole, got) or (got == whole and number > 1 and not is_needed)
     if sweep.kind == "read":
         allowed = unread_endings(run, sweep.behind)

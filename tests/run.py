@@ -249,13 +249,14 @@ def usages():
     """The usage behind a refusal of words names the program and its operands."""
     lists = "Usage: litgrep [-F] [-c | -l | -q] [-insvx] LIST [FILE]..."
     plan, check, pack = "litplan plan [-i] FILE", "litplan check [-i] FILE CERT", "litplan pack [-i] FILE OUT"
-    scan = "litplan scan [-i] [--count] --workers W FILE INPUT"
+    explain, scan = "litplan explain [-i] [--svg] FILE", "litplan scan [-i] [--count] --workers W FILE INPUT"
     for program, words, usage in (
         (LITGREP, ["-z"], lists),
-        (LITPLAN, ["-z"], f"Usage: {plan}\n       {check}\n       {pack}\n       {scan}"),
+        (LITPLAN, ["-z"], f"Usage: {plan}\n       {check}\n       {pack}\n       {explain}\n       {scan}"),
         (LITPLAN, ["plan"], f"Usage: {plan}\n"),
         (LITPLAN, ["check", "f"], f"Usage: {check}\n"),
         (LITPLAN, ["pack", "f"], f"Usage: {pack}\n"),
+        (LITPLAN, ["explain"], f"Usage: {explain}\n"),
         (LITPLAN, ["scan", "f"], f"Usage: {scan}\n"),
     ):
         text = run(words, program=program)[2].decode()
