@@ -341,7 +341,7 @@ def random_plan(source):
         return planned(["plan", "-"], ["-"], plain_plan.spelled(plain_plan.plan_of(literals)), patterns)
     name, workers = source.choice(["f", "t", "w"]), source.randrange(1, 17)
     hits = scan_plans.plain_scan(literals, FILES[name], False)
-    return planned(["scan", f"--workers={workers}", "-", name], ["-", name], hits, patterns)
+    return planned(["scan", f"--workers={workers}", "-", name], ["-", name], hits, patterns, has_threads=workers > 1)
 
 
 def random_session(source):
