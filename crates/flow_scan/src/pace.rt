@@ -8,9 +8,9 @@ pub(crate) const CROWD: usize = 4;
 /// measured, five to eight.
 pub(crate) const LOOKS: usize = 5;
 
-/// A mark at which nothing ends counts as so many looks. It costs up to three times as much where marks
-/// crowd, but there the search by strides gives up by this count as well, and nothing got quicker by a
-/// higher one.
+/// A mark at which nothing ends counts as so many looks. It cost up to three times as much where marks
+/// crowd, and nothing got quicker by a higher number. Since a mark is told by all last bytes it costs less;
+/// the number was not chosen anew.
 pub(crate) const LOOKS_OF_MARK: usize = 8;
 
 /// So many bytes behind a crowd are searched by strides before the sieve is tried again. To tell a
@@ -32,5 +32,6 @@ pub(crate) const FREE_MARKS: usize = 4;
 /// bits.
 pub(crate) const BLOCK: usize = 64;
 
-/// Marks at which nothing ends crowd where two looks in a row met as many as one in so many ends.
+/// Marks at which nothing ends crowd where two looks in a row met as many as one in so many ends. With
+/// blocks behind each such mark, lists of 30 and 100 took 1.1 times as long in JSON lines and source code.
 pub(crate) const NEAR: usize = 32;
