@@ -55,8 +55,8 @@ pub record EndsInLine (published : List tickets.Told) (old new : Option (List �
   pub all : published ≡ before ++ last ∷ []
   pub said : AppendsUpTo old new (plan_lines before) (plan_line last.number)
 
--- All of it was said. Or a write failed: in the message behind all lines, or in the line of the plan published last,
--- which the answer then was that loading had come to.
+-- All of it was said. Or a write failed: in the message behind all lines, or in the line of the plan published last, at
+-- which loading then stops.
 pub data IsSaid (name : List ℕ) (published : List tickets.Told) (answer result : Result (Unit {0}) Fault) (err_old err_new : Option (List ℕ)) : Type 0 where
   Whole : result ≡ answer → answer ≢ Err WriteFault → Appends err_old err_new (said_of name published answer) → IsSaid name published answer result err_old err_new
   InMessage : (fault : Fault) → answer ≡ Err fault → result ≡ Err WriteFault → AppendsUpTo err_old err_new (plan_lines published) (message_on name fault)
