@@ -50,7 +50,7 @@ marked-occurs l marks text place at back end is bytes sum near room occurs =
     let key : bit_or (bit_and word marks.mask) marks.case_bits ≡ suffix_key l.folding text at marks.width = λ i. bit_or (masks i) (is.case i) in
     let literal = ap (λ n. suffix_key l.folding text n marks.width) (sym before)
     ∙ key-occurs_inside l text place end marks.width back bytes is.narrow (omega (arith, is.wide place there)) occurs in
-    subst (λ k. IsMarked marks.marks.items (hash_of HASH_BITS k) back) (sym (key ∙ literal)) (is.marked place there back near)
+    subst (λ k. IsMarked marks.marks.items (hash_of HASH_BITS k) back) (sym (key ∙ literal)) (is.marked place there back (omega arith) (omega (arith, near)))
 
 -- so where one ends within a stride, the bytes before the first of its places have the mark of that end
 pub marked_ahead : (l : Literals) (marks : SuffixMarks) (text : List ℕ) (end : ℕ) → AreMarksOf l marks → AreBytes text → 8 ≤ end → (back : ℕ) → back < marks.stride → HasEnd l text (end + back)

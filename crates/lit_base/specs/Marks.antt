@@ -13,9 +13,9 @@ use Rattle.lit_base.specs.declared.suffixes.marks.TheConstants.{HASH_BITS}
 abbrev pub IsMarked : List ℕ → ℕ → ℕ → Type 0
 IsMarked marks number back = bit_at (slice_index marks number) back ≡ 1
 
--- the hashes of a literal's bytes before its last places are marked, each by how far back it stands
-abbrev pub IsMarkedFor : List ℕ → Fold → List ℕ → ℕ → ℕ → Type 0
-IsMarkedFor marks fold literal width stride = (back : ℕ) → back < stride → IsMarked marks (hash_of HASH_BITS (suffix_key fold literal (length literal - back) width)) back
+-- the hashes of a literal's bytes before so many of its places, the last of them at an offset before its end, are marked, each by how far back it stands
+abbrev pub IsMarkedFor : List ℕ → Fold → List ℕ → ℕ → ℕ → ℕ → Type 0
+IsMarkedFor marks fold literal width offset stride = (back : ℕ) → offset ≤ back → back < offset + stride → IsMarked marks (hash_of HASH_BITS (suffix_key fold literal (length literal - back) width)) back
 
 -- the last places of each literal are marked, and there is room for every hash
 pub record AreMarksOf (l : Literals) (marks : SuffixMarks) : Type 0 where
@@ -26,4 +26,4 @@ pub record AreMarksOf (l : Literals) (marks : SuffixMarks) : Type 0 where
   pub case : marks.case_bits ≡ case_bits l.folding
   pub room : length marks.marks.items ≡ 2 ^ HASH_BITS
   pub wide : (place : ℕ) → place < length l.texts → marks.width + marks.stride ≤ length (literal_at l place) + 1
-  pub marked : (place : ℕ) → place < length l.texts → IsMarkedFor marks.marks.items l.folding (literal_at l place) marks.width marks.stride
+  pub marked : (place : ℕ) → place < length l.texts → IsMarkedFor marks.marks.items l.folding (literal_at l place) marks.width 0 marks.stride

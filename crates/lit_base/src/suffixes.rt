@@ -16,7 +16,9 @@ use crate::folded_list::FoldedList;
 use crate::literal::Literal;
 use crate::suffixes::chains::SuffixChains;
 use crate::suffixes::checks::SuffixChecks;
+pub use crate::suffixes::key::{case_bits, hash_of, last_bits, last_word, suffix_key};
 use crate::suffixes::marks::SuffixMarks;
+pub use crate::suffixes::marks::{HASH_BITS, mark_literal};
 use std::alloc::{AllocError, Global};
 
 /// Marks, which tell at once most places where no literal ends, checks, which tell most of the others,

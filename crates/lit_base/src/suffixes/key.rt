@@ -6,7 +6,7 @@ use crate::fold::Fold;
 
 /// The key of the `width` bytes before `end`. Texts that fold alike have like keys.
 #[inline]
-pub(crate) fn suffix_key(fold: Fold, text: &[u8], end: usize, width: usize) -> u64
+pub fn suffix_key(fold: Fold, text: &[u8], end: usize, width: usize) -> u64
     requires some { 0 < width }
     requires narrow { width ≤ 8 }
     requires room { width ≤ end }
@@ -23,7 +23,7 @@ pub(crate) fn suffix_key(fold: Fold, text: &[u8], end: usize, width: usize) -> u
 
 /// The bits of the last `width` bytes of eight.
 #[inline]
-pub(crate) fn last_bits(width: usize) -> u64
+pub fn last_bits(width: usize) -> u64
     requires some { 0 < width }
     requires narrow { width ≤ 8 }
     ensures { result ≡ last_bits width }
@@ -33,7 +33,7 @@ pub(crate) fn last_bits(width: usize) -> u64
 
 /// What the eight bytes before `end` spell.
 #[inline]
-pub(crate) fn last_word(text: &[u8], end: usize) -> u64
+pub fn last_word(text: &[u8], end: usize) -> u64
     requires room { 8 ≤ end }
     requires inside { end ≤ length text.now }
     ensures { result ≡ spelled (slice_range text.now (end - 8) end) }
@@ -61,8 +61,9 @@ fn padded_word(bytes: &[u8]) -> u64
     u64::from_le_bytes(word)
 }
 
+/// The bits that letters differ in by case, one in each of eight bytes, where case does not count.
 #[inline]
-pub(crate) fn case_bits(fold: Fold) -> u64
+pub fn case_bits(fold: Fold) -> u64
     ensures { result ≡ case_bits fold }
 {
     match fold {
@@ -73,7 +74,7 @@ pub(crate) fn case_bits(fold: Fold) -> u64
 
 /// The hash of a key, of this many bits.
 #[inline]
-pub(crate) fn hash_of(bits: usize, key: u64) -> usize
+pub fn hash_of(bits: usize, key: u64) -> usize
     requires { (0 < bits) × (bits ≤ 32) }
     ensures value { result ≡ hash_of bits key }
     ensures below { result < 2 ^ bits }

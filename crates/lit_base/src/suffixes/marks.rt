@@ -14,7 +14,7 @@ use std::alloc::{AllocError, Global};
 
 /// How many bits a hash has here: 64 times as many hashes as there may be literals, so that few
 /// other bytes have one that is marked. With 1,000 literals, 15 bits take 1.3 times as long.
-pub(crate) const HASH_BITS: usize = 16;
+pub const HASH_BITS: usize = 16;
 
 /// A byte of marks for each hash of `width` bytes. Bit `back` says that some literal has bytes of
 /// this hash `back` places before its end. As each literal has a mark for each of the last `stride`
@@ -42,7 +42,14 @@ impl SuffixMarks {
         let width = (len + 1 - stride).min(8);
         let mut marks = Vec::from_elem(alloc, 0, 1 << HASH_BITS)?;
         for place in 0..literals.len() {
-            mark_literal(&mut marks, fold, literals[place].as_slice(), width, stride);
+            mark_literal(
+                &mut marks,
+                fold,
+                literals[place].as_slice(),
+                width,
+                0,
+                stride,
+            );
         }
         Ok(SuffixMarks {
             width,
@@ -104,18 +111,26 @@ pub(crate) fn marked_len(literals: &[Literal]) -> usize
     literals[0].as_slice().len().min(15)
 }
 
-/// Marks the last places of a literal, as many as `stride` says.
-fn mark_literal(marks: &mut Vec<u8>, fold: Fold, literal: &[u8], width: usize, stride: usize)
+/// Marks so many places of a literal, `offset` places before its end and further back: for each of them the
+/// hash of the `width` bytes before it.
+pub fn mark_literal(
+    marks: &mut Vec<u8>,
+    fold: Fold,
+    literal: &[u8],
+    width: usize,
+    offset: usize,
+    stride: usize,
+)
     requires some { 0 < width }
     requires narrow { width ≤ 8 }
-    requires short { stride ≤ 8 }
-    requires long { width + stride ≤ length literal.now + 1 }
+    requires short { offset + stride ≤ 8 }
+    requires long { width + offset + stride ≤ length literal.now + 1 }
     requires room { vec_len marks.old ≡ 2 ^ HASH_BITS }
     ensures len { vec_len marks.new ≡ vec_len marks.old }
-    ensures marked { IsMarkedFor marks.new.items fold literal.now width stride }
+    ensures marked { IsMarkedFor marks.new.items fold literal.now width offset stride }
     ensures kept { (number back : ℕ) → IsMarked marks.old.items number back → IsMarked marks.new.items number back }
 {
-    for back in 0..stride {
+    for back in offset..offset + stride {
         let key = suffix_key(fold, literal, literal.len() - back, width);
         mark(marks, hash_of(HASH_BITS, key), back);
     }

@@ -1,5 +1,6 @@
 -- One place after the other is marked.
-use Rattle.std.proofs.Common.{◌≡◌, ◌-◌, length, ap, ◌∙◌, subst, arith, below_more}
+use Rattle.std.proofs.Common.{◌≡◌, ◌-◌, ◌<◌, length, inl, inr, sym, ap, ◌∙◌, subst, arith}
+use Rattle.std.proofs.lemmas.Bool.{cases_lt}
 use Rattle.lit_base.specs.Marks.{IsMarked}
 use Rattle.lit_base.specs.Suffixes.{hash_of, suffix_key}
 use Rattle.lit_base.specs.declared.suffixes.marks.TheConstants.{HASH_BITS}
@@ -9,9 +10,15 @@ pub loop-back-preserved : goal.loop-back-preserved
 loop-back-preserved c =
     let hash : c.hash_of.result ≡ hash_of HASH_BITS (suffix_key c.args.fold c.args.literal.now (length c.args.literal.now - c.loop-back.back) c.args.width) =
     c.hash_of.ensures.value ∙ ap (hash_of HASH_BITS) c.suffix_key-key.ensures in
+    let here = subst (λ n. IsMarked c.mark.new.marks.items n c.loop-back.back) hash c.mark.ensures.marked in
     record {
       len = c.mark.ensures.len ∙ c.loop-back.invariant.len;
-      marked = below_more _ _ (λ back low. c.mark.ensures.kept _ back (c.loop-back.invariant.marked back low)) (subst (λ n. IsMarked c.mark.new.marks.items n c.loop-back.back) hash c.mark.ensures.marked);
+      marked = λ back counted near. elim (cases_lt back c.loop-back.back) [
+        | inl before ↦ c.mark.ensures.kept _ back (c.loop-back.invariant.marked back counted before)
+        | inr after ↦
+            let same : c.loop-back.back ≡ back = omega (arith, near, after) in
+            subst (λ b. IsMarked c.mark.new.marks.items (hash_of HASH_BITS (suffix_key c.args.fold c.args.literal.now (length c.args.literal.now - b) c.args.width)) b) same here
+      ];
       kept = λ number back old. c.mark.ensures.kept number back (c.loop-back.invariant.kept number back old);
     }
 

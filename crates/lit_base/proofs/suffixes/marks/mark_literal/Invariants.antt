@@ -1,4 +1,4 @@
-use Rattle.std.proofs.Common.{◌≡◌, ℕ, ◌-◌, ◌<◌, length, vec_len}
+use Rattle.std.proofs.Common.{◌≡◌, ℕ, ◌-◌, ◌<◌, ◌≤◌, length, vec_len}
 use Rattle.lit_base.specs.Marks.{IsMarked}
 use Rattle.lit_base.specs.Suffixes.{hash_of, suffix_key}
 use Rattle.lit_base.specs.declared.suffixes.marks.TheConstants.{HASH_BITS}
@@ -8,6 +8,6 @@ use Rattle.lit_base.proofs.suffixes.marks.mark_literal.Given as goal
 abbrev pub invariant-loop-back : goal.invariant-loop-back
 invariant-loop-back l = record {
   len : vec_len l.marks ≡ vec_len l.fn.marks;
-  marked : (back : ℕ) → back < l.back → IsMarked l.marks.items (hash_of HASH_BITS (suffix_key l.fold l.literal (length l.literal - back) l.width)) back;
+  marked : (back : ℕ) → l.offset ≤ back → back < l.back → IsMarked l.marks.items (hash_of HASH_BITS (suffix_key l.fold l.literal (length l.literal - back) l.width)) back;
   kept : (number back : ℕ) → IsMarked l.fn.marks.items number back → IsMarked l.marks.items number back;
 }

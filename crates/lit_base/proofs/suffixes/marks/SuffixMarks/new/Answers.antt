@@ -21,8 +21,8 @@ loop-place-preserved c =
     record {
       len = c.mark_literal.ensures.len ∙ c.loop-place.invariant.len;
       marked = below_more _ _
-          (λ place low back near. c.mark_literal.ensures.kept _ back (c.loop-place.invariant.marked place low back near))
-          (subst (λ t. IsMarkedFor c.mark_literal.new.marks.items c.args.fold t width stride) here c.mark_literal.ensures.marked);
+          (λ place low back counted near. c.mark_literal.ensures.kept _ back (c.loop-place.invariant.marked place low back counted near))
+          (subst (λ t. IsMarkedFor c.mark_literal.new.marks.items c.args.fold t width 0 stride) here c.mark_literal.ensures.marked);
     }
 
 pub returns : goal.returns

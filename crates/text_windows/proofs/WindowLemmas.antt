@@ -1,0 +1,75 @@
+-- Windows: a text has the marks of each literal that ends in it, so far before its end.
+use Rattle.std.proofs.Common.{◌≡◌, ℕ, ◌+◌, ◌-◌, ◌^◌, ◌++◌, ◌<◌, ◌≤◌, List, [], length, replicate, inl, inr, sym, ap, ◌∙◌, subst, arith}
+use Rattle.std.specs.Int.{bit_at}
+use Rattle.std.specs.Int.RustNames.{bit_and, bit_or}
+use Rattle.std.specs.List.{slice_range}
+use Rattle.std.specs.Option.{unwrap_or}
+use Rattle.std.proofs.lemmas.Bool.{cases_lt}
+use Rattle.std.proofs.lemmas.Nat.Bits.{bit_at-lt, bit_at_or}
+use Rattle.std.proofs.lemmas.Option.{slice_get_within, unwrap_or-slice_get}
+use Rattle.lit_base.specs.declared.fold.Fold.{Fold}
+use Rattle.lit_base.specs.declared.suffixes.marks.TheConstants.{HASH_BITS}
+use Rattle.lit_base.specs.Chains.{literal_at}
+use Rattle.lit_base.specs.Literals.{Literals}
+use Rattle.lit_base.specs.Marks.{IsMarked}
+use Rattle.lit_base.specs.Occurrences.{Occurs}
+use Rattle.lit_base.specs.Suffixes.{case_bits, hash_of, last_bits, spelled, suffix_key}
+use Rattle.lit_base.proofs.SuffixLemmas.{AreBytes, key-occurs_inside, masked, spelled_fits}
+use Rattle.text_windows.specs.declared.shape.Shape.{Shape}
+use Rattle.text_windows.specs.declared.shape.TheConstants.{WIDTH}
+use Rattle.text_windows.specs.Windows.{AreMarksAt, AreWindowed, IsWindowed, Windowing, offset_at}
+
+-- the literal that occurs is the one at its place
+pub literal_is : (l : Literals) (text : List ℕ) (place end : ℕ) (occurs : Occurs l text place end) → occurs.literal ≡ literal_at l place
+literal_is l text place end occurs = sym (ap (λ o. unwrap_or o []) occurs.stands) ∙ unwrap_or-slice_get l.texts place []
+
+-- where a literal ends, the bytes of the text so far before have the mark of its window there, and there are as many
+module _ (l : Literals) (marks text : List ℕ) (place at back width offset stride : ℕ) (is : IsWindowed l marks place width offset stride) (counted : offset ≤ back) (near : back < offset + stride) (occurs : Occurs l text place (at + back)) where
+  pub window_begins : width ≤ at
+  window_begins = omega (arith, is.wide, near, occurs.begins, ap (λ (t : List ℕ). length t) (literal_is l text place (at + back) occurs))
+
+  pub window_marked : AreBytes text → width ≤ 8 → IsMarked marks (hash_of HASH_BITS (suffix_key l.folding text at width)) back
+  window_marked bytes narrow =
+      let before : at + back - back ≡ at = omega arith in
+      let key : suffix_key l.folding text at width ≡ suffix_key l.folding (literal_at l place) (length (literal_at l place) - back) width =
+      ap (λ n. suffix_key l.folding text n width) (sym before)
+      ∙ key-occurs_inside l text place (at + back) width back bytes narrow (omega (arith, is.wide, near)) occurs in
+      subst (λ k. IsMarked marks (hash_of HASH_BITS k) back) (sym key) (is.marked back counted near)
+
+-- the key of the bytes before a place, read as a word
+pub word_key : (fold : Fold) (text : List ℕ) (at width word bits : ℕ) → AreBytes text → width ≤ 8 → 8 ≤ at → at ≤ length text → word ≡ spelled (slice_range text (at - 8) at) → bits ≡ case_bits fold
+    → bit_or (bit_and word (last_bits width)) bits ≡ suffix_key fold text at width
+unfolding suffix_key
+word_key fold text at width word bits bytes narrow room inside is case =
+    let small : word < 2 ^ 64 = subst (λ n. n < 2 ^ 64) (sym is) (spelled_fits text at bytes room inside) in
+    let masks : bit_and word (last_bits width) ≡ spelled (replicate (8 - width) 0 ++ slice_range text (at - width) at) =
+    masked text at width word bytes narrow room inside small is in
+    λ i. bit_or (masks i) (case i)
+
+-- a mark stays beside others
+pub marked_left : (a b back : ℕ) → bit_at a back ≡ 1 → bit_at (bit_or a b) back ≡ 1
+marked_left a b back marked = omega (arith, bit_at_or a b back, marked, bit_at-lt b back)
+
+pub marked_right : (a b back : ℕ) → bit_at b back ≡ 1 → bit_at (bit_or a b) back ≡ 1
+marked_right a b back marked = omega (arith, bit_at_or a b back, marked, bit_at-lt a back)
+
+-- marks of a place are those of all literals, if they hold what is marked for the bytes before it: four of them, and as many as short literals are marked by
+pub marks_are : (w : Windowing) (shape : Shape) (marks text : List ℕ) (at result : ℕ) → AreWindowed w.literals shape w.stride w.offsets marks (length w.literals.texts) → AreBytes text → shape.short_width ≤ 8
+    → ((back : ℕ) → WIDTH ≤ at → IsMarked marks (hash_of HASH_BITS (suffix_key w.literals.folding text at WIDTH)) back → bit_at result back ≡ 1)
+    → ((back : ℕ) → 0 < shape.shorts → shape.short_width ≤ at → IsMarked marks (hash_of HASH_BITS (suffix_key w.literals.folding text at shape.short_width)) back → bit_at result back ≡ 1)
+    → AreMarksAt w text at result
+marks_are w shape marks text at result are bytes narrow long short place back counted near occurs =
+    let l = w.literals in
+    let there = slice_get_within l.texts place occurs.literal occurs.stands in
+    elim (cases_lt place shape.shorts) [
+      | inl before ↦
+          let is = are.short place there before in
+          short back (omega (arith, before))
+          (window_begins l marks text place at back shape.short_width (offset_at w place) w.stride is counted near occurs)
+          (window_marked l marks text place at back shape.short_width (offset_at w place) w.stride is counted near occurs bytes narrow)
+      | inr after ↦
+          let is = are.long place there after in
+          long back
+          (window_begins l marks text place at back WIDTH (offset_at w place) w.stride is counted near occurs)
+          (window_marked l marks text place at back WIDTH (offset_at w place) w.stride is counted near occurs bytes (omega arith))
+    ]

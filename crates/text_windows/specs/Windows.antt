@@ -1,0 +1,43 @@
+-- Windows of literals: the bytes, so far before a literal's end, that it is marked by.
+use Rattle.std.specs.Prelude.{◌≡◌, ℕ, ◌+◌, ◌^◌, ◌<◌, ◌≤◌, List, length, slice_index}
+use Rattle.std.specs.Int.{bit_at}
+use Rattle.lit_base.specs.Chains.{literal_at}
+use Rattle.lit_base.specs.Literals.{Literals}
+use Rattle.lit_base.specs.Marks.{IsMarkedFor}
+use Rattle.lit_base.specs.Occurrences.{Occurs}
+use Rattle.lit_base.specs.declared.suffixes.marks.TheConstants.{HASH_BITS}
+use Rattle.text_windows.specs.declared.shape.Shape.{Shape}
+use Rattle.text_windows.specs.declared.shape.TheConstants.{WIDTH}
+
+-- what a contract sees of `Windows`: the literals, how far apart a search looks, and how far before its end each literal has the last of its windows
+pub record Windowing : Type 0 where
+  pub literals : Literals
+  pub stride : ℕ
+  pub offsets : List ℕ
+
+-- the offset of a literal
+abbrev pub offset_at : Windowing → ℕ → ℕ
+offset_at w place = slice_index w.offsets place
+
+-- each literal's windows, as many as a stride has places, lie within it, and no further back than a byte of marks tells
+pub record AreWithin (w : Windowing) : Type 0 where
+  pub some : 0 < w.stride
+  pub near : (place : ℕ) → place < length w.literals.texts → offset_at w place + w.stride ≤ 8
+  pub within : (place : ℕ) → place < length w.literals.texts → offset_at w place + w.stride ≤ length (literal_at w.literals place)
+
+-- marks at a place of a text tell each end of a literal that has one of its windows before that place, by how far it is ahead
+abbrev pub AreMarksAt : Windowing → List ℕ → ℕ → ℕ → Type 0
+AreMarksAt w text at marks = (place back : ℕ) → offset_at w place ≤ back → back < offset_at w place + w.stride → Occurs w.literals text place (at + back) → bit_at marks back ≡ 1
+
+-- a literal is marked by its windows of so many bytes at an offset
+pub record IsWindowed (l : Literals) (marks : List ℕ) (place width offset stride : ℕ) : Type 0 where
+  pub near : offset + stride ≤ 8
+  pub wide : width + offset + stride ≤ length (literal_at l place) + 1
+  pub marked : IsMarkedFor marks l.folding (literal_at l place) width offset stride
+
+-- each literal before a place is marked
+pub record AreWindowed (l : Literals) (shape : Shape) (stride : ℕ) (offsets marks : List ℕ) (count : ℕ) : Type 0 where
+  pub offsets_len : length offsets ≡ length l.texts
+  pub marks_len : length marks ≡ 2 ^ HASH_BITS
+  pub short : (place : ℕ) → place < count → place < shape.shorts → IsWindowed l marks place shape.short_width (slice_index offsets place) stride
+  pub long : (place : ℕ) → place < count → shape.shorts ≤ place → IsWindowed l marks place WIDTH (slice_index offsets place) stride

@@ -1,0 +1,10 @@
+//! Marks of literals by windows of their bytes, chosen so that they are rare in a text at hand.
+#![tactic(auto)]
+
+mod choosing;
+mod counts;
+mod marking;
+mod shape;
+mod windows;
+
+pub use windows::Windows;

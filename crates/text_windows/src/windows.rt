@@ -1,0 +1,159 @@
+//! The windows that literals are searched for by.
+ghost use Rattle.std.specs.Prelude.{◌≡◌, ℕ, ◌+◌, ◌^◌, ◌<◌, ◌≤◌, IfOk, length, slice_index, vec_len};
+ghost use Rattle.std.specs.Int.{bit_at};
+ghost use Rattle.std.specs.Int.RustNames.{bit_and, bit_or};
+ghost use Rattle.lit_base.specs.Marks.{IsMarked};
+ghost use Rattle.lit_base.specs.Suffixes.{hash_of, last_bits, suffix_key};
+ghost use Rattle.lit_base.specs.declared.suffixes.marks.TheConstants.{HASH_BITS};
+ghost use Rattle.text_windows.specs.declared.shape.TheConstants.{WIDTH};
+ghost use Rattle.text_windows.specs.Windows.{AreMarksAt, AreWithin};
+
+use crate::choosing::{best_stride, choose_offsets};
+use crate::counts::Counts;
+use crate::marking::mark_all;
+use crate::shape::{Shape, WIDTH};
+use lit_base::{Fold, HASH_BITS, LitList, case_bits, hash_of, last_bits, last_word, suffix_key};
+use std::alloc::{AllocError, Global};
+use std::marker::Model;
+
+/// The literals of a list, marked by windows of their bytes: of each literal those that are rare in a text at hand.
+/// Whoever looks at every `stride`-th place of a text misses no end. All memory is taken when it is made.
+#[derive(Debug, Drop)]
+pub struct Windows<'p> {
+    list: &'p LitList,
+    shape: Shape,
+    stride: usize,
+    /// How far before its end each literal has the last of its windows.
+    offsets: Vec<u8>,
+    /// A byte for each hash. Bit `back` says that some literal has a window of this hash `back` places before its end.
+    marks: Vec<u8>,
+    counts: Counts,
+}
+
+impl<'p> Model for Windows<'p> {
+    ghost use Rattle.std.specs.Prelude.{◌≡◌, ◌^◌, ◌<◌, ◌≤◌, length, vec_len};
+    ghost use Rattle.lit_base.specs.declared.suffixes.marks.TheConstants.{HASH_BITS};
+    ghost use Rattle.text_windows.specs.Shapes.{IsShapeOf};
+    ghost use Rattle.text_windows.specs.Windows.{AreWindowed, Windowing};
+
+    ghost Value = { Windowing };
+
+    ghost view = { λ w. record { literals = w.list.now; stride = w.stride; offsets = w.offsets.items } };
+
+    ghost invariant = { λ w. IsShapeOf w.list.now w.shape × (0 < w.stride) × (w.stride ≤ w.shape.most_stride)
+        × AreWindowed w.list.now w.shape w.stride w.offsets.items w.marks.items (length w.list.now.texts)
+        × (vec_len w.counts.counts ≡ 2 ^ HASH_BITS) };
+}
+
+impl<'p> Windows<'p> {
+    /// The literals of a list, marked by their last bytes at every place.
+    pub fn new(alloc: Global, list: &'p LitList) -> Result<Windows<'p>, AllocError>
+        ensures { IfOk result (λ windows. windows.literals ≡ list.now) }
+    {
+        let shape = Shape::of(list);
+        let mut offsets = Vec::from_elem(alloc, 0, list.len())?;
+        let mut marks = Vec::from_elem(alloc, 0, 1 << HASH_BITS)?;
+        let counts = Counts::new(alloc)?;
+        mark_all(list, shape, 1, &mut offsets, &mut marks);
+        Ok(Windows {
+            list,
+            shape,
+            stride: 1,
+            offsets,
+            marks,
+            counts,
+        })
+    }
+
+    /// Chooses windows that are rare in a sample of the text to come, and answers what a search by them is likely
+    /// to take, in tenths of a nanosecond for 1,024 bytes. Earlier samples count half as much.
+    pub fn learn(&mut self, sample: &[u8]) -> usize
+        ensures { self.new.literals ≡ self.old.literals }
+    {
+        self.counts.count(self.list, sample);
+        let estimate = best_stride(self.list, self.shape, &self.counts);
+        self.stride = estimate.stride;
+        choose_offsets(self.list, &self.counts, self.stride, &mut self.offsets);
+        mark_all(
+            self.list,
+            self.shape,
+            self.stride,
+            &mut self.offsets,
+            &mut self.marks,
+        );
+        estimate.cost
+    }
+
+    /// How far apart the places are at which a search has to look.
+    #[inline(always)]
+    pub fn stride(&self) -> usize
+        ensures value { result ≡ self.now.stride }
+        ensures short { result ≤ 8 }
+        ensures within { AreWithin self.now }
+    {
+        self.stride
+    }
+
+    /// Marks of the places from `at` on by the bytes before it: bit `back` is set where a literal ends at
+    /// `at + back` that has one of its windows before `at`, and rarely elsewhere.
+    #[inline(always)]
+    pub fn marks_at(&self, text: &[u8], at: usize) -> u8
+        requires { at ≤ length text.now }
+        ensures { AreMarksAt self.now text.now at result }
+    {
+        let fold = self.list.fold();
+        if at < 8 {
+            return marks_near_front(&self.marks, fold, self.shape, text, at);
+        }
+        let word = last_word(text, at);
+        let case_bits = case_bits(fold);
+        let long = marks_of(&self.marks, word, WIDTH, case_bits);
+        if self.shape.shorts == 0 {
+            return long;
+        }
+        let short = marks_of(&self.marks, word, self.shape.short_width, case_bits);
+        long | short
+    }
+}
+
+/// The marks of the last `width` of eight bytes.
+#[inline(always)]
+fn marks_of(marks: &Vec<u8>, word: u64, width: usize, case_bits: u64) -> u8
+    requires room { vec_len marks.now ≡ 2 ^ HASH_BITS }
+    requires some { 0 < width }
+    requires narrow { width ≤ 8 }
+    ensures { result ≡ slice_index marks.now.items (hash_of HASH_BITS (bit_or (bit_and word (last_bits width)) case_bits)) }
+{
+    marks[hash_of(HASH_BITS, (word & last_bits(width)) | case_bits)]
+}
+
+/// The marks of a place that has few bytes before it.
+#[inline(never)]
+fn marks_near_front(marks: &Vec<u8>, fold: Fold, shape: Shape, text: &[u8], at: usize) -> u8
+    requires room { vec_len marks.now ≡ 2 ^ HASH_BITS }
+    requires some { 0 < shape.short_width }
+    requires narrow { shape.short_width ≤ 8 }
+    requires inside { at ≤ length text.now }
+    ensures long { (back : ℕ) → WIDTH ≤ at → IsMarked marks.now.items (hash_of HASH_BITS (suffix_key fold text.now at WIDTH)) back
+        → bit_at result back ≡ 1 }
+    ensures short { (back : ℕ) → shape.short_width ≤ at → IsMarked marks.now.items (hash_of HASH_BITS (suffix_key fold text.now at shape.short_width)) back
+        → bit_at result back ≡ 1 }
+{
+    let long = marks_before(marks, fold, text, at, WIDTH);
+    let short = marks_before(marks, fold, text, at, shape.short_width);
+    long | short
+}
+
+/// The marks of the `width` bytes before a place, if there are so many.
+fn marks_before(marks: &Vec<u8>, fold: Fold, text: &[u8], at: usize, width: usize) -> u8
+    requires room { vec_len marks.now ≡ 2 ^ HASH_BITS }
+    requires some { 0 < width }
+    requires narrow { width ≤ 8 }
+    requires inside { at ≤ length text.now }
+    ensures { width ≤ at → result ≡ slice_index marks.now.items (hash_of HASH_BITS (suffix_key fold text.now at width)) }
+{
+    if at < width {
+        return 0;
+    }
+    marks[hash_of(HASH_BITS, suffix_key(fold, text, at, width))]
+}
