@@ -6,3 +6,4 @@ pub mod Scanners
 pub mod Seams
 pub mod Starts
 pub mod Tails
+pub mod Windowed

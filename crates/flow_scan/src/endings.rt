@@ -5,6 +5,7 @@ ghost use Rattle.nib_mask.specs.Candidates.{CoversBy};
 ghost use Rattle.lane_filter.specs.Sieves.{Passes};
 ghost use Rattle.flow_scan.specs.NextEnds.{IsNextEnd, IsPassed, NoEndAfter};
 
+use crate::learning::{CANDIDATE_COST, MARK_COST, cost_of_looks};
 use crate::pace::{CROWD, LONGEST_DELAY, LOOKS, LOOKS_OF_MARK, SHORTEST_DELAY, WINDOW};
 use crate::strides::next_end_within_budget;
 use lane_filter::Candidates;
@@ -15,6 +16,8 @@ use lit_base::LitList;
 pub(crate) struct Backoff {
     retry_at: usize,
     delay: usize,
+    /// What was met that ended nothing took about so long, in tenths of a nanosecond.
+    spent: usize,
 }
 
 impl Backoff {
@@ -23,7 +26,23 @@ impl Backoff {
         Backoff {
             retry_at: 0,
             delay: SHORTEST_DELAY,
+            spent: 0,
         }
+    }
+
+    /// What the search spent on candidates and marks at which nothing ended, and on looks, in tenths of a nanosecond.
+    pub(crate) fn spent(&self) -> usize {
+        self.spent
+    }
+
+    fn spend(&mut self, cost: usize) {
+        self.spent = self.spent.saturating_add(cost);
+    }
+
+    /// It went over so many bytes, and met so many marks.
+    fn spend_on_strides(&mut self, list: &LitList, count: usize, met: usize) {
+        self.spend(cost_of_looks(list.stride(), count));
+        self.spend(met.saturating_mul(MARK_COST));
     }
 
     /// It gave up at a place, and waits behind it.
@@ -65,7 +84,7 @@ pub(crate) fn next_verified(
     ensures reached { IfSome result (λ found. candidates.new.from ≡ found.0) }
 {
     'crowds: loop {
-        match next_sieved(list, text, candidates, backoff.retry_at) {
+        match next_sieved(list, text, candidates, backoff) {
             Ok(found) => return found,
             Err(crowd) => match next_by_list(list, text, crowd, backoff) {
                 Ok((end, first)) => {
@@ -83,7 +102,7 @@ fn next_sieved(
     list: &LitList,
     text: &[u8],
     candidates: &mut Candidates,
-    retry_at: usize,
+    backoff: &mut Backoff,
 ) -> Result<Option<(usize, usize)>, Crowd>
     requires covers { CoversBy list.now (Passes candidates.old.sieve) }
     requires text { candidates.old.text ≡ text.now }
@@ -103,9 +122,10 @@ fn next_sieved(
         if let Some(first) = list.next_ending(text, end, 0) {
             return Ok(Some((end, first)));
         }
+        backoff.spend(CANDIDATE_COST);
         if left == 0 {
             let bytes = end.saturating_sub(start);
-            if retry_at <= end && are_close(list, bytes) {
+            if backoff.retry_at <= end && are_close(list, bytes) {
                 return Err(Crowd { last: end, bytes });
             }
             start = end;
@@ -137,13 +157,20 @@ fn next_by_list(
 {
     let last = text.len().min(crowd.last.saturating_add(WINDOW));
     let (front, _) = text.split_at(last);
-    match next_end_within_budget(list, front, crowd.last, bytes_per_mark(list, crowd.bytes)) {
-        Ok(Some(found)) => Ok(found),
+    let price = bytes_per_mark(list, crowd.bytes);
+    let mut met = 0;
+    match next_end_within_budget(list, front, crowd.last, price, &mut met) {
+        Ok(Some(found)) => {
+            backoff.spend_on_strides(list, found.0.saturating_sub(crowd.last), met);
+            Ok(found)
+        }
         Ok(None) => {
+            backoff.spend_on_strides(list, last.saturating_sub(crowd.last), met);
             backoff.reset();
             Err(last)
         }
         Err(stop) => {
+            backoff.spend_on_strides(list, stop.at.saturating_sub(crowd.last), met);
             backoff.wait_behind(stop.at);
             Err(stop.at)
         }

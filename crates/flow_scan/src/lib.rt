@@ -7,19 +7,23 @@ mod compiled;
 mod endings;
 mod fault;
 mod hit;
+mod learning;
 mod mark_budget;
 mod pace;
 mod scanner;
 mod scanning;
 mod seam;
+mod searcher;
 mod searching;
 mod strides;
+mod windowed;
 
 pub use compiled::{Compiled, least_law};
 pub use fault::Fault;
 pub use hit::Hit;
 pub use scanner::Scanner;
 pub use scanning::{pieces_law, scan_all, scan_behind, scan_pieces};
+pub use searcher::Searcher;
 pub use searching::next_end;
 
 #[cfg(test)]

@@ -24,16 +24,33 @@ pub fn next_end(compiled: &Compiled, text: &[u8], from: usize) -> Option<usize>
     if start >= text.len() {
         return None;
     }
-    let mut candidates = Candidates::new(compiled.sieve(), text, start);
-    match next_verified(list, text, &mut candidates, &mut Backoff::new()) {
+    match next_plainly(compiled, text, start, &mut Backoff::new()) {
         Some((end, _)) => Some(end),
         None => None,
     }
 }
 
+/// The first place of the text behind `from` at which some literal ends, with the first literal that ends there, by
+/// the plan alone.
+#[inline]
+pub(crate) fn next_plainly(
+    compiled: &Compiled,
+    text: &[u8],
+    from: usize,
+    backoff: &mut Backoff,
+) -> Option<(usize, usize)>
+    requires inside { from ≤ length text.now }
+    ensures next { MatchOption result
+        (NoEndAfter compiled.now.literals text.now from)
+        (λ found. IsNextEnd compiled.now.literals text.now from found.0) }
+{
+    let mut candidates = Candidates::new(compiled.sieve(), text, from);
+    next_verified(compiled.list(), text, &mut candidates, backoff)
+}
+
 /// A place from `from` on up to which no literal can end, as each is longer. A search that begins
 /// there need not look at places so near to a text's start one by one.
-fn skip_short_ends(list: &LitList, from: usize) -> usize
+pub(crate) fn skip_short_ends(list: &LitList, from: usize) -> usize
     ensures ahead { from ≤ result }
     ensures none { (text : List ℕ) → NoEndUpTo list.now text from result }
 {

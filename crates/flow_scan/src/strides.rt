@@ -31,12 +31,13 @@ struct Look {
 /// further on; where `bytes_per_mark` is 0 it does not. It takes no memory.
 ///
 /// A mark costs as much as many looks at the text, so giving up tells a caller who has another way of
-/// searching that this one does not suit the text.
+/// searching that this one does not suit the text. The marks looked at are added to `met`.
 pub(crate) fn next_end_within_budget(
     list: &LitList,
     text: &[u8],
     from: usize,
     bytes_per_mark: usize,
+    met: &mut usize,
 ) -> Result<Option<(usize, usize)>, GaveUp>
     ensures next { IfOk result (λ hit. MatchOption hit
         (NoEndAfter list.now text.now from)
@@ -50,7 +51,7 @@ pub(crate) fn next_end_within_budget(
         return Ok(None);
     }
     if from >= 7 {
-        return next_by_strides(list, text, from, bytes_per_mark);
+        return next_by_strides(list, text, from, bytes_per_mark, met);
     }
     // Before the first seven ends stand fewer than eight bytes, so each is looked at.
     if let Some(found) = first_marked(list, text, from, 7 - from, u64::MAX) {
@@ -59,7 +60,7 @@ pub(crate) fn next_end_within_budget(
     if text.len() <= 7 {
         return Ok(None);
     }
-    next_by_strides(list, text, 7, bytes_per_mark)
+    next_by_strides(list, text, 7, bytes_per_mark, met)
 }
 
 /// The search of `next_end_within_budget` behind at least seven bytes: of as many ends as a stride has
@@ -71,6 +72,7 @@ fn next_by_strides(
     text: &[u8],
     from: usize,
     bytes_per_mark: usize,
+    met: &mut usize,
 ) -> Result<Option<(usize, usize)>, GaveUp>
     requires seven { 7 ≤ from }
     requires inside { from < length text.now }
@@ -89,6 +91,7 @@ fn next_by_strides(
     'strides: loop {
         let look = look_ahead(list, text, seen, is_crowded);
         let marks = marks_of(look);
+        *met = met.saturating_add(marks);
         if let Some(found) = first_marked(list, text, look.seen, look.count, look.marks) {
             return Ok(Some(found));
         }

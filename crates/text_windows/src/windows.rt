@@ -101,12 +101,21 @@ impl<'p> Windows<'p> {
         requires { at ≤ length text.now }
         ensures { AreMarksAt self.now text.now at result }
     {
-        let fold = self.list.fold();
         if at < 8 {
-            return marks_near_front(&self.marks, fold, self.shape, text, at);
+            return marks_near_front(&self.marks, self.list.fold(), self.shape, text, at);
         }
+        self.marks_behind_front(text, at)
+    }
+
+    /// The marks of `marks_at` for a place that has eight bytes before it.
+    #[inline(always)]
+    pub fn marks_behind_front(&self, text: &[u8], at: usize) -> u8
+        requires eight { 8 ≤ at }
+        requires inside { at ≤ length text.now }
+        ensures { AreMarksAt self.now text.now at result }
+    {
         let word = last_word(text, at);
-        let case_bits = case_bits(fold);
+        let case_bits = case_bits(self.list.fold());
         let long = marks_of(&self.marks, word, WIDTH, case_bits);
         if self.shape.shorts == 0 {
             return long;

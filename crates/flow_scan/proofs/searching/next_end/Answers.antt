@@ -3,9 +3,6 @@ use Rattle.std.proofs.Common.{arith}
 use Rattle.flow_scan.proofs.EndLemmas.{next_further, none_further}
 use Rattle.flow_scan.proofs.searching.next_end.Goals as goal
 
-pub next_verified-requires-clause-covers : goal.next_verified-requires-clause-covers
-next_verified-requires-clause-covers c = rw (c.list-list.ensures, c.new-candidates.ensures.sieve) c.sieve.ensures
-
 pub returns-then-start-text : goal.returns-then-start-text
 returns-then-start-text c end after here =
     let none = rw c.list-list.ensures at (c.skip_short_ends-start.ensures.none c.args.text.now) in
@@ -16,10 +13,10 @@ pub returns-in-None : goal.returns-in-None
 returns-in-None c =
     let none = rw c.list-list.ensures at (c.skip_short_ends-start.ensures.none c.args.text.now) in
     none_further c.args.compiled.now.literals c.args.text.now c.args.from c.skip_short_ends-start.result none
-    (rw (c.list-list.ensures, c.new-candidates.ensures.from) at c.in-None.ensures.next)
+    c.in-None.ensures.next
 
 pub returns-in-Some : goal.returns-in-Some
 returns-in-Some c =
     let none = rw c.list-list.ensures at (c.skip_short_ends-start.ensures.none c.args.text.now) in
     next_further c.args.compiled.now.literals c.args.text.now c.args.from c.skip_short_ends-start.result none _ c.skip_short_ends-start.ensures.ahead
-    (rw (c.list-list.ensures, c.new-candidates.ensures.from) at c.in-Some.ensures.next)
+    c.in-Some.ensures.next

@@ -1,0 +1,8 @@
+-- The candidates are those of this text by the plan's sieve.
+use Rattle.flow_scan.proofs.searching.next_plainly.Goals as goal
+
+pub next_verified-requires-clause-covers : goal.next_verified-requires-clause-covers
+next_verified-requires-clause-covers c = rw (c.list.ensures, c.new-candidates.ensures.sieve) c.sieve.ensures
+
+pub returns : goal.returns
+returns c = record { next = rw (c.list.ensures, c.new-candidates.ensures.from) at c.next_verified.ensures.next }

@@ -1,0 +1,147 @@
+//! A search through texts that learns from them.
+ghost use Rattle.std.specs.Prelude.{◌≡◌, ◌<◌, ◌≤◌, IfOk, IfSome, MatchOption, length};
+ghost use Rattle.lit_base.specs.Occurrences.{IsFirstEnding};
+ghost use Rattle.flow_scan.specs.NextEnds.{IsNextEnd, NoEndAfter};
+
+use crate::compiled::Compiled;
+use crate::endings::Backoff;
+use crate::learning::{Learning, MARK_COST, cost_of_looks};
+use crate::searching::{next_plainly, skip_short_ends};
+use crate::windowed::next_end_by_windows;
+use std::alloc::{AllocError, Global};
+use std::marker::Model;
+use text_windows::Windows;
+
+/// So many bytes of a text are learned from at most.
+const SAMPLE: usize = 65536;
+
+/// Fewer bytes tell too little of a text.
+const LEAST_SAMPLE: usize = 16384;
+
+/// A search through the texts of one run for the literals of a plan. It begins as `next_end` does; where what
+/// it meets in a text ends nothing too often, it learns which windows of the literals are rare there, and goes on by
+/// these. What it finds does not depend on that. All memory is taken when it is made.
+#[derive(Debug, Drop)]
+pub struct Searcher<'p> {
+    compiled: &'p Compiled,
+    windows: Windows<'p>,
+    learning: Learning,
+}
+
+impl<'p> Model for Searcher<'p> {
+    ghost use Rattle.std.specs.Prelude.{◌≡◌};
+    ghost use Rattle.flow_scan.specs.Plans.{Plan};
+
+    ghost Value = { Plan };
+
+    ghost view = { λ s. s.compiled.now };
+
+    ghost invariant = { λ s. s.windows.literals ≡ s.compiled.now.literals };
+}
+
+impl<'p> Searcher<'p> {
+    /// A search by a plan, before any text.
+    pub fn new(alloc: Global, compiled: &'p Compiled) -> Result<Searcher<'p>, AllocError>
+        ensures { IfOk result (λ searcher. searcher ≡ compiled.now) }
+    {
+        let windows = Windows::new(alloc, compiled.list())?;
+        Ok(Searcher {
+            compiled,
+            windows,
+            learning: Learning::new(),
+        })
+    }
+
+    /// The plan.
+    pub fn compiled(&self) -> &'p Compiled
+        ensures { result.now ≡ self.now }
+    {
+        self.compiled
+    }
+
+    /// The first place of the text behind `from` at which some literal ends, wherever it begins, if
+    /// there is one. It takes no memory.
+    pub fn next_end(&mut self, text: &[u8], from: usize) -> Option<usize>
+        ensures same { self.new ≡ self.old }
+        ensures next { MatchOption result
+            (NoEndAfter self.old.literals text.now from)
+            (IsNextEnd self.old.literals text.now from) }
+    {
+        let start = skip_short_ends(self.compiled.list(), from);
+        if start >= text.len() {
+            return None;
+        }
+        self.learn_if_due(text, start);
+        match self.next_behind(text, start) {
+            Some((end, _)) => Some(end),
+            None => None,
+        }
+    }
+
+    /// The search of `next_end` in the way that was chosen.
+    fn next_behind(&mut self, text: &[u8], from: usize) -> Option<(usize, usize)>
+        requires { from < length text.now }
+        ensures same { self.new ≡ self.old }
+        ensures next { MatchOption result
+            (NoEndAfter self.old.literals text.now from)
+            (λ found. IsNextEnd self.old.literals text.now from found.0) }
+    {
+        if self.learning.is_windowed() {
+            return self.next_windowed(text, from);
+        }
+        let mut backoff = Backoff::new();
+        let found = next_plainly(self.compiled, text, from, &mut backoff);
+        self.learning
+            .note(passed(text, from, found), backoff.spent());
+        found
+    }
+
+    /// The search of `next_end` by windows.
+    fn next_windowed(&mut self, text: &[u8], from: usize) -> Option<(usize, usize)>
+        requires { from < length text.now }
+        ensures same { self.new ≡ self.old }
+        ensures next { MatchOption result
+            (NoEndAfter self.old.literals text.now from)
+            (λ found. IsNextEnd self.old.literals text.now from found.0) }
+    {
+        let list = self.compiled.list();
+        let mut met = 0;
+        let found = next_end_by_windows(&self.windows, list, text, from, &mut met);
+        let count = passed(text, from, found);
+        let looks = cost_of_looks(self.windows.stride(), count);
+        let marks = met.saturating_mul(MARK_COST);
+        self.learning.note(count, looks.saturating_add(marks));
+        found
+    }
+
+    /// Learns from the text behind a place, where that is worth while and enough of it is left.
+    #[inline(always)]
+    fn learn_if_due(&mut self, text: &[u8], from: usize)
+        requires { from < length text.now }
+        ensures { self.new ≡ self.old }
+    {
+        if self.learning.is_due() && text.len() - from >= LEAST_SAMPLE {
+            self.learn(text, from);
+        }
+    }
+
+    /// Learns from the text behind a place.
+    #[inline(never)]
+    fn learn(&mut self, text: &[u8], from: usize)
+        requires { from < length text.now }
+        ensures { self.new ≡ self.old }
+    {
+        let (_, behind) = text.split_at(from);
+        let (sample, _) = behind.split_at(behind.len().min(SAMPLE));
+        let cost = self.windows.learn(sample);
+        self.learning.choose(cost);
+    }
+}
+
+/// How many bytes behind a place a search has passed.
+fn passed(text: &[u8], from: usize, found: Option<(usize, usize)>) -> usize {
+    match found {
+        Some((end, _)) => end.saturating_sub(from),
+        None => text.len().saturating_sub(from),
+    }
+}
