@@ -4,6 +4,7 @@
 
 mod carry;
 mod compiled;
+mod end_finder;
 mod endings;
 mod fault;
 mod hit;
@@ -13,17 +14,16 @@ mod pace;
 mod scanner;
 mod scanning;
 mod seam;
-mod searcher;
 mod searching;
 mod strides;
 mod windowed;
 
 pub use compiled::{Compiled, least_law};
+pub use end_finder::EndFinder;
 pub use fault::Fault;
 pub use hit::Hit;
 pub use scanner::Scanner;
 pub use scanning::{pieces_law, scan_all, scan_behind, scan_pieces};
-pub use searcher::Searcher;
 pub use searching::next_end;
 
 #[cfg(test)]

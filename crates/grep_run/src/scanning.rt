@@ -1,5 +1,5 @@
 //! The lines of one input, from its first byte to its end, its fault, or the last line that is wanted.
-ghost use Rattle.std.specs.Prelude.{◌≡◌, ℕ, ◌<◌, ◌||◌, Bool, List, [], Some, false, length};
+ghost use Rattle.std.specs.Prelude.{◌≡◌, ℕ, ◌<◌, ◌||◌, Bool, List, [], IfOk, IfSome, Some, false, length};
 ghost use Rattle.byte_io.specs.Sources.{Content, IsShort, coming_of};
 ghost use Rattle.grep_run.specs.Requests.{test_of};
 ghost use Rattle.grep_run.specs.Scanning.{FeedsPiece, HasFed, ReadsLines, StandsBehind};
@@ -9,24 +9,55 @@ ghost use Rattle.grep_run.specs.Writers.{Writer, is_write_fault, writer};
 use crate::block::Block;
 use crate::request::{End, Request};
 use crate::status::Stop;
+use flow_scan::{Compiled, EndFinder};
 use line_pick::{Fault, LineRule, Next, Picker};
 use lit_base::{ByteIn, ByteOut, Failed, MAX_TURNS};
+use std::alloc::{AllocError, Global};
 
-/// A picker of the lines that a request selects, before any text.
-pub fn picker_for<'a>(request: &Request<'a>) -> Picker<'a>
-    ensures { HasFed (test_of request.now) [] result }
+/// A list of at most so many literals is searched for by bytes of each of them, and learns nothing from a text.
+const FEW_LITERALS: usize = 3;
+
+/// What learns from the inputs of a request which parts of its literals are rare there, if it has so many literals that it
+/// gains by that.
+pub fn finder_for<'a>(request: &Request<'a>) -> Result<Option<EndFinder<'a>>, AllocError>
+    ensures { IfOk result (λ finder. IfSome finder (λ plan. request.now.patterns.now.plan ≡ Some plan)) }
+{
+    match request.patterns.plan.as_ref() {
+        Some(plan) => finder_of(request.alloc, plan),
+        None => Ok(None),
+    }
+}
+
+/// What learns, for the literals of a plan.
+fn finder_of<'a>(alloc: Global, plan: &'a Compiled) -> Result<Option<EndFinder<'a>>, AllocError>
+    ensures { IfOk result (λ finder. IfSome finder (λ found. found ≡ plan.now)) }
+{
+    if plan.list().len() <= FEW_LITERALS {
+        return Ok(None);
+    }
+    Ok(Some(EndFinder::new(alloc, plan)?))
+}
+
+/// A picker of the lines that a request selects, before any text, with what learned from the inputs before.
+pub fn picker_for<'a>(request: &Request<'a>, finder: Option<EndFinder<'a>>) -> Picker<'a>
+    requires { IfSome finder (λ plan. request.now.patterns.now.plan ≡ Some plan) }
+    ensures fed { HasFed (test_of request.now) [] result }
+    ensures plan { result.plan ≡ request.now.patterns.now.plan }
 {
     let rule = LineRule {
         invert: request.options.invert,
         whole: request.options.whole,
     };
     let patterns = request.patterns;
-    Picker::new(
-        request.alloc,
-        patterns.plan.as_ref(),
-        patterns.has_empty,
-        rule,
-    )
+    match finder {
+        Some(finder) => Picker::by_finder(request.alloc, finder, patterns.has_empty, rule),
+        None => Picker::new(
+            request.alloc,
+            patterns.plan.as_ref(),
+            patterns.has_empty,
+            rule,
+        ),
+    }
 }
 
 /// Reads the lines of an input into the block, as far as they are wanted. What a piece gives is written
@@ -44,6 +75,7 @@ pub fn read_lines<'a, I: ByteIn, W: ByteOut>(
         → StandsBehind o test name [] picker.old block.old before (writer W.written W.has_failed out.old)
         → I.coming input.old ≡ Some (coming_of c) → IsShort c
         → ReadsLines o test name c result block.new before (writer W.written W.has_failed out.new) }
+    ensures plan { picker.new.plan ≡ picker.old.plan }
     ensures flag { W.has_failed out.new ≡ (W.has_failed out.old || is_write_fault result) }
 {
     for _turn in 0..MAX_TURNS {
@@ -69,6 +101,7 @@ fn feed<'a, W: ByteOut>(
     ensures answer { (o : GrepOptions) (test : List ℕ → Bool) (name text : List ℕ) (before : Writer)
         → StandsBehind o test name text picker.old block.old before (writer W.written W.has_failed out.old)
         → FeedsPiece o test name text piece.now result picker.new block.new before (writer W.written W.has_failed out.new) }
+    ensures plan { picker.new.plan ≡ picker.old.plan }
     ensures flag { W.has_failed out.new ≡ (W.has_failed out.old || is_write_fault result) }
 {
     match picker.feed(piece, block) {
@@ -87,6 +120,7 @@ fn end_lines<'a>(picker: &mut Picker<'a>, block: &mut Block<'a>) -> Result<End, 
     ensures answer { (o : GrepOptions) (test : List ℕ → Bool) (name : List ℕ) (c : Content) (before out : Writer)
         → c.is_faulty ≡ false → IsShort c → StandsBehind o test name c.text picker.old block.old before out
         → ReadsLines o test name c result block.new before out }
+    ensures plan { picker.new.plan ≡ picker.old.plan }
     ensures flag { is_write_fault result ≡ false }
 {
     match picker.finish(block) {

@@ -1,5 +1,6 @@
 //! Inputs searched one after another: their blocks, their messages, and what was found.
-ghost use Rattle.std.specs.Prelude.{◌≡◌, ℕ, ◌<◌, ◌≤◌, ◌||◌, ◌&&◌, Bool, List, [], IfOk, None, OnErr, OnOk, Some, if◌then◌else◌, map, not, string_bytes, vec_len};
+ghost use Rattle.std.specs.Prelude.{◌≡◌, ℕ, ◌<◌, ◌≤◌, ◌||◌, ◌&&◌, Bool, List, [], IfOk, IfSome, None, OnErr, OnOk, Some, if◌then◌else◌, map, not, string_bytes, vec_len};
+ghost use Rattle.std.proofs.Props.{props};
 ghost use Rattle.byte_io.specs.Sources.{Content, IsShort, ask_of, coming_of};
 ghost use Rattle.byte_io.specs.Devices.{Told};
 ghost use Rattle.grep_run.specs.Messages.{unreadable};
@@ -14,9 +15,10 @@ use crate::message::say_unreadable;
 use crate::names::shown_name;
 use crate::options::GrepOptions;
 use crate::request::{Found, Request};
-use crate::scanning::{picker_for, read_lines};
+use crate::scanning::{finder_for, picker_for, read_lines};
 use crate::status::Stop;
 use byte_io::{ByteIn, ByteOut, Opener, open_operand};
+use flow_scan::EndFinder;
 use std::alloc::AllocError;
 
 /// How many bytes are read at once, at most. Pieces of a quarter of that made a run that shows
@@ -80,9 +82,12 @@ fn longest_name(options: &GrepOptions) -> usize {
 #[derive(Drop)]
 struct Searcher<'a> {
     request: Request<'a>,
+    /// What has learned from the inputs so far, if the request gains by that.
+    finder: Option<EndFinder<'a>>,
     block: Block<'a>,
     piece: Vec<u8>,
     ghost room: { 0 < vec_len piece },
+    ghost plan: { IfSome finder (λ plan. request.patterns.now.plan ≡ Some plan) } by { Prim.hlevel props },
 }
 
 impl<'a> Searcher<'a> {
@@ -90,9 +95,11 @@ impl<'a> Searcher<'a> {
         ensures { IfOk result (λ searcher. searcher.request ≡ request.entry) }
     {
         let piece = vec![in request.alloc; 0u8; read_size(request.options)]?;
+        let finder = finder_for(&request)?;
         let block = Block::new(request.alloc, request.options);
         Ok(Searcher {
             request,
+            finder,
             block,
             piece,
         })
@@ -165,9 +172,10 @@ impl<'a> Searcher<'a> {
             ≡ (W.has_failed out.old || E.has_failed err.old || is_write_fault result) }
     {
         self.block.begin(self.request.options, name);
-        let mut picker = picker_for(&self.request);
+        let mut picker = picker_for(&self.request, self.finder.take());
         let piece = self.piece.as_mut_slice();
         let end = read_lines(&mut picker, input, &mut self.block, piece, out)?;
+        self.finder = picker.into_finder();
         self.block.finish(out)?;
         let found = Found {
             is_selected: self.block.count > 0,

@@ -1,10 +1,11 @@
 //! The first line of a text that holds a literal.
-ghost use Rattle.std.specs.Prelude.{◌≡◌, [], All, MatchOption};
+ghost use Rattle.std.specs.Prelude.{◌≡◌, [], All, IfSome, MatchOption};
 ghost use Rattle.lit_base.specs.Lines.{IsOnePiece, open_rest};
+ghost use Rattle.flow_scan.specs.NextEnds.{IsNextEnd, NoEndAfter};
 ghost use Rattle.line_pick.specs.HitLines.{AllMiss, IsFirstHitLine};
 
 use crate::cutting::{split_front, split_near_line};
-use flow_scan::{Compiled, next_end};
+use flow_scan::{Compiled, EndFinder, next_end};
 
 /// A line that holds a literal, with the text round it.
 #[derive(Clone, Copy)]
@@ -18,15 +19,21 @@ pub(crate) struct HitLine<'t> {
 
 /// The first line of a text of ended lines that holds a literal, if there is one. No line before it
 /// is split.
-pub(crate) fn first_hit_line<'t>(compiled: &Compiled, text: &'t [u8]) -> Option<HitLine<'t>>
+pub(crate) fn first_hit_line<'t>(
+    compiled: &Compiled,
+    finder: &mut Option<EndFinder<'_>>,
+    text: &'t [u8],
+) -> Option<HitLine<'t>>
+    requires finder { IfSome finder.old (λ plan. plan ≡ compiled.now) }
     requires closed { open_rest text.now ≡ [] }
     requires apart { All IsOnePiece compiled.now.literals.texts }
-    ensures { MatchOption result
+    ensures same { finder.new ≡ finder.old }
+    ensures hit { MatchOption result
         (AllMiss compiled.now.literals text.now)
         (λ hit. IsFirstHitLine compiled.now.literals text.now hit.missed.now hit.line.now hit.behind.now) }
 {
     compiled.list().normal_law();
-    let end = next_end(compiled, text, 0)?;
+    let end = next_end_by(compiled, finder, text)?;
     let (front, tail) = text.split_at(end - 1);
     let (missed, head) = split_front(front, text);
     let (ending, behind) = split_near_line(tail)?;
@@ -37,4 +44,23 @@ pub(crate) fn first_hit_line<'t>(compiled: &Compiled, text: &'t [u8]) -> Option<
         line,
         behind,
     })
+}
+
+/// The first place of a text at which some literal ends, by the finder if there is one, and else by the plan alone.
+#[inline]
+fn next_end_by(
+    compiled: &Compiled,
+    finder: &mut Option<EndFinder<'_>>,
+    text: &[u8],
+) -> Option<usize>
+    requires { IfSome finder.old (λ plan. plan ≡ compiled.now) }
+    ensures same { finder.new ≡ finder.old }
+    ensures next { MatchOption result
+        (NoEndAfter compiled.now.literals text.now 0)
+        (IsNextEnd compiled.now.literals text.now 0) }
+{
+    match finder {
+        Some(finder) => finder.next_end(text, 0),
+        None => next_end(compiled, text, 0),
+    }
 }

@@ -1,5 +1,5 @@
 //! The selected lines of a text that comes in pieces.
-ghost use Rattle.std.specs.Prelude.{◌≡◌, ◌≢◌, [], Ok, Err};
+ghost use Rattle.std.specs.Prelude.{◌≡◌, ◌≢◌, [], Ok, Err, IfSome, Some};
 ghost use Rattle.std.specs.Option.{option_copied};
 ghost use Rattle.line_pick.specs.Feeding.{Feeds, Finishes, Stays};
 ghost use Rattle.line_pick.specs.Lending.{answer_of};
@@ -13,7 +13,7 @@ use crate::matcher::Matcher;
 use crate::progress::Progress;
 use crate::sink::{Next, Sink};
 use crate::state::State;
-use flow_scan::Compiled;
+use flow_scan::{Compiled, EndFinder};
 use std::alloc::Global;
 use std::marker::Model;
 
@@ -21,6 +21,8 @@ use std::marker::Model;
 #[derive(Debug, Drop)]
 pub struct Picker<'p> {
     matcher: Matcher<'p>,
+    /// What learns from the text, if it is to.
+    finder: Option<EndFinder<'p>>,
     progress: Progress,
     state: State,
 }
@@ -31,6 +33,7 @@ impl<'p> Model for Picker<'p> {
 
     ghost Value = { Picking };
 
+    ghost use Rattle.std.specs.Prelude.{◌≡◌, IfSome, Some};
     ghost use Rattle.line_pick.specs.Matching.{AreInLines};
     ghost use Rattle.line_pick.specs.Progresses.{IsSound};
 
@@ -44,7 +47,8 @@ impl<'p> Model for Picker<'p> {
       state = p.state;
     } };
 
-    ghost invariant = { λ p. IsSound p.progress × AreInLines (option_copied p.matcher.plan) };
+    ghost invariant = { λ p. IsSound p.progress × AreInLines (option_copied p.matcher.plan)
+        × IfSome p.finder (λ plan. option_copied p.matcher.plan ≡ Some plan) };
 }
 
 impl<'p> Picker<'p> {
@@ -67,15 +71,67 @@ impl<'p> Picker<'p> {
           state = Running;
         } }
     {
+        let matcher = Matcher {
+            plan,
+            has_empty,
+            rule,
+        };
+        Picker::before_text(alloc, matcher, None)
+    }
+
+    /// A picker before any text, whose search for the literals of a plan learns from the text. It takes no memory.
+    pub fn by_finder(
+        alloc: Global,
+        finder: EndFinder<'p>,
+        has_empty: bool,
+        rule: LineRule,
+    ) -> Picker<'p>
+        requires { AreInLines (Some finder) }
+        ensures { result ≡ record {
+          plan = Some finder.entry;
+          has_empty = has_empty;
+          rule = rule;
+          held = [];
+          lines = 0;
+          bytes = 0;
+          state = Running;
+        } }
+    {
+        let matcher = Matcher {
+            plan: Some(finder.compiled()),
+            has_empty,
+            rule,
+        };
+        Picker::before_text(alloc, matcher, Some(finder))
+    }
+
+    /// A picker before any text.
+    fn before_text(alloc: Global, matcher: Matcher<'p>, finder: Option<EndFinder<'p>>) -> Picker<'p>
+        requires apart { AreInLines (option_copied matcher.plan) }
+        requires finder { IfSome finder (λ plan. option_copied matcher.plan ≡ Some plan) }
+        ensures { result ≡ record {
+          plan = option_copied matcher.entry.plan;
+          has_empty = matcher.entry.has_empty;
+          rule = matcher.entry.rule;
+          held = [];
+          lines = 0;
+          bytes = 0;
+          state = Running;
+        } }
+    {
         Picker {
-            matcher: Matcher {
-                plan,
-                has_empty,
-                rule,
-            },
+            matcher,
+            finder,
             progress: Progress::new(alloc),
             state: State::Running,
         }
+    }
+
+    /// What learned from the text, if the picker was made with it, for the next text.
+    pub fn into_finder(self) -> Option<EndFinder<'p>>
+        ensures { IfSome result (λ plan. self.entry.plan ≡ Some plan) }
+    {
+        self.finder
     }
 
     /// Takes the next piece of the text, and lends to the sink each selected line that a newline ends
@@ -89,11 +145,15 @@ impl<'p> Picker<'p> {
         ensures running { self.old.state ≡ Running
             → Feeds S.takes self.old piece.now sink.old result self.new sink.new }
         ensures over { self.old.state ≢ Running → Stays self.old sink.old result self.new sink.new }
+        ensures plan { self.new.plan ≡ self.old.plan }
     {
         if let Some(answer) = self.state.answer() {
             return answer;
         }
-        let answer = answered(self.progress.take(self.matcher, piece, sink));
+        let answer = answered(
+            self.progress
+                .take(self.matcher, &mut self.finder, piece, sink),
+        );
         self.state = State::after_feed(answer);
         answer
     }
@@ -106,6 +166,7 @@ impl<'p> Picker<'p> {
         ensures running { self.old.state ≡ Running
             → Finishes S.takes self.old sink.old result self.new sink.new }
         ensures over { self.old.state ≢ Running → Stays self.old sink.old result self.new sink.new }
+        ensures plan { self.new.plan ≡ self.old.plan }
     {
         if let Some(answer) = self.state.answer() {
             return answer;

@@ -1,5 +1,5 @@
 //! The line that no newline has ended yet, and how far a text has come.
-ghost use Rattle.std.specs.Prelude.{◌≡◌, ◌≢◌, ◌↔◌, ◌≤◌, ◌+◌, ◌^◌, ◌++◌, ◌∷◌, [], Err, IfOk, OnOk, OnErr, length, vec_len};
+ghost use Rattle.std.specs.Prelude.{◌≡◌, ◌≢◌, ◌↔◌, ◌≤◌, ◌+◌, ◌^◌, ◌++◌, ◌∷◌, [], Err, IfOk, IfSome, OnOk, OnErr, Some, length, vec_len};
 ghost use Rattle.std.specs.Option.{option_copied};
 ghost use Rattle.lit_base.specs.Lines.{IsOnePiece, ended_lines, last_line, open_rest};
 ghost use Rattle.line_pick.specs.Lending.{Lends, Lent, answer_of, numbered};
@@ -13,6 +13,7 @@ use crate::lending::lend_selected;
 use crate::matcher::Matcher;
 use crate::sink::Sink;
 use crate::text_lending::lend_text;
+use flow_scan::EndFinder;
 use std::alloc::Global;
 
 /// The line that no newline has ended yet, and how far a text has come.
@@ -44,11 +45,14 @@ impl Progress {
     pub fn take<S: Sink>(
         &mut self,
         matcher: Matcher<'_>,
+        finder: &mut Option<EndFinder<'_>>,
         piece: &[u8],
         sink: &mut S,
     ) -> Result<(), Halt>
         requires sound { IsSound self.old }
+        requires finder { IfSome finder.old (λ plan. option_copied matcher.plan ≡ Some plan) }
         requires apart { AreInLines (option_copied matcher.plan) }
+        ensures same { finder.new ≡ finder.old }
         ensures sound { IsSound self.new }
         ensures lent { Lends S.takes sink.old
             (numbered (picks matcher.entry) self.old.lines (ended_lines (self.old.held.items ++ piece.now)))
@@ -64,13 +68,13 @@ impl Progress {
         self.bytes = longer(self.bytes, piece)?;
         let is_fresh = self.held.is_empty();
         if is_fresh {
-            return self.take_lines(matcher, piece, sink);
+            return self.take_lines(matcher, finder, piece, sink);
         }
         match split_line(piece) {
             None => self.hold(piece),
             Some((front, behind)) => {
                 self.end_line(matcher, front, sink)?;
-                self.take_lines(matcher, behind, sink)
+                self.take_lines(matcher, finder, behind, sink)
             }
         }
     }
@@ -119,12 +123,15 @@ impl Progress {
     fn take_lines<S: Sink>(
         &mut self,
         matcher: Matcher<'_>,
+        finder: &mut Option<EndFinder<'_>>,
         text: &[u8],
         sink: &mut S,
     ) -> Result<(), Halt>
+        requires finder { IfSome finder.old (λ plan. option_copied matcher.plan ≡ Some plan) }
         requires apart { AreInLines (option_copied matcher.plan) }
         requires fresh { self.old.held.items ≡ [] }
         requires counted { self.old.lines + length text.now ≤ self.old.bytes }
+        ensures same { finder.new ≡ finder.old }
         ensures sound { IsSound self.new }
         ensures lent { Lends S.takes sink.old
             (numbered (picks matcher.entry) self.old.lines (ended_lines text.now))
@@ -138,7 +145,7 @@ impl Progress {
         // Read here, it is known to fit, and so is the number of lines.
         let _bytes = self.bytes;
         let (ended, open) = split_ended(text);
-        self.lines = lend_text(matcher, ended, self.lines, sink)?;
+        self.lines = lend_text(matcher, finder, ended, self.lines, sink)?;
         self.hold(open)
     }
 

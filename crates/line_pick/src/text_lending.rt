@@ -1,5 +1,5 @@
 //! How the lines of a text are lent: where hits are rare, those alone are split that are lent or hold a literal.
-ghost use Rattle.std.specs.Prelude.{◌≡◌, ◌≢◌, ◌≤◌, ◌<◌, ◌+◌, ◌^◌, ◌∷◌, [], All, IfOk, false, length, true};
+ghost use Rattle.std.specs.Prelude.{◌≡◌, ◌≢◌, ◌≤◌, ◌<◌, ◌+◌, ◌^◌, ◌∷◌, [], All, IfOk, IfSome, Some, false, length, true};
 ghost use Rattle.std.specs.Option.{option_copied};
 ghost use Rattle.lit_base.specs.Lines.{IsOnePiece, ended_lines, open_rest};
 ghost use Rattle.lit_base.specs.Selected.{is_selected, matches};
@@ -14,7 +14,7 @@ use crate::lending::{lend_if, lend_lines};
 use crate::line_rule::LineRule;
 use crate::matcher::{Matcher, is_literal};
 use crate::sink::Sink;
-use flow_scan::Compiled;
+use flow_scan::{Compiled, EndFinder};
 
 /// A hit and its line take about as long as splitting so many bytes into lines: 120 ns with one literal
 /// in English text, where splitting took 0.5 ns a byte. With 1,000 literals a hit takes ten times as long.
@@ -39,13 +39,16 @@ const SAMPLE: usize = 1024;
 /// there are by then. So many stand before the text.
 pub(crate) fn lend_text<S: Sink>(
     matcher: Matcher<'_>,
+    finder: &mut Option<EndFinder<'_>>,
     text: &[u8],
     before: u64,
     sink: &mut S,
 ) -> Result<u64, Halt>
+    requires finder { IfSome finder.old (λ plan. option_copied matcher.plan ≡ Some plan) }
     requires fits { before + length text.now < 2 ^ 64 }
     requires closed { open_rest text.now ≡ [] }
     requires apart { AreInLines (option_copied matcher.plan) }
+    ensures same { finder.new ≡ finder.old }
     ensures lent { Lent S.takes sink.old
         (numbered (picks matcher.entry) before (ended_lines text.now)) (answer_of result) sink.new }
     ensures count { IfOk result (λ lines. lines ≡ before + length (ended_lines text.now)) }
@@ -59,7 +62,7 @@ pub(crate) fn lend_text<S: Sink>(
         return lend_all(!matcher.rule.invert, text, before, sink);
     }
     match matcher.plan {
-        Some(compiled) => lend_listed(compiled, matcher.rule, text, before, sink),
+        Some(compiled) => lend_listed(compiled, matcher.rule, finder, text, before, sink),
         None => lend_all(matcher.rule.invert, text, before, sink),
     }
 }
@@ -69,13 +72,16 @@ pub(crate) fn lend_text<S: Sink>(
 fn lend_listed<S: Sink>(
     compiled: &Compiled,
     rule: LineRule,
+    finder: &mut Option<EndFinder<'_>>,
     text: &[u8],
     before: u64,
     sink: &mut S,
 ) -> Result<u64, Halt>
+    requires finder { IfSome finder.old (λ plan. plan ≡ compiled.now) }
     requires fits { before + length text.now < 2 ^ 64 }
     requires closed { open_rest text.now ≡ [] }
     requires apart { All IsOnePiece compiled.now.literals.texts }
+    ensures same { finder.new ≡ finder.old }
     ensures lent { let list = compiled.now.literals in Lent S.takes sink.old
         (numbered (is_selected list.folding rule.whole rule.invert list.texts) before (ended_lines text.now))
         (answer_of result) sink.new }
@@ -86,7 +92,7 @@ fn lend_listed<S: Sink>(
     if rule.whole && compiled.list().len() > FEW_LITERALS && !has_short_lines(text) {
         return lend_each_line(compiled, rule, text, before, sink);
     }
-    lend_hit_lines(compiled, rule, text, before, sink)
+    lend_hit_lines(compiled, rule, finder, text, before, sink)
 }
 
 /// Whether the first lines of a text are short.
@@ -99,13 +105,16 @@ fn has_short_lines(text: &[u8]) -> bool {
 fn lend_hit_lines<S: Sink>(
     compiled: &Compiled,
     rule: LineRule,
+    finder: &mut Option<EndFinder<'_>>,
     text: &[u8],
     before: u64,
     sink: &mut S,
 ) -> Result<u64, Halt>
+    requires finder { IfSome finder.old (λ plan. plan ≡ compiled.now) }
     requires fits { before + length text.now < 2 ^ 64 }
     requires closed { open_rest text.now ≡ [] }
     requires apart { All IsOnePiece compiled.now.literals.texts }
+    ensures same { finder.new ≡ finder.old }
     ensures lent { let list = compiled.now.literals in Lent S.takes sink.old
         (numbered (is_selected list.folding rule.whole rule.invert list.texts) before (ended_lines text.now))
         (answer_of result) sink.new }
@@ -116,7 +125,7 @@ fn lend_hit_lines<S: Sink>(
     let mut rest = text;
     let mut lines = before;
     let mut credit = CREDIT;
-    while let Some(hit) = first_hit_line(compiled, rest) {
+    while let Some(hit) = first_hit_line(compiled, finder, rest) {
         lines = lend_all(rule.invert, hit.missed, lines, sink)?;
         let selected = selects_at_hit(compiled, rule, hit.line);
         lend_if(selected, hit.line, lines, sink)?;

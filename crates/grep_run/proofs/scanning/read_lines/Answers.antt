@@ -1,5 +1,5 @@
 -- A read that fails, one that finds the end, one more piece, and the last one.
-use Rattle.std.proofs.Common.{◌≡◌, ◌<◌, [], refl, rules, arith, Ok, subst, take}
+use Rattle.std.proofs.Common.{◌≡◌, ◌<◌, [], refl, rules, arith, Ok, ◌∙◌, subst, take}
 use Rattle.std.proofs.lemmas.Result.{err_from_is_err_and}
 use Rattle.grep_run.specs.Scanning.{FeedsPiece}
 use Rattle.grep_run.specs.Writers.{writer}
@@ -36,6 +36,7 @@ loop-turn-preserved g d = record {
       so_far-more _ d.read_some.new.buf r d.in-Ok.count d.feed.new.picker d.feed.new.block _ d.in-Ok.ensures.bytes some d.in-Ok.ensures.within
       (subst (λ x. FeedsPiece o test name r.done (take d.in-Ok.count d.read_some.new.buf) (Ok x) d.feed.new.picker d.feed.new.block before (writer g.W.ByteOut.written g.W.ByteOut.has_failed d.feed.new.out)) d.in-None.is (d.in_ok-end-in-Ok.ensures.answer o test name r.done _ r.stands));
   room = omega (arith, d.loop-turn.invariant.room);
+  plan = d.in_ok-end-in-Ok.ensures.plan ∙ d.loop-turn.invariant.plan;
   flag = search rules;
 }
 

@@ -1,5 +1,5 @@
 -- The lines before a hit, the hit's line, and the last lines.
-use Rattle.std.proofs.Common.{◌≡◌, ◌+◌, ◌++◌, ◌∷◌, [], length, refl, sym, arith}
+use Rattle.std.proofs.Common.{◌≡◌, ◌+◌, ◌++◌, ◌∷◌, [], length, refl, sym, ◌∙◌, arith}
 use Rattle.std.proofs.lemmas.Result.{IfOk-weaker, err_from_is_err_and}
 use Rattle.lit_base.specs.Lines.{ended_lines}
 use Rattle.lit_base.specs.Selected.{is_selected}
@@ -15,7 +15,7 @@ returns-in_err-lines-clause-lent g c =
     let test = is_selected l.folding c.args.rule.whole c.args.rule.invert l.texts in
     let hit = c.in-Some.hit in
     let after = c.loop-hit.lines + length (ended_lines hit.missed.now) in
-    let parts = hit-numbered l c.args.rule.whole c.args.rule.invert c.loop-hit.rest.now hit.missed.now hit.line.now hit.behind.now c.in-Some.ensures c.loop-hit.lines after refl (test hit.line.now) refl in
+    let parts = hit-numbered l c.args.rule.whole c.args.rule.invert c.loop-hit.rest.now hit.missed.now hit.line.now hit.behind.now c.in-Some.ensures.hit c.loop-hit.lines after refl (test hit.line.now) refl in
     rw (p.1, p.2) (LentOn-last (numbered (λ _. test hit.line.now) after (hit.line.now ∷ []) ++ numbered test (after + 1) (ended_lines hit.behind.now))
     c.loop-hit.invariant.lent parts c.in_err-lines.ensures.lent (answer_to-More c.in_err-lines.field-0.0))
 
@@ -26,7 +26,7 @@ returns-in_err-lend_if-clause-lent g c =
     let test = is_selected l.folding c.args.rule.whole c.args.rule.invert l.texts in
     let hit = c.in-Some.hit in
     let after = c.in_ok-lines.lines in
-    let parts = hit-numbered l c.args.rule.whole c.args.rule.invert c.loop-hit.rest.now hit.missed.now hit.line.now hit.behind.now c.in-Some.ensures c.loop-hit.lines after c.in_ok-lines.ensures.count c.selects_at_hit-selected.result c.selects_at_hit-selected.ensures in
+    let parts = hit-numbered l c.args.rule.whole c.args.rule.invert c.loop-hit.rest.now hit.missed.now hit.line.now hit.behind.now c.in-Some.ensures.hit c.loop-hit.lines after c.in_ok-lines.ensures.count c.selects_at_hit-selected.result c.selects_at_hit-selected.ensures in
     rw (p.1, p.2) (LentOn-last (numbered test (after + 1) (ended_lines hit.behind.now))
     (LentOn-front c.loop-hit.invariant.lent parts c.in_ok-lines.ensures.lent) refl c.in_err-lend_if.ensures.lent (answer_to-More c.in_err-lend_if.field-0.0))
 
@@ -36,11 +36,12 @@ loop-hit-preserved g c =
     let hit = c.in-Some.hit in
     let rest = c.loop-hit.rest.now in
     let after = c.in_ok-lines.lines in
-    let parts = hit-numbered l c.args.rule.whole c.args.rule.invert rest hit.missed.now hit.line.now hit.behind.now c.in-Some.ensures c.loop-hit.lines after c.in_ok-lines.ensures.count c.selects_at_hit-selected.result c.selects_at_hit-selected.ensures in
+    let parts = hit-numbered l c.args.rule.whole c.args.rule.invert rest hit.missed.now hit.line.now hit.behind.now c.in-Some.ensures.hit c.loop-hit.lines after c.in_ok-lines.ensures.count c.selects_at_hit-selected.result c.selects_at_hit-selected.ensures in
     record {
-      closed = hit-closed l c.args.rule.whole c.args.rule.invert rest hit.missed.now hit.line.now hit.behind.now c.in-Some.ensures c.loop-hit.invariant.closed;
-      room = omega (arith, c.loop-hit.invariant.room, c.in_ok-lines.ensures.bound, hit-length l c.args.rule.whole c.args.rule.invert rest hit.missed.now hit.line.now hit.behind.now c.in-Some.ensures);
-      count = omega (arith, c.loop-hit.invariant.count, c.in_ok-lines.ensures.count, hit-count l c.args.rule.whole c.args.rule.invert rest hit.missed.now hit.line.now hit.behind.now c.in-Some.ensures);
+      finder = c.first_hit_line.ensures.same ∙ c.loop-hit.invariant.finder;
+      closed = hit-closed l c.args.rule.whole c.args.rule.invert rest hit.missed.now hit.line.now hit.behind.now c.in-Some.ensures.hit c.loop-hit.invariant.closed;
+      room = omega (arith, c.loop-hit.invariant.room, c.in_ok-lines.ensures.bound, hit-length l c.args.rule.whole c.args.rule.invert rest hit.missed.now hit.line.now hit.behind.now c.in-Some.ensures.hit);
+      count = omega (arith, c.loop-hit.invariant.count, c.in_ok-lines.ensures.count, hit-count l c.args.rule.whole c.args.rule.invert rest hit.missed.now hit.line.now hit.behind.now c.in-Some.ensures.hit);
       lent = LentOn-front (LentOn-front c.loop-hit.invariant.lent parts c.in_ok-lines.ensures.lent) refl c.in_ok-lend_if.ensures.lent;
     }
 
@@ -48,7 +49,7 @@ pub returns-clause-lent : goal.returns-clause-lent
 returns-clause-lent g c =
     let l = c.args.compiled.now.literals in
     c.loop-hit.invariant.lent.go (answer_of c.lend_all-2.result) c.lend_all-2.new.sink
-    (Lent-lines (sym (missed-numbered l c.args.rule.whole c.args.rule.invert c.loop-hit.lines c.loop-hit.rest.now c.in_default.ensures)) c.lend_all-2.ensures.lent)
+    (Lent-lines (sym (missed-numbered l c.args.rule.whole c.args.rule.invert c.loop-hit.lines c.loop-hit.rest.now c.in_default.ensures.hit)) c.lend_all-2.ensures.lent)
 
 pub returns-then-credit-eq0-clause-lent : goal.returns-then-credit-eq0-clause-lent
 returns-then-credit-eq0-clause-lent g c =
@@ -56,7 +57,7 @@ returns-then-credit-eq0-clause-lent g c =
     let test = is_selected l.folding c.args.rule.whole c.args.rule.invert l.texts in
     let hit = c.in-Some.hit in
     let after = c.in_ok-lines.lines in
-    let parts = hit-numbered l c.args.rule.whole c.args.rule.invert c.loop-hit.rest.now hit.missed.now hit.line.now hit.behind.now c.in-Some.ensures c.loop-hit.lines after c.in_ok-lines.ensures.count c.selects_at_hit-selected.result c.selects_at_hit-selected.ensures in
+    let parts = hit-numbered l c.args.rule.whole c.args.rule.invert c.loop-hit.rest.now hit.missed.now hit.line.now hit.behind.now c.in-Some.ensures.hit c.loop-hit.lines after c.in_ok-lines.ensures.count c.selects_at_hit-selected.result c.selects_at_hit-selected.ensures in
     let on : LentOn {S = g.row.S.Denot} g.S.Sink.takes c.args.sink.now (numbered test c.args.before (ended_lines c.args.text.now)) c.lend_if.new.sink (numbered test (after + 1) (ended_lines hit.behind.now)) =
     LentOn-front (LentOn-front c.loop-hit.invariant.lent parts c.in_ok-lines.ensures.lent) refl c.in_ok-lend_if.ensures.lent in
     on.go (answer_of c.lend_each_line.result) c.lend_each_line.new.sink c.lend_each_line.ensures.lent
@@ -65,6 +66,6 @@ pub returns-then-credit-eq0-clause-count : goal.returns-then-credit-eq0-clause-c
 returns-then-credit-eq0-clause-count g c =
     let l = c.args.compiled.now.literals in
     let hit = c.in-Some.hit in
-    let all = hit-count l c.args.rule.whole c.args.rule.invert c.loop-hit.rest.now hit.missed.now hit.line.now hit.behind.now c.in-Some.ensures in
+    let all = hit-count l c.args.rule.whole c.args.rule.invert c.loop-hit.rest.now hit.missed.now hit.line.now hit.behind.now c.in-Some.ensures.hit in
     IfOk-weaker c.lend_each_line.result (λ lines. lines ≡ (c.in_ok-lines.lines + 1) + length (ended_lines hit.behind.now)) (λ lines. lines ≡ c.args.before + length (ended_lines c.args.text.now))
     (λ lines is. omega (arith, is, c.loop-hit.invariant.count, c.in_ok-lines.ensures.count, all)) c.lend_each_line.ensures.count

@@ -8,6 +8,7 @@ use Rattle.line_pick.proofs.text_lending.lend_hit_lines.Given as goal
 
 abbrev pub invariant-loop-hit : goal.invariant-loop-hit
 invariant-loop-hit g l = record {
+  finder : l.finder ≡ l.fn.finder;
   closed : open_rest l.rest ≡ [];
   room : l.lines + length l.rest ≤ l.fn.before + length l.fn.text;
   count : l.lines + length (ended_lines l.rest) ≡ l.fn.before + length (ended_lines l.fn.text);

@@ -22,13 +22,13 @@ const LEAST_SAMPLE: usize = 16384;
 /// it meets in a text ends nothing too often, it learns which windows of the literals are rare there, and goes on by
 /// these. What it finds does not depend on that. All memory is taken when it is made.
 #[derive(Debug, Drop)]
-pub struct Searcher<'p> {
+pub struct EndFinder<'p> {
     compiled: &'p Compiled,
     windows: Windows<'p>,
     learning: Learning,
 }
 
-impl<'p> Model for Searcher<'p> {
+impl<'p> Model for EndFinder<'p> {
     ghost use Rattle.std.specs.Prelude.{◌≡◌};
     ghost use Rattle.flow_scan.specs.Plans.{Plan};
 
@@ -39,13 +39,13 @@ impl<'p> Model for Searcher<'p> {
     ghost invariant = { λ s. s.windows.literals ≡ s.compiled.now.literals };
 }
 
-impl<'p> Searcher<'p> {
+impl<'p> EndFinder<'p> {
     /// A search by a plan, before any text.
-    pub fn new(alloc: Global, compiled: &'p Compiled) -> Result<Searcher<'p>, AllocError>
-        ensures { IfOk result (λ searcher. searcher ≡ compiled.now) }
+    pub fn new(alloc: Global, compiled: &'p Compiled) -> Result<EndFinder<'p>, AllocError>
+        ensures { IfOk result (λ finder. finder ≡ compiled.now) }
     {
         let windows = Windows::new(alloc, compiled.list())?;
-        Ok(Searcher {
+        Ok(EndFinder {
             compiled,
             windows,
             learning: Learning::new(),

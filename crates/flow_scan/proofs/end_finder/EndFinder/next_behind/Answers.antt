@@ -1,7 +1,7 @@
 -- Either way it is a search for the plan's literals.
 use Rattle.std.proofs.Common.{ap}
 use Rattle.flow_scan.specs.Plans.{Plan}
-use Rattle.flow_scan.proofs.searcher.Searcher.next_behind.Goals as goal
+use Rattle.flow_scan.proofs.end_finder.EndFinder.next_behind.Goals as goal
 
 pub returns-clause-next : goal.returns-clause-next
 returns-clause-next c = rw (ap (λ (p : Plan). p.literals) c.self.view_is) at c.next_plainly-found.ensures.next

@@ -1,7 +1,7 @@
 -- The windows are those of the plan's literals.
 use Rattle.std.proofs.Common.{ap, ◌∙◌, sym}
 use Rattle.flow_scan.specs.Plans.{Plan}
-use Rattle.flow_scan.proofs.searcher.Searcher.next_windowed.Goals as goal
+use Rattle.flow_scan.proofs.end_finder.EndFinder.next_windowed.Goals as goal
 
 pub next_end_by_windows-found-requires : goal.next_end_by_windows-found-requires
 next_end_by_windows-found-requires c = c.self.invariant ∙ sym c.list-list.ensures

@@ -4,8 +4,8 @@ use Rattle.lit_base.specs.Literals.{Literals}
 use Rattle.flow_scan.specs.Plans.{Plan}
 use Rattle.flow_scan.specs.NextEnds.{NoEndUpTo}
 use Rattle.flow_scan.proofs.EndLemmas.{next_further, none_further}
-use Rattle.flow_scan.proofs.searcher.Searcher.next_end.Goals as goal
-use Rattle.flow_scan.proofs.searcher.Searcher.next_end.Goals.{After-skip_short_ends-start}
+use Rattle.flow_scan.proofs.end_finder.EndFinder.next_end.Goals as goal
+use Rattle.flow_scan.proofs.end_finder.EndFinder.next_end.Goals.{After-skip_short_ends-start}
 
 -- nothing ends up to there
 none_before : (c : After-skip_short_ends-start) → NoEndUpTo c.args.self.now.literals c.args.text.now c.args.from c.skip_short_ends-start.result
