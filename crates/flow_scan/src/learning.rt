@@ -4,7 +4,7 @@
 const LOOK_COST: usize = 8;
 
 /// A candidate of the sieve at which nothing ends takes so many.
-pub(crate) const CANDIDATE_COST: usize = 90;
+pub(crate) const CANDIDATE_COST: usize = 50;
 
 /// A mark at which nothing ends takes so many.
 pub(crate) const MARK_COST: usize = 250;

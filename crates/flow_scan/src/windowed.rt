@@ -93,7 +93,7 @@ fn skip_unmarked(windows: &Windows<'_>, text: &[u8], from: usize, at: usize, las
     ensures ahead { at ≤ result }
     ensures looked { IsLookedUpTo windows.now text.now from last result }
 {
-    if at < 8 {
+    if at < 4 {
         return at;
     }
     let stride = windows.stride();

@@ -126,7 +126,7 @@ spelled-folded fold (suc n) (b ∷ bs) few h =
     left ∙ (λ i. rest i * 256 + here i) ∙ sym right
 
 -- what is left of a slice behind its first bytes
-drop-range : (text : List ℕ) (from to at j : ℕ) → from + at ≡ to → drop at (slice_range text from j) ≡ slice_range text to j
+pub drop-range : (text : List ℕ) (from to at j : ℕ) → from + at ≡ to → drop at (slice_range text from j) ≡ slice_range text to j
 drop-range text from to at j e =
     ap (drop at) (between_is text from j)
     ∙ drop-drop at from (take j text)
@@ -134,7 +134,7 @@ drop-range text from to at j e =
     ∙ sym (between_is text to j)
 
 -- a slice of bytes has bytes
-range_bytes : (text : List ℕ) (from end : ℕ) → end ≤ length text → AreBytes text → AreBytes (slice_range text from end)
+pub range_bytes : (text : List ℕ) (from end : ℕ) → end ≤ length text → AreBytes text → AreBytes (slice_range text from end)
 range_bytes text from end inside bytes = record {
   small = λ i. elim (cases_lt (from + i) end) [
     | inl within ↦ subst (λ x. x < 256) (sym (get_or-between text from end i 0 within)) (bytes.small (from + i))
@@ -170,7 +170,7 @@ spelled_fits text end bytes room inside =
     subst (λ n. spelled (slice_range text (end - 8) end) < 2 ^ (8 * n)) len (spelled_below (slice_range text (end - 8) end) (range_bytes text (end - 8) end inside bytes))
 
 -- zeros in front are bytes too, and fold to themselves
-zeros_bytes : (n : ℕ) (bs : List ℕ) → AreBytes bs → AreBytes (replicate n 0 ++ bs)
+pub zeros_bytes : (n : ℕ) (bs : List ℕ) → AreBytes bs → AreBytes (replicate n 0 ++ bs)
 zeros_bytes zero bs h = h
 zeros_bytes (suc n) bs h = zero_first (replicate n 0 ++ bs) (zeros_bytes n bs h)
   where

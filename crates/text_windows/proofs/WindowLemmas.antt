@@ -1,11 +1,15 @@
 -- Windows: a text has the marks of each literal that ends in it, so far before its end.
-use Rattle.std.proofs.Common.{◌≡◌, ℕ, ◌+◌, ◌-◌, ◌^◌, ◌++◌, ◌<◌, ◌≤◌, List, [], length, replicate, inl, inr, sym, ap, ◌∙◌, subst, arith}
+use Rattle.std.proofs.Common.{◌≡◌, ℕ, ◌+◌, ◌-◌, ◌^◌, ◌++◌, ◌<◌, ◌≤◌, List, [], drop, length, replicate, inl, inr, sym, ap, ◌∙◌, subst, arith}
 use Rattle.std.specs.Int.{bit_at}
 use Rattle.std.specs.Int.RustNames.{bit_and, bit_or}
 use Rattle.std.specs.List.{slice_range}
 use Rattle.std.specs.Option.{unwrap_or}
 use Rattle.std.proofs.lemmas.Bool.{cases_lt}
 use Rattle.std.proofs.lemmas.Nat.Bits.{bit_at-lt, bit_at_or}
+use Rattle.std.proofs.lemmas.List.{length-append, length-replicate, take_all}
+use Rattle.std.proofs.Math.Seq.{drop-append-add}
+use Rattle.std.proofs.lemmas.List.Edits.{length-between}
+use Rattle.std.proofs.lemmas.Slice.{between_is}
 use Rattle.std.proofs.lemmas.Option.{slice_get_within, unwrap_or-slice_get}
 use Rattle.lit_base.specs.declared.fold.Fold.{Fold}
 use Rattle.lit_base.specs.declared.suffixes.marks.TheConstants.{HASH_BITS}
@@ -14,7 +18,7 @@ use Rattle.lit_base.specs.Literals.{Literals}
 use Rattle.lit_base.specs.Marks.{IsMarked}
 use Rattle.lit_base.specs.Occurrences.{Occurs}
 use Rattle.lit_base.specs.Suffixes.{case_bits, hash_of, last_bits, spelled, suffix_key}
-use Rattle.lit_base.proofs.SuffixLemmas.{AreBytes, key-occurs_inside, masked, spelled_fits}
+use Rattle.lit_base.proofs.SuffixLemmas.{AreBytes, drop-range, key-occurs_inside, masked, range_bytes, spelled_fits, zeros_bytes}
 use Rattle.text_windows.specs.declared.shape.Shape.{Shape}
 use Rattle.text_windows.specs.declared.shape.TheConstants.{WIDTH}
 use Rattle.text_windows.specs.Windows.{AreMarksAt, AreWindowed, IsWindowed, Windowing, offset_at}
@@ -36,15 +40,28 @@ module _ (l : Literals) (marks text : List ℕ) (place at back width offset stri
       ∙ key-occurs_inside l text place (at + back) width back bytes narrow (omega (arith, is.wide, near)) occurs in
       subst (λ k. IsMarked marks (hash_of HASH_BITS k) back) (sym key) (is.marked back counted near)
 
--- the key of the bytes before a place, read as a word
-pub word_key : (fold : Fold) (text : List ℕ) (at width word bits : ℕ) → AreBytes text → width ≤ 8 → 8 ≤ at → at ≤ length text → word ≡ spelled (slice_range text (at - 8) at) → bits ≡ case_bits fold
+-- the key of the bytes before a place, of which four were read as a word behind zeros
+pub word_key : (fold : Fold) (text : List ℕ) (at width word bits : ℕ) → AreBytes text → width ≤ 4 → 4 ≤ at → at ≤ length text → word ≡ spelled (replicate 4 0 ++ slice_range text (at - 4) at) → bits ≡ case_bits fold
     → bit_or (bit_and word (last_bits width)) bits ≡ suffix_key fold text at width
 unfolding suffix_key
 word_key fold text at width word bits bytes narrow room inside is case =
-    let small : word < 2 ^ 64 = subst (λ n. n < 2 ^ 64) (sym is) (spelled_fits text at bytes room inside) in
-    let masks : bit_and word (last_bits width) ≡ spelled (replicate (8 - width) 0 ++ slice_range text (at - width) at) =
-    masked text at width word bytes narrow room inside small is in
-    λ i. bit_or (masks i) (case i)
+    let four : List ℕ = slice_range text (at - 4) at in
+    let eight : List ℕ = replicate 4 0 ++ four in
+    let few : length four ≡ 4 = length-between text (at - 4) at inside ∙ omega arith in
+    let len : length eight ≡ 8 = omega (arith, length-append (replicate 4 0) four, length-replicate {A = ℕ} 4 0, few) in
+    let small : AreBytes eight = zeros_bytes 4 four (range_bytes text (at - 4) at inside bytes) in
+    let whole : slice_range eight 0 8 ≡ eight = between_is eight 0 8 ∙ take_all 8 eight (omega (arith, len)) in
+    let fits : word < 2 ^ 64 = subst (λ n. n < 2 ^ 64) (sym (is ∙ ap spelled (sym whole))) (spelled_fits eight 8 small (omega arith) (omega (arith, len))) in
+    let masks : bit_and word (last_bits width) ≡ spelled (replicate (8 - width) 0 ++ slice_range eight (8 - width) 8) =
+    masked eight 8 width word small (omega (arith, narrow)) (omega arith) (omega (arith, len)) fits (is ∙ ap spelled (sym whole)) in
+    let back : 8 - width ≡ 4 + (4 - width) = omega (arith, narrow) in
+    let part : slice_range eight (8 - width) 8 ≡ slice_range text (at - width) at =
+    between_is eight (8 - width) 8
+    ∙ ap (drop (8 - width)) (take_all 8 eight (omega (arith, len)))
+    ∙ ap (λ n. drop n eight) back
+    ∙ drop-append-add (replicate 4 0) four (4 - width)
+    ∙ drop-range text (at - 4) (at - width) (4 - width) at (omega (arith, narrow, room)) in
+    λ i. bit_or ((masks ∙ ap (λ s. spelled (replicate (8 - width) 0 ++ s)) part) i) (case i)
 
 -- a mark stays beside others
 pub marked_left : (a b back : ℕ) → bit_at a back ≡ 1 → bit_at (bit_or a b) back ≡ 1

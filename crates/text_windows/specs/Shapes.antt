@@ -10,6 +10,6 @@ pub record IsShapeOf (l : Literals) (shape : Shape) : Type 0 where
   pub some : 0 < shape.most_stride
   pub few : shape.most_stride ≤ 8
   pub wide : 0 < shape.short_width
-  pub narrow : shape.short_width ≤ 8
+  pub narrow : shape.short_width ≤ WIDTH
   pub short : (place : ℕ) → place < length l.texts → place < shape.shorts → shape.short_width + shape.most_stride ≤ length (literal_at l place) + 1
   pub long : (place : ℕ) → place < length l.texts → shape.shorts ≤ place → WIDTH + shape.most_stride ≤ length (literal_at l place) + 1

@@ -47,7 +47,8 @@ fn totals(list: &LitList, shape: Shape, counts: &Counts) -> [usize; 4]
     requires { vec_len counts.now.counts ≡ 2 ^ HASH_BITS }
 {
     let mut totals = [0usize; 4];
-    for place in 0..list.len() {
+    // Of a literal that has fewer bytes than a window none can be chosen.
+    for place in shape.shorts.min(list.len())..list.len() {
         let windows = counts.of_literal(list, place);
         let mut stride = shape.most_stride;
         for step in 0..4usize {

@@ -1,9 +1,9 @@
 //! The windows that literals are searched for by.
-ghost use Rattle.std.specs.Prelude.{◌≡◌, ℕ, ◌+◌, ◌^◌, ◌<◌, ◌≤◌, IfOk, length, slice_index, vec_len};
+ghost use Rattle.std.specs.Prelude.{◌≡◌, ℕ, ◌+◌, ◌^◌, ◌<◌, ◌≤◌, ◌++◌, ◌-◌, IfOk, length, replicate, slice_index, slice_range, vec_len};
 ghost use Rattle.std.specs.Int.{bit_at};
 ghost use Rattle.std.specs.Int.RustNames.{bit_and, bit_or};
 ghost use Rattle.lit_base.specs.Marks.{IsMarked};
-ghost use Rattle.lit_base.specs.Suffixes.{hash_of, last_bits, suffix_key};
+ghost use Rattle.lit_base.specs.Suffixes.{hash_of, last_bits, spelled, suffix_key};
 ghost use Rattle.lit_base.specs.declared.suffixes.marks.TheConstants.{HASH_BITS};
 ghost use Rattle.text_windows.specs.declared.shape.TheConstants.{WIDTH};
 ghost use Rattle.text_windows.specs.Windows.{AreMarksAt, AreWithin};
@@ -12,7 +12,7 @@ use crate::choosing::{best_stride, choose_offsets};
 use crate::counts::Counts;
 use crate::marking::mark_all;
 use crate::shape::{Shape, WIDTH};
-use lit_base::{Fold, HASH_BITS, LitList, case_bits, hash_of, last_bits, last_word, suffix_key};
+use lit_base::{Fold, HASH_BITS, LitList, case_bits, hash_of, last_bits, suffix_key};
 use std::alloc::{AllocError, Global};
 use std::marker::Model;
 
@@ -101,20 +101,20 @@ impl<'p> Windows<'p> {
         requires { at ≤ length text.now }
         ensures { AreMarksAt self.now text.now at result }
     {
-        if at < 8 {
+        if at < WIDTH {
             return marks_near_front(&self.marks, self.list.fold(), self.shape, text, at);
         }
         self.marks_behind_front(text, at)
     }
 
-    /// The marks of `marks_at` for a place that has eight bytes before it.
+    /// The marks of `marks_at` for a place that has as many bytes before it as a window.
     #[inline(always)]
     pub fn marks_behind_front(&self, text: &[u8], at: usize) -> u8
-        requires eight { 8 ≤ at }
+        requires four { 4 ≤ at }
         requires inside { at ≤ length text.now }
         ensures { AreMarksAt self.now text.now at result }
     {
-        let word = last_word(text, at);
+        let word = last_four(text, at);
         let case_bits = case_bits(self.list.fold());
         let long = marks_of(&self.marks, word, WIDTH, case_bits);
         if self.shape.shorts == 0 {
@@ -123,6 +123,25 @@ impl<'p> Windows<'p> {
         let short = marks_of(&self.marks, word, self.shape.short_width, case_bits);
         long | short
     }
+}
+
+/// What the four bytes before a place spell, behind four zeros.
+#[inline(always)]
+fn last_four(text: &[u8], at: usize) -> u64
+    requires four { 4 ≤ at }
+    requires inside { at ≤ length text.now }
+    ensures { result ≡ spelled (replicate 4 0 ++ slice_range text.now (at - 4) at) }
+{
+    u64::from_le_bytes([
+        0,
+        0,
+        0,
+        0,
+        text[at - 4],
+        text[at - 3],
+        text[at - 2],
+        text[at - 1],
+    ])
 }
 
 /// The marks of the last `width` of eight bytes.
@@ -136,21 +155,20 @@ fn marks_of(marks: &Vec<u8>, word: u64, width: usize, case_bits: u64) -> u8
     marks[hash_of(HASH_BITS, (word & last_bits(width)) | case_bits)]
 }
 
-/// The marks of a place that has few bytes before it.
+/// The marks of a place that has fewer bytes before it than a window: those of short literals.
 #[inline(never)]
 fn marks_near_front(marks: &Vec<u8>, fold: Fold, shape: Shape, text: &[u8], at: usize) -> u8
     requires room { vec_len marks.now ≡ 2 ^ HASH_BITS }
     requires some { 0 < shape.short_width }
-    requires narrow { shape.short_width ≤ 8 }
+    requires narrow { shape.short_width ≤ WIDTH }
     requires inside { at ≤ length text.now }
-    ensures long { (back : ℕ) → WIDTH ≤ at → IsMarked marks.now.items (hash_of HASH_BITS (suffix_key fold text.now at WIDTH)) back
-        → bit_at result back ≡ 1 }
-    ensures short { (back : ℕ) → shape.short_width ≤ at → IsMarked marks.now.items (hash_of HASH_BITS (suffix_key fold text.now at shape.short_width)) back
+    ensures { (back : ℕ) → 0 < shape.shorts → shape.short_width ≤ at → IsMarked marks.now.items (hash_of HASH_BITS (suffix_key fold text.now at shape.short_width)) back
         → bit_at result back ≡ 1 }
 {
-    let long = marks_before(marks, fold, text, at, WIDTH);
-    let short = marks_before(marks, fold, text, at, shape.short_width);
-    long | short
+    if shape.shorts == 0 {
+        return 0;
+    }
+    marks_before(marks, fold, text, at, shape.short_width)
 }
 
 /// The marks of the `width` bytes before a place, if there are so many.

@@ -13,15 +13,13 @@ use Rattle.text_windows.specs.declared.shape.TheConstants.{WIDTH}
 use Rattle.text_windows.proofs.WindowLemmas.{marked_left, marked_right, marks_are, word_key}
 use Rattle.text_windows.proofs.windows.Windows.marks_at.Goals as goal
 
-pub returns-then-at-lt8 : goal.returns-then-at-lt8
-returns-then-at-lt8 c =
+pub returns-then-at-lt-WIDTH : goal.returns-then-at-lt-WIDTH
+returns-then-at-lt-WIDTH c =
     let w : Windowing = record { literals = c.self.inside.list.now; stride = c.self.inside.stride; offsets = c.self.inside.offsets.items } in
     let marks = c.self.inside.marks.items in
     let fold = c.fold.ensures in
     subst (λ (v : Windowing). AreMarksAt v c.args.text.now c.args.at c.marks_near_front.result) c.self.view_is
-    (marks_are w c.self.inside.shape marks c.args.text.now c.args.at c.marks_near_front.result c.self.invariant.3 (are_bytes c.args.text.now c.type_inv.text) c.self.invariant.0.narrow
-    (λ back room marked. c.marks_near_front.ensures.long back room
-    (subst (λ (f : Fold). IsMarked marks (hash_of HASH_BITS (suffix_key f c.args.text.now c.args.at WIDTH)) back) (sym fold) marked))
-    (λ back some room marked. c.marks_near_front.ensures.short back room
+    (marks_are w c.self.inside.shape marks c.args.text.now c.args.at c.marks_near_front.result c.self.invariant.3 (are_bytes c.args.text.now c.type_inv.text) (omega (arith, c.self.invariant.0.narrow))
+    (λ back room marked. absurd (omega (arith, room, c.if-at-lt-WIDTH.true)))
+    (λ back some room marked. c.marks_near_front.ensures back some room
     (subst (λ (f : Fold). IsMarked marks (hash_of HASH_BITS (suffix_key f c.args.text.now c.args.at c.self.inside.shape.short_width)) back) (sym fold) marked)))
-

@@ -26,9 +26,9 @@ returns-then-self-eq0 c =
     let bytes = are_bytes text c.type_inv.text in
     let case = c.case_bits-case_bits.ensures ∙ ap case_bits c.fold.ensures in
     subst (λ (v : Windowing). AreMarksAt v text c.args.at c.marks_of-long.result) c.self.view_is
-    (marks_are w shape marks text c.args.at c.marks_of-long.result c.self.invariant.3 bytes c.self.invariant.0.narrow
+    (marks_are w shape marks text c.args.at c.marks_of-long.result c.self.invariant.3 bytes (omega (arith, c.self.invariant.0.narrow))
     (λ back room marked. read_mark marks _ _ c.marks_of-long.result back c.marks_of-long.ensures
-    (word_key w.literals.folding text c.args.at WIDTH c.last_word-word.result c.case_bits-case_bits.result bytes (omega arith) c.requires.eight c.requires.inside c.last_word-word.ensures case) marked)
+    (word_key w.literals.folding text c.args.at WIDTH c.last_four-word.result c.case_bits-case_bits.result bytes (omega arith) c.requires.four c.requires.inside c.last_four-word.ensures case) marked)
     (λ back some room marked. absurd (omega (arith, some, c.if-self-eq0.true))))
 
 pub returns : goal.returns
@@ -42,8 +42,8 @@ returns c =
     let long = c.marks_of-long.result in
     let short = c.marks_of-short.result in
     subst (λ (v : Windowing). AreMarksAt v text c.args.at (bit_or long short)) c.self.view_is
-    (marks_are w shape marks text c.args.at (bit_or long short) c.self.invariant.3 bytes c.self.invariant.0.narrow
+    (marks_are w shape marks text c.args.at (bit_or long short) c.self.invariant.3 bytes (omega (arith, c.self.invariant.0.narrow))
     (λ back room marked. marked_left long short back (read_mark marks _ _ long back c.marks_of-long.ensures
-    (word_key w.literals.folding text c.args.at WIDTH c.last_word-word.result c.case_bits-case_bits.result bytes (omega arith) c.requires.eight c.requires.inside c.last_word-word.ensures case) marked))
+    (word_key w.literals.folding text c.args.at WIDTH c.last_four-word.result c.case_bits-case_bits.result bytes (omega arith) c.requires.four c.requires.inside c.last_four-word.ensures case) marked))
     (λ back some room marked. marked_right long short back (read_mark marks _ _ short back c.marks_of-short.ensures
-    (word_key w.literals.folding text c.args.at shape.short_width c.last_word-word.result c.case_bits-case_bits.result bytes c.self.invariant.0.narrow c.requires.eight c.requires.inside c.last_word-word.ensures case) marked)))
+    (word_key w.literals.folding text c.args.at shape.short_width c.last_four-word.result c.case_bits-case_bits.result bytes c.self.invariant.0.narrow c.requires.four c.requires.inside c.last_four-word.ensures case) marked)))
