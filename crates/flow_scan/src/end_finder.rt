@@ -108,7 +108,9 @@ impl<'p> EndFinder<'p> {
         let mut met = 0;
         let found = next_end_by_windows(&self.windows, list, text, from, &mut met);
         let count = passed(text, from, found);
-        let looks = cost_of_looks(self.windows.stride(), count);
+        let looks = cost_of_looks(self.windows.stride(), count).saturating_mul(
+            self.windows.widths(),
+        );
         let marks = met.saturating_mul(MARK_COST);
         self.learning.note(count, looks.saturating_add(marks));
         found

@@ -1,10 +1,9 @@
 -- Windows: a text has the marks of each literal that ends in it, so far before its end.
-use Rattle.std.proofs.Common.{◌≡◌, ℕ, ◌+◌, ◌-◌, ◌^◌, ◌++◌, ◌<◌, ◌≤◌, List, [], drop, length, replicate, inl, inr, sym, ap, ◌∙◌, subst, arith}
+use Rattle.std.proofs.Common.{◌≡◌, ℕ, ◌+◌, ◌-◌, ◌^◌, ◌++◌, ◌<◌, ◌≤◌, List, [], drop, length, min, replicate, inl, inr, sym, ap, ◌∙◌, subst, arith}
 use Rattle.std.specs.Int.{bit_at}
 use Rattle.std.specs.Int.RustNames.{bit_and, bit_or}
-use Rattle.std.specs.List.{slice_range}
+use Rattle.std.specs.List.{slice_index, slice_range}
 use Rattle.std.specs.Option.{unwrap_or}
-use Rattle.std.proofs.lemmas.Bool.{cases_lt}
 use Rattle.std.proofs.lemmas.Nat.Bits.{bit_at-lt, bit_at_or}
 use Rattle.std.proofs.lemmas.List.{length-append, length-replicate, take_all}
 use Rattle.std.proofs.Math.Seq.{drop-append-add}
@@ -21,6 +20,7 @@ use Rattle.lit_base.specs.Suffixes.{case_bits, hash_of, last_bits, spelled, suff
 use Rattle.lit_base.proofs.SuffixLemmas.{AreBytes, drop-range, key-occurs_inside, masked, range_bytes, spelled_fits, zeros_bytes}
 use Rattle.text_windows.specs.declared.shape.Shape.{Shape}
 use Rattle.text_windows.specs.declared.shape.TheConstants.{WIDTH}
+use Rattle.text_windows.specs.Shapes.{IsShapeOf, width_at}
 use Rattle.text_windows.specs.Windows.{AreMarksAt, AreWindowed, IsWindowed, Windowing, offset_at}
 
 -- the literal that occurs is the one at its place
@@ -70,23 +70,24 @@ marked_left a b back marked = omega (arith, bit_at_or a b back, marked, bit_at-l
 pub marked_right : (a b back : ℕ) → bit_at b back ≡ 1 → bit_at (bit_or a b) back ≡ 1
 marked_right a b back marked = omega (arith, bit_at_or a b back, marked, bit_at-lt a back)
 
--- marks of a place are those of all literals, if they hold what is marked for the bytes before it: four of them, and as many as short literals are marked by
-pub marks_are : (w : Windowing) (shape : Shape) (marks text : List ℕ) (at result : ℕ) → AreWindowed w.literals shape w.stride w.offsets marks (length w.literals.texts) → AreBytes text → shape.short_width ≤ 8
-    → ((back : ℕ) → WIDTH ≤ at → IsMarked marks (hash_of HASH_BITS (suffix_key w.literals.folding text at WIDTH)) back → bit_at result back ≡ 1)
-    → ((back : ℕ) → 0 < shape.shorts → shape.short_width ≤ at → IsMarked marks (hash_of HASH_BITS (suffix_key w.literals.folding text at shape.short_width)) back → bit_at result back ≡ 1)
+-- marks of a place are those of all literals, if they hold what is marked for the bytes before it, by all widths from the least on
+pub marks_are : (w : Windowing) (shape : Shape) (marks text : List ℕ) (at result : ℕ) → IsShapeOf w.literals shape → AreWindowed w.literals w.stride w.offsets marks (length w.literals.texts) → AreBytes text
+    → ((width back : ℕ) → shape.least_width ≤ width → width ≤ WIDTH → width ≤ at → IsMarked marks (hash_of HASH_BITS (suffix_key w.literals.folding text at width)) back → bit_at result back ≡ 1)
     → AreMarksAt w text at result
-marks_are w shape marks text at result are bytes narrow long short place back counted near occurs =
+marks_are w shape marks text at result fits are bytes told place back counted near occurs =
     let l = w.literals in
     let there = slice_get_within l.texts place occurs.literal occurs.stands in
-    elim (cases_lt place shape.shorts) [
-      | inl before ↦
-          let is = are.short place there before in
-          short back (omega (arith, before))
-          (window_begins l marks text place at back shape.short_width (offset_at w place) w.stride is counted near occurs)
-          (window_marked l marks text place at back shape.short_width (offset_at w place) w.stride is counted near occurs bytes narrow)
-      | inr after ↦
-          let is = are.long place there after in
-          long back
-          (window_begins l marks text place at back WIDTH (offset_at w place) w.stride is counted near occurs)
-          (window_marked l marks text place at back WIDTH (offset_at w place) w.stride is counted near occurs bytes (omega arith))
-    ]
+    let is = are.windowed place there in
+    let narrow : width_at l place ≤ WIDTH = omega arith in
+    told (width_at l place) back (fits.least place there) narrow
+    (window_begins l marks text place at back (width_at l place) (offset_at w place) w.stride is counted near occurs)
+    (window_marked l marks text place at back (width_at l place) (offset_at w place) w.stride is counted near occurs bytes (omega (arith, narrow)))
+
+-- a mark that was looked at by a key is there
+pub read_mark : (marks : List ℕ) (key other found back : ℕ) → found ≡ slice_index marks (hash_of HASH_BITS key) → key ≡ other → IsMarked marks (hash_of HASH_BITS other) back → bit_at found back ≡ 1
+read_mark marks key other found back is same marked = ap (λ m. bit_at m back) (is ∙ ap (λ k. slice_index marks (hash_of HASH_BITS k)) same) ∙ marked
+
+-- and so is one by the last bytes of a word
+pub read_width : (marks : List ℕ) (word bits n width found back : ℕ) → found ≡ slice_index marks (hash_of HASH_BITS (bit_or (bit_and word (last_bits n)) bits)) → n ≡ width
+    → IsMarked marks (hash_of HASH_BITS (bit_or (bit_and word (last_bits width)) bits)) back → bit_at found back ≡ 1
+read_width marks word bits n width found back is same marked = read_mark marks _ _ found back is (ap (λ k. bit_or (bit_and word (last_bits k)) bits) same) marked

@@ -1,15 +1,18 @@
--- How the literals of a list are marked by windows: short ones by few bytes, the others by four.
-use Rattle.std.specs.Prelude.{ℕ, ◌+◌, ◌<◌, ◌≤◌, length}
+-- How the literals of a list are marked by windows: of four bytes, or of all that a shorter literal has.
+use Rattle.std.specs.Prelude.{ℕ, ◌+◌, ◌<◌, ◌≤◌, length, min}
 use Rattle.lit_base.specs.Chains.{literal_at}
 use Rattle.lit_base.specs.Literals.{Literals}
 use Rattle.text_windows.specs.declared.shape.Shape.{Shape}
 use Rattle.text_windows.specs.declared.shape.TheConstants.{WIDTH}
 
--- each literal has room for a window at each of the places that the longest stride asks for
+-- how many bytes the windows of a literal have
+abbrev pub width_at : Literals → ℕ → ℕ
+width_at l place = min WIDTH (length (literal_at l place))
+
+-- no window has fewer bytes than the least, and each literal has room for one at each of the places that the longest stride asks for
 pub record IsShapeOf (l : Literals) (shape : Shape) : Type 0 where
   pub some : 0 < shape.most_stride
   pub few : shape.most_stride ≤ 8
-  pub wide : 0 < shape.short_width
-  pub narrow : shape.short_width ≤ WIDTH
-  pub short : (place : ℕ) → place < length l.texts → place < shape.shorts → shape.short_width + shape.most_stride ≤ length (literal_at l place) + 1
-  pub long : (place : ℕ) → place < length l.texts → shape.shorts ≤ place → WIDTH + shape.most_stride ≤ length (literal_at l place) + 1
+  pub wide : 0 < shape.least_width
+  pub least : (place : ℕ) → place < length l.texts → shape.least_width ≤ width_at l place
+  pub room : (place : ℕ) → place < length l.texts → width_at l place + shape.most_stride ≤ length (literal_at l place) + 1

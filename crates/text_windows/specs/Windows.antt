@@ -6,8 +6,7 @@ use Rattle.lit_base.specs.Literals.{Literals}
 use Rattle.lit_base.specs.Marks.{IsMarkedFor}
 use Rattle.lit_base.specs.Occurrences.{Occurs}
 use Rattle.lit_base.specs.declared.suffixes.marks.TheConstants.{HASH_BITS}
-use Rattle.text_windows.specs.declared.shape.Shape.{Shape}
-use Rattle.text_windows.specs.declared.shape.TheConstants.{WIDTH}
+use Rattle.text_windows.specs.Shapes.{width_at}
 
 -- what a contract sees of `Windows`: the literals, how far apart a search looks, and how far before its end each literal has the last of its windows
 pub record Windowing : Type 0 where
@@ -36,8 +35,7 @@ pub record IsWindowed (l : Literals) (marks : List ℕ) (place width offset stri
   pub marked : IsMarkedFor marks l.folding (literal_at l place) width offset stride
 
 -- each literal before a place is marked
-pub record AreWindowed (l : Literals) (shape : Shape) (stride : ℕ) (offsets marks : List ℕ) (count : ℕ) : Type 0 where
+pub record AreWindowed (l : Literals) (stride : ℕ) (offsets marks : List ℕ) (count : ℕ) : Type 0 where
   pub offsets_len : length offsets ≡ length l.texts
   pub marks_len : length marks ≡ 2 ^ HASH_BITS
-  pub short : (place : ℕ) → place < count → place < shape.shorts → IsWindowed l marks place shape.short_width (slice_index offsets place) stride
-  pub long : (place : ℕ) → place < count → shape.shorts ≤ place → IsWindowed l marks place WIDTH (slice_index offsets place) stride
+  pub windowed : (place : ℕ) → place < count → IsWindowed l marks place (width_at l place) (slice_index offsets place) stride

@@ -3,7 +3,7 @@ ghost use Rattle.std.specs.Prelude.{◌≡◌, ◌^◌, ◌<◌, ◌≤◌, leng
 ghost use Rattle.lit_base.specs.declared.suffixes.marks.TheConstants.{HASH_BITS};
 
 use crate::counts::{Counts, NEVER, PLACES};
-use crate::shape::Shape;
+use crate::shape::{Shape, WIDTH};
 use lit_base::LitList;
 
 /// A look at the marks of a place takes so many tenths of a nanosecond.
@@ -29,12 +29,12 @@ pub(crate) fn best_stride(list: &LitList, shape: Shape, counts: &Counts) -> Esti
     let totals = totals(list, shape, counts);
     let mut best = Estimate {
         stride: shape.most_stride,
-        cost: cost_of(shape.most_stride, totals[0], counts.all),
+        cost: cost_of(shape.most_stride, shape.widths(), totals[0], counts.all),
     };
     let mut stride = shape.most_stride;
     for step in 1..4usize {
         stride = (stride / 2).max(1);
-        let cost = cost_of(stride, totals[step], counts.all);
+        let cost = cost_of(stride, shape.widths(), totals[step], counts.all);
         if cost < best.cost {
             best = Estimate { stride, cost };
         }
@@ -47,8 +47,11 @@ fn totals(list: &LitList, shape: Shape, counts: &Counts) -> [usize; 4]
     requires { vec_len counts.now.counts ≡ 2 ^ HASH_BITS }
 {
     let mut totals = [0usize; 4];
-    // Of a literal that has fewer bytes than a window none can be chosen.
-    for place in shape.shorts.min(list.len())..list.len() {
+    for place in 0..list.len() {
+        if list.get(place).len() < WIDTH {
+            // All of it is its window: none is to be chosen.
+            continue;
+        }
         let windows = counts.of_literal(list, place);
         let mut stride = shape.most_stride;
         for step in 0..4usize {
@@ -60,9 +63,9 @@ fn totals(list: &LitList, shape: Shape, counts: &Counts) -> [usize; 4]
     totals
 }
 
-/// What a search takes that looks at every `stride`-th place, where of `all` places so many are marked.
-fn cost_of(stride: usize, marked: usize, all: usize) -> usize {
-    let looks = LOOK * 1024;
+/// What a search takes that looks at every `stride`-th place, by so many widths, where of `all` places so many are marked.
+fn cost_of(stride: usize, widths: usize, marked: usize, all: usize) -> usize {
+    let looks = (LOOK * 1024).saturating_mul(widths);
     let marks = FALSE_MARK.saturating_mul(marked).saturating_mul(1024) / all.max(1);
     looks.saturating_add(marks) / stride.max(1)
 }

@@ -5,7 +5,7 @@ ghost use Rattle.text_windows.specs.Shapes.{IsShapeOf};
 ghost use Rattle.text_windows.specs.Windows.{AreWindowed};
 ghost use Rattle.text_windows.specs.declared.shape.TheConstants.{WIDTH};
 
-use crate::shape::Shape;
+use crate::shape::{Shape, width_of};
 use lit_base::{LitList, mark_literal};
 
 /// Marks each literal anew, by as many windows as the stride has places, at its offset, or nearer to its end
@@ -22,12 +22,13 @@ pub(crate) fn mark_all(
     requires few { stride ≤ shape.most_stride }
     requires offsets { vec_len offsets.old ≡ length list.now.texts }
     requires marks { vec_len marks.old ≡ 2 ^ HASH_BITS }
-    ensures { AreWindowed list.now shape stride offsets.new.items marks.new.items (length list.now.texts) }
+    ensures { AreWindowed list.now stride offsets.new.items marks.new.items (length list.now.texts) }
 {
+    let _shape = shape;
     clear(marks);
     for place in 0..list.len() {
         let literal = list.get(place);
-        let width = shape.width_of(list, place);
+        let width = width_of(list, place);
         let room = (literal.len() - (width - 1) - stride).min(8 - stride);
         let offset = usize::from(offsets[place]).min(room);
         offsets[place] = offset as u8;

@@ -41,7 +41,7 @@ impl<'p> Model for Windows<'p> {
     ghost view = { λ w. record { literals = w.list.now; stride = w.stride; offsets = w.offsets.items } };
 
     ghost invariant = { λ w. IsShapeOf w.list.now w.shape × (0 < w.stride) × (w.stride ≤ w.shape.most_stride)
-        × AreWindowed w.list.now w.shape w.stride w.offsets.items w.marks.items (length w.list.now.texts)
+        × AreWindowed w.list.now w.stride w.offsets.items w.marks.items (length w.list.now.texts)
         × (vec_len w.counts.counts ≡ 2 ^ HASH_BITS) };
 }
 
@@ -102,7 +102,8 @@ impl<'p> Windows<'p> {
         ensures { AreMarksAt self.now text.now at result }
     {
         if at < WIDTH {
-            return marks_near_front(&self.marks, self.list.fold(), self.shape, text, at);
+            let least = self.shape.least_width;
+            return marks_near_front(&self.marks, self.list.fold(), least, text, at);
         }
         self.marks_behind_front(text, at)
     }
@@ -117,11 +118,18 @@ impl<'p> Windows<'p> {
         let word = last_four(text, at);
         let case_bits = case_bits(self.list.fold());
         let long = marks_of(&self.marks, word, WIDTH, case_bits);
-        if self.shape.shorts == 0 {
+        let least = self.shape.least_width;
+        if least >= WIDTH {
             return long;
         }
-        let short = marks_of(&self.marks, word, self.shape.short_width, case_bits);
+        let short = short_marks(&self.marks, word, least, case_bits);
         long | short
+    }
+
+    /// How many times as long a look takes as one for windows of one width.
+    #[inline]
+    pub fn widths(&self) -> usize {
+        self.shape.widths()
     }
 }
 
@@ -155,32 +163,51 @@ fn marks_of(marks: &Vec<u8>, word: u64, width: usize, case_bits: u64) -> u8
     marks[hash_of(HASH_BITS, (word & last_bits(width)) | case_bits)]
 }
 
-/// The marks of a place that has fewer bytes before it than a window: those of short literals.
-#[inline(never)]
-fn marks_near_front(marks: &Vec<u8>, fold: Fold, shape: Shape, text: &[u8], at: usize) -> u8
+/// The marks of the last bytes of a word by all widths from the least to three.
+#[inline(always)]
+fn short_marks(marks: &Vec<u8>, word: u64, least: usize, case_bits: u64) -> u8
     requires room { vec_len marks.now ≡ 2 ^ HASH_BITS }
-    requires some { 0 < shape.short_width }
-    requires narrow { shape.short_width ≤ WIDTH }
-    requires inside { at ≤ length text.now }
-    ensures { (back : ℕ) → 0 < shape.shorts → shape.short_width ≤ at → IsMarked marks.now.items (hash_of HASH_BITS (suffix_key fold text.now at shape.short_width)) back
-        → bit_at result back ≡ 1 }
+    requires some { 0 < least }
+    ensures { (width back : ℕ) → least ≤ width → width < WIDTH
+        → IsMarked marks.now.items (hash_of HASH_BITS (bit_or (bit_and word (last_bits width)) case_bits)) back → bit_at result back ≡ 1 }
 {
-    if shape.shorts == 0 {
-        return 0;
+    let three = marks_of(marks, word, 3, case_bits);
+    if least > 2 {
+        return three;
     }
-    marks_before(marks, fold, text, at, shape.short_width)
+    let two = marks_of(marks, word, 2, case_bits);
+    if least > 1 {
+        return two | three;
+    }
+    let one = marks_of(marks, word, 1, case_bits);
+    one | (two | three)
 }
 
-/// The marks of the `width` bytes before a place, if there are so many.
+/// The marks of a place that has fewer bytes before it than a window: those of short literals.
+#[inline(never)]
+fn marks_near_front(marks: &Vec<u8>, fold: Fold, least: usize, text: &[u8], at: usize) -> u8
+    requires room { vec_len marks.now ≡ 2 ^ HASH_BITS }
+    requires some { 0 < least }
+    requires inside { at ≤ length text.now }
+    requires near { at < WIDTH }
+    ensures { (width back : ℕ) → least ≤ width → width ≤ at
+        → IsMarked marks.now.items (hash_of HASH_BITS (suffix_key fold text.now at width)) back → bit_at result back ≡ 1 }
+{
+    let mut found = 0;
+    for width in least..at + 1 {
+        found |= marks_before(marks, fold, text, at, width);
+    }
+    found
+}
+
+/// The marks of the `width` bytes before a place.
 fn marks_before(marks: &Vec<u8>, fold: Fold, text: &[u8], at: usize, width: usize) -> u8
     requires room { vec_len marks.now ≡ 2 ^ HASH_BITS }
     requires some { 0 < width }
     requires narrow { width ≤ 8 }
+    requires begins { width ≤ at }
     requires inside { at ≤ length text.now }
-    ensures { width ≤ at → result ≡ slice_index marks.now.items (hash_of HASH_BITS (suffix_key fold text.now at width)) }
+    ensures { result ≡ slice_index marks.now.items (hash_of HASH_BITS (suffix_key fold text.now at width)) }
 {
-    if at < width {
-        return 0;
-    }
     marks[hash_of(HASH_BITS, suffix_key(fold, text, at, width))]
 }

@@ -1,25 +1,19 @@
 -- What is looked at has the marks of the bytes before the place.
-use Rattle.std.proofs.Common.{◌≡◌, ℕ, List, ap, ◌∙◌, sym, subst, arith}
-use Rattle.std.specs.Int.{bit_at}
-use Rattle.std.specs.Int.RustNames.{bit_or}
-use Rattle.std.specs.List.{slice_index}
+use Rattle.std.proofs.Common.{◌≡◌, ℕ, sym, subst, arith}
 use Rattle.lit_base.specs.Marks.{IsMarked}
-use Rattle.lit_base.specs.Suffixes.{case_bits, hash_of, suffix_key}
+use Rattle.lit_base.specs.Suffixes.{hash_of, suffix_key}
 use Rattle.lit_base.specs.declared.fold.Fold.{Fold}
 use Rattle.lit_base.specs.declared.suffixes.marks.TheConstants.{HASH_BITS}
 use Rattle.lit_base.proofs.SuffixLemmas.{are_bytes}
 use Rattle.text_windows.specs.Windows.{AreMarksAt, Windowing}
-use Rattle.text_windows.specs.declared.shape.TheConstants.{WIDTH}
-use Rattle.text_windows.proofs.WindowLemmas.{marked_left, marked_right, marks_are, word_key}
+use Rattle.text_windows.proofs.WindowLemmas.{marks_are}
 use Rattle.text_windows.proofs.windows.Windows.marks_at.Goals as goal
 
 pub returns-then-at-lt-WIDTH : goal.returns-then-at-lt-WIDTH
 returns-then-at-lt-WIDTH c =
     let w : Windowing = record { literals = c.self.inside.list.now; stride = c.self.inside.stride; offsets = c.self.inside.offsets.items } in
     let marks = c.self.inside.marks.items in
-    let fold = c.fold.ensures in
     subst (λ (v : Windowing). AreMarksAt v c.args.text.now c.args.at c.marks_near_front.result) c.self.view_is
-    (marks_are w c.self.inside.shape marks c.args.text.now c.args.at c.marks_near_front.result c.self.invariant.3 (are_bytes c.args.text.now c.type_inv.text) (omega (arith, c.self.invariant.0.narrow))
-    (λ back room marked. absurd (omega (arith, room, c.if-at-lt-WIDTH.true)))
-    (λ back some room marked. c.marks_near_front.ensures back some room
-    (subst (λ (f : Fold). IsMarked marks (hash_of HASH_BITS (suffix_key f c.args.text.now c.args.at c.self.inside.shape.short_width)) back) (sym fold) marked)))
+    (marks_are w c.self.inside.shape marks c.args.text.now c.args.at c.marks_near_front.result c.self.invariant.0 c.self.invariant.3 (are_bytes c.args.text.now c.type_inv.text)
+    (λ width back enough most begins marked. c.marks_near_front.ensures width back enough begins
+    (subst (λ (f : Fold). IsMarked marks (hash_of HASH_BITS (suffix_key f c.args.text.now c.args.at width)) back) (sym c.fold.ensures) marked)))
