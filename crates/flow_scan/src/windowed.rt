@@ -33,7 +33,7 @@ pub(crate) fn next_end_by_windows(
         best: None,
     };
     'looks: while at <= aim.last {
-        at = skip_unmarked(windows, text, from, at, aim.last);
+        at = skip(windows, text, from, at, aim.last);
         aim = look(windows, list, text, from, at, aim, met);
         if aim.last.saturating_sub(at) < stride {
             return aim.best;
@@ -82,10 +82,52 @@ fn look(
     }
 }
 
+/// The place of `skip_unmarked`, by a loop for lists that have short literals or by one for those that have not.
+#[inline(always)]
+fn skip(windows: &Windows<'_>, text: &[u8], from: usize, at: usize, last: usize) -> usize
+    requires inside { last ≤ length text.now }
+    requires near { at ≤ last }
+    requires looked { IsLookedUpTo windows.now text.now from last at }
+    ensures near { result ≤ last }
+    ensures ahead { at ≤ result }
+    ensures looked { IsLookedUpTo windows.now text.now from last result }
+{
+    if windows.has_short() {
+        return skip_by_all_widths(windows, text, from, at, last);
+    }
+    skip_unmarked(windows, text, from, at, last, false)
+}
+
+/// The place of `skip_unmarked` for lists that have short literals.
+#[inline(never)]
+fn skip_by_all_widths(
+    windows: &Windows<'_>,
+    text: &[u8],
+    from: usize,
+    at: usize,
+    last: usize,
+) -> usize
+    requires inside { last ≤ length text.now }
+    requires near { at ≤ last }
+    requires looked { IsLookedUpTo windows.now text.now from last at }
+    ensures near { result ≤ last }
+    ensures ahead { at ≤ result }
+    ensures looked { IsLookedUpTo windows.now text.now from last result }
+{
+    skip_unmarked(windows, text, from, at, last, true)
+}
+
 /// A place from `at` on that strides come to, two at a time, near which there is a mark, or which is near the last
 /// place of interest.
 #[inline(always)]
-fn skip_unmarked(windows: &Windows<'_>, text: &[u8], from: usize, at: usize, last: usize) -> usize
+fn skip_unmarked(
+    windows: &Windows<'_>,
+    text: &[u8],
+    from: usize,
+    at: usize,
+    last: usize,
+    has_short: bool,
+) -> usize
     requires inside { last ≤ length text.now }
     requires near { at ≤ last }
     requires looked { IsLookedUpTo windows.now text.now from last at }
@@ -99,9 +141,7 @@ fn skip_unmarked(windows: &Windows<'_>, text: &[u8], from: usize, at: usize, las
     let stride = windows.stride();
     let mut seen = at;
     'strides: while last - seen >= 2 * stride {
-        let near = windows.marks_behind_front(text, seen);
-        let far = windows.marks_behind_front(text, seen + stride);
-        if near | far != 0 {
+        if !windows.are_unmarked(text, seen, has_short) {
             return seen;
         }
         seen += 2 * stride;

@@ -1,5 +1,5 @@
 //! The windows that literals are searched for by.
-ghost use Rattle.std.specs.Prelude.{◌≡◌, ℕ, ◌+◌, ◌^◌, ◌<◌, ◌≤◌, ◌++◌, ◌-◌, IfOk, length, replicate, slice_index, slice_range, vec_len};
+ghost use Rattle.std.specs.Prelude.{◌≡◌, IsTrue, ℕ, ◌+◌, ◌^◌, ◌<◌, ◌≤◌, ◌++◌, ◌-◌, IfOk, length, replicate, slice_index, slice_range, vec_len};
 ghost use Rattle.std.specs.Int.{bit_at};
 ghost use Rattle.std.specs.Int.RustNames.{bit_and, bit_or};
 ghost use Rattle.lit_base.specs.Marks.{IsMarked};
@@ -108,9 +108,57 @@ impl<'p> Windows<'p> {
         self.marks_behind_front(text, at)
     }
 
+    /// Whether some literal is so short that windows of fewer than four bytes have to be looked at.
+    #[inline(always)]
+    pub fn has_short(&self) -> bool {
+        self.shape.least_width < WIDTH
+    }
+
+    /// Whether two places a stride apart have no mark, so that no literal ends that has its windows before one of them.
+    /// `has_short` is what the windows say of that: a loop for which it is settled is made for the one case or the other.
+    #[inline(always)]
+    pub fn are_unmarked(&self, text: &[u8], at: usize, has_short: bool) -> bool
+        requires four { 4 ≤ at }
+        requires inside { at + self.now.stride ≤ length text.now }
+        ensures { IsTrue result → AreMarksAt self.now text.now at 0 × AreMarksAt self.now text.now (at + self.now.stride) 0 }
+    {
+        if has_short {
+            return self.have_no_mark(text, at);
+        }
+        if self.shape.least_width < WIDTH {
+            return self.have_no_mark_by_call(text, at);
+        }
+        self.have_no_mark(text, at)
+    }
+
+    /// Whether two places a stride apart have no mark.
+    #[inline(always)]
+    fn have_no_mark(&self, text: &[u8], at: usize) -> bool
+        requires four { 4 ≤ at }
+        requires inside { at + self.now.stride ≤ length text.now }
+        ensures { IsTrue result → AreMarksAt self.now text.now at 0 × AreMarksAt self.now text.now (at + self.now.stride) 0 }
+    {
+        let near = self.marks_behind_front(text, at);
+        let far = self.marks_behind_front(text, at + self.stride);
+        if near | far != 0 {
+            return false;
+        }
+        true
+    }
+
+    /// The same, apart from the loop that asks it.
+    #[inline(never)]
+    fn have_no_mark_by_call(&self, text: &[u8], at: usize) -> bool
+        requires four { 4 ≤ at }
+        requires inside { at + self.now.stride ≤ length text.now }
+        ensures { IsTrue result → AreMarksAt self.now text.now at 0 × AreMarksAt self.now text.now (at + self.now.stride) 0 }
+    {
+        self.have_no_mark(text, at)
+    }
+
     /// The marks of `marks_at` for a place that has as many bytes before it as a window.
     #[inline(always)]
-    pub fn marks_behind_front(&self, text: &[u8], at: usize) -> u8
+    fn marks_behind_front(&self, text: &[u8], at: usize) -> u8
         requires four { 4 ≤ at }
         requires inside { at ≤ length text.now }
         ensures { AreMarksAt self.now text.now at result }
@@ -140,16 +188,8 @@ fn last_four(text: &[u8], at: usize) -> u64
     requires inside { at ≤ length text.now }
     ensures { result ≡ spelled (replicate 4 0 ++ slice_range text.now (at - 4) at) }
 {
-    u64::from_le_bytes([
-        0,
-        0,
-        0,
-        0,
-        text[at - 4],
-        text[at - 3],
-        text[at - 2],
-        text[at - 1],
-    ])
+    let four = u32::from_le_bytes([text[at - 4], text[at - 3], text[at - 2], text[at - 1]]);
+    u64::from(four) << 32
 }
 
 /// The marks of the last `width` of eight bytes.
@@ -161,6 +201,15 @@ fn marks_of(marks: &Vec<u8>, word: u64, width: usize, case_bits: u64) -> u8
     ensures { result ≡ slice_index marks.now.items (hash_of HASH_BITS (bit_or (bit_and word (last_bits width)) case_bits)) }
 {
     marks[hash_of(HASH_BITS, (word & last_bits(width)) | case_bits)]
+}
+
+/// The marks of the last of eight bytes, which hardly any list asks for.
+#[inline(never)]
+fn marks_of_one(marks: &Vec<u8>, word: u64, case_bits: u64) -> u8
+    requires { vec_len marks.now ≡ 2 ^ HASH_BITS }
+    ensures { result ≡ slice_index marks.now.items (hash_of HASH_BITS (bit_or (bit_and word (last_bits 1)) case_bits)) }
+{
+    marks_of(marks, word, 1, case_bits)
 }
 
 /// The marks of the last bytes of a word by all widths from the least to three.
@@ -179,7 +228,7 @@ fn short_marks(marks: &Vec<u8>, word: u64, least: usize, case_bits: u64) -> u8
     if least > 1 {
         return two | three;
     }
-    let one = marks_of(marks, word, 1, case_bits);
+    let one = marks_of_one(marks, word, case_bits);
     one | (two | three)
 }
 

@@ -1,6 +1,5 @@
 -- Two looks without a mark pass over two strides.
-use Rattle.std.proofs.Common.{◌≡◌, ℕ, ◌+◌, sym, ap, subst, arith}
-use Rattle.std.proofs.lemmas.Nat.{le_or_l, le_or_r}
+use Rattle.std.proofs.Common.{◌≡◌, ℕ, ◌+◌, refl, subst, arith}
 use Rattle.flow_scan.specs.Windowed.{IsLookedUpTo}
 use Rattle.flow_scan.proofs.WindowSteps.{unmarked_further}
 use Rattle.flow_scan.proofs.windowed.skip_unmarked.Goals as goal
@@ -12,14 +11,9 @@ strides-preserved c =
     let last : ℕ = c.args.last in
     let seen : ℕ = c.strides.seen in
     let stride = c.stride-stride.ensures.value in
-    let none = c.if-near-far-ne0.false in
-    let near : IsLookedUpTo w text c.args.from last (seen + w.stride) =
-    unmarked_further w text c.args.from last seen c.marks_behind_front-near.result c.marks_behind_front-near.ensures
-    (omega (arith, le_or_l c.marks_behind_front-near.result c.marks_behind_front-far.result, none)) c.strides.invariant.looked in
-    let far : IsLookedUpTo w text c.args.from last (seen + c.stride-stride.result + w.stride) =
-    unmarked_further w text c.args.from last (seen + c.stride-stride.result) c.marks_behind_front-far.result c.marks_behind_front-far.ensures
-    (omega (arith, le_or_r c.marks_behind_front-near.result c.marks_behind_front-far.result, none))
-    (subst (λ (s : ℕ). IsLookedUpTo w text c.args.from last (seen + s)) (sym stride) near) in
+    let none = c.if-not-are_unmarked.ensures refl in
+    let near : IsLookedUpTo w text c.args.from last (seen + w.stride) = unmarked_further w text c.args.from last seen 0 none.0 refl c.strides.invariant.looked in
+    let far : IsLookedUpTo w text c.args.from last (seen + w.stride + w.stride) = unmarked_further w text c.args.from last (seen + w.stride) 0 none.1 refl near in
     record {
       near = omega (arith, c.strides-test.true, c.strides.invariant.near);
       ahead = omega (arith, c.strides.invariant.ahead);
