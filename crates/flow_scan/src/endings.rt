@@ -5,7 +5,7 @@ ghost use Rattle.nib_mask.specs.Candidates.{CoversBy};
 ghost use Rattle.lane_filter.specs.Sieves.{Passes};
 ghost use Rattle.flow_scan.specs.NextEnds.{IsNextEnd, IsPassed, NoEndAfter};
 
-use crate::learning::{CANDIDATE_COST, MARK_COST, cost_of_looks};
+use crate::learning::{MARK_COST, cost_of_candidate, cost_of_looks};
 use crate::pace::{CROWD, LONGEST_DELAY, LOOKS, LOOKS_OF_MARK, SHORTEST_DELAY, WINDOW};
 use crate::strides::next_end_within_budget;
 use lane_filter::Candidates;
@@ -116,13 +116,14 @@ fn next_sieved(
     ensures crowd { IfErr result (λ crowd. IsPassed list.now text.now candidates.old.from crowd.last) }
     ensures further { IfErr result (λ crowd. candidates.old.from < crowd.last) }
 {
+    let price = price_of_candidate(list);
     let mut start = 0;
     let mut left = CROWD;
     while let Some(end) = candidates.next() {
         if let Some(first) = list.next_ending(text, end, 0) {
             return Ok(Some((end, first)));
         }
-        backoff.spend(CANDIDATE_COST);
+        backoff.spend(price);
         if left == 0 {
             let bytes = end.saturating_sub(start);
             if backoff.retry_at <= end && are_close(list, bytes) {
@@ -134,6 +135,14 @@ fn next_sieved(
         left -= 1;
     }
     Ok(None)
+}
+
+/// What a candidate at which nothing ends takes.
+fn price_of_candidate(list: &LitList) -> usize {
+    if list.is_empty() {
+        return 0;
+    }
+    cost_of_candidate(list.shortest())
 }
 
 /// Whether candidates at which nothing ends, `CROWD` of them in so many bytes, cost more than the

@@ -3,8 +3,23 @@
 /// A look at the marks before a place takes so many tenths of a nanosecond.
 const LOOK_COST: usize = 8;
 
-/// A candidate of the sieve at which nothing ends takes so many.
-pub(crate) const CANDIDATE_COST: usize = 50;
+/// A candidate of the sieve at which nothing ends takes so many, where the marks before it tell that.
+const CANDIDATE_COST: usize = 50;
+
+/// It takes so many where the list has literals of fewer bytes, by which marks tell little: checks of all widths follow.
+const UNTOLD_COST: usize = 150;
+
+/// Literals of so many bytes are told by their marks.
+const TOLD_LEN: usize = 4;
+
+/// What a candidate at which nothing ends takes, where the shortest literal has so many bytes.
+pub(crate) fn cost_of_candidate(shortest: usize) -> usize {
+    if shortest < TOLD_LEN {
+        UNTOLD_COST
+    } else {
+        CANDIDATE_COST
+    }
+}
 
 /// A mark at which nothing ends takes so many.
 pub(crate) const MARK_COST: usize = 250;
