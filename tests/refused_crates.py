@@ -44,8 +44,8 @@ LEFT_OUT = {
     "tests::runs_sixteen_workers_at_once",
     "tests::finds_what_eight_threads_published",
 }
-# Tests that may pass where all growths behind one are refused: a thread that is not to be had is done without, and the last
-# wants to find nothing at its end.
+# Tests that may pass where all growths behind one are refused: a thread that is not to be had is done without, and the first
+# and the last want to find nothing at their ends.
 MAY_PASS = {
     "tests::finds_the_worked_hits",
     "tests::finds_in_each_of_two_threads_what_the_other_published",
