@@ -40,17 +40,15 @@ crates/$(1)/out/proved: $$(call files_of,$(1)) $$(call marks_below,$(1))
 endef
 $(foreach library,$(LIBRARIES),$(eval $(call library_rule,$(library))))
 
-# A build ends with the program's stored run, whose output is compared. One that has files in data/ is built by a run
-# without arguments, which prints nothing, and then run beside them.
-run_beside_data = rt run --cpu=$(CPU) < /dev/null && cd data && ../out/$(@F) $$words
-
+# A build ends with the program's stored run, whose output is compared. The words of one that has a folder data/ are the
+# names of files there.
 define program_rule
 bin/$(1): $$(call files_of,$(1)) $$(call marks_below,$(1)) bin/.cpu
 	@echo "proving and building $(1) for $(CPU)"
 	@cd crates/$(1) && mkdir -p out && \
-	words=$$$$(cat args 2> /dev/null); \
-	if ($$(if $$(wildcard crates/$(1)/data),$$(run_beside_data),rt run --cpu=$(CPU) -- $$$$words)) \
-		< $$(if $$(wildcard crates/$(1)/stdin),stdin,/dev/null) > out/build.stdout 2> out/build.log; \
+	words=$$$$(sed 's|^|$$(if $$(wildcard crates/$(1)/data),data/)|' args 2> /dev/null); \
+	if rt run --cpu=$(CPU) -- $$$$words < $$(if $$(wildcard crates/$(1)/stdin),stdin,/dev/null) \
+		> out/build.stdout 2> out/build.log; \
 	then test ! -f stdout || cmp out/build.stdout stdout; else cat out/build.log >&2; exit 1; fi
 	@cp crates/$(1)/out/$(1) $$@
 endef

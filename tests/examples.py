@@ -1,5 +1,6 @@
 """The programs to copy from, as docs/LIBRARY.md has them: what they print, beside a plain search and a plain plan."""
 
+import itertools
 import os
 import random
 import subprocess
@@ -67,4 +68,14 @@ def checks():
         yield f"example_check of {text!r:.60}", got, (0, said)
 
 
-PARTS = (scans, checks)
+def usages():
+    """Words that ask for nothing."""
+    usage = {"example_scan": b"PATTERNS", "example_check": b"PATTERNS CERTIFICATE"}
+    for name, words in itertools.product(usage, ([], ["none"] * 3)):
+        program = os.path.join(TOP, "bin", name)
+        got = subprocess.run([program, *words], input=b"", capture_output=True, timeout=SECONDS)
+        wanted = b"Error: usage: %s %s\n" % (name.encode(), usage[name])
+        yield f"{name} {words}", (got.returncode, got.stdout, got.stderr), (1, b"", wanted)
+
+
+PARTS = (scans, checks, usages)

@@ -37,7 +37,7 @@ def help_of(program, command):
 def heads_of_help(program, command):
     """The options of a help text, each with its spellings and its argument."""
     heads = re.findall(r"^ +(-\S.*?)(?:  .*)?$", help_of(program, command), re.M)
-    return [re.sub(r"[<>]|\.\.\.", "", head) for head in heads]
+    return [re.sub("[<>]", "", head) for head in heads]
 
 
 def commands_of_help(program):

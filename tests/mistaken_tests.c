@@ -5,8 +5,8 @@
 #include <string.h>
 #include <unistd.h>
 
-static const char *tests[] = {"tells", "compares", "asks again", "loses a byte", "takes a fault for nothing",
-			      "ends by a signal", "is silent", "waits"};
+static const char *tests[] = {"tells", "compares", "answers none", "asks again", "loses a byte", "finds none",
+			      "takes a fault for nothing", "ends by a signal", "is silent", "waits"};
 
 static void say(const char *text)
 {
@@ -23,6 +23,10 @@ static void starve(const char *name)
 	}
 	if (!strcmp(name, "compares")) {
 		say("test stopped at src/tests.rt:1:1\nassertion `left == right` failed\n  left: Err(OutOfMemory)\n right: Ok(1)\n");
+		abort();
+	}
+	if (!strcmp(name, "answers none") || !strcmp(name, "finds none")) {
+		say("test stopped at src/tests.rt:1:1\nassertion `left == right` failed\n  left: None\n right: Some(1)\n");
 		abort();
 	}
 	if (!strcmp(name, "asks again") && malloc(8))

@@ -8,6 +8,7 @@ from typing import Callable, NamedTuple
 import plain_grep
 import plain_plan
 import plain_plan_file
+import plain_view
 import scan_plans
 import session_cases
 from sessions import Plan, conversation, feed, open_stream, publish, replies_of, requests_of
@@ -228,6 +229,16 @@ PLANS = [
     planned(["scan", "--count", "--workers", "1", "-", "t"], ["-", "t"], COUNT, FILES["w"]),
     planned(["scan", "--count", "--workers", "16", "-", "t"], ["-", "t"], COUNT, FILES["w"], has_threads=True),
 ]
+FILES["r"] = b"He\nshe\n\nhers\nHE\nhe\nshe\n"
+REPEATED = FILES["r"].split(b"\n")[:-1]
+MANY_DRAWN = plain_view.drawing_of(MANY.split(), False)
+EXPLAINED = [
+    planned(["explain", "r"], ["r"], plain_view.text_of(REPEATED, False)),
+    planned(["explain", "-i", "-"], ["-"], plain_view.text_of(REPEATED, True), FILES["r"]),
+    planned(["explain", "--svg", "-i", "r"], ["r"], plain_view.drawing_of(REPEATED, True)),
+    planned(["explain", "--svg", "-"], ["-"], MANY_DRAWN, MANY),
+    planned(["explain", "e"], ["e"], b"", status=2, messages=b"litplan: refused (5)\n"),
+]
 PACKS = [
     packed([], "w", WORDS, False),
     packed(["-i"], "-", plain_plan.literals_of(MANY.split(), True), True, MANY),
@@ -314,7 +325,7 @@ TOLD = [
     told("scand", ["--version"], b"scand 0.1.0\n"),
 ]
 
-RUNS = [*(search.run() for search in SEARCHES), *PLANS, *PACKS, *SESSIONS, *PREPLANNED, *TOLD]
+RUNS = [*(search.run() for search in SEARCHES), *PLANS, *EXPLAINED, *PACKS, *SESSIONS, *PREPLANNED, *TOLD]
 
 # Random runs.
 
@@ -334,10 +345,13 @@ def random_search(source):
 
 
 def random_plan(source):
-    """A plan of a random list, or a scan by it."""
+    """A plan of a random list, a table of it, or a scan by it."""
     patterns = random_text(source, b"abcd\n\n", 60) + b"ab"
     literals = plain_plan.literals_of(patterns.split(b"\n"), False)
-    if source.random() < 0.3:
+    command = source.random()
+    if command < 0.2:
+        return planned(["explain", "-"], ["-"], plain_view.text_of(patterns.split(b"\n"), False), patterns)
+    if command < 0.4:
         return planned(["plan", "-"], ["-"], plain_plan.spelled(plain_plan.plan_of(literals)), patterns)
     name, workers = source.choice(["f", "t", "w"]), source.randrange(1, 17)
     hits = scan_plans.plain_scan(literals, FILES[name], False)
@@ -355,7 +369,7 @@ def random_runs(source):
         yield source.choice([random_search, random_plan, random_session])(source)
 
 
-CAT, PLAN, SERVED = RUNS[0], PLANS[0], SESSIONS[0]
+CAT, PLAN, TABLE, SERVED = RUNS[0], PLANS[0], EXPLAINED[0], SESSIONS[0]
 
 
 def starved(run):
@@ -372,6 +386,9 @@ ROWS = [
     (CAT, "given-9", Ending(2, b"1:cat\n", b"litgrep: (standard input): cannot be read\n")),
     (PLAN, "room-12", Ending(2, b"litcert 1\nli", b"litplan: refused (18)\n")),
     (PLAN, "given-13", Ending(2, b"", b"litplan: -: cannot be used\n")),
+    (TABLE, "cut-3", Ending(0, plain_view.text_of(REPEATED, False))),
+    (TABLE, "room-12", Ending(2, b"bucket  lite", b"litplan: refused (18)\n")),
+    (TABLE, "given-22", Ending(2, b"", b"litplan: r: cannot be used\n")),
     (SERVED, "room-20", Ending(1, session_cases.THEIR_REPLIES[:20])),
     (SERVED, "given-22", Ending(1, session_cases.PUBLISHED_0)),
 ]

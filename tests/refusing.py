@@ -313,7 +313,7 @@ COLUMNS = {
 
 def group_of(run):
     """The program of a run, and what it is asked for."""
-    command = next((word for word in run.words[1:2] if word in ("plan", "check", "scan", "pack", "--stdio")), "")
+    command = next((word for word in run.words[1:2] if word in ("plan", "check", "pack", "explain", "scan", "--stdio")), "")
     return f"{os.path.basename(run.words[0])} {command}".strip()
 
 

@@ -34,6 +34,9 @@ SCANS = [
     ({"p": b"aa"}, words_of(16, "p", "-"), b"", b"", b"", 0),
     ({"p": b"Cat\n\nDOG\n"}, words_of(3, "-i", "p", "-"), b"cAt dog Cat", b"0 3\n1 7\n0 11\n", b"", 0),
     ({"p": b"Cat\n"}, words_of(3, "p", "-"), b"cat Cat", b"0 7\n", b"", 0),
+    # a flag that is given again
+    ({"p": b"Cat\n"}, words_of(3, "-i", "--count", "p", "-i", "--count", "-"), b"cat Cat", b"2\n", b"", 0),
+    ({"p": b"Cat\n"}, words_of(3, "-ii", "p", "--ignore-case", "-"), b"cat Cat", b"0 3\n0 7\n", b"", 0),
     ({"p": b"a\n"}, words_of(4, "p", "-"), MANY, MANY_FOUND, b"", 0),
     ({"p": b"a\n"}, words_of(4, "--count", "p", "-"), MANY, b"10000\n", b"", 0),
     # standard input is asked for anew, and is then at its end

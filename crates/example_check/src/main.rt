@@ -4,16 +4,16 @@
 
 mod judging;
 
-use anyhow::Result;
+use anyhow::{Result, bail};
 use judging::{least_cost, read};
 use std::env;
 
 fn main(rt: HostRuntime) -> Result<()> {
     let words: Vec<String> = env::args(&rt)?.skip(1).collect(rt.alloc())?;
-    if words.len() == 2 {
-        judge(&rt, &words[0], &words[1])?;
+    match words.as_slice() {
+        [patterns, certificate] => judge(&rt, patterns, certificate),
+        _ => bail!("usage: example_check PATTERNS CERTIFICATE"),
     }
-    Ok(())
 }
 
 /// Prints what the certificate in a file shows of the patterns in another one.

@@ -9,7 +9,7 @@ mod finding;
 mod planning;
 mod printing;
 
-use anyhow::Result;
+use anyhow::{Result, bail};
 use byte_io::{FromRead, ToWrite};
 use finding::find;
 use flow_scan::{Compiled, Scanner};
@@ -21,10 +21,11 @@ use std::{env, fs};
 const PIECE: usize = 65536;
 
 fn main(rt: HostRuntime) -> Result<()> {
-    for name in env::args(&rt)?.skip(1) {
-        run(&rt, &name)?;
+    let words: Vec<String> = env::args(&rt)?.skip(1).collect(rt.alloc())?;
+    match words.as_slice() {
+        [patterns] => run(&rt, patterns),
+        _ => bail!("usage: example_scan PATTERNS"),
     }
-    Ok(())
 }
 
 /// Finds the patterns of a file.

@@ -34,7 +34,7 @@ fn request_of(alloc: Global, matches: &ArgMatches<'_>) -> Result<Request, Fault>
         }),
         Some(("explain", found)) => Ok(Request::Explain {
             fold: fold_of(found),
-            svg: found.get_count("svg") > 0,
+            svg: found.get_flag("svg"),
             file: value(alloc, found, "file")?,
         }),
         Some(("scan", found)) => scan_of(alloc, found),
@@ -50,14 +50,14 @@ fn scan_of(alloc: Global, found: &ArgMatches<'_>) -> Result<Request, Fault> {
     Ok(Request::Scan(Scan {
         fold: fold_of(found),
         workers,
-        count: found.get_count("count") > 0,
+        count: found.get_flag("count"),
         file: value(alloc, found, "file")?,
         input: value(alloc, found, "input")?,
     }))
 }
 
 fn fold_of(matches: &ArgMatches<'_>) -> Fold {
-    if matches.get_count("fold") > 0 {
+    if matches.get_flag("fold") {
         Fold::Ascii
     } else {
         Fold::No
@@ -96,7 +96,7 @@ fn plan<'a>(alloc: Global) -> Result<Command<'a>, AllocError> {
         .about("Prints the certificate of the cheapest grouping of a file's patterns")
         .override_usage("litplan plan [-i] FILE")
         .after_help(PLAN_HELP)
-        .arg(fold(alloc))?
+        .arg(fold(alloc)?)?
         .arg(file(alloc))
 }
 
@@ -110,7 +110,7 @@ fn check<'a>(alloc: Global) -> Result<Command<'a>, AllocError> {
         .about("Says whether a certificate shows that no grouping of a file's patterns is cheaper")
         .override_usage("litplan check [-i] FILE CERT")
         .after_help(CHECK_HELP)
-        .arg(fold(alloc))?
+        .arg(fold(alloc)?)?
         .arg(file(alloc))?
         .arg(certificate)
 }
@@ -125,7 +125,7 @@ fn pack<'a>(alloc: Global) -> Result<Command<'a>, AllocError> {
         .about("Writes the plan of a file's patterns to a plan file")
         .override_usage("litplan pack [-i] FILE OUT")
         .after_help(PACK_HELP)
-        .arg(fold(alloc))?
+        .arg(fold(alloc)?)?
         .arg(file(alloc))?
         .arg(output)
 }
@@ -135,8 +135,8 @@ fn explain<'a>(alloc: Global) -> Result<Command<'a>, AllocError> {
         .about("Shows how a file's patterns are grouped, what that costs, and what was dropped")
         .override_usage("litplan explain [-i] [--svg] FILE")
         .after_help(EXPLAIN_HELP)
-        .arg(fold(alloc))?
-        .arg(svg(alloc))?
+        .arg(fold(alloc)?)?
+        .arg(svg(alloc)?)?
         .arg(file(alloc))
 }
 
@@ -150,25 +150,21 @@ fn scan<'a>(alloc: Global) -> Result<Command<'a>, AllocError> {
         .about("Finds a file's patterns in an input, by several workers at once")
         .override_usage("litplan scan [-i] [--count] --workers W FILE INPUT")
         .after_help(SCAN_HELP)
-        .arg(fold(alloc))?
-        .arg(count(alloc))?
+        .arg(fold(alloc)?)?
+        .arg(count(alloc)?)?
         .arg(workers(alloc))?
         .arg(file(alloc))?
         .arg(input)
 }
 
-fn count<'a>(alloc: Global) -> Arg<'a> {
-    Arg::new(alloc, "count")
-        .long("count")
-        .action(ArgAction::Count)
-        .help("Print only the number of hits")
+fn count<'a>(alloc: Global) -> Result<Arg<'a>, AllocError> {
+    let count = flag(alloc, "count")?.long("count");
+    Ok(count.help("Print only the number of hits"))
 }
 
-fn svg<'a>(alloc: Global) -> Arg<'a> {
-    Arg::new(alloc, "svg")
-        .long("svg")
-        .action(ArgAction::Count)
-        .help("Draw the plan, as an SVG file")
+fn svg<'a>(alloc: Global) -> Result<Arg<'a>, AllocError> {
+    let svg = flag(alloc, "svg")?.long("svg");
+    Ok(svg.help("Draw the plan, as an SVG file"))
 }
 
 fn workers<'a>(alloc: Global) -> Arg<'a> {
@@ -181,12 +177,15 @@ fn workers<'a>(alloc: Global) -> Arg<'a> {
         .help("How many workers share the input, 1 to 16")
 }
 
-fn fold<'a>(alloc: Global) -> Arg<'a> {
-    Arg::new(alloc, "fold")
-        .short('i')
-        .long("ignore-case")
-        .action(ArgAction::Count)
-        .help("Take A to Z for a to z, so that patterns that differ in case are one")
+fn fold<'a>(alloc: Global) -> Result<Arg<'a>, AllocError> {
+    let fold = flag(alloc, "fold")?.short('i').long("ignore-case");
+    Ok(fold.help("Take A to Z for a to z, so that patterns that differ in case are one"))
+}
+
+/// A flag, which may be given again.
+fn flag<'a>(alloc: Global, id: &'a str) -> Result<Arg<'a>, AllocError> {
+    let flag = Arg::new(alloc, id).action(ArgAction::SetTrue);
+    flag.overrides_with(id)
 }
 
 fn file<'a>(alloc: Global) -> Arg<'a> {
@@ -232,8 +231,8 @@ Example: the plan of a list, and a drawing of it
 const SCAN_HELP: &str = "\
 Prints a line `LIT END` for each place at which a pattern ends: its number in the list, from 0, by length and then by
 bytes, and how many bytes of INPUT there are up to its end. The lines stand by END, then by LIT, and are the same for
-each W. INPUT is held in memory, in a buffer that doubles: up to twice its size. A hit takes 16 bytes more. Status 0, or
-2 with a message.
+each W. INPUT is held in memory, in a buffer that doubles: up to twice its size. A hit takes 16 bytes more, with several
+workers up to 24. Status 0, or 2 with a message.
 
 Example: where the words of a list end in a log
   litplan scan --workers 4 words access.log";

@@ -37,17 +37,18 @@ struct Outcome {
     cause: Option<Cause>,
 }
 
-/// Why the front of the bytes is a bad frame.
-fn cause_of(alloc: Global, bytes: &[u8]) -> Option<Cause> {
+/// Why the front of the bytes is a bad frame, if it is one.
+fn cause_of(alloc: Global, bytes: &[u8]) -> Result<Option<Cause>, AllocError> {
     match next(alloc, bytes) {
-        Err(Fault::BadFrame { cause }) => Some(cause),
-        _ => None,
+        Err(Fault::BadFrame { cause }) => Ok(Some(cause)),
+        Err(Fault::OutOfMemory) => Err(AllocError),
+        Ok(_) => Ok(None),
     }
 }
 
 /// Whether the front of the bytes is no whole frame, and none that is bad.
-fn waits(alloc: Global, bytes: &[u8]) -> bool {
-    matches!(next(alloc, bytes), Ok(None))
+fn waits(alloc: Global, bytes: &[u8]) -> Result<bool, Fault> {
+    Ok(next(alloc, bytes)?.is_none())
 }
 
 /// Feeds a piece, and says of a fault which it was.
@@ -102,20 +103,20 @@ fn empty_literals(alloc: Global, count: u16) -> Result<Vec<u8>, AllocError> {
 }
 
 /// Whether the front of the bytes is the Publish of `cat`.
-fn publishes_cat(alloc: Global, bytes: &[u8]) -> Option<bool> {
-    match next(alloc, bytes).ok()? {
-        Some((Lent::Publish { fold, literals }, 17)) => Some(
+fn publishes_cat(alloc: Global, bytes: &[u8]) -> Result<bool, Fault> {
+    match next(alloc, bytes)? {
+        Some((Lent::Publish { fold, literals }, 17)) => Ok(
             fold == Fold::No && literals.len() == 1 && literals[0].as_slice() == b"cat".as_slice(),
         ),
-        _ => Some(false),
+        _ => Ok(false),
     }
 }
 
-/// The piece of the Feed of stream 7 at the front.
-fn fed(alloc: Global, bytes: &[u8]) -> Option<&[u8]> {
-    match next(alloc, bytes) {
-        Ok(Some((Lent::Feed { stream: 7, bytes }, _))) => Some(bytes),
-        _ => None,
+/// The piece of the Feed of stream 7 at the front, if it is one.
+fn fed(alloc: Global, bytes: &[u8]) -> Result<Option<&[u8]>, Fault> {
+    match next(alloc, bytes)? {
+        Some((Lent::Feed { stream: 7, bytes }, _)) => Ok(Some(bytes)),
+        _ => Ok(None),
     }
 }
 
@@ -139,99 +140,105 @@ fn fields_of(request: &Lent<'_>) -> (u8, u32, u64) {
     }
 }
 
-/// Those of the request at the front, and how many bytes its frame has.
-fn read(alloc: Global, bytes: &[u8]) -> Option<((u8, u32, u64), usize)> {
-    match next(alloc, bytes) {
-        Ok(Some((request, len))) => Some((fields_of(&request), len)),
-        _ => None,
+/// Those of the request at the front, if it is whole, and how many bytes its frame has.
+fn read(alloc: Global, bytes: &[u8]) -> Result<Option<((u8, u32, u64), usize)>, Fault> {
+    match next(alloc, bytes)? {
+        Some((request, len)) => Ok(Some((fields_of(&request), len))),
+        None => Ok(None),
     }
 }
 
 #[test]
-fn reads_a_publish_and_a_feed(rt: HostRuntime) {
+fn reads_a_publish_and_a_feed(rt: HostRuntime) -> Result<(), Fail> {
     let alloc = rt.alloc();
-    assert_eq!(rt; publishes_cat(alloc, &FRAMES), Some(true));
-    assert_eq!(rt; fed(alloc, &FEED), Some(b"concat".as_slice()));
+    assert!(rt; publishes_cat(alloc, &FRAMES)?);
+    assert_eq!(rt; fed(alloc, &FEED)?, Some(b"concat".as_slice()));
+    Ok(())
 }
 
 #[test]
-fn reads_each_kind(rt: HostRuntime) {
+fn reads_each_kind(rt: HostRuntime) -> Result<(), Fail> {
     let alloc = rt.alloc();
-    assert_eq!(rt; read(alloc, &FRAMES), Some(((1, 0, 1), 17)));
-    assert_eq!(rt; read(alloc, &FRAMES[17..]), Some(((2, 7, 0), 17)));
-    assert_eq!(rt; read(alloc, &FEED), Some(((3, 7, 6), 15)));
-    assert_eq!(rt; read(alloc, &CLOSE), Some(((4, 7, 0), 9)));
-    assert_eq!(rt; read(alloc, &SHOW_PLAN), Some(((5, 7, 0), 9)));
+    assert_eq!(rt; read(alloc, &FRAMES)?, Some(((1, 0, 1), 17)));
+    assert_eq!(rt; read(alloc, &FRAMES[17..])?, Some(((2, 7, 0), 17)));
+    assert_eq!(rt; read(alloc, &FEED)?, Some(((3, 7, 6), 15)));
+    assert_eq!(rt; read(alloc, &CLOSE)?, Some(((4, 7, 0), 9)));
+    assert_eq!(rt; read(alloc, &SHOW_PLAN)?, Some(((5, 7, 0), 9)));
+    Ok(())
 }
 
 #[test]
-fn tells_a_bad_length_at_once(rt: HostRuntime) {
+fn tells_a_bad_length_at_once(rt: HostRuntime) -> Result<(), Fail> {
     let alloc = rt.alloc();
-    assert_eq!(rt; cause_of(alloc, &[0, 0, 0, 4]), Some(Cause::Length));
-    assert_eq!(rt; cause_of(alloc, &[0, 1, 0, 6]), Some(Cause::Length));
-    assert!(rt; waits(alloc, &[0, 1, 0, 5]));
-    assert!(rt; waits(alloc, &[0, 0, 0]));
+    assert_eq!(rt; cause_of(alloc, &[0, 0, 0, 4])?, Some(Cause::Length));
+    assert_eq!(rt; cause_of(alloc, &[0, 1, 0, 6])?, Some(Cause::Length));
+    assert!(rt; waits(alloc, &[0, 1, 0, 5])?);
+    assert!(rt; waits(alloc, &[0, 0, 0])?);
+    Ok(())
 }
 
 #[test]
-fn tells_other_causes_of_whole_frames(rt: HostRuntime) {
+fn tells_other_causes_of_whole_frames(rt: HostRuntime) -> Result<(), Fail> {
     let alloc = rt.alloc();
     assert_eq!(rt;
-        cause_of(alloc, &[0, 0, 0, 5, 0, 0, 0, 0, 7]),
+        cause_of(alloc, &[0, 0, 0, 5, 0, 0, 0, 0, 7])?,
         Some(Cause::Kind)
     );
     assert_eq!(rt;
-        cause_of(alloc, &[0, 0, 0, 5, 6, 0, 0, 0, 7]),
+        cause_of(alloc, &[0, 0, 0, 5, 6, 0, 0, 0, 7])?,
         Some(Cause::Kind)
     );
-    assert!(rt; waits(alloc, &[0, 0, 0, 5, 6, 0, 0, 0]));
+    assert!(rt; waits(alloc, &[0, 0, 0, 5, 6, 0, 0, 0])?);
     // The stream is told before the payload, which is wrong here too.
     assert_eq!(rt;
-        cause_of(alloc, &[0, 0, 0, 6, 1, 0, 0, 0, 1, 2]),
+        cause_of(alloc, &[0, 0, 0, 6, 1, 0, 0, 0, 1, 2])?,
         Some(Cause::Stream)
     );
+    Ok(())
 }
 
 #[test]
-fn tells_wrong_payloads_of_a_publish(rt: HostRuntime) {
+fn tells_wrong_payloads_of_a_publish(rt: HostRuntime) -> Result<(), Fail> {
     let alloc = rt.alloc();
     // No flags, unknown flags, no count, a cut literal, a rest.
     assert_eq!(rt;
-        cause_of(alloc, &[0, 0, 0, 5, 1, 0, 0, 0, 0]),
+        cause_of(alloc, &[0, 0, 0, 5, 1, 0, 0, 0, 0])?,
         Some(Cause::Payload)
     );
     assert_eq!(rt;
-        cause_of(alloc, &[0, 0, 0, 8, 1, 0, 0, 0, 0, 2, 0, 0]),
+        cause_of(alloc, &[0, 0, 0, 8, 1, 0, 0, 0, 0, 2, 0, 0])?,
         Some(Cause::Payload)
     );
     assert_eq!(rt;
-        cause_of(alloc, &[0, 0, 0, 7, 1, 0, 0, 0, 0, 0, 0]),
+        cause_of(alloc, &[0, 0, 0, 7, 1, 0, 0, 0, 0, 0, 0])?,
         Some(Cause::Payload)
     );
     assert_eq!(rt;
-        cause_of(alloc, &[0, 0, 0, 10, 1, 0, 0, 0, 0, 0, 0, 1, 0, 1]),
+        cause_of(alloc, &[0, 0, 0, 10, 1, 0, 0, 0, 0, 0, 0, 1, 0, 1])?,
         Some(Cause::Payload)
     );
     assert_eq!(rt;
-        cause_of(alloc, &[0, 0, 0, 9, 1, 0, 0, 0, 0, 0, 0, 0, 9]),
+        cause_of(alloc, &[0, 0, 0, 9, 1, 0, 0, 0, 0, 0, 0, 0, 9])?,
         Some(Cause::Payload)
     );
+    Ok(())
 }
 
 #[test]
-fn tells_other_wrong_payloads(rt: HostRuntime) {
+fn tells_other_wrong_payloads(rt: HostRuntime) -> Result<(), Fail> {
     let alloc = rt.alloc();
     // A number of seven bytes; something where nothing is wanted.
     let seven = [0, 0, 0, 12, 2, 0, 0, 0, 7, 0, 0, 0, 0, 0, 0, 0];
-    assert_eq!(rt; cause_of(alloc, &seven), Some(Cause::Payload));
+    assert_eq!(rt; cause_of(alloc, &seven)?, Some(Cause::Payload));
     assert_eq!(rt;
-        cause_of(alloc, &[0, 0, 0, 6, 4, 0, 0, 0, 7, 0]),
+        cause_of(alloc, &[0, 0, 0, 6, 4, 0, 0, 0, 7, 0])?,
         Some(Cause::Payload)
     );
     assert_eq!(rt;
-        cause_of(alloc, &[0, 0, 0, 6, 5, 0, 0, 0, 7, 0]),
+        cause_of(alloc, &[0, 0, 0, 6, 5, 0, 0, 0, 7, 0])?,
         Some(Cause::Payload)
     );
+    Ok(())
 }
 
 #[test]
@@ -284,17 +291,20 @@ fn tells_a_bad_frame_for_good(rt: HostRuntime) -> Result<(), Fail> {
     Ok(())
 }
 
-/// How many literals are read of the Publish of so many empty ones.
-fn count_read(alloc: Global, count: u16) -> Option<u64> {
-    let frame = empty_literals(alloc, count).ok()?;
-    let ((_, _, literals), _) = read(alloc, &frame)?;
-    Some(literals)
+/// How many literals are read of the Publish of so many empty ones, if it is whole.
+fn count_read(alloc: Global, count: u16) -> Result<Option<u64>, Fail> {
+    let frame = empty_literals(alloc, count)?;
+    match read(alloc, &frame)? {
+        Some(((_, _, literals), _)) => Ok(Some(literals)),
+        None => Ok(None),
+    }
 }
 
 #[test]
-fn reads_many_literals(rt: HostRuntime) {
-    assert_eq!(rt; count_read(rt.alloc(), 0), Some(0));
-    assert_eq!(rt; count_read(rt.alloc(), 4097), Some(4097));
+fn reads_many_literals(rt: HostRuntime) -> Result<(), Fail> {
+    assert_eq!(rt; count_read(rt.alloc(), 0)?, Some(0));
+    assert_eq!(rt; count_read(rt.alloc(), 4097)?, Some(4097));
+    Ok(())
 }
 
 #[test]

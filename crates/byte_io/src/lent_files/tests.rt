@@ -13,7 +13,7 @@ fn gives_what_stands_under_a_name_in_order(rt: HostRuntime) -> Result<(), Fail> 
         Vec::new(rt.alloc()),
     );
     assert!(rt; files.open_named("g").is_err());
-    assert!(rt; is_read(rt.alloc(), files.open_named("f"), b"one"));
+    assert!(rt; is_read(rt.alloc(), files.open_named("f"), b"one")?);
     assert!(rt; files.open_named("f").is_err());
     assert_eq!(rt;
         read(rt.alloc(), &mut files.standard_input()),
@@ -38,15 +38,17 @@ fn makes_files_in_lent_bytes(rt: HostRuntime) -> Result<(), Fail> {
 }
 
 /// Whether the file is there and holds these bytes.
-fn is_read(alloc: Global, opened: Result<CutIn<'_>, Missing>, bytes: &[u8]) -> bool {
-    match opened {
-        Ok(mut input) => {
-            let mut text = Vec::new(alloc);
-            let end = read_to_end(&mut input, 100, &mut text);
-            end.is_ok() && text.as_slice() == bytes
-        }
-        Err(_) => false,
-    }
+fn is_read(
+    alloc: Global,
+    opened: Result<CutIn<'_>, Missing>,
+    bytes: &[u8],
+) -> Result<bool, ReadError> {
+    let Ok(mut input) = opened else {
+        return Ok(false);
+    };
+    let mut text = Vec::new(alloc);
+    read_to_end(&mut input, 100, &mut text)?;
+    Ok(text.as_slice() == bytes)
 }
 
 /// How many bytes come to the end of the input.

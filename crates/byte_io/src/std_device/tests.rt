@@ -108,7 +108,7 @@ fn reads_and_writes_bytes_in_memory(rt: HostRuntime) -> Result<(), Fail> {
         9,
         &mut text,
     )?;
-    let mut out = ToWrite::new(Vec::new(rt.alloc()));
+    let mut out = ToWrite::new(Vec::with_capacity(rt.alloc(), text.len())?);
     write_all(&mut out, text.as_slice())?;
     write_all(&mut out, b"")?;
     assert_eq!(rt; out.into_inner().as_slice(), b"abcdef".as_slice());
@@ -131,7 +131,7 @@ fn fails_where_the_count_of_bytes_could_overflow(rt: HostRuntime) -> Result<(), 
 #[test]
 fn reads_and_writes_64_mebibytes(rt: HostRuntime) -> Result<(), Fail> {
     let text = vec![in rt.alloc(); b'x'; mebibytes(64)]?;
-    let mut out = ToWrite::new(Vec::new(rt.alloc()));
+    let mut out = ToWrite::new(Vec::with_capacity(rt.alloc(), text.len())?);
     write_all(&mut out, text.as_slice())?;
     let written = out.into_inner();
     assert_eq!(rt; written.len(), text.len());

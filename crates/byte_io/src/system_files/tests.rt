@@ -1,7 +1,7 @@
 //! Files of the system: what is there opens, what is not is missing, and what is made holds what it was
 //! given.
 use super::*;
-use crate::transfer::{read_to_end, write_all};
+use crate::transfer::{ReadError, read_to_end, write_all};
 use std::path::PathBuf;
 use std::test::Fail;
 
@@ -16,7 +16,7 @@ fn makes_a_file_and_opens_it(rt: HostRuntime) -> Result<(), Fail> {
     fs::remove_file(&rt, name)?;
     let mut text = Vec::new(rt.alloc());
     let mut file = opened.map_err(|_| "it is there")?;
-    assert!(rt; read_to_end(&mut file, 100, &mut text).is_ok());
+    read_to_end(&mut file, 100, &mut text)?;
     assert_eq!(rt; text.as_slice(), b"two\nlines".as_slice());
     Ok(())
 }
@@ -30,7 +30,10 @@ fn tells_what_is_missing(rt: HostRuntime) -> Result<(), Fail> {
     // A directory opens, and its reading fails.
     let mut text = Vec::new(rt.alloc());
     let mut folder = files.open_named("/").map_err(|_| "a folder opens")?;
-    assert!(rt; read_to_end(&mut folder, 100, &mut text).is_err());
+    assert_eq!(rt;
+        read_to_end(&mut folder, 100, &mut text),
+        Err(ReadError::Failed)
+    );
     Ok(())
 }
 
