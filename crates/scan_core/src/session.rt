@@ -236,7 +236,8 @@ impl<'s> Session<'s> {
 
     /// Feeds a front of a piece to its stream, so that who answers a Feed need not hold all of its
     /// hits: up to the first end by which `out` gained at least `most` of them, or the whole piece. The
-    /// answer is how many bytes were fed. The only fault is `OutOfMemory`.
+    /// answer is how many bytes were fed. The only fault is `OutOfMemory`: session and `out` are then as
+    /// they were.
     pub fn feed_front(
         &mut self,
         stream: u32,
@@ -246,6 +247,8 @@ impl<'s> Session<'s> {
     ) -> Result<usize, Fault>
         requires { refusal_of by_tails (parts_of self.old) (Feed stream piece.now) ≡ None }
         ensures ok { IfOk result (λ count. FeedsFront self.old stream piece.now most count out.old.items out.new.items self.new) }
+        ensures same { OnErr result (self.new ≡ self.old) }
+        ensures same_hits { OnErr result (out.new.items ≡ out.old.items) }
         ensures fault { IsOkUnless result OutOfMemory }
     {
         let Some(place) = find_stream(&self.streams, stream) else {
