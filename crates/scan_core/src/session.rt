@@ -16,7 +16,7 @@ use crate::limits::MAX_STREAMS;
 use crate::publishing::planned;
 use crate::refusal::{Refusal, refusal_of_literals};
 use crate::stream::{Stream, find_stream};
-use crate::tickets::{agrees_with_told, find_told};
+use crate::tickets::{agrees_with, known_ticket};
 use flow_scan::Hit;
 use lit_base::Fold;
 use plan_store::{PlanStore, Ticket};
@@ -153,7 +153,7 @@ impl<'s> Session<'s> {
             return Err(Fault::OutOfMemory);
         };
         let number = self.store.number(&ticket);
-        agrees_with_told(self.store, &self.told, &ticket);
+        agrees_with(&ticket, self);
         self.told.push(ticket);
         Ok(Reply::Published { number })
     }
@@ -174,21 +174,21 @@ impl<'s> Session<'s> {
         let Some(ticket) = self.ticket_of(number) else {
             return Ok(Refusal::NoSuchPlan.reply(stream));
         };
-        agrees_with_told(self.store, &self.told, &ticket);
+        agrees_with(&ticket, self);
         self.streams
             .push(Stream::open(alloc, self.store, stream, ticket)?);
         Ok(Reply::Opened { stream })
     }
 
-    /// A ticket of a number: one that this session was told, or else one of another session.
+    /// A ticket of a number: one of this session, or else one of another session.
     fn ticket_of(&self, number: u64) -> Option<Ticket>
         ensures here { IfSome result (λ ticket. IsOf self.now.store ticket) }
         ensures number { IfSome result (λ ticket. ticket.number ≡ number) }
-        ensures stranger { IfNone result (¬ Contains (map (λ ticket. ticket.number) self.now.told) number) }
+        ensures stranger { IfNone result (¬ Contains (map (λ ticket. ticket.number) (tickets_of self.now)) number) }
     {
-        let told = find_told(self.store, &self.told, number);
-        if told.is_some() {
-            return told;
+        let known = known_ticket(self, number);
+        if known.is_some() {
+            return known;
         }
         self.store.find(number)
     }
