@@ -158,8 +158,8 @@ impl<'s> Session<'s> {
         Ok(Reply::Published { number })
     }
 
-    /// The reply to an Open, which binds the stream to the plan of the number. The only fault is
-    /// `OutOfMemory`.
+    /// The reply to an Open, which binds the stream to the plan of the number. A number that this session
+    /// was told, or has a stream open by, is found. The only fault is `OutOfMemory`.
     pub fn open(&mut self, alloc: Global, stream: u32, number: u64) -> Result<Reply, Fault>
         ensures ok { IfOk result (λ reply. IsEvent self.old (Open stream number) (reply_parts reply ∷ []) self.new) }
         ensures same { OnErr result (self.new ≡ self.old) }
