@@ -29,12 +29,16 @@ abbrev pub is_write_fault : {T : Type 0} → Result T Stop → Bool
 is_write_fault (Ok _) = false
 is_write_fault (Err stop) = is_write stop
 
--- a call stopped at a refusal
+-- the stop is a refusal
+abbrev pub is_refusal : Stop → Bool
+is_refusal (Refused refusal) = true
+is_refusal WriteFault = false
+is_refusal OutOfMemory = false
+
+-- a call stopped at one
 abbrev pub is_refused : {T : Type 0} → Result T Stop → Bool
 is_refused (Ok _) = false
-is_refused (Err (Refused refusal)) = true
-is_refused (Err WriteFault) = false
-is_refused (Err OutOfMemory) = false
+is_refused (Err stop) = is_refusal stop
 
 -- what is said of a stop: its message, or that there was no memory for it
 abbrev pub SaysStop : Stop → Bool → Option (List ℕ) → Option (List ℕ) → Type 0

@@ -18,7 +18,7 @@ mod telling;
 mod workers;
 
 pub use message::say;
-pub use packing::{pack, pack_into};
+pub use packing::{Unmade, pack, pack_into};
 pub use request::{Request, Scan};
 pub use running::{answer, run};
 pub use status::Status;

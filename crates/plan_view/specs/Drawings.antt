@@ -21,10 +21,10 @@ across n p = p * 640 / n
 abbrev pub height : ℕ → ℕ → ℕ
 height cost highest = cost * 200 / highest
 
--- the highest cost of the runs from place p on, or this one
-abbrev pub highest_from : List ℕ → ℕ → ℕ → List ℕ → ℕ
-highest_from ls least p [] = least
-highest_from ls least p (q ∷ more) = highest_from ls (max least (run_cost ls p q)) q more
+-- the highest of this cost and those of the runs from place p on
+abbrev pub highest_cost : List ℕ → ℕ → ℕ → List ℕ → ℕ
+highest_cost ls least p [] = least
+highest_cost ls least p (q ∷ more) = highest_cost ls (max least (run_cost ls p q)) q more
 
 -- what a bucket is told by where a pointer rests on it
 unfoldable pub numbers_told : Literals → List ℕ → ℕ → ℕ → ℕ → List ℕ
@@ -48,18 +48,18 @@ number_at x y number =
     said (codes "<text x=\"") (40 + x) ++ (said (codes "\" y=\"") y ++ (said (codes "\">") number ++ codes "</text>\n"))
 
 -- the cost above a bar and the shortest length below it, where it is wide enough for them
-unfoldable pub marks : ℕ → ℕ → ℕ → ℕ → ℕ → List ℕ
-marks x width high cost shortest =
+unfoldable pub bar_numbers : ℕ → ℕ → ℕ → ℕ → ℕ → List ℕ
+bar_numbers x width high cost shortest =
     if nat_lt width 48 then [] else number_at (x + 3) (255 - high) cost ++ number_at (x + 3) 275 shortest
 
--- a bucket: what is told of it, its bar, and its marks
+-- a bucket: what is told of it, its bar, and the numbers by it
 unfoldable pub drawn : Literals → List ℕ → ℕ → ℕ → ℕ → ℕ → List ℕ
 drawn l ends highest b p q =
     let n = length l.texts in
     let cost = run_cost (lengths l) p q in
     let width = across n q - across n p in
     codes "<g>" ++ (title l ends b p q ++ (bar (across n p) width (height cost highest)
-    ++ (marks (across n p) width (height cost highest) cost (slice_index (lengths l) p) ++ codes "</g>\n")))
+    ++ (bar_numbers (across n p) width (height cost highest) cost (slice_index (lengths l) p) ++ codes "</g>\n")))
 
 -- the buckets from b on, which begin at place p and have these ends
 abbrev pub drawn_from : Literals → List ℕ → ℕ → ℕ → ℕ → List ℕ → List ℕ
@@ -83,4 +83,4 @@ foot = codes "<path d=\"M40 260H680\"/>\n<text x=\"40\" y=\"300\">literals by le
 -- the plan of a list that is cut at these ends
 unfoldable pub plan_svg : Literals → List ℕ → List ℕ
 plan_svg l ends =
-    head ++ (caption l ends ++ (drawn_from l ends (highest_from (lengths l) 1 0 ends) 0 0 ends ++ foot))
+    head ++ (caption l ends ++ (drawn_from l ends (highest_cost (lengths l) 1 0 ends) 0 0 ends ++ foot))

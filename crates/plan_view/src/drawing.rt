@@ -2,7 +2,7 @@
 ghost use Rattle.std.specs.Prelude.{◌≡◌, ◌+◌, ◌^◌, ◌<◌, ◌≤◌, ◌++◌, OnOk, IfOk, flat_map, length};
 ghost use Rattle.lit_base.specs.Cuts.{CutsFrom, IsCut};
 ghost use Rattle.lit_base.specs.Literals.{lengths};
-ghost use Rattle.plan_view.specs.Drawings.{across, bar, caption, drawn, drawn_from, height, highest_from, marks, number_at, numbers_told, plan_svg, said, title, xml_byte};
+ghost use Rattle.plan_view.specs.Drawings.{across, bar, bar_numbers, caption, drawn, drawn_from, height, highest_cost, number_at, numbers_told, plan_svg, said, title, xml_byte};
 
 use crate::rows::{percent, push_span, run_cost};
 use crate::sums::{eighths, push_number, single};
@@ -25,7 +25,7 @@ pub fn plan_svg(alloc: Global, list: &LitList, ends: &Ends) -> Result<Vec<u8>, A
 {
     let masks = Masks::of(list, ends);
     let view = View::new(list, ends, &masks);
-    let highest = highest_from(list, 1, 0, ends.as_slice());
+    let highest = highest_cost(list, 1, 0, ends.as_slice());
     let mut text = Vec::from_slice(alloc, HEAD)?;
     push_caption(view, &mut text)?;
     push_buckets(view, highest, 0, 0, ends.as_slice(), &mut text)?;
@@ -44,18 +44,18 @@ fn push_caption(view: View<'_>, text: &mut Vec<u8>) -> Result<(), AllocError>
     Ok(())
 }
 
-/// The highest cost of the runs from place `start` on, or this one where none is higher.
-fn highest_from(list: &LitList, least: u64, start: usize, ends: &[u16]) -> u64
+/// The highest of this cost and those of the runs from place `start` on.
+fn highest_cost(list: &LitList, least: u64, start: usize, ends: &[u16]) -> u64
     requires cuts { CutsFrom (length list.now.texts) start ends.now }
     requires least { 0 < least }
-    ensures value { result ≡ highest_from (lengths list.now) least start ends.now }
+    ensures value { result ≡ highest_cost (lengths list.now) least start ends.now }
     ensures positive { 0 < result }
 {
     match ends {
         [] => least,
         [end, rest @ ..] => {
             let end = usize::from(*end);
-            highest_from(list, least.max(run_cost(list, start, end)), end, rest)
+            highest_cost(list, least.max(run_cost(list, start, end)), end, rest)
         }
     }
 }
@@ -108,7 +108,7 @@ fn push_bucket(
     text.extend_from_slice(b"<g>")?;
     push_title(view, bucket, start, end, text)?;
     push_bar(x, width, high, text)?;
-    push_marks(
+    push_bar_numbers(
         x,
         width,
         high,
@@ -199,8 +199,8 @@ fn push_bar(x: u64, width: u64, high: u64, text: &mut Vec<u8>) -> Result<(), All
 }
 
 /// Appends the cost above a bar and the shortest length below it, where it is wide enough.
-#[tactic(auto, unfolding(crate::specs::Drawings::marks))]
-fn push_marks(
+#[tactic(auto, unfolding(crate::specs::Drawings::bar_numbers))]
+fn push_bar_numbers(
     x: u64,
     width: u64,
     high: u64,
@@ -209,7 +209,7 @@ fn push_marks(
     text: &mut Vec<u8>,
 ) -> Result<(), AllocError>
     requires { x < 2 ^ 32 }
-    ensures { OnOk result (text.new.items ≡ text.old.items ++ marks x width high cost shortest) }
+    ensures { OnOk result (text.new.items ≡ text.old.items ++ bar_numbers x width high cost shortest) }
 {
     if width < 48 {
         return Ok(());

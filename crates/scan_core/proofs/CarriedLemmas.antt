@@ -17,7 +17,7 @@ use Rattle.scan_core.specs.declared.refusal.Refusal.TheVariants.{StreamInUse, St
 use Rattle.scan_core.specs.Carried.{AreCarried, EventLaw, IsCarried, IsEventOf, IsSeen}
 use Rattle.scan_core.specs.Refusals.{publish_refusal}
 use Rattle.scan_core.specs.Sessions.{Bound, by_tails}
-use Rattle.scan_core.specs.Steps.{AgreeWith, Entry, IsAccepted, Outcome, SessionParts, closed, moved, refusal_of, refused, shown, stream_at, stream_refusal}
+use Rattle.scan_core.specs.Steps.{AgreeWith, Entry, IsAccepted, Outcome, SessionParts, closed, known_entries, moved, refusal_of, refused, shown, stream_at, stream_refusal}
 use Rattle.scan_core.specs.Worlds.{AreHitsPast, Streamed, by_bytes}
 
 -- Literals in normal form are no longer than the carry and one byte.
@@ -137,9 +137,24 @@ hits_past l tail bytes piece place hits bounds last reached added =
       );
     }
 
--- the session was told the same
-agreed_seen : (tails : SessionParts Bound) (bytes : SessionParts Streamed) (entry : Entry) → IsSeen tails bytes → AgreeWith tails.told entry → AgreeWith bytes.told entry
-agreed_seen tails bytes entry seen agreed = subst (λ (told : List Entry). AgreeWith told entry) (sym seen.told) agreed
+-- the open streams were opened by the same entries
+same_openings : (bs : List (ℕ × Bound)) (ss : List (ℕ × Streamed)) → AreCarried bs ss → map (λ (s : ℕ × Streamed). by_bytes.opened_by s.1) ss ≡ map (λ (b : ℕ × Bound). by_tails.opened_by b.1) bs
+same_openings [] [] c = refl
+same_openings [] (s ∷ ss) c = absurd c
+same_openings (b ∷ bs) [] c = absurd c
+same_openings (b ∷ bs) (s ∷ ss) c =
+    let first = c.1.opened_by in
+    let rest = same_openings bs ss c.2 in
+    λ i. first i ∷ rest i
+
+-- the session knows the same
+same_known : (tails : SessionParts Bound) (bytes : SessionParts Streamed) → IsSeen tails bytes → known_entries by_bytes bytes ≡ known_entries by_tails tails
+same_known tails bytes seen =
+    let openings = same_openings tails.streams bytes.streams seen.streams in
+    λ i. seen.told i ++ openings i
+
+agreed_seen : (tails : SessionParts Bound) (bytes : SessionParts Streamed) (entry : Entry) → IsSeen tails bytes → AgreeWith (known_entries by_tails tails) entry → AgreeWith (known_entries by_bytes bytes) entry
+agreed_seen tails bytes entry seen agreed = subst (λ (known : List Entry). AgreeWith known entry) (sym (same_known tails bytes seen)) agreed
 
 -- the same replies and the same entry met
 abbrev Follows : SessionParts Streamed → RequestParts → Outcome Bound → Type 0
@@ -153,9 +168,10 @@ follows tails bytes (Publish folding literals) outcome seen a = subst (Follows b
 )
 follows tails bytes (Open stream number) outcome seen a = elim a [
   | inl o ↦
-      let state : Streamed = record { plan = o.entry.plan; bytes = [] } in
+      let state : Streamed = record { number = o.entry.number; plan = o.entry.plan; bytes = [] } in
       let scan = o.begins.1 in
       let here : IsCarried o.state state = record {
+        opened_by = sym o.begins.0;
         plan = ap (λ (s : _). s.plan) (sym scan);
         bounds = subst (λ (p : plans.Plan). HasBounds p.literals) (ap (λ (s : _). s.plan) (sym scan)) (bounds_of_normal o.entry.plan.literals o.sound.normal);
         place = ap (λ (s : _). s.place) scan;
@@ -169,7 +185,7 @@ follows tails bytes (Open stream number) outcome seen a = elim a [
   | inr o ↦ subst (Follows bytes (Open stream number)) (sym o.is) (
     bytes,
     seen,
-    inr record { stranger = subst (λ (told : List Entry). ¬ Contains (map (λ (e : Entry). e.number) told) number) (sym seen.told) o.stranger; is = refl },
+    inr record { stranger = subst (λ (known : List Entry). ¬ Contains (map (λ (e : Entry). e.number) known) number) (sym (same_known tails bytes seen)) o.stranger; is = refl },
   )
 ]
 follows tails bytes (Feed stream piece) outcome seen a =
@@ -185,6 +201,7 @@ follows tails bytes (Feed stream piece) outcome seen a =
     let moves : AreHitsPast state.plan.literals (state.bytes ++ piece) (length state.bytes) feeds.hits =
     subst (λ (p : plans.Plan). AreHitsPast p.literals (state.bytes ++ piece) (length state.bytes) feeds.hits) (sym carried.plan) hits in
     let after : IsCarried (record old { scan = record old.scan { place = old.scan.place + length piece; tail = tail_after l old.scan.tail piece } }) next = record {
+      opened_by = carried.opened_by;
       plan = carried.plan;
       bounds = carried.bounds;
       place = omega (arith, carried.place, length-append state.bytes piece);

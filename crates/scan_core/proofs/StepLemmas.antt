@@ -21,9 +21,25 @@ use Rattle.scan_core.specs.Blocks.{AreBlocks}
 use Rattle.scan_core.specs.Publishing.{IsPlanFor}
 use Rattle.scan_core.specs.Refusals.{crowd_refusal, earlier, publish_refusal, raw_refusal}
 use Rattle.scan_core.specs.Sessions.{Bound, IsEvent, Serving, by_tails, entry_of, parts_of}
-use Rattle.scan_core.specs.Steps.{AgreeWith, Entry, IsAccepted, IsSound, IsStep, Outcome, Reading, SessionParts, closed, fed_replies, moved, opened, plan_reply, published, refusal_of, refused, refused_reply, shown, stream_at, stream_of, stream_refusal}
+use Rattle.scan_core.specs.Steps.{AgreeWith, Entry, IsAccepted, IsSound, IsStep, Outcome, Reading, SessionParts, closed, fed_replies, known_entries, moved, opened, plan_reply, published, refusal_of, refused, refused_reply, shown, stream_at, stream_of, stream_refusal}
 use Rattle.scan_core.specs.Streams.{MovesTo, StandsAt}
+use Rattle.scan_core.specs.Together.{known_to, tickets_of}
 use Rattle.scan_core.proofs.StreamLemmas.{lookup_at, remove_at, set_at}
+
+-- the entries of open streams are those of their tickets
+opened_shown : (streams : List (ℕ × Bound)) → map (λ (stream : ℕ × Bound). by_tails.opened_by stream.1) streams ≡ map entry_of (map (λ (stream : ℕ × Bound). stream.1.ticket) streams)
+opened_shown [] = refl
+opened_shown (stream ∷ streams) = ap (λ es. entry_of stream.1.ticket ∷ es) (opened_shown streams)
+
+-- the entries that a session knows are those of its tickets
+known_shown : (s : Serving) → known_entries by_tails (parts_of s) ≡ known_to s
+known_shown s =
+    ap (λ es. map entry_of s.told ++ es) (opened_shown s.streams)
+    ∙ sym (map-append entry_of s.told (map (λ (stream : ℕ × Bound). stream.1.ticket) s.streams))
+
+-- a ticket that agrees with those of a session agrees with what the session knows
+agreed_known : (s : Serving) (ticket : Told) → AgreeWith (known_to s) (entry_of ticket) → AgreeWith (known_entries by_tails (parts_of s)) (entry_of ticket)
+agreed_known s ticket agreed = subst (λ (entries : List Entry). AgreeWith entries (entry_of ticket)) (sym (known_shown s)) agreed
 
 -- a request with a refusal is refused so
 pub step_refused : {S : Type 0} (reading : Reading S) (before : SessionParts S) (request : RequestParts) (refusal : Refusal) → refusal_of reading before request ≡ Some refusal → IsStep reading before request (refused before request refusal)
@@ -60,7 +76,7 @@ published_crowd s fold literals reply raw many told =
     (told_count s fold literals ∙ ap (λ o. earlier o (crowd_refusal (normal_form fold literals))) (sym raw) ∙ crowd) told
 
 -- a Publish that is stored
-pub published_entry : (s : Serving) (fold : Fold) (literals : List (List ℕ)) (ticket : Told) (reply : ReplyParts) (new : Serving) → None ≡ raw_refusal (length s.told) literals → IsPlanFor fold literals ticket.plan → AgreeWith (map entry_of s.told) (entry_of ticket) → reply ≡ Published ticket.number → new ≡ record s { told = s.told ++ ticket ∷ [] } → IsEvent s (Publish fold literals) (reply ∷ []) new
+pub published_entry : (s : Serving) (fold : Fold) (literals : List (List ℕ)) (ticket : Told) (reply : ReplyParts) (new : Serving) → None ≡ raw_refusal (length s.told) literals → IsPlanFor fold literals ticket.plan → AgreeWith (known_to s) (entry_of ticket) → reply ≡ Published ticket.number → new ≡ record s { told = s.told ++ ticket ∷ [] } → IsEvent s (Publish fold literals) (reply ∷ []) new
 published_entry s fold literals ticket reply new raw planned agreed told after =
     let few = planned.few in
     let crowd : crowd_refusal (normal_form fold literals) ≡ None = grind (arith, nat_tests) in
@@ -74,7 +90,7 @@ published_entry s fold literals ticket reply new raw planned agreed told after =
     record {
       met = Some (entry_of ticket);
       step = step_accepted by_tails (parts_of s) (Publish fold literals) outcome none
-          record { entry = entry_of ticket; plan = planned.planned; sound = planned.sound; agreed = agreed; is = is };
+          record { entry = entry_of ticket; plan = planned.planned; sound = planned.sound; agreed = agreed_known s ticket agreed; is = is };
       store = ap (λ (n : Serving). n.store) after;
     }
 
@@ -164,7 +180,7 @@ opened_free s stream number none few =
     ∙ ap (λ b. if b then Some StreamQuota else None) room
 
 -- an Open that finds an entry
-pub opened_stream : (s : Serving) (stream number : ℕ) (ticket : Told) (reply : ReplyParts) (new : Serving) → refusal_of by_tails (parts_of s) (Open stream number) ≡ None → IsSound ticket.plan → AgreeWith (map entry_of s.told) (entry_of ticket) → ticket.number ≡ number → reply ≡ Opened stream → new ≡ record s { streams = s.streams ++ (stream, record { ticket = ticket; scan = started ticket.plan 0 }) ∷ [] } → IsEvent s (Open stream number) (reply ∷ []) new
+pub opened_stream : (s : Serving) (stream number : ℕ) (ticket : Told) (reply : ReplyParts) (new : Serving) → refusal_of by_tails (parts_of s) (Open stream number) ≡ None → IsSound ticket.plan → AgreeWith (known_to s) (entry_of ticket) → ticket.number ≡ number → reply ≡ Opened stream → new ≡ record s { streams = s.streams ++ (stream, record { ticket = ticket; scan = started ticket.plan 0 }) ∷ [] } → IsEvent s (Open stream number) (reply ∷ []) new
 opened_stream s stream number ticket reply new none sound agreed asked told after =
     let state : Bound = record { ticket = ticket; scan = started ticket.plan 0 } in
     let outcome : Outcome Bound = record { replies = reply ∷ []; met = Some (entry_of ticket); after = parts_of new } in
@@ -173,7 +189,7 @@ opened_stream s stream number ticket reply new none sound agreed asked told afte
     record {
       met = Some (entry_of ticket);
       step = step_accepted by_tails (parts_of s) (Open stream number) outcome none
-          (inl record { entry = entry_of ticket; state = state; asked = asked; sound = sound; agreed = agreed; begins = (refl, refl); is = is });
+          (inl record { entry = entry_of ticket; state = state; asked = asked; sound = sound; agreed = agreed_known s ticket agreed; begins = (refl, refl); is = is });
       store = ap (λ (n : Serving). n.store) after;
     }
 
@@ -183,12 +199,12 @@ numbers_told [] = refl
 numbers_told (ticket ∷ tickets) = ap (λ ns. ticket.number ∷ ns) (numbers_told tickets)
 
 -- an Open that finds none
-pub opened_none : (s : Serving) (stream number : ℕ) (reply : ReplyParts) → refusal_of by_tails (parts_of s) (Open stream number) ≡ None → ¬ Contains (map (λ (ticket : Told). ticket.number) s.told) number → reply ≡ refused_reply stream NoSuchPlan → IsEvent s (Open stream number) (reply ∷ []) s
+pub opened_none : (s : Serving) (stream number : ℕ) (reply : ReplyParts) → refusal_of by_tails (parts_of s) (Open stream number) ≡ None → ¬ Contains (map (λ (ticket : Told). ticket.number) (tickets_of s)) number → reply ≡ refused_reply stream NoSuchPlan → IsEvent s (Open stream number) (reply ∷ []) s
 opened_none s stream number reply none stranger told =
     let P : ReplyParts → Type 0 = λ r. IsEvent s (Open stream number) (r ∷ []) s in
     subst P (sym told) record {
       met = None;
       step = step_accepted by_tails (parts_of s) (Open stream number) (refused (parts_of s) (Open stream number) NoSuchPlan) none
-          (inr record { stranger = subst (λ ns. ¬ Contains ns number) (sym (numbers_told s.told)) stranger; is = refl });
+          (inr record { stranger = subst (λ ns. ¬ Contains ns number) (sym (ap (map (λ (entry : Entry). entry.number)) (known_shown s) ∙ numbers_told (tickets_of s))) stranger; is = refl });
       store = refl;
     }

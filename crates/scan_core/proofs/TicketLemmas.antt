@@ -4,9 +4,9 @@ use Rattle.std.specs.Prelude.{option_map}
 use Rattle.std.specs.List.{slice_get}
 use Rattle.std.proofs.lemmas.Option.{none-some, same_Some, slice_get-get_or, slice_get-map}
 use Rattle.plan_store.specs.Tickets.{Told}
-use Rattle.scan_core.specs.Sessions.{entry_of}
+use Rattle.scan_core.specs.Sessions.{Serving, entry_of}
 use Rattle.scan_core.specs.Steps.{AgreeWith, Entry}
-use Rattle.scan_core.specs.Together.{AreAgreed}
+use Rattle.scan_core.specs.Together.{AgreesWith, AreAgreed, known_to, tickets_of}
 
 none_at : (tickets : List Told) (n k : ℕ) → ((i : ℕ) (other : Told) → i < length tickets → slice_get tickets i ≡ Some other → other.number ≢ n) → k < length (map (λ (t : Told). t.number) tickets) → get_or (map (λ (t : Told). t.number) tickets) k n ≡ n → ⊥
 none_at [] n k none within at = omega arith
@@ -43,3 +43,7 @@ entries_agree tickets ticket agreed entry known same =
     let shown = shown_of tickets entry known in
     sym (ap (λ (e : Entry). e.plan) shown.is)
     ∙ agreed shown.place shown.ticket shown.at (ap (λ (e : Entry). e.number) shown.is ∙ same)
+
+-- with a ticket that agrees with each of a session, all agree that the session knows
+pub known_agree : (s : Serving) (ticket : Told) → AgreesWith ticket s → AgreeWith (known_to s) (entry_of ticket)
+known_agree s ticket agreed = entries_agree (tickets_of s) ticket (λ i other at same. sym (agreed i other at (sym same)))

@@ -119,13 +119,13 @@ module _ (past : ℕ → Option Past) (es more : List Entry) (stay : (e : Entry)
   keeps_same : AllKnown past more before.streams
   keeps_same n state at = known_like (past n) (past n) es more state state refl refl stay (known n state at)
 
-  keeps_opened : (stream number : ℕ) (entry : Entry) (state : Streamed) → lookup (nat_eq stream) before.streams ≡ None → entry.number ≡ number → state ≡ record { plan = entry.plan; bytes = [] } → Contains more entry → Keeps past more (Open stream number) (opened before stream entry state)
+  keeps_opened : (stream number : ℕ) (entry : Entry) (state : Streamed) → lookup (nat_eq stream) before.streams ≡ None → entry.number ≡ number → state ≡ record { number = entry.number; plan = entry.plan; bytes = [] } → Contains more entry → Keeps past more (Open stream number) (opened before stream entry state)
   keeps_opened stream number entry state free asked begins stands = (
     (λ n found at. elim (eqb_tells stream n) [
       | inl t ↦
           let here : lookup (nat_eq n) (before.streams ++ (stream, state) ∷ []) ≡ Some state =
           ap (λ m. lookup (nat_eq m) (before.streams ++ (stream, state) ∷ [])) (sym t.1) ∙ lookup_pushed stream before.streams state free in
-          let is : found ≡ record { plan = entry.plan; bytes = [] } = same_Some found state (sym at ∙ here) ∙ begins in
+          let is : found ≡ record { number = entry.number; plan = entry.plan; bytes = [] } = same_Some found state (sym at ∙ here) ∙ begins in
           record {
             entry = entry;
             pieces = [];

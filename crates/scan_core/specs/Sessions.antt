@@ -33,6 +33,7 @@ parts_of s = record { told = map entry_of s.told; streams = s.streams }
 -- a stream as its scanner keeps it: it begins at place 0 by the plan of its ticket, and a piece adds hits behind its tail
 abbrev pub by_tails : Reading Bound
 by_tails = record {
+  opened_by = λ state. entry_of state.ticket;
   plan_of = λ state. state.scan.plan;
   place_of = λ state. state.scan.place;
   Begins = λ entry state. (entry_of state.ticket ≡ entry) × (state.scan ≡ started entry.plan 0);

@@ -30,8 +30,9 @@ pub record IsPlanOf (fold : Fold) (literals : List (List ℕ)) (plan : plans.Pla
   pub list : plan.literals ≡ record { folding = fold; texts = normal_form fold literals }
   pub planned : IsPlanned plan.literals plan.certificate
 
--- how the state of a stream is seen: its plan and its place, how it begins by an entry, and with which hits a piece moves it on
+-- how the state of a stream is seen: the entry that it was opened by, its plan and its place, how it begins by an entry, and with which hits a piece moves it on
 pub record Reading (S : Type 0) : Type 1 where
+  pub opened_by : S → Entry
   pub plan_of : S → plans.Plan
   pub place_of : S → ℕ
   pub Begins : Entry → S → Type 0
@@ -45,6 +46,10 @@ pub record SessionParts (S : Type 0) : Type 0 where
 -- a session that was told nothing and has no open stream
 abbrev pub new_session : {S : Type 0} → SessionParts S
 new_session {S} = record { told = []; streams = [] }
+
+-- the entries that a session knows: those that it was told, and those that its open streams were opened by
+abbrev pub known_entries : {S : Type 0} → Reading S → SessionParts S → List Entry
+known_entries {S} reading s = s.told ++ map (λ (stream : ℕ × S). reading.opened_by stream.1) s.streams
 
 -- what a request comes to: the replies, the entry that it met, if it met one, and the session behind it
 pub record Outcome (S : Type 0) : Type 0 where
@@ -120,27 +125,27 @@ shown before stream plan = record { replies = plan_reply stream plan ∷ []; met
 abbrev pub AgreeWith : List Entry → Entry → Type 0
 AgreeWith entries entry = (other : Entry) → Contains entries other → other.number ≡ entry.number → other.plan ≡ entry.plan
 
--- a Publish that is not refused: an entry of the plan of its literals, with which those agree that the session was told
-pub record Publishes {S : Type 0} (fold : Fold) (literals : List (List ℕ)) (before : SessionParts S) (outcome : Outcome S) : Type 0 where
+-- a Publish that is not refused: an entry of the plan of its literals, with which those agree that the session knows
+pub record Publishes {S : Type 0} (reading : Reading S) (fold : Fold) (literals : List (List ℕ)) (before : SessionParts S) (outcome : Outcome S) : Type 0 where
   pub entry : Entry
   pub plan : IsPlanOf fold literals entry.plan
   pub sound : IsSound entry.plan
-  pub agreed : AgreeWith before.told entry
+  pub agreed : AgreeWith (known_entries reading before) entry
   pub is : outcome ≡ published before entry
 
--- an Open that finds an entry of the number, with which those agree that the session was told
+-- an Open that finds an entry of the number, with which those agree that the session knows
 pub record Opens {S : Type 0} (reading : Reading S) (stream number : ℕ) (before : SessionParts S) (outcome : Outcome S) : Type 0 where
   pub entry : Entry
   pub state : S
   pub asked : entry.number ≡ number
   pub sound : IsSound entry.plan
-  pub agreed : AgreeWith before.told entry
+  pub agreed : AgreeWith (known_entries reading before) entry
   pub begins : reading.Begins entry state
   pub is : outcome ≡ opened before stream entry state
 
--- an Open that finds none: the session was not told the number
-pub record FindsNone {S : Type 0} (stream number : ℕ) (before : SessionParts S) (outcome : Outcome S) : Type 0 where
-  pub stranger : ¬ Contains (map (λ entry. entry.number) before.told) number
+-- an Open that finds none: the session was not told the number, and has no stream open by it
+pub record FindsNone {S : Type 0} (reading : Reading S) (stream number : ℕ) (before : SessionParts S) (outcome : Outcome S) : Type 0 where
+  pub stranger : ¬ Contains (map (λ entry. entry.number) (known_entries reading before)) number
   pub is : outcome ≡ refused before (Open stream number) NoSuchPlan
 
 -- a Feed of an open stream: the hits that its piece adds
@@ -171,8 +176,8 @@ refusal_of reading s (ShowPlan stream) = stream_refusal (stream_at stream s) (λ
 
 -- what a request comes to that meets no refusal
 abbrev pub IsAccepted : {S : Type 0} → Reading S → SessionParts S → RequestParts → Outcome S → Type 0
-IsAccepted reading before (Publish fold literals) outcome = Publishes fold literals before outcome
-IsAccepted reading before (Open stream number) outcome = Opens reading stream number before outcome ⊎ FindsNone stream number before outcome
+IsAccepted reading before (Publish fold literals) outcome = Publishes reading fold literals before outcome
+IsAccepted reading before (Open stream number) outcome = Opens reading stream number before outcome ⊎ FindsNone reading stream number before outcome
 IsAccepted {S} reading before (Feed stream piece) outcome = (state : S) × (stream_at stream before ≡ Some state) × Feeds reading stream piece state before outcome
 IsAccepted reading before (Close stream) outcome = outcome ≡ closed before stream
 IsAccepted {S} reading before (ShowPlan stream) outcome = (state : S) × (stream_at stream before ≡ Some state) × (outcome ≡ shown before stream (reading.plan_of state))

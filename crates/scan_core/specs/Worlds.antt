@@ -10,8 +10,9 @@ use Rattle.scan_wire.specs.declared.message.TheConstants.{MAX_HITS}
 use Rattle.scan_core.specs.Blocks.{AreBlocks}
 use Rattle.scan_core.specs.Steps.{AgreeWith, Entry, IsSound, IsStep, Reading, SessionParts, fed_replies, new_session}
 
--- a stream as its client sees it: the plan it was opened with, and all bytes fed since
+-- a stream as its client sees it: the number and the plan it was opened with, and all bytes fed since
 pub record Streamed : Type 0 where
+  pub number : ℕ
   pub plan : plans.Plan
   pub bytes : List ℕ
 
@@ -23,9 +24,10 @@ pub record AreHitsPast (l : Literals) (text : List ℕ) (from : ℕ) (hits : Lis
 -- a stream seen by all its bytes: a piece adds the hits of them all whose ends lie past the bytes before
 abbrev pub by_bytes : Reading Streamed
 by_bytes = record {
+  opened_by = λ state. record { number = state.number; plan = state.plan };
   plan_of = λ state. state.plan;
   place_of = λ state. length state.bytes;
-  Begins = λ entry state. state ≡ record { plan = entry.plan; bytes = [] };
+  Begins = λ entry state. state ≡ record { number = entry.number; plan = entry.plan; bytes = [] };
   Moves = λ state piece hits next.
       (next ≡ record state { bytes = state.bytes ++ piece }) × AreHitsPast state.plan.literals (state.bytes ++ piece) (length state.bytes) hits;
 }

@@ -16,7 +16,7 @@ use crate::limits::MAX_STREAMS;
 use crate::publishing::planned;
 use crate::refusal::{Refusal, refusal_of_literals};
 use crate::stream::{Stream, find_stream};
-use crate::tickets::{agrees_with_told, find_told};
+use crate::tickets::{agrees_with, known_ticket};
 use flow_scan::Hit;
 use lit_base::Fold;
 use plan_store::{PlanStore, Ticket};
@@ -153,13 +153,13 @@ impl<'s> Session<'s> {
             return Err(Fault::OutOfMemory);
         };
         let number = self.store.number(&ticket);
-        agrees_with_told(self.store, &self.told, &ticket);
+        agrees_with(&ticket, self);
         self.told.push(ticket);
         Ok(Reply::Published { number })
     }
 
-    /// The reply to an Open, which binds the stream to the plan of the number. The only fault is
-    /// `OutOfMemory`.
+    /// The reply to an Open, which binds the stream to the plan of the number. A number that this session
+    /// was told, or has a stream open by, is found. The only fault is `OutOfMemory`.
     pub fn open(&mut self, alloc: Global, stream: u32, number: u64) -> Result<Reply, Fault>
         ensures ok { IfOk result (λ reply. IsEvent self.old (Open stream number) (reply_parts reply ∷ []) self.new) }
         ensures same { OnErr result (self.new ≡ self.old) }
@@ -174,21 +174,21 @@ impl<'s> Session<'s> {
         let Some(ticket) = self.ticket_of(number) else {
             return Ok(Refusal::NoSuchPlan.reply(stream));
         };
-        agrees_with_told(self.store, &self.told, &ticket);
+        agrees_with(&ticket, self);
         self.streams
             .push(Stream::open(alloc, self.store, stream, ticket)?);
         Ok(Reply::Opened { stream })
     }
 
-    /// A ticket of a number: one that this session was told, or else one of another session.
+    /// A ticket of a number: one of this session, or else one of another session.
     fn ticket_of(&self, number: u64) -> Option<Ticket>
         ensures here { IfSome result (λ ticket. IsOf self.now.store ticket) }
         ensures number { IfSome result (λ ticket. ticket.number ≡ number) }
-        ensures stranger { IfNone result (¬ Contains (map (λ ticket. ticket.number) self.now.told) number) }
+        ensures stranger { IfNone result (¬ Contains (map (λ ticket. ticket.number) (tickets_of self.now)) number) }
     {
-        let told = find_told(self.store, &self.told, number);
-        if told.is_some() {
-            return told;
+        let known = known_ticket(self, number);
+        if known.is_some() {
+            return known;
         }
         self.store.find(number)
     }
@@ -236,7 +236,8 @@ impl<'s> Session<'s> {
 
     /// Feeds a front of a piece to its stream, so that who answers a Feed need not hold all of its
     /// hits: up to the first end by which `out` gained at least `most` of them, or the whole piece. The
-    /// answer is how many bytes were fed. The only fault is `OutOfMemory`.
+    /// answer is how many bytes were fed. The only fault is `OutOfMemory`: session and `out` are then as
+    /// they were.
     pub fn feed_front(
         &mut self,
         stream: u32,
@@ -246,6 +247,8 @@ impl<'s> Session<'s> {
     ) -> Result<usize, Fault>
         requires { refusal_of by_tails (parts_of self.old) (Feed stream piece.now) ≡ None }
         ensures ok { IfOk result (λ count. FeedsFront self.old stream piece.now most count out.old.items out.new.items self.new) }
+        ensures same { OnErr result (self.new ≡ self.old) }
+        ensures same_hits { OnErr result (out.new.items ≡ out.old.items) }
         ensures fault { IsOkUnless result OutOfMemory }
     {
         let Some(place) = find_stream(&self.streams, stream) else {

@@ -1,5 +1,5 @@
 //! An open stream.
-ghost use Rattle.std.specs.Prelude.{◌≡◌, ◌+◌, ◌^◌, ◌≤◌, ◌<◌, IfOk, IsOkUnless, MatchOption, length};
+ghost use Rattle.std.specs.Prelude.{◌≡◌, ◌+◌, ◌^◌, ◌≤◌, ◌<◌, IfOk, IsOkUnless, MatchOption, OnErr, length};
 ghost use Rattle.plan_store.specs.Tickets.{IsOf};
 ghost use Rattle.flow_scan.specs.Scanners.{fed, started};
 ghost use Rattle.flow_scan.specs.Tails.{GainsHits};
@@ -98,7 +98,8 @@ impl<'s> Stream<'s> {
     }
 
     /// The stream behind a front of a piece, and how many bytes that has: the piece is fed up to the
-    /// first end by which `out` gained at least `most` hits, or whole.
+    /// first end by which `out` gained at least `most` hits, or whole. Where memory is refused, `out` is
+    /// as it was.
     pub(crate) fn fed_front(
         &self,
         piece: &[u8],
@@ -107,6 +108,7 @@ impl<'s> Stream<'s> {
     ) -> Result<(Stream<'s>, usize), Fault>
         requires { self.now.1.scan.place + length piece.now < 2 ^ 64 }
         ensures ok { IfOk result (λ next. MovesUpTo self.now piece.now most next.1 out.old.items out.new.items next.0) }
+        ensures same_hits { OnErr result (out.new.items ≡ out.old.items) }
         ensures fault { IsOkUnless result OutOfMemory }
     {
         let Ok(mut scanner) = self.scanner.copy() else {

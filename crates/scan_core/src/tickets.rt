@@ -1,23 +1,21 @@
-//! The tickets that a session was told.
-ghost use Rattle.std.specs.Prelude.{◌≡◌, All, Contains, IfNone, IfSome, map};
+//! The tickets of a session: those that it was told, and those of its open streams.
+ghost use Rattle.std.specs.Prelude.{◌≡◌, Contains, IfNone, IfSome, map};
 ghost use Rattle.plan_store.specs.Tickets.{IsOf};
-ghost use Rattle.scan_core.specs.Sessions.{entry_of};
-ghost use Rattle.scan_core.specs.Steps.{AgreeWith};
+ghost use Rattle.scan_core.specs.Together.{AgreesWith, tickets_of};
 
-use crate::few::Few;
-use plan_store::{PlanStore, Ticket};
+use crate::session::Session;
+use plan_store::Ticket;
 
-/// A ticket of a number among those told, which are of the store.
-pub(crate) fn find_told(store: &PlanStore, told: &Few<Ticket>, number: u64) -> Option<Ticket>
-    requires { All (IsOf store.now) told.now }
-    ensures here { IfSome result (λ ticket. IsOf store.now ticket) }
+/// A ticket of a number among those of a session.
+pub(crate) fn known_ticket(session: &Session<'_>, number: u64) -> Option<Ticket>
+    ensures here { IfSome result (λ ticket. IsOf session.now.store ticket) }
     ensures number { IfSome result (λ ticket. ticket.number ≡ number) }
-    ensures stranger { IfNone result (¬ Contains (map (λ ticket. ticket.number) told.now) number) }
+    ensures stranger { IfNone result (¬ Contains (map (λ ticket. ticket.number) (tickets_of session.now)) number) }
 {
     let mut place = 0;
-    while place < told.len() {
-        let ticket = told.get(place);
-        if store.number(ticket) == number {
+    while place < session.ticket_count() {
+        let ticket = session.ticket_at(place);
+        if session.store().number(ticket) == number {
             return Some(ticket.again());
         }
         place += 1;
@@ -25,16 +23,14 @@ pub(crate) fn find_told(store: &PlanStore, told: &Few<Ticket>, number: u64) -> O
     None
 }
 
-/// The law that a ticket has one plan with those told of its number, which are of the store. It takes
-/// no memory.
-pub(crate) fn agrees_with_told(store: &PlanStore, told: &Few<Ticket>, ticket: &Ticket)
-    requires told { All (IsOf store.now) told.now }
-    requires here { IsOf store.now ticket.now }
-    ensures { AgreeWith (map entry_of told.now) (entry_of ticket.now) }
+/// The law that a ticket agrees with each of a session of its store. It takes no memory.
+pub(crate) fn agrees_with(ticket: &Ticket, session: &Session<'_>)
+    requires { IsOf session.now.store ticket.now }
+    ensures { AgreesWith ticket.now session.now }
 {
     let mut place = 0;
-    while place < told.len() {
-        store.agree(told.get(place), ticket);
+    while place < session.ticket_count() {
+        session.store().agree(ticket, session.ticket_at(place));
         place += 1;
     }
 }

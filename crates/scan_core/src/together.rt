@@ -4,12 +4,13 @@ ghost use Rattle.plan_store.specs.Tickets.{IsOf};
 ghost use Rattle.scan_wire.specs.Messages.{request_parts};
 ghost use Rattle.scan_core.specs.Sessions.{GainsEvent};
 ghost use Rattle.scan_core.specs.Steps.{IsSound};
-ghost use Rattle.scan_core.specs.Together.{AgreeAll, AgreesWith, ShowSound, TogetherLaw, known_to, world_of};
+ghost use Rattle.scan_core.specs.Together.{AgreeAll, ShowSound, TogetherLaw, known_to, world_of};
 ghost use Rattle.scan_core.specs.Worlds.{IsFirst};
 ghost use Rattle.scan_core.specs.declared.fault.Fault.TheVariants.{OutOfMemory};
 
 use crate::fault::Fault;
 use crate::session::Session;
+use crate::tickets::agrees_with;
 use plan_store::{PlanStore, Ticket};
 use scan_wire::{Reply, Request};
 use std::alloc::Global;
@@ -89,18 +90,6 @@ fn agree_all<'s>(one: &Session<'s>, other: &Session<'s>)
     let mut place = 0;
     while place < one.ticket_count() {
         agrees_with(one.ticket_at(place), other);
-        place += 1;
-    }
-}
-
-/// The law that a ticket agrees with each of a session of its store.
-fn agrees_with(ticket: &Ticket, session: &Session<'_>)
-    requires { IsOf session.now.store ticket.now }
-    ensures { AgreesWith ticket.now session.now }
-{
-    let mut place = 0;
-    while place < session.ticket_count() {
-        session.store().agree(ticket, session.ticket_at(place));
         place += 1;
     }
 }

@@ -21,7 +21,7 @@ use Rattle.plan_file.specs.Faults.{IsReadersFault}
 use Rattle.plan_file.specs.FirstFaults.{IsFirstFault}
 use Rattle.plan_file.specs.Spelling.{ArePlans, spelling}
 use Rattle.plan_store.specs.Tickets.{Told, IsOf}
-use Rattle.scan_run.specs.Loading.{AppendsUpTo, Cut, EndsInLine, InLine, InMessage, IsMessage, IsUnread, Judges, Loads, LoadsFile, MayLeave, PublishesFront, IsSaid, SaysLines, Whole, Written, message_on, plan_line, plan_lines, plans_of}
+use Rattle.scan_run.specs.Loading.{AppendsUpTo, Cut, EndsInLine, InLine, InMessage, IsMessage, IsUnread, Judges, Loads, LoadsFile, MayLeave, PublishesFront, IsSaid, IsUnopened, LoadsNamed, SaysLines, Whole, Written, message_on, plan_line, plan_lines, plans_of}
 
 -- a front of a text, and not all of it, is one of a longer one
 pub prefix-longer : {old new : Option (List ℕ)} {text : List ℕ} (more : List ℕ) → AppendsPrefix old new text → AppendsPrefix old new (text ++ more)
@@ -326,36 +326,51 @@ abbrev unopened : (I : Type 0) → Missing → Result I Missing
 unopened I e = Err e
 
 -- what an opener gave was loaded
-source-loaded : {I : Type 0} (coming : I → Option Coming) (source : Option Content) (input : I) (r : Result (Unit {0}) Fault) → OpensAs coming source (opened input)
-    → IfSome (coming input) (λ x. Judges x r) → MatchOption source (IsUnread r) (λ c. (coming input ≡ Some (coming_of c)) × Judges (coming_of c) r)
-source-loaded coming None input r opens judged = absurd (cc)
-source-loaded coming (Some c) input r opens judged = (opens, subst (λ x. IfSome x (λ y. Judges y r)) opens judged)
+source-loaded : {I : Type 0} (coming : I → Option Coming) (source : Option Content) (input : I) (Missed : Type 0) (r : Result (Unit {0}) Fault) → OpensAs coming source (opened input)
+    → IfSome (coming input) (λ x. Judges x r) → MatchOption source Missed (λ c. (coming input ≡ Some (coming_of c)) × Judges (coming_of c) r)
+source-loaded coming None input Missed r opens judged = absurd (cc)
+source-loaded coming (Some c) input Missed r opens judged = (opens, subst (λ x. IfSome x (λ y. Judges y r)) opens judged)
 
-pub named-loaded : {I : Type 0} (coming : I → Option Coming) (sources : Option Sources) (name : List ℕ) (input : I) (r : Result (Unit {0}) Fault)
+pub named-loaded : {I : Type 0} (coming : I → Option Coming) (sources : Option Sources) (name : List ℕ) (input : I) (Missed : Type 0) (r : Result (Unit {0}) Fault)
     → IfSome sources (λ s. OpensAs coming (source_of name s.named) (opened input)) → IfSome (coming input) (λ x. Judges x r)
-    → IfSome sources (λ s. MatchOption (source_of name s.named) (IsUnread r) (λ c. (coming input ≡ Some (coming_of c)) × Judges (coming_of c) r))
-named-loaded coming None name input r opens judged = tt
-named-loaded coming (Some s) name input r opens judged = source-loaded coming (source_of name s.named) input r opens judged
+    → IfSome sources (λ s. MatchOption (source_of name s.named) Missed (λ c. (coming input ≡ Some (coming_of c)) × Judges (coming_of c) r))
+named-loaded coming None name input Missed r opens judged = tt
+named-loaded coming (Some s) name input Missed r opens judged = source-loaded coming (source_of name s.named) input Missed r opens judged
 
 -- an opener that gives nothing has nothing under the name
-source-missing : {I : Type 0} (coming : I → Option Coming) (source : Option Content) (e : Missing) (r : Result (Unit {0}) Fault) → OpensAs coming source (unopened I e)
-    → IsUnread r → MatchOption source (IsUnread r) (λ c. (None ≡ Some (coming_of c)) × Judges (coming_of c) r)
-source-missing coming None e r opens missing = missing
-source-missing coming (Some c) e r opens missing = absurd opens
+source-missing : {I : Type 0} (coming : I → Option Coming) (source : Option Content) (e : Missing) (Missed : Type 0) (r : Result (Unit {0}) Fault) → OpensAs coming source (unopened I e)
+    → Missed → MatchOption source Missed (λ c. (None ≡ Some (coming_of c)) × Judges (coming_of c) r)
+source-missing coming None e Missed r opens missed = missed
+source-missing coming (Some c) e Missed r opens missed = absurd opens
 
-pub named-missing : {I : Type 0} (coming : I → Option Coming) (sources : Option Sources) (name : List ℕ) (e : Missing) (r : Result (Unit {0}) Fault)
-    → IfSome sources (λ s. OpensAs coming (source_of name s.named) (unopened I e)) → IsUnread r
-    → IfSome sources (λ s. MatchOption (source_of name s.named) (IsUnread r) (λ c. (None ≡ Some (coming_of c)) × Judges (coming_of c) r))
-named-missing coming None name e r opens missing = tt
-named-missing coming (Some s) name e r opens missing = source-missing coming (source_of name s.named) e r opens missing
-
--- a message alone, where nothing was loaded
-pub loads-missing : (store : Shelves) (name : List ℕ) (ts : List Told) (a b : Option (List ℕ)) (result : Fault) → IsMessage (message_on name ReadFault) ReadFault result a b
-    → Loads store name None None ts ts a b (Err result)
-loads-missing store name ts a b result said =
-    loads-refused store name None None ts ts a a b ReadFault result (loads-unread store None None ts a ReadFault tt tt) said
+named-missing : {I : Type 0} (coming : I → Option Coming) (sources : Option Sources) (name : List ℕ) (e : Missing) (Missed : Type 0) (r : Result (Unit {0}) Fault)
+    → IfSome sources (λ s. OpensAs coming (source_of name s.named) (unopened I e)) → Missed
+    → IfSome sources (λ s. MatchOption (source_of name s.named) Missed (λ c. (None ≡ Some (coming_of c)) × Judges (coming_of c) r))
+named-missing coming None name e Missed r opens missed = tt
+named-missing coming (Some s) name e Missed r opens missed = source-missing coming (source_of name s.named) e Missed r opens missed
 
 -- it was told, or could not be
-pub unread-said : (name : List ℕ) (a b : Option (List ℕ)) (result : Fault) → IsMessage (message_on name ReadFault) ReadFault result a b → IsUnread (stopped result)
+unread-said : (name : List ℕ) (a b : Option (List ℕ)) (result : Fault) → IsMessage (message_on name ReadFault) ReadFault result a b → IsUnread (stopped result)
 unread-said name a b result (Written is all) = inl (ap stopped is)
 unread-said name a b result (Cut is part) = inr (ap stopped is)
+
+-- a message alone, where nothing was opened and so nothing loaded
+pub missing-loads : {I : Type 0} (coming : I → Option Coming) (store : Shelves) (name : List ℕ) (sources : Option Sources) (ts : List Told) (a b : Option (List ℕ)) (e : Missing) (result : Fault)
+    → IfSome sources (λ s. OpensAs coming (source_of name s.named) (unopened I e)) → IsMessage (message_on name ReadFault) ReadFault result a b
+    → LoadsNamed store name sources ts ts a b (stopped result)
+missing-loads coming store name sources ts a b e result opens said =
+    let loads : Loads store name None None ts ts a b (stopped result) = record {
+      published = [];
+      answer = Err ReadFault;
+      grown = sym (append-nil ts);
+      here = All-nil (IsOf store);
+      plans = refl;
+      said = says-message a a b name [] ReadFault result (Appends-nil a) said;
+    } in
+    record {
+      coming_old = None;
+      coming_new = None;
+      loads = loads;
+      source = named-missing coming sources name e (IsUnopened ts ts (Err ReadFault) (stopped result)) (stopped result) opens
+          record { told = refl; unread = unread-said name a b result said; none = refl };
+    }

@@ -109,16 +109,22 @@ pub record Loads (store : Shelves) (name : List ℕ) (coming_old coming_new : Op
   pub plans : Publishes coming_old coming_new (plans_of published) answer
   pub said : IsSaid name published answer result err_old err_new
 
--- a file that cannot be opened is told as one that cannot be read
+-- the answer where a file cannot be read: that, or that it could not be said
 abbrev pub IsUnread : Result (Unit {0}) Fault → Type 0
 IsUnread result = (result ≡ Err ReadFault) ⊎ (result ≡ Err WriteFault)
+
+-- a file that cannot be opened is told as one that cannot be read, and no ticket is gained, whether or not that could be said
+pub record IsUnopened (tickets_old tickets_new : List tickets.Told) (answer result : Result (Unit {0}) Fault) : Type 0 where
+  pub told : answer ≡ Err ReadFault
+  pub unread : IsUnread result
+  pub none : tickets_new ≡ tickets_old
 
 -- What an opener gives under a name was loaded: where it tells what that is, it is judged by it.
 pub record LoadsNamed (store : Shelves) (name : List ℕ) (sources : Option Sources) (tickets_old tickets_new : List tickets.Told) (err_old err_new : Option (List ℕ)) (result : Result (Unit {0}) Fault) : Type 0 where
   pub coming_old : Option Coming
   pub coming_new : Option Coming
   pub loads : Loads store name coming_old coming_new tickets_old tickets_new err_old err_new result
-  pub source : IfSome sources (λ s. MatchOption (source_of name s.named) (IsUnread result) (λ c. (coming_old ≡ Some (coming_of c)) × Judges (coming_of c) result))
+  pub source : IfSome sources (λ s. MatchOption (source_of name s.named) (IsUnopened tickets_old tickets_new loads.answer result) (λ c. (coming_old ≡ Some (coming_of c)) × Judges (coming_of c) result))
 
 -- ---- inside the crate: lines before a message
 

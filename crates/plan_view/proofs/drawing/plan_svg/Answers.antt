@@ -1,7 +1,7 @@
 -- The parts behind the head were appended.
 use Rattle.std.proofs.Common.{◌≡◌, ◌++◌, ◌∙◌}
 use Rattle.lit_base.specs.Literals.{lengths}
-use Rattle.plan_view.specs.Drawings.{caption, drawn_from, foot, head, highest_from, plan_svg}
+use Rattle.plan_view.specs.Drawings.{caption, drawn_from, foot, head, highest_cost, plan_svg}
 use Rattle.plan_view.proofs.Appends.{three_appended}
 use Rattle.plan_view.proofs.drawing.plan_svg.Goals as goal
 
@@ -13,7 +13,7 @@ returns c =
     let begun : c.in_ok-text.text.items ≡ head = c.in_ok-text.ensures.items in
     let one : c.push_caption.new.text.items ≡ head ++ caption l ends =
     c.in_ok-push_caption.ensures ∙ (λ i. begun i ++ caption (c.new-view.ensures.list i) (c.new-view.ensures.ends i).items) in
-    let high : c.highest_from-highest.result ≡ highest_from (lengths l) 1 0 ends = c.highest_from-highest.ensures.value ∙ (λ i. highest_from (lengths l) 1 0 (c.as_slice.ensures.value i)) in
-    let two : c.push_buckets.new.text.items ≡ c.push_caption.new.text.items ++ drawn_from l ends (highest_from (lengths l) 1 0 ends) 0 0 ends =
+    let high : c.highest_cost-highest.result ≡ highest_cost (lengths l) 1 0 ends = c.highest_cost-highest.ensures.value ∙ (λ i. highest_cost (lengths l) 1 0 (c.as_slice.ensures.value i)) in
+    let two : c.push_buckets.new.text.items ≡ c.push_caption.new.text.items ++ drawn_from l ends (highest_cost (lengths l) 1 0 ends) 0 0 ends =
     c.in_ok-push_buckets.ensures ∙ (λ i. c.push_caption.new.text.items ++ drawn_from (c.new-view.ensures.list i) (c.new-view.ensures.ends i).items (high i) 0 0 (c.as_slice-2.ensures.value i)) in
     three_appended head _ _ _ (caption l ends) _ _ one two c.in_ok-extend_from_slice.ensures.items

@@ -9,8 +9,10 @@ use Rattle.scan_core.specs.declared.limits.TheConstants.{MAX_STREAMS}
 use Rattle.scan_core.specs.declared.refusal.Refusal.TheVariants.{StreamInUse}
 use Rattle.scan_core.specs.Sessions.{Bound, IsBound, IsEvent, Serving}
 use Rattle.scan_core.specs.Streams.{StandsAt}
+use Rattle.scan_core.specs.Together.{AgreesWith, tickets_of}
 use Rattle.scan_core.proofs.ServingLemmas.{found, found_none}
 use Rattle.scan_core.proofs.StepLemmas.{event_refused, opened_free, opened_none, opened_stream, opened_twice}
+use Rattle.scan_core.proofs.TicketLemmas.{known_agree}
 use Rattle.scan_core.proofs.session.Session.open.Goals as goal
 
 pub returns-then-is_some-clause-ok : goal.returns-then-is_some-clause-ok
@@ -29,8 +31,8 @@ returns-in_default-clause-ok c =
     let s : Serving = record { store = c.self.inside.store.now; told = c.self.inside.told; streams = c.self.inside.streams } in
     let free = found_none c.find_stream.result (lookup (nat_eq c.args.stream) s.streams ≡ None) (StandsAt c.args.stream s.streams) c.find_stream.ensures (sym c.is_some.ensures ∙ c.if-is_some.false) in
     let few : length s.streams < MAX_STREAMS = omega (arith, c.len.ensures.len, c.if-len-ge-MAX_STREAMS.false) in
-    let stranger : ¬ Contains (map (λ (ticket : Told). ticket.number) s.told) c.args.number =
-    subst (λ (t : Serving). ¬ Contains (map (λ (ticket : Told). ticket.number) t.told) c.args.number) (sym c.self.view_is) c.in_default.ensures.stranger in
+    let stranger : ¬ Contains (map (λ (ticket : Told). ticket.number) (tickets_of s)) c.args.number =
+    subst (λ (t : Serving). ¬ Contains (map (λ (ticket : Told). ticket.number) (tickets_of t)) c.args.number) (sym c.self.view_is) c.in_default.ensures.stranger in
     subst (λ (t : Serving). IsEvent t request (reply ∷ []) t) c.self.view_is
     (opened_none s c.args.stream c.args.number reply (opened_free s c.args.stream c.args.number free few) stranger c.reply-in_default.ensures)
 
@@ -55,6 +57,7 @@ returns-clause-ok c =
     let few : length s.streams < MAX_STREAMS = omega (arith, c.len.ensures.len, c.if-len-ge-MAX_STREAMS.false) in
     let grown : c.push.new.self ≡ s.streams ++ (c.args.stream, record { ticket = c.in-Some.ticket; scan = started c.in-Some.ticket.plan 0 }) ∷ [] =
     c.push.ensures ∙ ap (λ (item : ℕ × Bound). s.streams ++ item ∷ []) c.in_ok-open.ensures.ok in
+    let agreed : AgreesWith c.in-Some.ticket s = subst (AgreesWith c.in-Some.ticket) (sym c.self.view_is) c.agrees_with.ensures in
     subst (λ (t : Serving). IsEvent t request (Opened c.args.stream ∷ []) new) c.self.view_is
     (opened_stream s c.args.stream c.args.number c.in-Some.ticket (Opened c.args.stream) new (opened_free s c.args.stream c.args.number free few)
-    c.in_ok-open.ensures.sound c.agrees_with_told.ensures c.in-Some.ensures.number refl (ap (λ (streams : List (ℕ × Bound)). record s { streams = streams }) grown))
+    c.in_ok-open.ensures.sound (known_agree s c.in-Some.ticket agreed) c.in-Some.ensures.number refl (ap (λ (streams : List (ℕ × Bound)). record s { streams = streams }) grown))

@@ -6,7 +6,9 @@ use Rattle.scan_wire.specs.Messages.{Publish, Published, texts_of}
 use Rattle.scan_core.specs.Publishing.{IsPlanFor}
 use Rattle.scan_core.specs.Refusals.{raw_refusal}
 use Rattle.scan_core.specs.Sessions.{IsEvent, Serving}
+use Rattle.scan_core.specs.Together.{AgreesWith}
 use Rattle.scan_core.proofs.StepLemmas.{published_entry}
+use Rattle.scan_core.proofs.TicketLemmas.{known_agree}
 use Rattle.scan_core.proofs.session.Session.publish.Goals as goal
 
 pub invariant_of-self : goal.invariant_of-self
@@ -27,6 +29,6 @@ returns-clause-ok g c =
     subst (λ (t : Serving). IsEvent t (Publish c.args.fold texts) (Published c.number-number.result ∷ []) new) c.self.view_is
     (published_entry s c.args.fold texts ticket (Published c.number-number.result) new raw
     (subst (IsPlanFor c.args.fold texts) (sym c.in-Ok.ensures.plan) planned)
-    c.agrees_with_told.ensures
+    (known_agree s ticket (subst (AgreesWith ticket) (sym c.self.view_is) c.agrees_with.ensures))
     (ap Published c.number-number.ensures)
     (ap (λ (told : List Told). record s { told = told }) c.push.ensures))

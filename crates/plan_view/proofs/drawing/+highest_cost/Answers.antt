@@ -1,7 +1,7 @@
 -- The end of the first run lies past no literal.
 use Rattle.std.proofs.Common.{◌≤◌, length, subst, sym}
 use Rattle.nib_mask.proofs.Buckets.{first-within}
-use Rattle.plan_view.proofs.drawing.+highest_from.Goals as goal
+use Rattle.plan_view.proofs.drawing.+highest_cost.Goals as goal
 
 pub run_cost-requires-clause-within : goal.run_cost-requires-clause-within
 run_cost-requires-clause-within t c =

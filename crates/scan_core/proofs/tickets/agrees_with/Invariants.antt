@@ -2,7 +2,7 @@ use Rattle.std.proofs.Common.{◌≡◌, ℕ, ◌-◌, ◌<◌, length, Some}
 use Rattle.std.specs.List.{slice_get}
 use Rattle.plan_store.specs.Tickets.{Told}
 use Rattle.scan_core.specs.Together.{AreAgreed, tickets_of}
-use Rattle.scan_core.proofs.together.agrees_with.Given as goal
+use Rattle.scan_core.proofs.tickets.agrees_with.Given as goal
 
 -- the ticket agrees with each so far
 abbrev pub invariant-loop-place : goal.invariant-loop-place

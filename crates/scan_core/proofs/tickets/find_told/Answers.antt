@@ -1,8 +1,0 @@
-use Rattle.std.proofs.Common.{arith}
-use Rattle.scan_core.proofs.TicketLemmas.{number_stranger}
-use Rattle.scan_core.proofs.tickets.find_told.Goals as goal
-
-pub returns-clause-stranger : goal.returns-clause-stranger
-returns-clause-stranger c =
-    number_stranger c.args.told.now c.args.number
-    (λ i other within at. c.loop-place.invariant i other (omega (arith, within, c.loop-place-test.false, c.len.ensures.len)) at)

@@ -1,0 +1,9 @@
+use Rattle.std.proofs.Common.{arith}
+use Rattle.scan_core.specs.Together.{tickets_of}
+use Rattle.scan_core.proofs.TicketLemmas.{number_stranger}
+use Rattle.scan_core.proofs.tickets.known_ticket.Goals as goal
+
+pub returns-clause-stranger : goal.returns-clause-stranger
+returns-clause-stranger c =
+    number_stranger (tickets_of c.args.session.now) c.args.number
+    (λ i other within at. c.loop-place.invariant i other (omega (arith, within, c.loop-place-test.false, c.ticket_count.ensures)) at)
