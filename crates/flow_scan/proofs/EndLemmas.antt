@@ -1,5 +1,5 @@
 -- The next place at which a literal ends, seen from a place before the one that a search has come to.
-use Rattle.std.proofs.Common.{◌≡◌, ℕ, suc, ◌+◌, ◌-◌, ◌*◌, ◌<◌, ◌≤◌, List, Option, Some, None, MatchOption, Result, Ok, Err, IfOk, IfErr, inl, inr, subst, arith}
+use Rattle.std.proofs.Common.{◌≡◌, ℕ, ◌+◌, ◌-◌, ◌*◌, ◌<◌, ◌≤◌, List, Option, Some, None, MatchOption, Result, Ok, Err, IfOk, IfErr, inl, inr, subst, arith}
 use Rattle.std.proofs.lemmas.Bool.{cases_lt}
 use Rattle.std.proofs.Math.Nat.{mul-add, mul-le-mul_left, mul_comm}
 use Rattle.lit_base.specs.Occurrences.{HasEnd}

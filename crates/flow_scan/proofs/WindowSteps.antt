@@ -3,12 +3,10 @@ use Rattle.std.proofs.Common.{◌≡◌, ℕ, ◌+◌, ◌-◌, ◌<◌, ◌≤�
 use Rattle.std.specs.Int.{bit_at}
 use Rattle.std.specs.Option.{IfNone}
 use Rattle.std.proofs.lemmas.Bool.{cases_lt}
-use Rattle.std.proofs.lemmas.Nat.{le_or_l, le_or_r}
 use Rattle.std.proofs.lemmas.Nat.Bits.{bit_at-zero}
-use Rattle.std.proofs.lemmas.Option.{slice_get_within}
 use Rattle.lit_base.specs.Literals.{Literals}
 use Rattle.lit_base.specs.Occurrences.{HasEnd, IsFirstEnding, NoneEnds, Occurs}
-use Rattle.text_windows.specs.Windows.{AreMarksAt, AreWithin, Windowing, offset_at}
+use Rattle.text_windows.specs.Windows.{AreMarksAt, Windowing, offset_at}
 use Rattle.flow_scan.specs.NextEnds.{IsNextEnd, NoEndAfter}
 use Rattle.flow_scan.specs.Windowed.{IsLookedUpTo, IsRightMark}
 

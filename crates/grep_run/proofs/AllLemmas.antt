@@ -1,5 +1,5 @@
 -- All inputs of a run: those of its operands, or standard input alone.
-use Rattle.std.proofs.Common.{◌≡◌, ℕ, ◌<◌, Bool, true, false, ◌&&◌, List, [], ◌∷◌, map, length, Option, Result, Ok, Err, eqb, refl, sym, arith}
+use Rattle.std.proofs.Common.{◌≡◌, ℕ, ◌<◌, Bool, true, false, ◌&&◌, List, [], ◌∷◌, map, length, Option, Result, Ok, Err, eqb, refl, arith}
 use Rattle.byte_io.specs.Sources.{AreShort, Ask, Sources, after, ask_of, taken_by}
 use Rattle.std.proofs.lemmas.List.{length-map}
 use Rattle.std.proofs.lemmas.Bool.Decides.{nat_tests}
@@ -11,7 +11,7 @@ use Rattle.grep_run.specs.declared.status.Stop.{Stop}
 use Rattle.grep_run.specs.Grep.{searched}
 use Rattle.grep_run.specs.Options.{asks_or_standard}
 use Rattle.grep_run.specs.Searching.{Searches, SearchesAll, StopsAt}
-use Rattle.grep_run.specs.Sources.{Input, found, name_of}
+use Rattle.grep_run.specs.Sources.{found, name_of}
 use Rattle.grep_run.specs.Writers.{Writer}
 use Rattle.grep_run.proofs.SearchLemmas.{InputsSoFar-all, InputsSoFar-cut, InputsSoFar-last, InputsSoFar-more, InputsSoFar-none, StopsAt-none}
 

@@ -1,5 +1,5 @@
 -- The answer of a run, from its patterns and its inputs.
-use Rattle.std.proofs.Common.{◌≡◌, ◌≢◌, ◌⊎◌, inl, inr, ℕ, Bool, true, false, IfOk, OnOk, OnErr, ◌||◌, List, [], Option, None, Some, Result, Ok, Err, refl, sym, ap, ◌∙◌, subst, unwrap_or}
+use Rattle.std.proofs.Common.{◌≡◌, ◌≢◌, ◌⊎◌, inl, inr, ℕ, Bool, true, false, IfOk, OnOk, OnErr, ◌||◌, List, [], Option, Some, Result, Ok, Err, refl, sym, ap, ◌∙◌, subst, unwrap_or}
 use Rattle.byte_io.specs.Sources.{AreShort, Sources, after_all}
 use Rattle.std.proofs.Math.Bool.{or-false, or-true}
 use Rattle.byte_io.specs.Devices.{Told}
@@ -22,7 +22,7 @@ use Rattle.grep_run.specs.Messages.{out_of_memory}
 use Rattle.grep_run.specs.Options.{searched_of}
 use Rattle.grep_run.specs.Patterns.{files_asked, patterns_message, all_patterns}
 use Rattle.grep_run.specs.Requests.{tested_by}
-use Rattle.grep_run.specs.Running.{RunsTo, Ends, IsStarved, OverInputs, OverPatterns, Starved, Stops}
+use Rattle.grep_run.specs.Running.{RunsTo, Ends, OverInputs, OverPatterns, Starved}
 use Rattle.grep_run.specs.Searching.{SearchesAll}
 use Rattle.grep_run.specs.Sources.{found}
 use Rattle.grep_run.specs.Writers.{Writer, Writes, WritesFront, is_write_fault}

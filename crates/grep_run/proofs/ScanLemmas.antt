@@ -28,7 +28,6 @@ use Rattle.grep_run.specs.declared.block.Block.{Block}
 use Rattle.grep_run.specs.declared.options.GrepOptions.{GrepOptions}
 use Rattle.grep_run.specs.declared.request.End.TheVariants.{Clean, Fault}
 use Rattle.grep_run.specs.Blocks.{block_in, block_of, has_any, is_trouble, lines_of, message_in}
-use Rattle.grep_run.specs.declared.request.Found.{Found}
 use Rattle.grep_run.specs.Messages.{unreadable}
 use Rattle.grep_run.specs.Growing.{IsSameBlock, TakesLine, added_line, ending_of}
 use Rattle.grep_run.specs.Scanning.{FeedsPiece, picked_by, HasFed, HasRead, HasTaken, IsHalted, StandsBehind, ended_in, is_fault}

@@ -12,7 +12,7 @@ use Rattle.grep_run.specs.declared.options.GrepOptions.{GrepOptions}
 use Rattle.grep_run.specs.declared.request.Found.{Found}
 use Rattle.grep_run.specs.declared.request.Request.{Request}
 use Rattle.grep_run.specs.declared.status.Stop.{Stop}
-use Rattle.grep_run.specs.Blocks.{block, block_in, has_selected, is_error, message, message_in}
+use Rattle.grep_run.specs.Blocks.{block, has_selected, is_error, message}
 use Rattle.grep_run.specs.Grep.{answer_to, asks, searched}
 use Rattle.grep_run.specs.Searching.{AreSearched, IsCut, IsSearched, SearchesAsk, StopsAt}
 use Rattle.grep_run.specs.Sources.{Input, found, name_of}

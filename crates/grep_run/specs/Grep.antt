@@ -1,5 +1,5 @@
 -- What grep writes and answers, for options and sources. POSIX.1-2017 `grep`: STDOUT, STDERR, EXIT STATUS and CONSEQUENCES OF ERRORS.
-use Rattle.std.specs.Prelude.{◌≡◌, ℕ, ◌&&◌, Bool, true, false, List, [], ◌∷◌, ◌++◌, map, flat_map, if◌then◌else◌, Option, Some, None}
+use Rattle.std.specs.Prelude.{ℕ, ◌&&◌, Bool, true, false, List, [], ◌∷◌, ◌++◌, map, flat_map, if◌then◌else◌, Option, Some, None}
 use Rattle.byte_io.specs.Sources.{Ask, Sources, after_all}
 use Rattle.std.specs.List.{list_any}
 use Rattle.grep_run.specs.declared.options.GrepOptions.{GrepOptions}

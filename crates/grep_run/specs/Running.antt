@@ -1,5 +1,5 @@
 -- How a run ends, against what grep writes and answers.
-use Rattle.std.specs.Prelude.{◌≡◌, ◌||◌, ◌⊎◌, ℕ, Bool, true, List, [], Option, None, Result, Ok, Err, unwrap_or}
+use Rattle.std.specs.Prelude.{◌≡◌, ◌||◌, ◌⊎◌, true, [], None, Result, Ok, Err, unwrap_or}
 use Rattle.byte_io.specs.Sources.{AsksFront, Sources}
 use Rattle.grep_run.specs.declared.options.GrepOptions.{GrepOptions}
 use Rattle.grep_run.specs.declared.status.Status.{Status}

@@ -1,5 +1,5 @@
 -- Windows: a text has the marks of each literal that ends in it, so far before its end.
-use Rattle.std.proofs.Common.{◌≡◌, ℕ, ◌+◌, ◌-◌, ◌^◌, ◌++◌, ◌<◌, ◌≤◌, List, [], drop, length, min, replicate, inl, inr, sym, ap, ◌∙◌, subst, arith}
+use Rattle.std.proofs.Common.{◌≡◌, ℕ, ◌+◌, ◌-◌, ◌^◌, ◌++◌, ◌<◌, ◌≤◌, List, [], drop, length, replicate, sym, ap, ◌∙◌, subst, arith}
 use Rattle.std.specs.Int.{bit_at}
 use Rattle.std.specs.Int.RustNames.{bit_and, bit_or}
 use Rattle.std.specs.List.{slice_index, slice_range}

@@ -1,5 +1,5 @@
 -- Each look adds the marks of its own ends above the ones before.
-use Rattle.std.proofs.Common.{◌≡◌, ℕ, ◌+◌, ◌-◌, ◌<◌, inl, inr, sym, subst, arith}
+use Rattle.std.proofs.Common.{◌≡◌, ℕ, ◌+◌, ◌-◌, ◌<◌, inl, inr, subst, arith}
 use Rattle.std.proofs.lemmas.Bool.{cases_lt}
 use Rattle.lit_base.specs.Occurrences.{HasEnd}
 use Rattle.flow_scan.proofs.MarkSteps.{marked_above, marked_below}

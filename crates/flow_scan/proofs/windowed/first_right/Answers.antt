@@ -1,10 +1,9 @@
 -- The lowest mark that is right is found first.
-use Rattle.std.proofs.Common.{◌≡◌, ℕ, ◌+◌, ◌-◌, ◌<◌, ◌≤◌, inl, inr, ap, sym, ◌∙◌, subst, arith, w8}
+use Rattle.std.proofs.Common.{◌≡◌, ℕ, ◌+◌, ◌-◌, inl, inr, ap, sym, ◌∙◌, subst, arith, w8}
 use lib.Count.{count_trailing_zeros}
 use Rattle.std.specs.Int.{bit_at}
 use Rattle.std.proofs.lemmas.Bool.{cases_lt}
-use Rattle.std.proofs.lemmas.Nat.Bits.{bit_at-trailing_zeros, bit_at-zero, bit_at_above}
-use Rattle.lit_base.specs.Occurrences.{HasEnd}
+use Rattle.std.proofs.lemmas.Nat.Bits.{bit_at-trailing_zeros, bit_at_above}
 use Rattle.flow_scan.specs.Windowed.{IsRightMark}
 use Rattle.flow_scan.proofs.MarkSteps.{first_left, left_behind, shifted_bit}
 use Rattle.flow_scan.proofs.windowed.first_right.Goals as goal

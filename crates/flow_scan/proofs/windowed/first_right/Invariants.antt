@@ -1,4 +1,4 @@
-use Rattle.std.proofs.Common.{◌≡◌, ℕ, ◌+◌, ◌-◌, ◌<◌, ◌≤◌}
+use Rattle.std.proofs.Common.{◌≡◌, ℕ, ◌+◌, ◌-◌, ◌≤◌}
 use Rattle.std.specs.Int.{bit_at}
 use Rattle.flow_scan.specs.Windowed.{IsRightMark}
 use Rattle.flow_scan.proofs.windowed.first_right.Given as goal

@@ -1,5 +1,5 @@
 -- The least right mark is the last place of interest from there on, and without one the look passes over its stride.
-use Rattle.std.proofs.Common.{ℕ, ◌+◌, ◌-◌, ◌<◌, ◌≤◌, sym, subst, arith}
+use Rattle.std.proofs.Common.{ℕ, ◌+◌, ◌-◌, ◌<◌, subst, arith}
 use Rattle.lit_base.specs.Literals.{Literals}
 use Rattle.flow_scan.specs.Windowed.{IsRightMark}
 use Rattle.flow_scan.proofs.WindowSteps.{marked_further}

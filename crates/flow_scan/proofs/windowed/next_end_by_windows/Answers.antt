@@ -1,5 +1,5 @@
 -- One look after the other, until none is left before the least end found.
-use Rattle.std.proofs.Common.{◌≡◌, ℕ, ◌+◌, sym, subst, arith}
+use Rattle.std.proofs.Common.{ℕ, ◌+◌, sym, subst, arith}
 use Rattle.flow_scan.specs.Windowed.{IsLookedUpTo}
 use Rattle.flow_scan.proofs.WindowSteps.{next_found}
 use Rattle.flow_scan.proofs.windowed.next_end_by_windows.Goals as goal

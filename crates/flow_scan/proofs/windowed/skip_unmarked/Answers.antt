@@ -1,5 +1,5 @@
 -- Two looks without a mark pass over two strides.
-use Rattle.std.proofs.Common.{◌≡◌, ℕ, ◌+◌, refl, subst, arith}
+use Rattle.std.proofs.Common.{ℕ, ◌+◌, refl, subst, arith}
 use Rattle.flow_scan.specs.Windowed.{IsLookedUpTo}
 use Rattle.flow_scan.proofs.WindowSteps.{unmarked_further}
 use Rattle.flow_scan.proofs.windowed.skip_unmarked.Goals as goal

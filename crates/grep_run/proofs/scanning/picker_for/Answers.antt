@@ -1,5 +1,5 @@
 -- A new picker has been fed nothing.
-use Rattle.std.proofs.Common.{◌≡◌, Option, Some, IfSome, refl, ap, sym, ◌∙◌, subst}
+use Rattle.std.proofs.Common.{◌≡◌, Option, Some, IfSome, refl, ap, sym, subst}
 use Rattle.flow_scan.specs.Plans.{Plan}
 use Rattle.line_pick.specs.Matching.{selects}
 use Rattle.grep_run.proofs.ScanLemmas.{fed-none}

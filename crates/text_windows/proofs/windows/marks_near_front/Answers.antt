@@ -1,6 +1,5 @@
 -- One width after the other is looked at.
-use Rattle.std.proofs.Common.{◌≡◌, ℕ, ◌<◌, ◌≤◌, inl, inr, sym, ap, ◌∙◌, arith}
-use Rattle.std.specs.Int.{bit_at}
+use Rattle.std.proofs.Common.{◌≡◌, inl, inr, ap, arith}
 use Rattle.std.proofs.lemmas.Bool.{cases_lt}
 use Rattle.lit_base.specs.Suffixes.{suffix_key}
 use Rattle.text_windows.proofs.WindowLemmas.{marked_left, marked_right, read_mark}

@@ -1,6 +1,5 @@
 -- No literal ends up to where the search begins.
-use Rattle.std.proofs.Common.{◌≡◌, ap, ◌∙◌, arith}
-use Rattle.lit_base.specs.Literals.{Literals}
+use Rattle.std.proofs.Common.{ap, ◌∙◌, arith}
 use Rattle.flow_scan.specs.Plans.{Plan}
 use Rattle.flow_scan.specs.NextEnds.{NoEndUpTo}
 use Rattle.flow_scan.proofs.EndLemmas.{next_further, none_further}

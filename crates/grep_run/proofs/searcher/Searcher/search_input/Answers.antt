@@ -3,7 +3,6 @@ use Rattle.std.proofs.Common.{Some, ap}
 use Rattle.std.specs.Prelude.{nat_lt}
 use Rattle.std.proofs.lemmas.Result.{err_from_is_err_and}
 use Rattle.grep_run.specs.Requests.{test_of}
-use Rattle.grep_run.specs.Writers.{writer}
 use Rattle.grep_run.proofs.ScanLemmas.{begin-stands, finished-cut, message-cut, message-whole, search-cut}
 use Rattle.grep_run.proofs.searcher.Searcher.search_input.Goals as goal
 

@@ -1,5 +1,5 @@
 -- What holds of the content that was searched holds of the source that the opener told.
-use Rattle.std.proofs.Common.{◌≡◌, ℕ, List, subst}
+use Rattle.std.proofs.Common.{◌≡◌, subst}
 use Rattle.byte_io.specs.Sources.{AreShort, after, ask_of, taken_by}
 use Rattle.byte_io.specs.Devices.{Told}
 use Rattle.grep_run.specs.Requests.{test_of}

@@ -1,5 +1,5 @@
 -- The shortest literal is no longer than the others.
-use Rattle.std.proofs.Common.{◌≡◌, ℕ, ◌<◌, ◌≤◌, length, [], arith}
+use Rattle.std.proofs.Common.{ℕ, ◌<◌, length, [], arith}
 use Rattle.std.proofs.lemmas.List.{length-map}
 use Rattle.lit_base.proofs.LengthLemmas.{length_at}
 use Rattle.text_windows.proofs.shape.Shape.of.Goals as goal

@@ -1,5 +1,5 @@
 -- What is looked at has the marks of the bytes before the place.
-use Rattle.std.proofs.Common.{◌≡◌, ℕ, sym, subst, arith}
+use Rattle.std.proofs.Common.{sym, subst}
 use Rattle.lit_base.specs.Marks.{IsMarked}
 use Rattle.lit_base.specs.Suffixes.{hash_of, suffix_key}
 use Rattle.lit_base.specs.declared.fold.Fold.{Fold}
