@@ -8,3 +8,6 @@ mod shape;
 mod windows;
 
 pub use windows::Windows;
+
+#[cfg(test)]
+mod tests;

@@ -1,4 +1,5 @@
 //! What no clause says: worked rows, and the texts of faults.
+mod finding;
 mod whole_lines;
 
 use super::*;

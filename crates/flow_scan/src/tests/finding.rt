@@ -1,0 +1,249 @@
+//! Searches that learn from the text, beside those that do not, in texts of words drawn by chance: what they find is
+//! the same. The literals are pieces of the text, so that much in it looks like them.
+use crate::compiled::Compiled;
+use crate::end_finder::EndFinder;
+use crate::searching::next_end;
+use lit_base::{Fold, LitList, RawList};
+use run_planner::plan;
+use std::alloc::Global;
+
+/// What texts are made of.
+const WORDS: [&[u8]; 12] = [
+    b"con", b"nect", b"ion ", b"sess", b"the ", b"plan", b"ner ", b"of ", b"it", b"ation",
+    b"search", b"ed ",
+];
+
+/// The same, some in capitals.
+const CAPITALS: [&[u8]; 6] = [b"CON", b"nect", b"Ion ", b"sEss", b"the ", b"PLAN"];
+
+/// What texts of another kind are made of.
+const FIGURES: [&[u8]; 6] = [b"0x", b"1f", b"07", b", ", b"00", b"\xff\xfe"];
+
+/// How many bytes a text has at least.
+const LEN: usize = 200_000;
+
+/// How many its first half has.
+const HALF_LEN: usize = 100_000;
+
+/// Numbers drawn by chance, the same ones each time.
+#[derive(Drop)]
+struct Draws {
+    state: u64,
+}
+
+impl Draws {
+    /// A number below this one.
+    fn below(&mut self, count: usize) -> usize {
+        self.state = self
+            .state
+            .wrapping_mul(6_364_136_223_846_793_005)
+            .wrapping_add(1_442_695_040_888_963_407);
+        (self.state >> 33) as usize % count.max(1)
+    }
+}
+
+/// Adds words drawn by chance, until a text has so many bytes.
+fn add_words(text: &mut Vec<u8>, draws: &mut Draws, words: &[&[u8]], len: usize) -> Option<()> {
+    for _ in 0..len {
+        if text.len() >= len {
+            return Some(());
+        }
+        let word = words.get(draws.below(words.len()))?;
+        text.extend_from_slice(word).ok()?;
+    }
+    Some(())
+}
+
+/// A text whose halves are of these words.
+fn text_of(alloc: Global, draws: &mut Draws, first: &[&[u8]], second: &[&[u8]]) -> Option<Vec<u8>> {
+    let mut text = Vec::new(alloc);
+    add_words(&mut text, draws, first, HALF_LEN)?;
+    add_words(&mut text, draws, second, LEN)?;
+    Some(text)
+}
+
+/// So many bytes of a text from somewhere on, one of them spoilt so.
+fn piece_of(
+    alloc: Global,
+    draws: &mut Draws,
+    text: &[u8],
+    len: usize,
+    spoilt: u8,
+) -> Option<Vec<u8>> {
+    let (_, behind) = text.split_at_checked(draws.below(text.len()))?;
+    let (piece, _) = behind.split_at_checked(len.min(behind.len()))?;
+    let mut copy = Vec::from_slice(alloc, piece).ok()?;
+    if let Some(byte) = copy.get_mut(draws.below(len)) {
+        *byte ^= spoilt;
+    }
+    Some(copy)
+}
+
+/// Forty such pieces, the shortest of so many bytes, each second one spoilt.
+fn pieces_of(
+    alloc: Global,
+    draws: &mut Draws,
+    text: &[u8],
+    least: usize,
+    spoilt: u8,
+) -> Option<RawList> {
+    let mut raw = RawList::new(alloc);
+    for _ in 0..20 {
+        let len = least.saturating_add(draws.below(9));
+        let whole = piece_of(alloc, draws, text, len, 0)?;
+        raw.push(&whole).ok()?;
+        let other = piece_of(alloc, draws, text, len, spoilt)?;
+        raw.push(&other).ok()?;
+    }
+    Some(raw)
+}
+
+/// The plan of these literals.
+fn plan_of_pieces(alloc: Global, raw: &RawList, fold: Fold) -> Option<Compiled> {
+    let (list, _) = LitList::normal(alloc, raw, fold).ok()?;
+    let certificate = plan(alloc, &list).ok()?;
+    Compiled::new(list, certificate).ok()
+}
+
+/// How many ends there are, and a sum that tells their places.
+type Told = (usize, u64);
+
+/// That with one end more.
+fn with_end(told: Told, end: usize) -> Told {
+    let (count, sum) = told;
+    (
+        count.saturating_add(1),
+        sum.wrapping_mul(31).wrapping_add(end as u64),
+    )
+}
+
+/// The ends that a search that learns finds in a text, behind others.
+fn add_learned(told: Told, finder: &mut EndFinder<'_>, text: &[u8]) -> Told {
+    let mut told = told;
+    let mut from = 0;
+    for _ in 0..=text.len() {
+        let Some(end) = finder.next_end(text, from) else {
+            return told;
+        };
+        told = with_end(told, end);
+        from = end;
+    }
+    told
+}
+
+/// Those that a search by the plan alone finds.
+fn add_plain(told: Told, compiled: &Compiled, text: &[u8]) -> Told {
+    let mut told = told;
+    let mut from = 0;
+    for _ in 0..=text.len() {
+        let Some(end) = next_end(compiled, text, from) else {
+            return told;
+        };
+        told = with_end(told, end);
+        from = end;
+    }
+    told
+}
+
+/// The ends that a search that learns finds in the pieces of a text, each of them a text of its own.
+fn learned_in(finder: &mut EndFinder<'_>, text: &[u8], size: usize) -> Told {
+    let mut told = (0, 0);
+    for piece in text.chunks(size.max(1)) {
+        told = add_learned(told, finder, piece);
+    }
+    told
+}
+
+/// Those that a search by the plan alone finds.
+fn plain_in(compiled: &Compiled, text: &[u8], size: usize) -> Told {
+    let mut told = (0, 0);
+    for piece in text.chunks(size.max(1)) {
+        told = add_plain(told, compiled, piece);
+    }
+    told
+}
+
+/// Whether both find the same in a text as a whole, four times, and then in pieces of so many bytes.
+fn find_the_same(alloc: Global, compiled: &Compiled, text: &[u8], size: usize) -> Option<bool> {
+    let mut finder = EndFinder::new(alloc, compiled).ok()?;
+    let wanted = plain_in(compiled, text, text.len());
+    for _ in 0..4 {
+        if learned_in(&mut finder, text, text.len()) != wanted {
+            return Some(false);
+        }
+    }
+    let wanted = plain_in(compiled, text, size);
+    Some(learned_in(&mut finder, text, size) == wanted)
+}
+
+/// Whether they do for forty pieces of a text whose halves are of these words.
+fn agree(
+    alloc: Global,
+    fold: Fold,
+    halves: [&[&[u8]]; 2],
+    least: usize,
+    spoilt: u8,
+    size: usize,
+) -> Option<bool> {
+    let [first, second] = halves;
+    let mut draws = Draws { state: 1 };
+    let text = text_of(alloc, &mut draws, first, second)?;
+    let raw = pieces_of(alloc, &mut draws, &text, least, spoilt)?;
+    let compiled = plan_of_pieces(alloc, &raw, fold)?;
+    find_the_same(alloc, &compiled, &text, size)
+}
+
+#[test]
+fn finds_pieces_of_the_text(rt: HostRuntime) {
+    assert_eq!(rt;
+        agree(rt.alloc(), Fold::No, [&WORDS, &WORDS], 4, 0, 50_000),
+        Some(true)
+    );
+}
+
+#[test]
+fn finds_short_ones_too(rt: HostRuntime) {
+    assert_eq!(rt;
+        agree(rt.alloc(), Fold::No, [&WORDS, &WORDS], 2, 0, 50_000),
+        Some(true)
+    );
+}
+
+#[test]
+fn tells_them_from_those_with_a_byte_spoilt(rt: HostRuntime) {
+    assert_eq!(rt;
+        agree(rt.alloc(), Fold::No, [&WORDS, &WORDS], 4, 1, 50_000),
+        Some(true)
+    );
+}
+
+#[test]
+fn finds_them_in_either_case(rt: HostRuntime) {
+    assert_eq!(rt;
+        agree(
+            rt.alloc(),
+            Fold::Ascii,
+            [&CAPITALS, &CAPITALS],
+            4,
+            1,
+            50_000
+        ),
+        Some(true)
+    );
+}
+
+#[test]
+fn goes_on_where_the_text_changes(rt: HostRuntime) {
+    assert_eq!(rt;
+        agree(rt.alloc(), Fold::No, [&WORDS, &FIGURES], 4, 1, 50_000),
+        Some(true)
+    );
+}
+
+#[test]
+fn finds_them_in_texts_of_few_bytes(rt: HostRuntime) {
+    assert_eq!(rt;
+        agree(rt.alloc(), Fold::No, [&WORDS, &WORDS], 2, 1, 13),
+        Some(true)
+    );
+}

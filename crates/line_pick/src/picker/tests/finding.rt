@@ -1,0 +1,106 @@
+//! Pickers by a search that learns from the text, beside those by the plan alone.
+use super::*;
+
+/// Literals of which the text below has some, and pieces of the others.
+const WORDS: &[u8] = b"cats\nbirds\nhorse\nhens\n";
+
+/// Lines of which two hold one of them.
+const LINES: &[u8] = b"a cat or a bird\nbirds\nhouses and hen\nthe horse\n";
+
+/// Their plan.
+fn plan_of_words(alloc: Global) -> Option<Compiled> {
+    let mut raw = RawList::new(alloc);
+    raw.add_file_bytes(WORDS).ok()?;
+    let (list, _) = LitList::normal(alloc, &raw, Fold::No).ok()?;
+    compile(alloc, list).ok()
+}
+
+/// The lines, 10,000 times.
+fn long_text(alloc: Global) -> Option<Vec<u8>> {
+    let mut text = Vec::new(alloc);
+    for _ in 0..10_000 {
+        text.extend_from_slice(LINES).ok()?;
+    }
+    Some(text)
+}
+
+/// What a picker lends of a text whose last seven bytes are a piece of their own.
+fn lent_by(alloc: Global, picker: &mut Picker<'_>, text: &[u8]) -> Option<Vec<u8>> {
+    let (front, rest) = text.split_at(text.len().saturating_sub(7));
+    let mut sink = Kept::new(alloc, Mood::Takes);
+    picker.feed(front, &mut sink).ok()?;
+    picker.feed(rest, &mut sink).ok()?;
+    picker.finish(&mut sink).ok()?;
+    Some(sink.text)
+}
+
+/// What one by the plan alone lends.
+fn lent_plainly(
+    alloc: Global,
+    compiled: &Compiled,
+    rule: LineRule,
+    text: &[u8],
+) -> Option<Vec<u8>> {
+    if !is_in_lines(compiled) {
+        return None;
+    }
+    let mut picker = Picker::new(alloc, Some(compiled), false, rule);
+    lent_by(alloc, &mut picker, text)
+}
+
+/// What one by a search that learns lends.
+fn lent_by_finder(
+    alloc: Global,
+    compiled: &Compiled,
+    rule: LineRule,
+    text: &[u8],
+) -> Option<Vec<u8>> {
+    if !is_in_lines(compiled) {
+        return None;
+    }
+    let finder = EndFinder::new(alloc, compiled).ok()?;
+    let mut picker = Picker::by_finder(alloc, finder, false, rule);
+    lent_by(alloc, &mut picker, text)
+}
+
+/// Whether both lend the same, and some lines.
+fn lend_the_same(alloc: Global, rule: LineRule) -> Option<bool> {
+    let compiled = plan_of_words(alloc)?;
+    let text = long_text(alloc)?;
+    let plain = lent_plainly(alloc, &compiled, rule, &text)?;
+    let learned = lent_by_finder(alloc, &compiled, rule, &text)?;
+    Some(!plain.is_empty() && plain.as_slice() == learned.as_slice())
+}
+
+#[test]
+fn lends_the_same_lines_as_it_learns(rt: HostRuntime) {
+    assert_eq!(rt; lend_the_same(rt.alloc(), PARTS), Some(true));
+}
+
+#[test]
+fn lends_the_same_whole_lines_as_it_learns(rt: HostRuntime) {
+    assert_eq!(rt; lend_the_same(rt.alloc(), WHOLE), Some(true));
+}
+
+/// Whether a picker that was made with what learns hands it back.
+fn hands_back_a_finder(alloc: Global) -> Option<bool> {
+    let compiled = plan_of_words(alloc)?;
+    if !is_in_lines(&compiled) {
+        return None;
+    }
+    let finder = EndFinder::new(alloc, &compiled).ok()?;
+    let picker = Picker::by_finder(alloc, finder, false, PARTS);
+    Some(picker.into_finder().is_some())
+}
+
+/// Whether one that was made without does.
+fn hands_out_a_finder(alloc: Global) -> bool {
+    let picker = Picker::new(alloc, None, true, PARTS);
+    picker.into_finder().is_some()
+}
+
+#[test]
+fn hands_back_what_learned(rt: HostRuntime) {
+    assert_eq!(rt; hands_back_a_finder(rt.alloc()), Some(true));
+    assert_eq!(rt; hands_out_a_finder(rt.alloc()), false);
+}

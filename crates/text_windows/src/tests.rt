@@ -1,0 +1,173 @@
+//! Windows of lists with short literals and with long ones, and of literals whose last bytes a text is full of.
+use crate::windows::Windows;
+use lit_base::{Fold, LitList, RawList};
+use std::alloc::Global;
+
+/// Literals of each length that is marked in its own way.
+const WORDS: [&[u8]; 5] = [b"q", b"xy", b"fox", b"over", b"lazy dogs"];
+
+/// Each of them in turn.
+const WITH_WORDS: &[u8] = b"q xy fox over lazy dogs";
+
+/// The same, with some capitals.
+const WITH_CAPITALS: &[u8] = b"Q xY FOX oVer Lazy DOGS";
+
+/// Where they end there.
+const ENDS: [usize; 5] = [1, 4, 8, 13, 23];
+
+/// Literals that leave room for strides of five places.
+const LONG_WORDS: [&[u8]; 3] = [b"jumps over", b"lazy dog", b"the quick"];
+
+/// Each of them in turn.
+const WITH_LONG_WORDS: &[u8] = b"the quick..jumps over the lazy dog";
+
+/// Where they end there.
+const LONG_ENDS: [usize; 3] = [9, 21, 34];
+
+/// The list of these literals.
+fn list_of(alloc: Global, fold: Fold, literals: &[&[u8]]) -> Option<LitList> {
+    let mut raw = RawList::new(alloc);
+    for literal in literals {
+        raw.push(literal).ok()?;
+    }
+    let (list, _) = LitList::normal(alloc, &raw, fold).ok()?;
+    Some(list)
+}
+
+/// These four bytes, 5,000 times.
+fn sample_of(alloc: Global, bytes: [u8; 4]) -> Option<Vec<u8>> {
+    let mut sample = Vec::new(alloc);
+    for _ in 0..5000 {
+        sample.extend_from_slice(&bytes).ok()?;
+    }
+    Some(sample)
+}
+
+/// Whether the marks of the place so far before an end tell it.
+fn is_told(windows: &Windows<'_>, text: &[u8], end: usize, back: usize) -> bool {
+    let Some(at) = end.checked_sub(back) else {
+        return false;
+    };
+    if back >= 8 || at > text.len() {
+        return false;
+    }
+    (windows.marks_at(text, at) >> back) & 1 == 1
+}
+
+/// Whether they do at one of the places that are so many behind a whole number of strides.
+fn is_met(windows: &Windows<'_>, text: &[u8], end: usize, phase: usize) -> bool {
+    let stride = windows.stride().max(1);
+    for back in 0..8usize {
+        if end.saturating_sub(back) % stride == phase && is_told(windows, text, end, back) {
+            return true;
+        }
+    }
+    false
+}
+
+/// Whether a search by strides meets an end, wherever it begins.
+fn is_always_met(windows: &Windows<'_>, text: &[u8], end: usize) -> bool {
+    for phase in 0..windows.stride() {
+        if !is_met(windows, text, end, phase) {
+            return false;
+        }
+    }
+    true
+}
+
+/// Whether it meets each of these.
+fn are_met(windows: &Windows<'_>, text: &[u8], ends: &[usize]) -> bool {
+    for end in ends {
+        if !is_always_met(windows, text, *end) {
+            return false;
+        }
+    }
+    true
+}
+
+/// Whether it does before it has learned, and behind a sample in which these four bytes come again and again.
+fn meets(
+    alloc: Global,
+    list: &LitList,
+    text: &[u8],
+    ends: &[usize],
+    bytes: [u8; 4],
+) -> Option<(bool, bool)> {
+    let sample = sample_of(alloc, bytes)?;
+    let mut windows = Windows::new(alloc, list).ok()?;
+    let before = are_met(&windows, text, ends);
+    windows.learn(&sample);
+    Some((before, are_met(&windows, text, ends)))
+}
+
+/// That for short and long literals.
+fn meets_words(alloc: Global, fold: Fold, text: &[u8]) -> Option<(bool, bool)> {
+    let list = list_of(alloc, fold, &WORDS)?;
+    meets(alloc, &list, text, &ENDS, *b"dogs")
+}
+
+/// That for long literals alone.
+fn meets_long_words(alloc: Global, bytes: [u8; 4]) -> Option<(bool, bool)> {
+    let list = list_of(alloc, Fold::No, &LONG_WORDS)?;
+    meets(alloc, &list, WITH_LONG_WORDS, &LONG_ENDS, bytes)
+}
+
+#[test]
+fn meets_short_and_long_literals(rt: HostRuntime) {
+    assert_eq!(rt;
+        meets_words(rt.alloc(), Fold::No, WITH_WORDS),
+        Some((true, true))
+    );
+}
+
+#[test]
+fn meets_them_in_either_case(rt: HostRuntime) {
+    assert_eq!(rt;
+        meets_words(rt.alloc(), Fold::Ascii, WITH_CAPITALS),
+        Some((true, true))
+    );
+}
+
+#[test]
+fn meets_long_literals(rt: HostRuntime) {
+    assert_eq!(rt; meets_long_words(rt.alloc(), *b"...."), Some((true, true)));
+}
+
+#[test]
+fn meets_long_literals_of_common_bytes(rt: HostRuntime) {
+    assert_eq!(rt; meets_long_words(rt.alloc(), *b"y do"), Some((true, true)));
+}
+
+/// At how many places of a text there are marks.
+fn count_marked(windows: &Windows<'_>, text: &[u8]) -> usize {
+    let mut count = 0usize;
+    for at in 0..text.len() {
+        if windows.marks_at(text, at) != 0 {
+            count = count.saturating_add(1);
+        }
+    }
+    count
+}
+
+/// How far apart a search for a list looks, and how many marks it may meet in a sample: before it learns from it, and then.
+fn learned(alloc: Global, list: &LitList, sample: &[u8]) -> Option<[(usize, usize); 2]> {
+    let mut windows = Windows::new(alloc, list).ok()?;
+    let before = (windows.stride(), count_marked(&windows, sample));
+    windows.learn(sample);
+    Some([before, (windows.stride(), count_marked(&windows, sample))])
+}
+
+/// That for a literal whose last four bytes are all that the sample has.
+fn moves_off_common_bytes(alloc: Global) -> Option<[(usize, usize); 2]> {
+    let list = list_of(alloc, Fold::No, &[b"abcdxyzt"])?;
+    let sample = sample_of(alloc, *b"xyzt")?;
+    learned(alloc, &list, &sample)
+}
+
+#[test]
+fn marks_rare_bytes_once_it_has_learned(rt: HostRuntime) {
+    assert_eq!(rt;
+        moves_off_common_bytes(rt.alloc()),
+        Some([(1, 4999), (2, 0)])
+    );
+}
