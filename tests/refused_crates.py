@@ -26,12 +26,20 @@ LONG, FEW = re.compile("tests::(agrees_with_a_plain_loop_from_seed_.|finds_an_en
 STARVED = re.compile(rb"(error|there is memory): (OutOfMemory|AllocError|AllocFailed|Kind\(OutOfMemory\))|left: (Err|Some)\(OutOfMemory\)$", re.M)
 # Tests of calls that answer None for want of memory, where a value is wanted; the last is one of mistaken_tests.c.
 TELL_NONE = {
+    "picker::tests::finding::hands_back_what_learned",
+    "picker::tests::finding::lends_the_same_lines_as_it_learns",
+    "picker::tests::finding::lends_the_same_whole_lines_as_it_learns",
     "picker::tests::names_its_faults",
     "picker::tests::whole_lines::selects_empty_lines_too",
     "picker::tests::whole_lines::selects_whole_lines",
     "picker::tests::whole_lines::selects_whole_lines_in_either_case",
     "tests::finds_in_each_of_two_threads_what_the_other_published",
     "tests::finds_what_was_published",
+    "tests::marks_rare_bytes_once_it_has_learned",
+    "tests::meets_long_literals",
+    "tests::meets_long_literals_of_common_bytes",
+    "tests::meets_short_and_long_literals",
+    "tests::meets_them_in_either_case",
     "tests::shows_in_one_thread_what_another_published",
     "tests::tells_two_threads_two_numbers",
     "answers none",
