@@ -16,7 +16,8 @@ pub(crate) const NEVER: u32 = 1 << 24;
 #[derive(Debug, Drop)]
 pub(crate) struct Counts {
     pub counts: Vec<u16>,
-    /// How many windows were counted.
+    /// Half of how many windows were counted, so that an estimate takes a false mark for twice what it costs: the
+    /// constants were chosen with that.
     pub all: usize,
 }
 
