@@ -24,25 +24,26 @@ FIRST, BEHIND = 400, 1.3
 LONG, FEW = re.compile("tests::(agrees_with_a_plain_loop_from_seed_.|finds_an_end_wherever_parts_meet)"), 20
 # How a test that fails shows what it was answered: a fault, or a value that it makes of one.
 STARVED = re.compile(rb"(error|there is memory): (OutOfMemory|AllocError|AllocFailed|Kind\(OutOfMemory\))|left: (Err|Some)\(OutOfMemory\)$", re.M)
-# Tests of calls that answer None for want of memory, where a value is wanted; the last is one of mistaken_tests.c.
+# What the tests of a crate show besides: the fault, or its number 1, beside what was as it is wanted.
+BESIDE = {
+    "lit_base": rb"Some\(\(Err\(OutOfMemory\), 2, true\)\)|Some\(Err\(1\)\)|Some\(\((1, [127]|[27], 1)\)\)",
+    "scan_core": rb"\[Some\(OutOfMemory\), None, None\]",
+    "scan_serve": rb"\[?(\(\w+, true\), )?\(OutOfMemory, true\)(, \(\w+, true\))?\]?|Some\(\(OutOfMemory, \d+\)\)",
+}
+# Tests, by their crates, of calls that answer None for want of memory, where a value is wanted; the last is one of
+# mistaken_tests.c.
 TELL_NONE = {
-    "picker::tests::finding::hands_back_what_learned",
-    "picker::tests::finding::lends_the_same_lines_as_it_learns",
-    "picker::tests::finding::lends_the_same_whole_lines_as_it_learns",
-    "picker::tests::names_its_faults",
-    "picker::tests::whole_lines::selects_empty_lines_too",
-    "picker::tests::whole_lines::selects_whole_lines",
-    "picker::tests::whole_lines::selects_whole_lines_in_either_case",
-    "tests::finds_in_each_of_two_threads_what_the_other_published",
-    "tests::finds_what_was_published",
-    "tests::marks_rare_bytes_once_it_has_learned",
-    "tests::meets_long_literals",
-    "tests::meets_long_literals_of_common_bytes",
-    "tests::meets_short_and_long_literals",
-    "tests::meets_them_in_either_case",
-    "tests::shows_in_one_thread_what_another_published",
-    "tests::tells_two_threads_two_numbers",
-    "answers none",
+    "flow_scan": r"tests::.*",
+    "line_pick": r"picker::tests::(finding::(hands_back_what_learned|lends_the_same_(whole_)?lines_as_it_learns)|names_its_faults"
+    r"|whole_lines::(selects_empty_lines_too|selects_whole_lines(_in_either_case)?))",
+    "lit_base": r"(costs|lit_list|raw_list)::tests::.*",
+    "plan_store": r"tests::(finds_in_each_of_two_threads_what_the_other_published|finds_what_was_published"
+    r"|shows_in_one_thread_what_another_published|tells_two_threads_two_numbers)",
+    "scan_core": r"tests::(counts_the_literals_of_the_normal_form|has_64_streams_open|opens_.*_published|publishes_64_plans"
+    r"|tells_each_end_once_over_many_feeds|tells_hits_in_full_blocks)",
+    "scan_serve": r"tests::serves_more_than_it_holds_at_once",
+    "text_windows": r"tests::(marks_rare_bytes_once_it_has_learned|meets_.*)",
+    "mistaken": "answers none",
 }
 NO_VALUE = re.compile(rb"left: None\n right: Some\(")
 # Tests that do not tell want of memory: of workers that wait for each other, where one does it all if memory for a thread is
@@ -81,7 +82,11 @@ def tests_of(program):
 
 def is_told(test, shown):
     """Whether a test that fails tells want of memory."""
-    return STARVED.search(shown) or (test.name in TELL_NONE and NO_VALUE.search(shown))
+    crate = os.path.basename(test.program).removesuffix("_tests")
+    if crate in BESIDE and re.search(rb"left: (%s)$" % BESIDE[crate], shown, re.M):
+        return True
+    tells_none = re.fullmatch(TELL_NONE.get(crate, ""), test.name)
+    return STARVED.search(shown) or (tells_none and NO_VALUE.search(shown))
 
 
 def ended(folder, test, refused, seconds):

@@ -1,4 +1,5 @@
-//! What no clause says: what comes where a read or a write fails, at each in turn.
+//! What no clause says: what comes where a read or a write fails, at each in turn. Where memory runs out besides, a test
+//! tells it, once what was written by then is seen to be a front.
 use crate::options::GrepOptions;
 use crate::running::run;
 use crate::status::Status;
@@ -14,6 +15,8 @@ const INPUT: &[u8] = b"cat\ndog\nconcat";
 const NEVER: u64 = 99;
 
 const FAULT: &[u8] = b"litgrep: (standard input): cannot be read\n";
+
+const OUT_OF_MEMORY: &[u8] = b"litgrep: out of memory\n";
 
 #[test]
 fn answers_each_read_that_fails(rt: HostRuntime) -> Result<(), Fail> {
@@ -78,9 +81,12 @@ fn gives(
     let mut opener = failing_at(alloc, read)?;
     let mut out_bytes = [0u8; 32];
     let mut out = CutOut::within(&mut out_bytes);
-    let mut err_bytes = [0u8; 64];
+    let mut err_bytes = [0u8; 96];
     let mut err = CutOut::within(&mut err_bytes);
     let got = run(alloc, &options, &mut opener, &mut out, &mut err);
+    if is_starved((output, messages), (out.written(), err.written()), got) {
+        return Err(AllocError);
+    }
     Ok(out.written() == output && err.written() == messages && got == status)
 }
 
@@ -94,7 +100,21 @@ fn stops(alloc: Global, write: u64, output: &[u8]) -> Result<bool, AllocError> {
     let mut err_bytes = [0u8; 64];
     let mut err = CutOut::within(&mut err_bytes);
     let got = run(alloc, &options, &mut opener, &mut out, &mut err);
+    if is_starved((output, b""), (out.written(), err.written()), got) {
+        return Err(AllocError);
+    }
     Ok(out.written() == output && err.written().is_empty() && got == Status::Trouble)
+}
+
+/// Whether a run told want of memory behind fronts of its output and of its messages.
+fn is_starved(wanted: (&[u8], &[u8]), written: (&[u8], &[u8]), status: Status) -> bool {
+    let ((output, messages), (out, err)) = (wanted, written);
+    match err.strip_suffix(OUT_OF_MEMORY) {
+        Some(before) => {
+            output.starts_with(out) && messages.starts_with(before) && status == Status::Trouble
+        }
+        None => false,
+    }
 }
 
 /// The bytes on standard input, at most four a read, of which one fails, counted from 0.

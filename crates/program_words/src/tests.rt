@@ -12,13 +12,20 @@ fn counts_a_flag(rt: HostRuntime) -> Result<(), Fail> {
 
 #[test]
 fn refuses_with_a_text(rt: HostRuntime) -> Result<(), Fail> {
-    let unknown = flags_in(rt.alloc(), "-z");
-    assert!(rt;
-        matches!(&unknown, Err(Fault::Usage { text }) if text.as_str().starts_with("error: "))
-    );
-    let version = flags_in(rt.alloc(), "--version");
-    assert!(rt; matches!(&version, Err(Fault::Usage { text }) if text.as_str() == "try 0.1.0\n"));
+    let unknown = text_of(flags_in(rt.alloc(), "-z"))?;
+    assert!(rt; unknown.as_str().starts_with("error: "));
+    let version = text_of(flags_in(rt.alloc(), "--version"))?;
+    assert_eq!(rt; version.as_str(), "try 0.1.0\n");
     Ok(())
+}
+
+/// The text with which words are refused.
+fn text_of(answer: Result<u64, Fault>) -> Result<String, Fail> {
+    match answer {
+        Err(Fault::Usage { text }) => Ok(text),
+        Err(fault) => Err(fault)?,
+        Ok(_) => Err("the words are taken")?,
+    }
 }
 
 /// How often a word has the flag of a command.
