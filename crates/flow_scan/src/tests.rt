@@ -225,18 +225,23 @@ fn refuses_two(scanner: &mut Scanner, hits: &mut Vec<Hit>) -> bool {
     is_refused && scanner.place() == before && hits.is_empty()
 }
 
-/// Whether it then takes one.
-fn takes_one(scanner: &mut Scanner, hits: &mut Vec<Hit>) -> bool {
-    scanner.feed(b"a", hits).is_ok()
-        && scanner.place() == u64::MAX
-        && hits.as_slice() == [hit(0, u64::MAX)].as_slice()
+/// Whether it then takes one; none where memory ran out, and it is as it was.
+fn takes_one(scanner: &mut Scanner, hits: &mut Vec<Hit>) -> Option<bool> {
+    let before = scanner.place();
+    let fed = scanner.feed(b"a", hits);
+    if fed == Err(Fault::OutOfMemory) && scanner.place() == before && hits.is_empty() {
+        return None;
+    }
+    let is_taken = fed.is_ok() && scanner.place() == u64::MAX;
+    Some(is_taken && hits.as_slice() == [hit(0, u64::MAX)].as_slice())
 }
 
 /// Both, of a scanner by this plan.
 fn refuses_two_and_takes_one(alloc: Global, compiled: &Compiled) -> Option<bool> {
     let mut hits = Vec::new(alloc);
     let mut scanner = Scanner::new_at(alloc, compiled, u64::MAX - 1).ok()?;
-    Some(refuses_two(&mut scanner, &mut hits) && takes_one(&mut scanner, &mut hits))
+    let is_refused = refuses_two(&mut scanner, &mut hits);
+    Some(takes_one(&mut scanner, &mut hits)? && is_refused)
 }
 
 /// Both, of a scanner for a letter.
