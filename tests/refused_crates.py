@@ -20,45 +20,44 @@ TOP = os.path.dirname(os.path.dirname(os.path.abspath(__file__)))
 SECONDS = 60
 # Each of the first growths of a test is refused, and behind them those whose numbers grow by this factor.
 FIRST, BEHIND = 400, 1.3
-# Of tests that do the same thousands of times only so many growths are refused.
-LONG, FEW = re.compile("tests::(agrees_with_a_plain_loop_from_seed_.|finds_an_end_wherever_parts_meet)"), 20
+# Below, a test has its crate's name in front. Of those that do the same thousands of times only so many growths are refused.
+LONG, FEW = re.compile("par_scan::tests::(agrees_with_a_plain_loop_from_seed_.|finds_an_end_wherever_parts_meet)"), 20
 # How a test that fails shows what it was answered: a fault, or a value that it makes of one.
 STARVED = re.compile(rb"(error|there is memory): (OutOfMemory|AllocError|AllocFailed|Kind\(OutOfMemory\))|left: (Err|Some)\(OutOfMemory\)$", re.M)
-# What the tests of a crate show besides: the fault, or its number 1, beside what was as it is wanted.
+# What those of a crate show besides: the fault, or its number 1, with what stands then as it is wanted.
 BESIDE = {
-    "lit_base": rb"Some\(\(Err\(OutOfMemory\), 2, true\)\)|Some\(Err\(1\)\)|Some\(\((1, [127]|[27], 1)\)\)",
+    "lit_base": rb"Some\(\(Err\(OutOfMemory\), 2, true\)\)|Some\(Err\(1\)\)",
     "scan_core": rb"\[Some\(OutOfMemory\), None, None\]",
     "scan_serve": rb"\[?(\(\w+, true\), )?\(OutOfMemory, true\)(, \(\w+, true\))?\]?|Some\(\(OutOfMemory, \d+\)\)",
 }
-# Tests, by their crates, of calls that answer None for want of memory, where a value is wanted; the last is one of
-# mistaken_tests.c.
-TELL_NONE = {
-    "flow_scan": r"tests::.*",
-    "line_pick": r"picker::tests::(finding::(hands_back_what_learned|lends_the_same_(whole_)?lines_as_it_learns)|names_its_faults"
-    r"|whole_lines::(selects_empty_lines_too|selects_whole_lines(_in_either_case)?))",
-    "lit_base": r"(costs|lit_list|raw_list)::tests::.*",
-    "plan_store": r"tests::(finds_in_each_of_two_threads_what_the_other_published|finds_what_was_published"
-    r"|shows_in_one_thread_what_another_published|tells_two_threads_two_numbers)",
-    "scan_core": r"tests::(counts_the_literals_of_the_normal_form|has_64_streams_open|opens_.*_published|publishes_64_plans"
-    r"|tells_each_end_once_over_many_feeds|tells_hits_in_full_blocks)",
-    "scan_serve": r"tests::serves_more_than_it_holds_at_once",
-    "text_windows": r"tests::(marks_rare_bytes_once_it_has_learned|meets_.*)",
-    "mistaken": "answers none",
-}
+# Tests of calls that answer None for want of memory, where a value is wanted; the last is one of mistaken_tests.c.
+TELL_NONE = re.compile(
+    "flow_scan::tests::.*"
+    "|line_pick::picker::tests::(finding::.*|names_its_faults|whole_lines::selects_.*)"
+    "|lit_base::(costs|lit_list|raw_list)::tests::.*"
+    "|plan_store::tests::(finds_.*_published|shows_in_one_thread_what_another_published|tells_two_threads_two_numbers)"
+    "|scan_core::tests::(counts_the_literals_of_the_normal_form|has_64_streams_open|opens_.*_published|publishes_64_plans"
+    "|tells_each_end_once_over_many_feeds|tells_hits_in_full_blocks)"
+    "|scan_serve::tests::serves_more_than_it_holds_at_once"
+    "|text_windows::tests::.*"
+    "|mistaken::answers none"
+)
 NO_VALUE = re.compile(rb"left: None\n right: Some\(")
 # Tests that do not tell want of memory: of workers that wait for each other, where one does it all if memory for a thread is
-# refused, and of threads that publish as much as they can.
+# refused, of threads that publish as much as they can, and of a server's clients, who see no more than that it ends.
 LEFT_OUT = {
-    "tests::runs_two_workers_at_once",
-    "tests::runs_sixteen_workers_at_once",
-    "tests::finds_what_eight_threads_published",
+    "par_scan::tests::runs_two_workers_at_once",
+    "par_scan::tests::runs_sixteen_workers_at_once",
+    "plan_store::tests::finds_what_eight_threads_published",
+    "scan_run::tests::serves_two_clients_at_once",
+    "scan_run::tests::tells_a_client_that_left_inside_a_frame",
 }
 # Tests that may pass where all growths behind one are refused: a thread that is not to be had is done without, and the first
 # and the last want to find nothing at their ends.
 MAY_PASS = {
-    "tests::finds_the_worked_hits",
-    "tests::finds_in_each_of_two_threads_what_the_other_published",
-    "tests::shows_in_one_thread_what_another_published",
+    "par_scan::tests::finds_the_worked_hits",
+    "plan_store::tests::finds_in_each_of_two_threads_what_the_other_published",
+    "plan_store::tests::shows_in_one_thread_what_another_published",
 }
 
 
@@ -67,6 +66,14 @@ class Test(NamedTuple):
 
     program: str
     name: str
+
+    @property
+    def crate(self):
+        return os.path.basename(self.program).removesuffix("_tests")
+
+    @property
+    def path(self):
+        return f"{self.crate}::{self.name}"
 
 
 def program_of(crate):
@@ -77,16 +84,13 @@ def tests_of(program):
     """The tests of a program, but those that are left out."""
     listed = subprocess.run([program, "--list"], capture_output=True, check=True).stdout.decode()
     names = [line.removesuffix(": test") for line in listed.splitlines() if line.endswith(": test")]
-    return [Test(program, name) for name in names if name not in LEFT_OUT]
+    return [test for test in (Test(program, name) for name in names) if test.path not in LEFT_OUT]
 
 
 def is_told(test, shown):
     """Whether a test that fails tells want of memory."""
-    crate = os.path.basename(test.program).removesuffix("_tests")
-    if crate in BESIDE and re.search(rb"left: (%s)$" % BESIDE[crate], shown, re.M):
-        return True
-    tells_none = re.fullmatch(TELL_NONE.get(crate, ""), test.name)
-    return STARVED.search(shown) or (tells_none and NO_VALUE.search(shown))
+    beside = test.crate in BESIDE and re.search(rb"left: (%s)$" % BESIDE[test.crate], shown, re.M)
+    return STARVED.search(shown) or beside or (TELL_NONE.fullmatch(test.path) and NO_VALUE.search(shown))
 
 
 def ended(folder, test, refused, seconds):
@@ -110,7 +114,7 @@ def swept(folder, test, behind, seconds=SECONDS):
     was."""
     found, number = [], 1
     while True:
-        if number > FEW and LONG.fullmatch(test.name):
+        if number > FEW and LONG.fullmatch(test.path):
             return found, ended(folder, test, "none", seconds)[0]
         how, was_refused = ended(folder, test, f"growth-{number}{behind}", seconds)
         if not was_refused:
@@ -122,7 +126,7 @@ def swept(folder, test, behind, seconds=SECONDS):
 def wrong_of(test, found, last, behind):
     """The growths at whose refusal a test ends as it may not. What is refused may be asked for again, but not where all
     behind it is refused."""
-    allowed = ["starved"] if behind and test.name not in MAY_PASS else ["starved", "own"]
+    allowed = ["starved"] if behind and test.path not in MAY_PASS else ["starved", "own"]
     wrong = [(number, how) for number, how in found if how not in allowed]
     return wrong + [(None, last)] * (last != "own")
 
