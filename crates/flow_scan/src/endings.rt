@@ -120,7 +120,7 @@ fn next_sieved(
     let mut start = 0;
     let mut left = CROWD;
     while let Some(end) = candidates.next() {
-        if let Some(first) = list.next_ending(text, end, 0) {
+        if let Some(first) = list.first_ending(text, end) {
             return Ok(Some((end, first)));
         }
         backoff.spend(price);

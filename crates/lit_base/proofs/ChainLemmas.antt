@@ -1,84 +1,81 @@
--- The walk along a chain, and what the classes answer one after another.
-use Rattle.std.proofs.Common.{◌≡◌, ℕ, ◌+◌, ◌-◌, ◌<◌, true, false, ◌≤◌, List, length, get_or, max, IfSome, MatchOption, Option, Some, None, inl, inr, sym, ap, ◌∙◌, subst, arith}
+-- The walk along a chain, and what the widths answer one after another.
+use Rattle.std.proofs.Common.{◌≡◌, ℕ, ◌+◌, ◌<◌, ◌≤◌, true, false, List, [], length, get_or, IfSome, MatchOption, Option, Some, None, inl, inr, sym, ap, ◌∙◌, subst, arith}
+use Rattle.std.specs.List.Sorted.{IsNonDecreasing}
 use Rattle.std.specs.Option.{is_some}
 use Rattle.std.proofs.lemmas.Bool.{cases_eq, cases_lt}
-use Rattle.std.proofs.lemmas.Option.{slice_get_within}
-use Rattle.lit_base.specs.Chains.{IsNextWith, IsClassOf, Reaches, hash_at}
-use Rattle.lit_base.specs.Literals.{Literals}
+use Rattle.std.proofs.lemmas.List.{length-map}
+use Rattle.std.proofs.lemmas.Option.{get_or_from_slice_get, slice_get_within}
+use Rattle.lit_base.specs.Chains.{AreChainsOf, IsFirstTold, IsNextWith, NoneToldEnds, Reaches, hash_at, literal_at, told_at}
+use Rattle.lit_base.specs.Literals.{Literals, lengths}
 use Rattle.lit_base.specs.Occurrences.{Occurs, NoneEnds, IsFirstEnding}
 use Rattle.lit_base.specs.Suffixes.{suffix_key, hash_of}
-use Rattle.lit_base.specs.declared.suffixes.class.SuffixClass.{SuffixClass}
+use Rattle.lit_base.specs.declared.suffixes.chains.SuffixChains.{SuffixChains}
+use Rattle.lit_base.proofs.LengthLemmas.{length_at}
 use Rattle.lit_base.proofs.SuffixLemmas.{AreBytes, key-occurs}
 
-module _ (l : Literals) (text : List ℕ) (end stop : ℕ) (class : SuffixClass) (chains : IsClassOf l class.start stop class) (bytes : AreBytes text) where
-  -- where a literal of the class ends, the text has the key that is kept of it
-  pub kept_key : (i : ℕ) → i < length class.keys.items → Occurs l text (class.start + i) end → get_or class.keys.items i 0 ≡ suffix_key l.folding text end class.width
-  kept_key i inside occurs =
-      let stops = chains.stops in
-      chains.keyed i inside
-      ∙ sym (key-occurs l text (class.start + i) end class.width bytes chains.narrow (chains.wide (class.start + i) (omega arith) (omega arith)) occurs)
+module _ (l : Literals) (text : List ℕ) (end width : ℕ) (chains : SuffixChains) (are : AreChainsOf l chains) (bytes : AreBytes text) (narrow : width ≤ 8) where
+  -- where a literal ends that is told by so many bytes, the text has the key that is kept of it
+  pub kept_key : (place : ℕ) → told_at l place ≡ width → Occurs l text place end → get_or chains.keys.items place 0 ≡ suffix_key l.folding text end width
+  kept_key place told occurs =
+      let there = slice_get_within l.texts place occurs.literal occurs.stands in
+      let wide : width ≤ length (literal_at l place) = omega (arith, told) in
+      are.keyed place there
+      ∙ ap (suffix_key l.folding (literal_at l place) (length (literal_at l place))) told
+      ∙ sym (key-occurs l text place end width bytes narrow wide occurs)
 
   -- one step along the chain
-  pub reaches_link : (least next : ℕ) → next < length class.keys.items → (least ≤ next → ¬ Occurs l text (class.start + next) end) → Reaches l text end class least next
-      → Reaches l text end class least (get_or class.links.items next 0)
-  reaches_link least next inside apart old =
-      let key : ℕ = suffix_key l.folding text end class.width in
-      let step : IsNextWith (hash_at class.bits class.keys.items) (length class.keys.items) (hash_of class.bits key) (next + 1) (get_or class.links.items next 0) =
-      subst (λ h. IsNextWith (hash_at class.bits class.keys.items) (length class.keys.items) h (next + 1) (get_or class.links.items next 0)) (old.has inside) (chains.chained.link next (omega arith) inside) in
-      let far = step.within in
+  pub reaches_link : (from next : ℕ) → next < length l.texts → (from ≤ next → told_at l next ≡ width → ¬ Occurs l text next end) → Reaches l text end width chains from next
+      → Reaches l text end width chains from (get_or chains.links.items next 0)
+  reaches_link from next inside apart old =
+      let key : ℕ = suffix_key l.folding text end width in
+      let step : IsNextWith (hash_at chains.bits chains.keys.items) (length l.texts) (hash_of chains.bits key) (next + 1) (get_or chains.links.items next 0) =
+      subst (λ h. IsNextWith (hash_at chains.bits chains.keys.items) (length l.texts) h (next + 1) (get_or chains.links.items next 0)) (old.has inside) (are.chained.link next (omega arith) inside) in
       record {
         within = step.within;
-        passed = λ i low high occurs. elim (cases_lt i next) [
-          | inl before ↦ old.passed i low before occurs
-          | inr behind ↦ elim (cases_eq i next) [
-            | inl here ↦ apart (omega arith) (subst (λ k. Occurs l text (class.start + k) end) here occurs)
-            | inr later ↦ step.skipped i (omega arith) high (ap (hash_of class.bits) (kept_key i (omega arith) occurs))
+        passed = λ place low high told occurs. elim (cases_lt place next) [
+          | inl before ↦ old.passed place low before told occurs
+          | inr behind ↦ elim (cases_eq place next) [
+            | inl here ↦ apart (omega (arith, low, here)) (subst (λ p. told_at l p ≡ width) here told) (subst (λ p. Occurs l text p end) here occurs)
+            | inr later ↦ step.skipped place (omega (arith, behind, later)) high (ap (hash_of chains.bits) (kept_key place told occurs))
           ]
         ];
         has = step.has;
       }
 
--- no literal from one place up to another ends there
-abbrev pub NoneUpTo : Literals → List ℕ → ℕ → ℕ → ℕ → Type 0
-NoneUpTo l text from stop end = (place : ℕ) → from ≤ place → place < stop → ¬ Occurs l text place end
+-- a literal that comes later is told by no fewer bytes
+pub told_rises : (l : Literals) → IsNonDecreasing (lengths l) → (place other : ℕ) → place ≤ other → other < length l.texts → told_at l place ≤ told_at l other
+told_rises l rising place other low inside =
+    let below = rising place other 0 low (omega (arith, inside, length-map l.texts (length {A = ℕ}))) in
+    omega (arith, below, length_at l.texts place 0 (omega arith), length_at l.texts other 0 inside)
 
--- a literal of the class, by its number in the class
-pub at_number : (l : Literals) (text : List ℕ) (end start place : ℕ) → start ≤ place → Occurs l text place end → Occurs l text (start + (place - start)) end
-at_number l text end start place low occurs =
-    let same : place ≡ start + (place - start) = omega arith in
-    subst (λ p. Occurs l text p end) same occurs
+-- a literal that ends at a place is told by no more bytes than stand before it
+pub fits_before : (l : Literals) (text : List ℕ) (place end : ℕ) → Occurs l text place end → told_at l place ≤ end
+fits_before l text place end occurs = omega (arith, occurs.begins, ap length (get_or_from_slice_get l.texts place occurs.literal [] occurs.stands))
 
--- what a class answers, where the classes before it hold none
-pub with_class : (l : Literals) (text : List ℕ) (from end start to stop : ℕ) (r : Option ℕ) → to ≡ stop → NoneUpTo l text from start end
-    → MatchOption r ((place : ℕ) → max from start ≤ place → place < to → ¬ Occurs l text place end) (λ place. IsFirstEnding l text (max from start) end place)
-    → MatchOption r (NoneUpTo l text from stop end) (λ place. IsFirstEnding l text from end place)
-with_class l text from end start to stop None e before found = λ place low high. elim (cases_lt place start) [
-  | inl earlier ↦ before place low earlier
-  | inr here ↦ found place (omega arith) (omega arith)
-]
-with_class l text from end start to stop (Some p) e before found = record {
-  counted = let low = found.counted in omega arith;
-  occurs = found.occurs;
-  first = λ place low high. elim (cases_lt place start) [
-    | inl earlier ↦ before place low earlier
-    | inr here ↦ found.first place (omega arith) high
-  ];
-}
+-- what the literals of a width answer is none, and so none of them ends there
+pub none_told : (l : Literals) (text : List ℕ) (from end width : ℕ) (r : Option ℕ) → false ≡ is_some r
+    → MatchOption r (NoneToldEnds l text from end width) (λ place. IsFirstTold l text from end width place) → NoneToldEnds l text from end width
+none_told l text from end width None e found = found
+none_told l text from end width (Some p) e found = (cc)
 
--- an answer that is none, and one that is some
-pub at_none : (r : Option ℕ) (N : Type 0) (F : ℕ → Type 0) → false ≡ is_some r → MatchOption r N F → N
-at_none None N F e found = found
-at_none (Some p) N F e found = (cc)
-
-pub at_some : (r : Option ℕ) (N M : Type 0) (F : ℕ → Type 0) → true ≡ is_some r → MatchOption r N F → MatchOption r M F
-at_some None N M F e found = (cc)
-at_some (Some p) N M F e found = found
-
--- the last class ends the literals
-pub with_last : (l : Literals) (text : List ℕ) (from end : ℕ) (r : Option ℕ) → MatchOption r (NoneUpTo l text from (length l.texts) end) (λ place. IsFirstEnding l text from end place)
+-- what they answer is some, and those of smaller widths hold none: it is the first of all
+pub first_by_width : (l : Literals) (text : List ℕ) (from end width : ℕ) (r : Option ℕ) → IsNonDecreasing (lengths l)
+    → ((place : ℕ) → from ≤ place → told_at l place < width → ¬ Occurs l text place end) → true ≡ is_some r
+    → MatchOption r (NoneToldEnds l text from end width) (λ place. IsFirstTold l text from end width place)
     → MatchOption r (NoneEnds l text from end) (λ place. IsFirstEnding l text from end place)
-with_last l text from end None found = λ place low occurs. found place low (slice_get_within l.texts place occurs.literal occurs.stands) occurs
-with_last l text from end (Some p) found = found
+first_by_width l text from end width None rising before e found = (cc)
+first_by_width l text from end width (Some p) rising before e found =
+    let inside = slice_get_within l.texts p found.occurs.literal found.occurs.stands in
+    record {
+      counted = found.counted;
+      occurs = found.occurs;
+      first = λ other low high occurs.
+          let rises = told_rises l rising other p (omega (arith, high)) inside in
+          elim (cases_lt (told_at l other) width) [
+            | inl narrower ↦ before other low narrower occurs
+            | inr wide ↦ found.first other low high (omega (arith, wide, rises, found.told)) occurs
+          ];
+    }
 
 -- what is found is one of the literals
 pub found_within : (l : Literals) (text : List ℕ) (from end : ℕ) (r : Option ℕ) → MatchOption r (NoneEnds l text from end) (λ place. IsFirstEnding l text from end place)

@@ -1,28 +1,42 @@
 -- Checks: a text has the bit of each literal that ends in it.
-use Rattle.std.proofs.Common.{◌≡◌, ℕ, ◌-◌, ◌++◌, replicate, ◌<◌, ◌≤◌, min, List, length, refl, sym, ap, ◌∙◌, subst, arith}
+use Rattle.std.proofs.Common.{◌≡◌, ℕ, ◌-◌, ◌*◌, ◌%◌, ◌^◌, ◌++◌, replicate, ◌<◌, ◌≤◌, List, length, refl, sym, ◌∙◌, subst, arith}
+use Rattle.std.specs.Int.{bit_at, w8}
 use Rattle.std.specs.Int.RustNames.{bit_and, bit_or}
 use Rattle.std.specs.List.{slice_range}
+use Rattle.std.proofs.lemmas.Nat.Bits.{bit_at-lt, bit_at-zero, bit_at_and, bit_at_or, bit_at_set_same}
 use Rattle.std.proofs.lemmas.Option.{slice_get_within}
 use Rattle.lit_base.specs.declared.suffixes.checks.SuffixChecks.{SuffixChecks}
-use Rattle.lit_base.specs.Chains.{literal_at}
+use Rattle.lit_base.specs.Chains.{told_at}
 use Rattle.lit_base.specs.Checks.{AreChecksOf, IsChecked}
 use Rattle.lit_base.specs.Literals.{Literals}
 use Rattle.lit_base.specs.Occurrences.{Occurs}
 use Rattle.lit_base.specs.Suffixes.{last_bits, spelled, suffix_key}
 use Rattle.lit_base.proofs.SuffixLemmas.{AreBytes, key-occurs, masked, spelled_fits}
 
--- where a literal ends, the bit of the bytes before that place is set, by as many of them as the literal has up to eight
+-- where a literal ends, the hash of the bytes before that place that it is told by has the bit of their number
 pub checked-occurs : (l : Literals) (checks : SuffixChecks) (text : List ℕ) (place end : ℕ) → AreChecksOf l checks → AreBytes text → 8 ≤ end → Occurs l text place end
-    → IsChecked checks.bits.items (bit_or (bit_and (spelled (slice_range text (end - 8) end)) (last_bits (min (length (literal_at l place)) 8))) checks.case_bits)
+    → IsChecked checks.widths.items (told_at l place) (bit_or (bit_and (spelled (slice_range text (end - 8) end)) (last_bits (told_at l place))) checks.case_bits)
 unfolding suffix_key
 checked-occurs l checks text place end is bytes room occurs =
     let there = slice_get_within l.texts place occurs.literal occurs.stands in
     let inside : end ≤ length text = occurs.ends in
-    let width : ℕ = min (length (literal_at l place)) 8 in
+    let width : ℕ = told_at l place in
     let narrow : width ≤ 8 = omega arith in
     let word : ℕ = spelled (slice_range text (end - 8) end) in
     let masks : bit_and word (last_bits width) ≡ spelled (replicate (8 - width) 0 ++ slice_range text (end - width) end) =
     masked text end width word bytes narrow room inside (spelled_fits text end bytes room inside) refl in
     let key : bit_or (bit_and word (last_bits width)) checks.case_bits ≡ suffix_key l.folding text end width = λ i. bit_or (masks i) (is.case i) in
     let literal = key-occurs l text place end width bytes narrow (omega arith) occurs in
-    subst (IsChecked checks.bits.items) (sym (key ∙ literal)) (is.checked place there)
+    subst (IsChecked checks.widths.items width) (sym (key ∙ literal)) (is.checked place there)
+
+-- a bit that some widths have stays, whatever is added
+pub width_stays : (widths more place : ℕ) → bit_at widths place ≡ 1 → bit_at (bit_or widths more) place ≡ 1
+width_stays widths more place has = omega (arith, has, bit_at_or widths more place, bit_at-lt (bit_or widths more) place)
+
+-- the bit of a byte is added to them
+pub width_added : (widths byte back : ℕ) → back < 8 → bit_at byte back ≡ 1 → bit_at (bit_or widths (bit_and byte (1 * 2 ^ back % 256))) back ≡ 1
+width_added widths byte back bit has =
+    let one = bit_at_set_same w8 0 back bit in
+    let alone = bit_at_or 0 (1 * 2 ^ back % 256) back in
+    let both = bit_at_and byte (1 * 2 ^ back % 256) back in
+    omega (arith, has, one, alone, both, bit_at-zero back, bit_at_or widths (bit_and byte (1 * 2 ^ back % 256)) back, bit_at-lt (bit_or widths (bit_and byte (1 * 2 ^ back % 256))) back)

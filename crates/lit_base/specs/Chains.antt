@@ -1,10 +1,9 @@
--- Literals chained by the hash of their last bytes: of each class those as long as its width at least, in their order.
+-- Literals chained by the hash of the last bytes that each is told by, in their order.
 use Rattle.std.specs.Prelude.{◌≡◌, ◌≢◌, ℕ, ◌+◌, ◌^◌, ◌<◌, ◌≤◌, List, [], length, slice_index, slice_index_or}
 use Rattle.lit_base.specs.declared.suffixes.chains.SuffixChains.{SuffixChains}
-use Rattle.lit_base.specs.declared.suffixes.class.SuffixClass.{SuffixClass}
 use Rattle.lit_base.specs.Literals.{Literals}
 use Rattle.lit_base.specs.Occurrences.{Occurs}
-use Rattle.lit_base.specs.Suffixes.{suffix_key, hash_of}
+use Rattle.lit_base.specs.Suffixes.{hash_of, suffix_key, told_width}
 
 -- next is the first number from low on that hashes so, or count where there is none below count
 pub record IsNextWith (hash_at : ℕ → ℕ) (count hash low next : ℕ) : Type 0 where
@@ -26,28 +25,36 @@ hash_at bits keys i = hash_of bits (slice_index keys i)
 abbrev pub literal_at : Literals → ℕ → List ℕ
 literal_at l place = slice_index_or l.texts place []
 
--- a class has the literals from one place up to another
-pub record IsClassOf (l : Literals) (start stop : ℕ) (class : SuffixClass) : Type 0 where
-  pub starts : class.start ≡ start
-  pub stops : start + length class.keys.items ≡ stop
-  pub some : 0 < class.width
-  pub narrow : class.width ≤ 8
-  pub hashed : (0 < class.bits) × (class.bits ≤ 32)
-  pub heads_len : length class.heads.items ≡ 2 ^ class.bits
-  pub links_len : length class.links.items ≡ length class.keys.items
-  pub wide : (place : ℕ) → start ≤ place → place < stop → class.width ≤ length (literal_at l place)
-  pub keyed : (i : ℕ) → i < length class.keys.items → slice_index class.keys.items i ≡ suffix_key l.folding (literal_at l (start + i)) (length (literal_at l (start + i))) class.width
-  pub chained : IsChained (hash_at class.bits class.keys.items) (length class.keys.items) 0 class.heads.items class.links.items
+-- by how many of its last bytes the literal at a place is told
+abbrev pub told_at : Literals → ℕ → ℕ
+told_at l place = told_width (length (literal_at l place))
 
--- each literal is in one of the four classes
+-- the key of the last bytes that a text is told by
+abbrev pub told_key : Literals → ℕ → ℕ
+told_key l place = suffix_key l.folding (literal_at l place) (length (literal_at l place)) (told_at l place)
+
+-- all literals are chained, each by its key
 pub record AreChainsOf (l : Literals) (chains : SuffixChains) : Type 0 where
-  pub ones : IsClassOf l 0 chains.twos.start chains.ones
-  pub twos : IsClassOf l chains.twos.start chains.fours.start chains.twos
-  pub fours : IsClassOf l chains.fours.start chains.eights.start chains.fours
-  pub eights : IsClassOf l chains.eights.start (length l.texts) chains.eights
+  pub hashed : (0 < chains.bits) × (chains.bits ≤ 32)
+  pub keys_len : length chains.keys.items ≡ length l.texts
+  pub heads_len : length chains.heads.items ≡ 2 ^ chains.bits
+  pub links_len : length chains.links.items ≡ length l.texts
+  pub keyed : (place : ℕ) → place < length l.texts → slice_index chains.keys.items place ≡ told_key l place
+  pub chained : IsChained (hash_at chains.bits chains.keys.items) (length l.texts) 0 chains.heads.items chains.links.items
 
--- a walk stands on the chain of the text's key, and no literal of the class from least on that it passed ends there
-pub record Reaches (l : Literals) (text : List ℕ) (end : ℕ) (class : SuffixClass) (least next : ℕ) : Type 0 where
-  pub within : next ≤ length class.keys.items
-  pub passed : (i : ℕ) → least ≤ i → i < next → ¬ Occurs l text (class.start + i) end
-  pub has : next < length class.keys.items → hash_at class.bits class.keys.items next ≡ hash_of class.bits (suffix_key l.folding text end class.width)
+-- of the literals from a place of the list on, none that is told by so many bytes ends at a place of the text
+abbrev pub NoneToldEnds : Literals → List ℕ → ℕ → ℕ → ℕ → Type 0
+NoneToldEnds l text from end width = (place : ℕ) → from ≤ place → told_at l place ≡ width → ¬ Occurs l text place end
+
+-- of the literals from a place of the list on that are told by so many bytes, the first that ends at a place of the text
+pub record IsFirstTold (l : Literals) (text : List ℕ) (from end width place : ℕ) : Type 0 where
+  pub counted : from ≤ place
+  pub told : told_at l place ≡ width
+  pub occurs : Occurs l text place end
+  pub first : (other : ℕ) → from ≤ other → other < place → told_at l other ≡ width → ¬ Occurs l text other end
+
+-- a walk stands on the chain of the text's key, and passed no literal from a place on that is told by so many bytes and ends there
+pub record Reaches (l : Literals) (text : List ℕ) (end width : ℕ) (chains : SuffixChains) (from next : ℕ) : Type 0 where
+  pub within : next ≤ length l.texts
+  pub passed : (place : ℕ) → from ≤ place → place < next → told_at l place ≡ width → ¬ Occurs l text place end
+  pub has : next < length l.texts → hash_at chains.bits chains.keys.items next ≡ hash_of chains.bits (suffix_key l.folding text end width)

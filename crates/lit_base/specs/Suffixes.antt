@@ -1,5 +1,5 @@
 -- Keys of the last bytes of a text, by which the literals that may end there are found.
-use Rattle.std.specs.Prelude.{ℕ, ◌+◌, ◌-◌, ◌*◌, ◌/◌, ◌%◌, ◌^◌, List, [], ◌∷◌, ◌++◌, replicate, slice_range}
+use Rattle.std.specs.Prelude.{ℕ, ◌+◌, ◌-◌, ◌*◌, ◌/◌, ◌%◌, ◌^◌, min, List, [], ◌∷◌, ◌++◌, replicate, slice_range}
 use Rattle.std.specs.Int.RustNames.{bit_or}
 use Rattle.lit_base.specs.declared.fold.Fold.{Fold}
 use Rattle.lit_base.specs.declared.fold.Fold.TheVariants.{No, Ascii}
@@ -25,3 +25,7 @@ last_bits width = 2 ^ 64 - 2 ^ (8 * (8 - width))
 -- the hash of a key, of this many bits
 unfoldable pub hash_of : ℕ → ℕ → ℕ
 hash_of bits key = key * 11400714819323198485 % 18446744073709551616 / 2 ^ (64 - bits)
+
+-- by how many of its last bytes a literal of so many is told: by all of them, up to eight
+abbrev pub told_width : ℕ → ℕ
+told_width len = min len 8

@@ -148,6 +148,22 @@ impl LitList {
         self.suffixes.next_ending(&self.literals, text, end, from)
     }
 
+    /// The first of the literals that ends at `end` in the text, if there is one. It answers as `next_ending` from the first
+    /// literal on does, and is faster where mostly none ends: a place where one may is told by few bytes first.
+    #[inline]
+    pub fn first_ending(&self, text: &[u8], end: usize) -> Option<usize>
+        requires { end ≤ length text.now }
+        ensures first { MatchOption result
+            (NoneEnds self.now text.now 0 end)
+            (λ place. IsFirstEnding self.now text.now 0 end place) }
+        ensures within { IfSome result (λ place. place < length self.now.texts) }
+    {
+        if self.literals.len() == 1 {
+            return self.only_ending(text, end, 0);
+        }
+        self.suffixes.first_ending(&self.literals, text, end)
+    }
+
     /// The only literal, if it is from place `from` on and ends at `end`. It is compared at once: by marks and chains a
     /// search for a literal that each seventh line has took 1.12 times as long.
     #[inline]

@@ -1,14 +1,15 @@
 //! The last bytes of a list's literals, by which it is told what ends at a place of a text.
 mod chains;
 mod checks;
-mod class;
 mod key;
 mod marks;
 
-ghost use Rattle.std.specs.Prelude.{ℕ, ◌<◌, ◌≤◌, All, IfOk, IfSome, MatchOption, length, map};
+ghost use Rattle.std.specs.Prelude.{◌≡◌, ℕ, ◌-◌, ◌<◌, ◌≤◌, All, IfOk, MatchOption, length, map};
+ghost use Rattle.std.specs.Int.{bit_at};
 ghost use Rattle.std.specs.List.Sorted.{IsNonDecreasing};
+ghost use Rattle.lit_base.specs.Chains.{told_at};
 ghost use Rattle.lit_base.specs.Checks.{AreSuffixesOf};
-ghost use Rattle.lit_base.specs.Occurrences.{IsFirstEnding, NoneEnds};
+ghost use Rattle.lit_base.specs.Occurrences.{IsFirstEnding, NoneEnds, Occurs};
 ghost use Rattle.lit_base.specs.declared.limits.TheConstants.{MAX_LITERALS};
 
 use crate::fold::Fold;
@@ -16,8 +17,9 @@ use crate::folded_list::FoldedList;
 use crate::literal::Literal;
 use crate::suffixes::chains::SuffixChains;
 use crate::suffixes::checks::SuffixChecks;
+pub(crate) use crate::suffixes::key::told_width;
 pub use crate::suffixes::key::{case_bits, hash_of, last_bits, last_word, suffix_key};
-use crate::suffixes::marks::SuffixMarks;
+use crate::suffixes::marks::{SuffixMarks, is_marked};
 pub use crate::suffixes::marks::{HASH_BITS, mark_literal};
 use std::alloc::{AllocError, Global};
 
@@ -45,6 +47,24 @@ impl Suffixes {
         })
     }
 
+    /// The first of the literals that ends at `end` in the text, if there is one. The marks are asked first, which tell most
+    /// places where none does.
+    #[inline]
+    pub fn first_ending(&self, literals: &FoldedList, text: &[u8], end: usize) -> Option<usize>
+        requires of { AreSuffixesOf literals.now self.now }
+        requires few { length literals.now.texts ≤ MAX_LITERALS }
+        requires rising { IsNonDecreasing (map length literals.now.texts) }
+        requires inside { end ≤ length text.now }
+        ensures { MatchOption result
+            (NoneEnds literals.now text.now 0 end)
+            (λ place. IsFirstEnding literals.now text.now 0 end place) }
+    {
+        if self.marks.rules_out(text, end) {
+            return None;
+        }
+        self.next_ending(literals, text, end, 0)
+    }
+
     /// The first of the literals from place `from` on that ends at `end` in the text, if there is one.
     #[inline]
     pub fn next_ending(
@@ -56,19 +76,50 @@ impl Suffixes {
     ) -> Option<usize>
         requires of { AreSuffixesOf literals.now self.now }
         requires few { length literals.now.texts ≤ MAX_LITERALS }
+        requires rising { IsNonDecreasing (map length literals.now.texts) }
         requires inside { end ≤ length text.now }
         ensures { MatchOption result
             (NoneEnds literals.now text.now from end)
             (λ place. IsFirstEnding literals.now text.now from end place) }
     {
-        if from == 0 {
-            if self.marks.rules_out(text, end) {
-                return None;
-            }
-            if self.checks.rules_out(text, end) {
-                return None;
+        if end < 8 {
+            return self.next_by_widths(literals, text, end, from, u8::MAX);
+        }
+        let widths = self.checks.widths_at(text, end);
+        if widths == 0 {
+            return None;
+        }
+        self.next_by_widths(literals, text, end, from, widths)
+    }
+
+    /// The search of `next_ending` among the literals that are told by some widths: bit `width - 1` stands for those that
+    /// are told by so many bytes. A wider literal comes later in the list.
+    #[inline(never)]
+    fn next_by_widths(
+        &self,
+        literals: &FoldedList,
+        text: &[u8],
+        end: usize,
+        from: usize,
+        widths: u8,
+    ) -> Option<usize>
+        requires of { AreSuffixesOf literals.now self.now }
+        requires few { length literals.now.texts ≤ MAX_LITERALS }
+        requires rising { IsNonDecreasing (map length literals.now.texts) }
+        requires inside { end ≤ length text.now }
+        requires told { (place : ℕ) → Occurs literals.now text.now place end → bit_at widths (told_at literals.now place - 1) ≡ 1 }
+        ensures { MatchOption result
+            (NoneEnds literals.now text.now from end)
+            (λ place. IsFirstEnding literals.now text.now from end place) }
+    {
+        for width in 1..9 {
+            if width <= end && is_marked(widths, width - 1) {
+                let found = self.chains.next_told(literals, text, end, from, width);
+                if found.is_some() {
+                    return found;
+                }
             }
         }
-        self.chains.next_ending(literals, text, end, from)
+        None
     }
 }

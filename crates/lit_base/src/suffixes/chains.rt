@@ -1,84 +1,167 @@
 //! All literals, chained by the hash of their last bytes.
-ghost use Rattle.std.specs.Prelude.{ℕ, ◌<◌, ◌≤◌, All, length, slice_index_or, IfOk, MatchOption, []};
-ghost use Rattle.lit_base.specs.Chains.{AreChainsOf};
-ghost use Rattle.lit_base.specs.Occurrences.{IsFirstEnding, NoneEnds};
+ghost use Rattle.std.specs.Prelude.{◌≡◌, ℕ, ◌^◌, ◌<◌, ◌≤◌, ◌↔◌, All, length, slice_index, slice_index_or, IfOk, IsTrue, MatchOption, []};
+ghost use Rattle.lit_base.specs.Chains.{AreChainsOf, IsChained, IsFirstTold, NoneToldEnds, hash_at, told_at};
+ghost use Rattle.lit_base.specs.Occurrences.{Occurs};
+ghost use Rattle.lit_base.specs.Suffixes.{hash_of, suffix_key, told_width};
 ghost use Rattle.lit_base.specs.declared.limits.TheConstants.{MAX_LITERALS};
 
 use crate::fold::Fold;
 use crate::folded_list::FoldedList;
 use crate::literal::Literal;
-use crate::suffixes::class::SuffixClass;
+use crate::suffixes::key::{hash_of, suffix_key, told_width};
 use std::alloc::{AllocError, Global};
 
-/// The literals in four classes, each by as many last bytes as all of its literals have. In order
-/// of length each class is one run of the literals.
+/// The literals, chained by the hash of the last bytes that each is told by. Each chain rises. The
+/// number of literals stands for none.
 #[derive(Debug, Drop)]
 pub(crate) struct SuffixChains {
-    pub ones: SuffixClass,
-    pub twos: SuffixClass,
-    pub fours: SuffixClass,
-    pub eights: SuffixClass,
+    /// How many bits a hash has.
+    pub bits: usize,
+    /// The key of each literal's last bytes.
+    pub keys: Vec<u64>,
+    /// For each hash the first literal that has it.
+    pub heads: Vec<u16>,
+    /// For each literal the next one with its hash.
+    pub links: Vec<u16>,
 }
 
 impl SuffixChains {
-    /// The chains of literals in order of length.
+    /// The chains of the literals.
     pub fn new(alloc: Global, fold: Fold, literals: &[Literal]) -> Result<SuffixChains, AllocError>
         requires nonempty { All (λ t. 0 < length t) literals.now }
         requires few { length literals.now ≤ MAX_LITERALS }
         ensures { IfOk result (AreChainsOf (record { folding = fold; texts = literals.now })) }
     {
-        let eight = run_start(literals, 8, literals.len());
-        let four = run_start(literals, 4, eight);
-        let two = run_start(literals, 2, four);
+        let keys = keys_of(alloc, fold, literals)?;
+        let bits = table_bits(keys.len());
+        let (heads, links) = chained(alloc, keys.as_slice(), bits)?;
         Ok(SuffixChains {
-            ones: SuffixClass::new(alloc, fold, literals, 1, 0, two)?,
-            twos: SuffixClass::new(alloc, fold, literals, 2, two, four)?,
-            fours: SuffixClass::new(alloc, fold, literals, 4, four, eight)?,
-            eights: SuffixClass::new(alloc, fold, literals, 8, eight, literals.len())?,
+            bits,
+            keys,
+            heads,
+            links,
         })
     }
 
-    /// The first of the literals from place `from` on that ends at `end` in the text, if there is one.
-    #[inline(never)]
-    pub fn next_ending(
+    /// The first of the literals from place `from` on that are told by `width` bytes and end at
+    /// `end` in the text, if there is one.
+    #[inline]
+    pub fn next_told(
         &self,
         literals: &FoldedList,
         text: &[u8],
         end: usize,
         from: usize,
+        width: usize,
     ) -> Option<usize>
         requires of { AreChainsOf literals.now self.now }
         requires few { length literals.now.texts ≤ MAX_LITERALS }
+        requires some { 0 < width }
+        requires narrow { width ≤ 8 }
+        requires room { width ≤ end }
         requires inside { end ≤ length text.now }
         ensures { MatchOption result
-            (NoneEnds literals.now text.now from end)
-            (λ place. IsFirstEnding literals.now text.now from end place) }
+            (NoneToldEnds literals.now text.now from end width)
+            (λ place. IsFirstTold literals.now text.now from end width place) }
     {
-        let one = self.ones.next_ending(literals, text, end, from);
-        if one.is_some() {
-            return one;
+        if self.keys.len() <= from {
+            return None;
         }
-        let two = self.twos.next_ending(literals, text, end, from);
-        if two.is_some() {
-            return two;
+        let key = suffix_key(literals.folding(), text, end, width);
+        let mut next = self.first_with(key, from);
+        while next < self.keys.len() {
+            if from <= next && self.ends_with_key(literals, text, end, key, width, next) {
+                return Some(next);
+            }
+            next = self.links[next] as usize;
         }
-        let four = self.fours.next_ending(literals, text, end, from);
-        if four.is_some() {
-            return four;
+        None
+    }
+
+    /// Whether a literal is told by `width` bytes and ends at `end`, before which the text has the key of so many bytes.
+    fn ends_with_key(
+        &self,
+        literals: &FoldedList,
+        text: &[u8],
+        end: usize,
+        key: u64,
+        width: usize,
+        place: usize,
+    ) -> bool
+        requires of { AreChainsOf literals.now self.now }
+        requires narrow { width ≤ 8 }
+        requires inside { end ≤ length text.now }
+        requires key { key ≡ suffix_key literals.now.folding text.now end width }
+        requires within { place < length literals.now.texts }
+        ensures { IsTrue result ↔ ((told_at literals.now place ≡ width) × Occurs literals.now text.now place end) }
+    {
+        if self.keys[place] != key {
+            return false;
         }
-        self.eights.next_ending(literals, text, end, from)
+        literals.told_len(place) == width && literals.ends_at(place, text, end)
+    }
+
+    /// The first literal from `from` on whose hash is the key's, and perhaps one before: it goes on from the literal before
+    /// `from`, if that one has the key, and else begins at the head of the chain.
+    #[inline]
+    fn first_with(&self, key: u64, from: usize) -> usize
+        requires hashed { (0 < self.now.bits) × (self.now.bits ≤ 32) }
+        requires heads { length self.now.heads.items ≡ 2 ^ self.now.bits }
+        requires links { length self.now.links.items ≡ length self.now.keys.items }
+        requires within { from ≤ length self.now.keys.items }
+        requires chained { IsChained (hash_at self.now.bits self.now.keys.items) (length self.now.keys.items) 0 self.now.heads.items self.now.links.items }
+        ensures within { result ≤ length self.now.keys.items }
+        ensures skipped { (i : ℕ) → from ≤ i → i < result → slice_index self.now.keys.items i ≡ key → ⊥ }
+        ensures has { result < length self.now.keys.items → hash_at self.now.bits self.now.keys.items result ≡ hash_of self.now.bits key }
+    {
+        if 0 < from && self.keys[from - 1] == key {
+            return self.links[from - 1] as usize;
+        }
+        self.heads[hash_of(self.bits, key)] as usize
     }
 }
 
-/// Where the run of literals as long as `width` at least begins that stops at `stop`.
-fn run_start(literals: &[Literal], width: usize, stop: usize) -> usize
-    requires { stop ≤ length literals.now }
-    ensures within { result ≤ stop }
-    ensures wide { (place : ℕ) → result ≤ place → place < stop → width ≤ length (slice_index_or literals.now place []) }
+/// The keys that the literals are told by.
+fn keys_of(alloc: Global, fold: Fold, literals: &[Literal]) -> Result<Vec<u64>, AllocError>
+    requires nonempty { All (λ t. 0 < length t) literals.now }
+    ensures len { IfOk result (λ keys. length keys.items ≡ length literals.now) }
+    ensures keyed { IfOk result (λ keys. (i : ℕ) → i < length keys.items → slice_index keys.items i ≡ suffix_key fold (slice_index_or literals.now i []) (length (slice_index_or literals.now i [])) (told_width (length (slice_index_or literals.now i [])))) }
 {
-    let mut start = stop;
-    while 0 < start && literals[start - 1].as_slice().len() >= width {
-        start -= 1;
+    let mut keys = Vec::with_capacity(alloc, literals.len())?;
+    for place in 0..literals.len() {
+        let literal = literals[place].as_slice();
+        let width = told_width(literal.len());
+        keys.push(suffix_key(fold, literal, literal.len(), width))?;
     }
-    start
+    Ok(keys)
+}
+
+/// The bits of a hash for so many literals: there are more than four times as many hashes.
+fn table_bits(count: usize) -> usize
+    requires { count ≤ MAX_LITERALS }
+    ensures some { 0 < result }
+    ensures few { result ≤ 32 }
+{
+    (4 * count + 1).ilog2() as usize + 1
+}
+
+/// The heads and links of the literals with these keys, made from the last to the first.
+fn chained(alloc: Global, keys: &[u64], bits: usize) -> Result<(Vec<u16>, Vec<u16>), AllocError>
+    requires hashed { (0 < bits) × (bits ≤ 32) }
+    requires few { length keys.now ≤ MAX_LITERALS }
+    ensures heads { IfOk result (λ tables. length tables.0.items ≡ 2 ^ bits) }
+    ensures links { IfOk result (λ tables. length tables.1.items ≡ length keys.now) }
+    ensures chained { IfOk result (λ tables. IsChained (hash_at bits keys.now) (length keys.now) 0 tables.0.items tables.1.items) }
+{
+    let count = keys.len();
+    let mut heads = Vec::from_elem(alloc, count as u16, 1 << bits)?;
+    let mut links = Vec::from_elem(alloc, count as u16, count)?;
+    let mut low = count;
+    while 0 < low {
+        low -= 1;
+        let hash = hash_of(bits, keys[low]);
+        links[low] = heads[hash];
+        heads[hash] = low as u16;
+    }
+    Ok((heads, links))
 }

@@ -1,8 +1,16 @@
 //! Keys of the last bytes of a text, and their hashes.
 ghost use Rattle.std.specs.Prelude.{◌≡◌, ◌+◌, ◌-◌, ◌^◌, ◌<◌, ◌≤◌, ◌++◌, length, replicate, slice_range};
-ghost use Rattle.lit_base.specs.Suffixes.{case_bits, hash_of, last_bits, spelled, suffix_key};
+ghost use Rattle.lit_base.specs.Suffixes.{case_bits, hash_of, last_bits, spelled, suffix_key, told_width};
 
 use crate::fold::Fold;
+
+/// By how many of its last bytes a literal of so many is told: by all of them, up to eight.
+#[inline]
+pub(crate) fn told_width(len: usize) -> usize
+    ensures { result ≡ told_width len }
+{
+    len.min(8)
+}
 
 /// The key of the `width` bytes before `end`. Texts that fold alike have like keys.
 #[inline]

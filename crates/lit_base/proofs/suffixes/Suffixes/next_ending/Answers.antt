@@ -1,15 +1,18 @@
--- Where the hash is not marked, or no check is met, no literal ends.
-use Rattle.std.proofs.Common.{add-zero, arith}
-use Rattle.lit_base.proofs.MarkLemmas.{marked-occurs}
-use Rattle.lit_base.proofs.SuffixLemmas.{are_bytes}
+-- What ends there is told by one of the widths that the checks tell, or by one of all eight.
+use Rattle.std.proofs.Common.{◌≡◌, ◌-◌, arith, ap}
+use Rattle.std.specs.Int.{bit_at}
+use Rattle.std.proofs.lemmas.Nat.Bits.{bit_at-zero, bit_at_ones}
+use Rattle.lit_base.specs.Chains.{told_at}
 use Rattle.lit_base.proofs.suffixes.Suffixes.next_ending.Goals as goal
 
-pub returns-then-rules_out : goal.returns-then-rules_out
-returns-then-rules_out c = λ place low occurs.
-    let text = c.args.text.now in
-    let is = c.requires.of.marks in
-    let out = c.rules_out.ensures.0 c.if-rules_out.true in
-    out.1 (marked-occurs c.args.literals.now c.args.self.now.marks text place c.args.end 0 c.args.end is (are_bytes text c.type_inv.text) (add-zero c.args.end) (omega (arith, is.stride)) out.0 occurs)
+pub next_by_widths-requires-clause-told : goal.next_by_widths-requires-clause-told
+next_by_widths-requires-clause-told c = λ place occurs. bit_at_ones 8 (told_at c.args.literals.now place - 1) (omega arith)
 
-pub returns-then-rules_out-2 : goal.returns-then-rules_out-2
-returns-then-rules_out-2 c = λ place low occurs. c.rules_out-then-from-eq0.ensures c.if-rules_out-2.true c.args.literals.now c.requires.of.checks (place, occurs)
+pub next_by_widths-requires-2-clause-told : goal.next_by_widths-requires-2-clause-told
+next_by_widths-requires-2-clause-told c = λ place occurs. c.widths_at-widths.ensures c.args.literals.now place c.requires.of.checks occurs
+
+pub returns-then-widths-eq0 : goal.returns-then-widths-eq0
+returns-then-widths-eq0 c = λ place low occurs.
+    let has = c.widths_at-widths.ensures c.args.literals.now place c.requires.of.checks occurs in
+    let none : c.widths_at-widths.result ≡ 0 = omega (arith, c.if-widths-eq0.true) in
+    absurd (omega (arith, has, ap (λ w. bit_at w (told_at c.args.literals.now place - 1)) none, bit_at-zero (told_at c.args.literals.now place - 1)))

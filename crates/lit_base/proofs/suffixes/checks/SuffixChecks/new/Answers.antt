@@ -1,8 +1,8 @@
 -- There is a bit for each hash, and in the end every literal has its own set.
-use Rattle.std.proofs.Common.{◌≡◌, ◌<◌, [], length, get_or, min, ◌∙◌, subst, arith, below_more}
+use Rattle.std.proofs.Common.{◌≡◌, ◌<◌, [], length, get_or, ◌∙◌, subst, arith, below_more}
 use Rattle.std.proofs.lemmas.List.{get_or_read}
 use Rattle.lit_base.specs.Checks.{IsChecked}
-use Rattle.lit_base.specs.Suffixes.{suffix_key}
+use Rattle.lit_base.specs.Suffixes.{suffix_key, told_width}
 use Rattle.lit_base.proofs.suffixes.checks.SuffixChecks.new.Goals as goal
 
 pub loop-place-preserved : goal.loop-place-preserved
@@ -13,8 +13,8 @@ loop-place-preserved c =
     record {
       len = c.check_literal.ensures.len ∙ c.loop-place.invariant.len;
       checked = below_more _ _
-          (λ place low. c.check_literal.ensures.kept _ (c.loop-place.invariant.checked place low))
-          (subst (λ t. IsChecked c.check_literal.new.bits.items (suffix_key c.args.fold t (length t) (min (length t) 8))) here c.check_literal.ensures.checked);
+          (λ place low. c.check_literal.ensures.kept _ _ (c.loop-place.invariant.checked place low))
+          (subst (λ t. IsChecked c.check_literal.new.widths.items (told_width (length t)) (suffix_key c.args.fold t (length t) (told_width (length t)))) here c.check_literal.ensures.checked);
     }
 
 pub returns : goal.returns

@@ -1,6 +1,6 @@
 use Rattle.std.proofs.Common.{◌≡◌, ◌≤◌, ◌^◌, length}
 use Rattle.lit_base.specs.Chains.{IsChained, hash_at}
-use Rattle.lit_base.proofs.suffixes.class.chained.Given as goal
+use Rattle.lit_base.proofs.suffixes.chains.chained.Given as goal
 
 -- the literals from the last down to this one are chained
 abbrev pub invariant-loop-low : goal.invariant-loop-low

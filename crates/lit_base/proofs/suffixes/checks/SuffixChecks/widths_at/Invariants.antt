@@ -1,0 +1,10 @@
+use Rattle.std.proofs.Common.{◌≡◌, ℕ, ◌-◌, ◌<◌, ◌≤◌}
+use Rattle.std.specs.Int.{bit_at}
+use Rattle.std.specs.Int.RustNames.{bit_and, bit_or}
+use Rattle.lit_base.specs.Checks.{IsChecked}
+use Rattle.lit_base.specs.Suffixes.{last_bits}
+use Rattle.lit_base.proofs.suffixes.checks.SuffixChecks.widths_at.Given as goal
+
+-- each width passed that a check has is told
+abbrev pub invariant-loop-width : goal.invariant-loop-width
+invariant-loop-width l = (width : ℕ) → l.self.least ≤ width → width < l.width → IsChecked l.self.widths.items width (bit_or (bit_and l.word (last_bits width)) l.self.case_bits) → bit_at l.widths (width - 1) ≡ 1
