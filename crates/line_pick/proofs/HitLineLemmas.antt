@@ -26,7 +26,7 @@ folded-10 No = refl
 folded-10 Ascii = refl
 
 -- a folded text round a newline
-map-newline : (fold : Fold) (front rest : List ℕ) → folded_text fold (front ++ 10 ∷ rest) ≡ folded_text fold front ++ 10 ∷ folded_text fold rest
+pub map-newline : (fold : Fold) (front rest : List ℕ) → folded_text fold (front ++ 10 ∷ rest) ≡ folded_text fold front ++ 10 ∷ folded_text fold rest
 map-newline fold front rest = map-append (folded fold) front (10 ∷ rest) ∙ ap (λ b. folded_text fold front ++ b ∷ folded_text fold rest) (folded-10 fold)
 
 -- a text before the end of its first literal

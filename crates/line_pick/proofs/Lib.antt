@@ -1,4 +1,5 @@
 pub mod AroundHitLines
+pub mod BehindLines
 pub mod Counts
 pub mod Crossing
 pub mod HitLineLemmas

@@ -4,6 +4,12 @@ use Rattle.lit_base.specs.Lines.{IsOnePiece, ended_lines, open_rest}
 use Rattle.lit_base.specs.Literals.{Literals}
 use Rattle.lit_base.specs.Selected.{matches}
 
+-- a text stands in another behind lines that newlines end, or behind nothing
+pub record IsBehindLines (whole text : List ℕ) : Type 0 where
+  pub front : List ℕ
+  pub cut : whole ≡ front ++ text
+  pub closed : open_rest front ≡ []
+
 -- no line that a newline ends in the text holds a literal
 abbrev pub AllMiss : Literals → List ℕ → Type 0
 AllMiss l text = All (λ line. matches l.folding false l.texts line ≡ false) (ended_lines text)

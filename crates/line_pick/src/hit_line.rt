@@ -2,7 +2,7 @@
 ghost use Rattle.std.specs.Prelude.{◌≡◌, [], All, IfSome, MatchOption};
 ghost use Rattle.lit_base.specs.Lines.{IsOnePiece, open_rest};
 ghost use Rattle.flow_scan.specs.NextEnds.{IsNextEnd, NoEndAfter};
-ghost use Rattle.line_pick.specs.HitLines.{AllMiss, IsFirstHitLine};
+ghost use Rattle.line_pick.specs.HitLines.{AllMiss, IsBehindLines, IsFirstHitLine};
 
 use crate::cutting::{split_front, split_near_line};
 use flow_scan::{Compiled, EndFinder, next_end};
@@ -18,13 +18,16 @@ pub(crate) struct HitLine<'t> {
 }
 
 /// The first line of a text of ended lines that holds a literal, if there is one. No line before it
-/// is split.
+/// is split. The text stands in a whole behind other lines, which a search looks back at and need
+/// not begin anew for each line.
 pub(crate) fn first_hit_line<'t>(
     compiled: &Compiled,
     finder: &mut Option<EndFinder<'_>>,
+    whole: &[u8],
     text: &'t [u8],
 ) -> Option<HitLine<'t>>
     requires finder { IfSome finder.old (λ plan. plan ≡ compiled.now) }
+    requires behind { IsBehindLines whole.now text.now }
     requires closed { open_rest text.now ≡ [] }
     requires apart { All IsOnePiece compiled.now.literals.texts }
     ensures same { finder.new ≡ finder.old }
@@ -33,7 +36,7 @@ pub(crate) fn first_hit_line<'t>(
         (λ hit. IsFirstHitLine compiled.now.literals text.now hit.missed.now hit.line.now hit.behind.now) }
 {
     compiled.list().normal_law();
-    let end = next_end_by(compiled, finder, text)?;
+    let end = first_end(compiled, finder, whole, text)?;
     let (front, tail) = text.split_at(end - 1);
     let (missed, head) = split_front(front, text);
     let (ending, behind) = split_near_line(tail)?;
@@ -46,21 +49,45 @@ pub(crate) fn first_hit_line<'t>(
     })
 }
 
-/// The first place of a text at which some literal ends, by the finder if there is one, and else by the plan alone.
-#[inline]
-fn next_end_by(
+/// The first place of a text at which some literal ends, by a search of the whole from there on: no
+/// literal has a newline, so none that ends in the text begins before it.
+#[inline(always)]
+fn first_end(
     compiled: &Compiled,
     finder: &mut Option<EndFinder<'_>>,
+    whole: &[u8],
     text: &[u8],
 ) -> Option<usize>
-    requires { IfSome finder.old (λ plan. plan ≡ compiled.now) }
+    requires finder { IfSome finder.old (λ plan. plan ≡ compiled.now) }
+    requires behind { IsBehindLines whole.now text.now }
+    requires apart { All IsOnePiece compiled.now.literals.texts }
     ensures same { finder.new ≡ finder.old }
     ensures next { MatchOption result
         (NoEndAfter compiled.now.literals text.now 0)
         (IsNextEnd compiled.now.literals text.now 0) }
 {
+    let from = whole.len() - text.len();
+    let end = next_end_behind(compiled, finder, whole, from)?;
+    Some(end - from)
+}
+
+/// The first place of a text behind another one at which some literal ends, by the finder if there is one, and else by the
+/// plan alone.
+#[inline]
+fn next_end_behind(
+    compiled: &Compiled,
+    finder: &mut Option<EndFinder<'_>>,
+    text: &[u8],
+    from: usize,
+) -> Option<usize>
+    requires { IfSome finder.old (λ plan. plan ≡ compiled.now) }
+    ensures same { finder.new ≡ finder.old }
+    ensures next { MatchOption result
+        (NoEndAfter compiled.now.literals text.now from)
+        (IsNextEnd compiled.now.literals text.now from) }
+{
     match finder {
-        Some(finder) => finder.next_end(text, 0),
-        None => next_end(compiled, text, 0),
+        Some(finder) => finder.next_end(text, from),
+        None => next_end(compiled, text, from),
     }
 }

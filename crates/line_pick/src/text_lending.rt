@@ -125,7 +125,7 @@ fn lend_hit_lines<S: Sink>(
     let mut rest = text;
     let mut lines = before;
     let mut credit = CREDIT;
-    while let Some(hit) = first_hit_line(compiled, finder, rest) {
+    while let Some(hit) = first_hit_line(compiled, finder, text, rest) {
         lines = lend_all(rule.invert, hit.missed, lines, sink)?;
         let selected = selects_at_hit(compiled, rule, hit.line);
         lend_if(selected, hit.line, lines, sink)?;

@@ -7,10 +7,10 @@ use Rattle.lane_filter.specs.PlacesAfter.{IsFirstAfter, NoneWithin}
 use Rattle.lane_filter.specs.Sieves.{Passes}
 use Rattle.flow_scan.proofs.Steps.{all_bytes, none_before}
 use Rattle.flow_scan.proofs.endings.next_sieved.Goals as goal
-use Rattle.flow_scan.proofs.endings.next_sieved.Goals.{In_default-next_ending}
+use Rattle.flow_scan.proofs.endings.next_sieved.Goals.{In_default-first_ending}
 
-pub returns-in-Some-next_ending-clause-next : goal.returns-in-Some-next_ending-clause-next
-returns-in-Some-next_ending-clause-next c =
+pub returns-in-Some-first_ending-clause-next : goal.returns-in-Some-first_ending-clause-next
+returns-in-Some-first_ending-clause-next c =
     let l = c.args.list.now in
     let text = c.args.text.now in
     let sieve = c.args.candidates.now.sieve in
@@ -19,12 +19,12 @@ returns-in-Some-next_ending-clause-next c =
     record {
       after = omega (arith, next.after, before.ahead);
       within = rw before.text at c.in-Some.ensures.within;
-      here = (c.in-Some-next_ending.first, c.in-Some-next_ending.ensures.first.occurs);
+      here = (c.in-Some-first_ending.first, c.in-Some-first_ending.ensures.first.occurs);
       first = none_before l sieve text c.args.candidates.now.from c.loop-end.candidates.from c.in-Some.end c.requires.covers (all_bytes text c.type_inv.text) before.none next.quiet;
     }
 
 -- where a candidate is none, nothing ends up to it
-none_to_end : (c : In_default-next_ending) → NoEndUpTo c.args.list.now c.args.text.now c.args.candidates.now.from c.in-Some.end
+none_to_end : (c : In_default-first_ending) → NoEndUpTo c.args.list.now c.args.text.now c.args.candidates.now.from c.in-Some.end
 none_to_end c other after within here =
     let l = c.args.list.now in
     let text = c.args.text.now in
@@ -35,16 +35,16 @@ none_to_end c other after within here =
     elim (cases_lt other end) [
       | inl sooner ↦ none_before l sieve text c.args.candidates.now.from c.loop-end.candidates.from end c.requires.covers (all_bytes text c.type_inv.text) before.none next.quiet other after sooner here
       | inr later ↦ let there : other ≡ end = omega (arith, within, later) in
-          c.in_default-next_ending.ensures.first here.0 (omega arith) (subst (λ e. Occurs l text here.0 e) there here.1)
+          c.in_default-first_ending.ensures.first here.0 (omega arith) (subst (λ e. Occurs l text here.0 e) there here.1)
     ]
 
 -- and the candidate is further on
-end_ahead : (c : In_default-next_ending) → c.args.candidates.now.from ≤ c.in-Some.end
+end_ahead : (c : In_default-first_ending) → c.args.candidates.now.from ≤ c.in-Some.end
 end_ahead c = omega (arith, c.in-Some.ensures.first.after, c.loop-end.invariant.ahead)
 
 pub loop-end-preserved : goal.loop-end-preserved
 loop-end-preserved c =
-    let at = (goal.at.loop-end-preserved c).In_default-next_ending in
+    let at = (goal.at.loop-end-preserved c).In_default-first_ending in
     let before = c.loop-end.invariant in
     let reached : c.next.new.self.from ≡ c.in-Some.end = c.in-Some.ensures.moved in
     record {
@@ -56,7 +56,7 @@ loop-end-preserved c =
 
 pub returns-then-are_close-clause-crowd : goal.returns-then-are_close-clause-crowd
 returns-then-are_close-clause-crowd c =
-    let at = (goal.at.returns-then-are_close-clause-crowd c).In_default-next_ending in
+    let at = (goal.at.returns-then-are_close-clause-crowd c).In_default-first_ending in
     let before = c.loop-end.invariant in
     record {
       after = omega (arith, c.in-Some.ensures.first.after, before.ahead);

@@ -5,7 +5,8 @@ use Rattle.lit_base.specs.Lines.{ended_lines}
 use Rattle.lit_base.specs.Selected.{is_selected}
 use Rattle.line_pick.specs.Lending.{answer_of, numbered}
 use Rattle.line_pick.proofs.AroundHitLines.{hit-closed, hit-count, hit-length, hit-numbered, missed-numbered}
-use Rattle.line_pick.proofs.LentLemmas.{Lent-lines, LentOn, LentOn-front, LentOn-last, answer_to-More}
+use Rattle.line_pick.proofs.BehindLines.{behind-hit, behind-nothing}
+use Rattle.line_pick.proofs.LentLemmas.{Lent-lines, LentOn, LentOn-front, LentOn-last, LentOn-none, answer_to-More}
 use Rattle.line_pick.proofs.text_lending.lend_hit_lines.Goals as goal
 
 pub returns-in_err-lines-clause-lent : goal.returns-in_err-lines-clause-lent
@@ -30,6 +31,16 @@ returns-in_err-lend_if-clause-lent g c =
     rw (p.1, p.2) (LentOn-last (numbered test (after + 1) (ended_lines hit.behind.now))
     (LentOn-front c.loop-hit.invariant.lent parts c.in_ok-lines.ensures.lent) refl c.in_err-lend_if.ensures.lent (answer_to-More c.in_err-lend_if.field-0.0))
 
+pub loop-hit-init : goal.loop-hit-init
+loop-hit-init g c = record {
+  finder = refl;
+  behind = behind-nothing c.args.text.now;
+  closed = c.requires.closed;
+  room = omega arith;
+  count = refl;
+  lent = LentOn-none g.S.Sink.takes c.args.sink.now _;
+}
+
 pub loop-hit-preserved : goal.loop-hit-preserved
 loop-hit-preserved g c =
     let l = c.args.compiled.now.literals in
@@ -39,6 +50,7 @@ loop-hit-preserved g c =
     let parts = hit-numbered l c.args.rule.whole c.args.rule.invert rest hit.missed.now hit.line.now hit.behind.now c.in-Some.ensures.hit c.loop-hit.lines after c.in_ok-lines.ensures.count c.selects_at_hit-selected.result c.selects_at_hit-selected.ensures in
     record {
       finder = c.first_hit_line.ensures.same ∙ c.loop-hit.invariant.finder;
+      behind = behind-hit l c.args.text.now rest hit.missed.now hit.line.now hit.behind.now c.loop-hit.invariant.behind c.in-Some.ensures.hit;
       closed = hit-closed l c.args.rule.whole c.args.rule.invert rest hit.missed.now hit.line.now hit.behind.now c.in-Some.ensures.hit c.loop-hit.invariant.closed;
       room = omega (arith, c.loop-hit.invariant.room, c.in_ok-lines.ensures.bound, hit-length l c.args.rule.whole c.args.rule.invert rest hit.missed.now hit.line.now hit.behind.now c.in-Some.ensures.hit);
       count = omega (arith, c.loop-hit.invariant.count, c.in_ok-lines.ensures.count, hit-count l c.args.rule.whole c.args.rule.invert rest hit.missed.now hit.line.now hit.behind.now c.in-Some.ensures.hit);

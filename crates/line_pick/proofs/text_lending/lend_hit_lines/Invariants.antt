@@ -2,6 +2,7 @@
 use Rattle.std.proofs.Common.{◌≡◌, ◌≤◌, ◌+◌, [], length}
 use Rattle.lit_base.specs.Lines.{ended_lines, open_rest}
 use Rattle.lit_base.specs.Selected.{is_selected}
+use Rattle.line_pick.specs.HitLines.{IsBehindLines}
 use Rattle.line_pick.specs.Lending.{numbered}
 use Rattle.line_pick.proofs.LentLemmas.{LentOn}
 use Rattle.line_pick.proofs.text_lending.lend_hit_lines.Given as goal
@@ -9,6 +10,7 @@ use Rattle.line_pick.proofs.text_lending.lend_hit_lines.Given as goal
 abbrev pub invariant-loop-hit : goal.invariant-loop-hit
 invariant-loop-hit g l = record {
   finder : l.finder ≡ l.fn.finder;
+  behind : IsBehindLines l.text l.rest;
   closed : open_rest l.rest ≡ [];
   room : l.lines + length l.rest ≤ l.fn.before + length l.fn.text;
   count : l.lines + length (ended_lines l.rest) ≡ l.fn.before + length (ended_lines l.fn.text);

@@ -1,7 +1,7 @@
 -- The finder's plan is the plan.
 use Rattle.std.proofs.Common.{◌≡◌, Option, IfSome, ap, subst}
 use Rattle.flow_scan.specs.Plans.{Plan}
-use Rattle.line_pick.proofs.hit_line.next_end_by.Goals as goal
+use Rattle.line_pick.proofs.hit_line.next_end_behind.Goals as goal
 
 pub returns-in-Some-clause-next : goal.returns-in-Some-clause-next
 returns-in-Some-clause-next c =
