@@ -123,6 +123,7 @@ fn usage_of(rt: &(impl Abort + AllocGlobal), texts: &[&str]) -> Result<String, F
     let words = words(rt.alloc(), texts)?;
     match options(rt.alloc(), words.as_slice()) {
         Err(Fault::Usage { text }) => Ok(text),
-        _ => Err("the words are refused")?,
+        Err(fault) => Err(fault)?,
+        Ok(_) => Err("the words are taken")?,
     }
 }

@@ -1,5 +1,6 @@
 //! What no clause says: that a request is answered where there is memory, that numbers begin at 0, and
-//! that a number of another session is found, in another thread too.
+//! that a number of another session is found, in another thread too. Where memory runs out a test tells it, once the
+//! replies are seen to be none.
 use crate::session::Session;
 use crate::together::answered_at_once;
 use lit_base::Fold;
@@ -19,7 +20,7 @@ enum Ask<'a> {
     ShowPlan(u32),
 }
 
-/// What a reply says: of hits how many, and the last place; of a plan its fold, count, cost, runs.
+/// What a reply says: of hits how many, and the last place; of a plan its fold, count, cost, runs; or that memory ran out.
 #[derive(Clone, Copy, Debug, PartialEq, Eq)]
 enum Told {
     Published(u64),
@@ -29,10 +30,23 @@ enum Told {
     Closed(u32),
     Plan(u32, Fold, u16, u64, usize),
     Refused(u32, u8, u16),
+    OutOfMemory,
 }
 
 /// Up to three replies to one request.
 type Replies = [Option<Told>; 3];
+
+/// What stands for them where memory ran out.
+const STARVED: Replies = [Some(Told::OutOfMemory), None, None];
+
+/// The replies, none where memory ran out.
+fn unless_starved(replies: Replies) -> Option<Replies> {
+    if replies == STARVED {
+        None
+    } else {
+        Some(replies)
+    }
+}
 
 /// One reply.
 fn one(said: Told) -> Replies {
@@ -106,7 +120,7 @@ fn request_of(alloc: Global, ask: Ask<'_>) -> Option<Request> {
     })
 }
 
-/// What a session answers to a request; nothing, where memory ran out.
+/// What a session answers to a request; where memory ran out, nothing may be added.
 fn answered<R: Wait>(
     rt: &R,
     alloc: Global,
@@ -116,6 +130,7 @@ fn answered<R: Wait>(
     let mut out = Vec::new(alloc);
     match session.handle(rt, alloc, request, &mut out) {
         Ok(()) => all_said(&out),
+        Err(_) if out.is_empty() => STARVED,
         Err(_) => [None; 3],
     }
 }
@@ -124,11 +139,11 @@ fn answered<R: Wait>(
 fn asked<R: Wait>(rt: &R, alloc: Global, session: &mut Session<'_>, ask: Ask<'_>) -> Replies {
     match request_of(alloc, ask) {
         Some(request) => answered(rt, alloc, session, request),
-        None => [None; 3],
+        None => STARVED,
     }
 }
 
-/// What a session answers to the last of what is asked.
+/// What a session answers to the last of what is asked, or to the first for which memory ran out.
 fn last_answer<R: Wait>(
     rt: &R,
     alloc: Global,
@@ -138,6 +153,9 @@ fn last_answer<R: Wait>(
     let mut last = [None; 3];
     for ask in asks {
         last = asked(rt, alloc, session, *ask);
+        if last == STARVED {
+            return last;
+        }
     }
     last
 }
@@ -146,7 +164,7 @@ fn last_answer<R: Wait>(
 fn last_of<R: Wait>(rt: &R, alloc: Global, asks: &[Ask<'_>]) -> Replies {
     match PlanStore::new(alloc) {
         Ok(store) => last_answer(rt, alloc, &mut Session::new(&store), asks),
-        Err(_) => [None; 3],
+        Err(_) => STARVED,
     }
 }
 
@@ -242,7 +260,7 @@ fn many(alloc: Global, count: u16, others: &[&[u8]]) -> Option<Vec<Vec<u8>>> {
 }
 
 /// What a session of a new store answers to a Publish of many literals, and then to an Open and a
-/// ShowPlan.
+/// ShowPlan; none where memory ran out, and then no plan is shown.
 fn shown_of_many<R: Wait>(
     rt: &R,
     alloc: Global,
@@ -252,7 +270,10 @@ fn shown_of_many<R: Wait>(
     let store = PlanStore::new(alloc).ok()?;
     let mut session = Session::new(&store);
     let first = answered(rt, alloc, &mut session, Request::Publish { fold, literals });
-    let shown = last_answer(rt, alloc, &mut session, &[OPEN, Ask::ShowPlan(7)]);
+    let shown = unless_starved(last_answer(rt, alloc, &mut session, &[OPEN, Ask::ShowPlan(7)]))?;
+    if first == STARVED && shown == refused(7, 13, 0) {
+        return None;
+    }
     Some((first, shown))
 }
 
@@ -285,7 +306,7 @@ fn fed_letters<R: Wait>(rt: &R, alloc: Global, count: usize) -> Option<Replies> 
         OPEN,
         Ask::Feed(7, &letters),
     ];
-    Some(last_of(rt, alloc, &asks))
+    unless_starved(last_of(rt, alloc, &asks))
 }
 
 #[test]
@@ -299,7 +320,12 @@ fn tells_hits_in_full_blocks(rt: HostRuntime) {
 }
 
 /// How many letters `a`, each fed by itself, end `aa` at their own place, the first of a stream aside.
-fn ends_in_letters<R: Wait>(rt: &R, alloc: Global, session: &mut Session<'_>, count: u64) -> u64 {
+fn ends_in_letters<R: Wait>(
+    rt: &R,
+    alloc: Global,
+    session: &mut Session<'_>,
+    count: u64,
+) -> Option<u64> {
     let mut ends = 0;
     for place in 2..=count {
         let wanted = [
@@ -307,74 +333,90 @@ fn ends_in_letters<R: Wait>(rt: &R, alloc: Global, session: &mut Session<'_>, co
             Some(Told::Fed(7, place)),
             None,
         ];
-        if asked(rt, alloc, session, Ask::Feed(7, b"a")) == wanted && ends < count {
+        let said = unless_starved(asked(rt, alloc, session, Ask::Feed(7, b"a")))?;
+        if said == wanted && ends < count {
             ends += 1;
         }
     }
-    ends
+    Some(ends)
 }
 
 /// That, with the first letter fed before; 0 where its replies are others.
-fn ends_of_two<R: Wait>(rt: &R, alloc: Global, session: &mut Session<'_>, count: u64) -> u64 {
+fn ends_of_two<R: Wait>(
+    rt: &R,
+    alloc: Global,
+    session: &mut Session<'_>,
+    count: u64,
+) -> Option<u64> {
     let before = [Ask::Publish(Fold::No, &[b"aa"]), OPEN, Ask::Feed(7, b"a")];
-    if last_answer(rt, alloc, session, &before) != one(Told::Fed(7, 1)) {
-        return 0;
+    if unless_starved(last_answer(rt, alloc, session, &before))? != one(Told::Fed(7, 1)) {
+        return Some(0);
     }
     ends_in_letters(rt, alloc, session, count)
 }
 
 /// That of a session of a new store.
-fn ends_of_new<R: Wait>(rt: &R, alloc: Global, count: u64) -> u64 {
-    match PlanStore::new(alloc) {
-        Ok(store) => ends_of_two(rt, alloc, &mut Session::new(&store), count),
-        Err(_) => 0,
-    }
+fn ends_of_new<R: Wait>(rt: &R, alloc: Global, count: u64) -> Option<u64> {
+    let store = PlanStore::new(alloc).ok()?;
+    ends_of_two(rt, alloc, &mut Session::new(&store), count)
 }
 
 #[test]
 fn tells_each_end_once_over_many_feeds(rt: HostRuntime) {
-    assert_eq!(rt; ends_of_new(&rt, rt.alloc(), 100_000), 99_999);
+    assert_eq!(rt; ends_of_new(&rt, rt.alloc(), 100_000), Some(99_999));
 }
 
 /// How many of so many streams, from 1 on, a session opens by plan 0.
-fn open_up_to<R: Wait>(rt: &R, alloc: Global, session: &mut Session<'_>, count: u32) -> u32 {
+fn open_up_to<R: Wait>(
+    rt: &R,
+    alloc: Global,
+    session: &mut Session<'_>,
+    count: u32,
+) -> Option<u32> {
     let mut opened = 0;
     for stream in 1..=count {
-        let said = asked(rt, alloc, session, Ask::Open(stream, 0));
+        let said = unless_starved(asked(rt, alloc, session, Ask::Open(stream, 0)))?;
         if said == one(Told::Opened(stream)) && opened < count {
             opened += 1;
         }
     }
-    opened
+    Some(opened)
 }
 
 /// How many of so many plans a session publishes under numbers that rise from 0.
-fn publish_up_to<R: Wait>(rt: &R, alloc: Global, session: &mut Session<'_>, count: u64) -> u64 {
+fn publish_up_to<R: Wait>(
+    rt: &R,
+    alloc: Global,
+    session: &mut Session<'_>,
+    count: u64,
+) -> Option<u64> {
     let mut published = 0;
     for number in 0..count {
-        let said = asked(rt, alloc, session, CAT);
+        let said = unless_starved(asked(rt, alloc, session, CAT))?;
         if said == one(Told::Published(number)) && published < count {
             published += 1;
         }
     }
-    published
+    Some(published)
 }
 
 /// How many of 64 streams a session opens, and what it then answers to one more.
 fn opened_beside<R: Wait>(rt: &R, alloc: Global, ask: Ask<'_>) -> Option<(u32, Replies)> {
     let store = PlanStore::new(alloc).ok()?;
     let mut session = Session::new(&store);
-    let _ = asked(rt, alloc, &mut session, CAT);
-    let opened = open_up_to(rt, alloc, &mut session, 64);
-    Some((opened, asked(rt, alloc, &mut session, ask)))
+    let _ = unless_starved(asked(rt, alloc, &mut session, CAT))?;
+    let opened = open_up_to(rt, alloc, &mut session, 64)?;
+    let said = unless_starved(asked(rt, alloc, &mut session, ask))?;
+    Some((opened, said))
 }
 
 /// How many of 64 plans a session publishes, and what it then answers to this.
 fn published_beside<R: Wait>(rt: &R, alloc: Global, ask: Ask<'_>) -> Option<(u64, Replies)> {
     let store = PlanStore::new(alloc).ok()?;
     let mut session = Session::new(&store);
-    let published = publish_up_to(rt, alloc, &mut session, 64);
-    Some((published, asked(rt, alloc, &mut session, ask)))
+    let published = publish_up_to(rt, alloc, &mut session, 64)?;
+    let said = unless_starved(asked(rt, alloc, &mut session, ask))?;
+    Some((published, said))
 }
 
 #[test]
@@ -402,8 +444,8 @@ fn publishes_64_plans(rt: HostRuntime) {
 fn answer_of_another<R: Wait>(rt: &R, alloc: Global, asks: &[Ask<'_>]) -> Option<Replies> {
     let store = PlanStore::new(alloc).ok()?;
     let dog = Ask::Publish(Fold::No, &[b"dog"]);
-    let _ = last_answer(rt, alloc, &mut Session::new(&store), &[dog, CAT]);
-    Some(last_answer(rt, alloc, &mut Session::new(&store), asks))
+    let _ = unless_starved(last_answer(rt, alloc, &mut Session::new(&store), &[dog, CAT]))?;
+    unless_starved(last_answer(rt, alloc, &mut Session::new(&store), asks))
 }
 
 #[test]
