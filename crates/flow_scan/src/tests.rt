@@ -1,4 +1,5 @@
 //! Worked scans, and what no clause says.
+mod choosing;
 mod finding;
 mod single;
 mod spoilt;

@@ -8,16 +8,16 @@ use run_planner::plan;
 use std::alloc::Global;
 
 /// What texts are made of.
-const WORDS: [&[u8]; 12] = [
+pub(super) const WORDS: [&[u8]; 12] = [
     b"con", b"nect", b"ion ", b"sess", b"the ", b"plan", b"ner ", b"of ", b"it", b"ation",
     b"search", b"ed ",
 ];
 
 /// The same, some in capitals.
-const CAPITALS: [&[u8]; 6] = [b"CON", b"nect", b"Ion ", b"sEss", b"the ", b"PLAN"];
+pub(super) const CAPITALS: [&[u8]; 6] = [b"CON", b"nect", b"Ion ", b"sEss", b"the ", b"PLAN"];
 
 /// What texts of another kind are made of.
-const FIGURES: [&[u8]; 6] = [b"0x", b"1f", b"07", b", ", b"00", b"\xff\xfe"];
+pub(super) const FIGURES: [&[u8]; 6] = [b"0x", b"1f", b"07", b", ", b"00", b"\xff\xfe"];
 
 /// How many bytes a text has at least.
 const LEN: usize = 200_000;
@@ -27,13 +27,13 @@ const HALF_LEN: usize = 100_000;
 
 /// Numbers drawn by chance, the same ones each time.
 #[derive(Drop)]
-struct Draws {
-    state: u64,
+pub(super) struct Draws {
+    pub(super) state: u64,
 }
 
 impl Draws {
     /// A number below this one.
-    fn below(&mut self, count: usize) -> usize {
+    pub(super) fn below(&mut self, count: usize) -> usize {
         self.state = self
             .state
             .wrapping_mul(6_364_136_223_846_793_005)
@@ -55,7 +55,12 @@ fn add_words(text: &mut Vec<u8>, draws: &mut Draws, words: &[&[u8]], len: usize)
 }
 
 /// A text whose halves are of these words.
-fn text_of(alloc: Global, draws: &mut Draws, first: &[&[u8]], second: &[&[u8]]) -> Option<Vec<u8>> {
+pub(super) fn text_of(
+    alloc: Global,
+    draws: &mut Draws,
+    first: &[&[u8]],
+    second: &[&[u8]],
+) -> Option<Vec<u8>> {
     let mut text = Vec::new(alloc);
     add_words(&mut text, draws, first, HALF_LEN)?;
     add_words(&mut text, draws, second, LEN)?;
@@ -80,7 +85,7 @@ fn piece_of(
 }
 
 /// Forty such pieces, the shortest of so many bytes, each second one spoilt.
-fn pieces_of(
+pub(super) fn pieces_of(
     alloc: Global,
     draws: &mut Draws,
     text: &[u8],
@@ -99,17 +104,17 @@ fn pieces_of(
 }
 
 /// The plan of these literals.
-fn plan_of_pieces(alloc: Global, raw: &RawList, fold: Fold) -> Option<Compiled> {
+pub(super) fn plan_of_pieces(alloc: Global, raw: &RawList, fold: Fold) -> Option<Compiled> {
     let (list, _) = LitList::normal(alloc, raw, fold).ok()?;
     let certificate = plan(alloc, &list).ok()?;
     Compiled::new(list, certificate).ok()
 }
 
 /// How many ends there are, and a sum that tells their places.
-type Told = (usize, u64);
+pub(super) type Told = (usize, u64);
 
 /// That with one end more.
-fn with_end(told: Told, end: usize) -> Told {
+pub(super) fn with_end(told: Told, end: usize) -> Told {
     let (count, sum) = told;
     (
         count.saturating_add(1),
@@ -155,7 +160,7 @@ fn learned_in(finder: &mut EndFinder<'_>, text: &[u8], size: usize) -> Told {
 }
 
 /// Those that a search by the plan alone finds.
-fn plain_in(compiled: &Compiled, text: &[u8], size: usize) -> Told {
+pub(super) fn plain_in(compiled: &Compiled, text: &[u8], size: usize) -> Told {
     let mut told = (0, 0);
     for piece in text.chunks(size.max(1)) {
         told = add_plain(told, compiled, piece);

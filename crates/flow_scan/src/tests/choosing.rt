@@ -1,0 +1,149 @@
+//! Searches that change their way at places drawn by chance in the middle of a text: by the plan alone, by windows that
+//! some piece of the text chooses, by a search that learns. What they find together is what the plan alone finds.
+use crate::compiled::Compiled;
+use crate::end_finder::EndFinder;
+use crate::searching::next_end;
+use crate::tests::finding::{
+    CAPITALS, Draws, FIGURES, Told, WORDS, pieces_of, plain_in, plan_of_pieces, text_of, with_end,
+};
+use crate::windowed::next_end_by_windows;
+use lit_base::Fold;
+use std::alloc::Global;
+use text_windows::Windows;
+
+/// How far a search has come in a text, and what it has found up to there.
+type Progress = (usize, Told);
+
+/// How many bytes windows are chosen by.
+const SAMPLE: usize = 20_000;
+
+/// So many more ends at most, by the plan alone.
+fn by_plan(compiled: &Compiled, text: &[u8], progress: Progress, count: usize) -> Progress {
+    let (mut from, mut told) = progress;
+    for _ in 0..count {
+        let Some(end) = next_end(compiled, text, from) else {
+            return (text.len(), told);
+        };
+        told = with_end(told, end);
+        from = end;
+    }
+    (from, told)
+}
+
+/// So many, by a search that learns.
+fn by_learning(
+    finder: &mut EndFinder<'_>,
+    text: &[u8],
+    progress: Progress,
+    count: usize,
+) -> Progress {
+    let (mut from, mut told) = progress;
+    for _ in 0..count {
+        let Some(end) = finder.next_end(text, from) else {
+            return (text.len(), told);
+        };
+        told = with_end(told, end);
+        from = end;
+    }
+    (from, told)
+}
+
+/// So many, by windows that a sample chooses.
+fn by_windows(
+    alloc: Global,
+    compiled: &Compiled,
+    text: &[u8],
+    sample: &[u8],
+    progress: Progress,
+    count: usize,
+) -> Option<Progress> {
+    let list = compiled.list();
+    let mut windows = Windows::new(alloc, list).ok()?;
+    windows.learn(sample);
+    let (mut from, mut told) = progress;
+    let mut met = 0;
+    for _ in 0..count {
+        let Some((end, _)) = next_end_by_windows(&windows, list, text, from, &mut met) else {
+            return Some((text.len(), told));
+        };
+        told = with_end(told, end);
+        from = end;
+    }
+    Some((from, told))
+}
+
+/// A piece of a text from somewhere on.
+fn sample_of<'t>(draws: &mut Draws, text: &'t [u8]) -> Option<&'t [u8]> {
+    let (_, behind) = text.split_at_checked(draws.below(text.len()))?;
+    let (sample, _) = behind.split_at_checked(SAMPLE.min(behind.len()))?;
+    Some(sample)
+}
+
+/// The ends that such a search finds in a text.
+fn changing_in(alloc: Global, compiled: &Compiled, draws: &mut Draws, text: &[u8]) -> Option<Told> {
+    let mut finder = EndFinder::new(alloc, compiled).ok()?;
+    let mut progress = (0, (0, 0));
+    for _ in 0..text.len() {
+        let (from, told) = progress;
+        if from >= text.len() {
+            return Some(told);
+        }
+        let count = draws.below(100).saturating_add(1);
+        progress = match draws.below(3) {
+            0 => by_plan(compiled, text, progress, count),
+            1 => by_learning(&mut finder, text, progress, count),
+            _ => {
+                let sample = sample_of(draws, text)?;
+                by_windows(alloc, compiled, text, sample, progress, count)?
+            }
+        };
+    }
+    None
+}
+
+/// Whether it finds what the plan alone finds in a text whose halves are of these words, some of which are its literals.
+fn agrees(
+    alloc: Global,
+    fold: Fold,
+    halves: [&[&[u8]]; 2],
+    least: usize,
+    seed: u64,
+) -> Option<bool> {
+    let [first, second] = halves;
+    let mut draws = Draws { state: seed };
+    let text = text_of(alloc, &mut draws, first, second)?;
+    let raw = pieces_of(alloc, &mut draws, &text, least, 1)?;
+    let compiled = plan_of_pieces(alloc, &raw, fold)?;
+    let wanted = plain_in(&compiled, &text, text.len());
+    Some(changing_in(alloc, &compiled, &mut draws, &text)? == wanted)
+}
+
+#[test]
+fn loses_no_end_between_two_choices(rt: HostRuntime) {
+    for seed in 1..3 {
+        assert_eq!(rt;
+            agrees(rt.alloc(), Fold::No, [&WORDS, &FIGURES], 4, seed),
+            Some(true)
+        );
+    }
+}
+
+#[test]
+fn loses_no_short_end_between_two_choices(rt: HostRuntime) {
+    for seed in 1..3 {
+        assert_eq!(rt;
+            agrees(rt.alloc(), Fold::No, [&FIGURES, &WORDS], 2, seed),
+            Some(true)
+        );
+    }
+}
+
+#[test]
+fn loses_no_end_in_either_case_between_two_choices(rt: HostRuntime) {
+    for seed in 1..3 {
+        assert_eq!(rt;
+            agrees(rt.alloc(), Fold::Ascii, [&CAPITALS, &WORDS], 4, seed),
+            Some(true)
+        );
+    }
+}
