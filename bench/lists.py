@@ -6,8 +6,9 @@
 The literals are made of one to three of a text's own words or syllables. --seed draws other literals and other texts,
 on which no constant of the search was chosen; --lists says how many lists are drawn for each row. The runs are those of
 programs.py, without busybox, which tries each literal in turn. Output and status are compared with GNU grep's. Prints
-the median processor time of each program in milliseconds, and how far litgrep is ahead of the best other one; with
---write the tables go to bench/LISTS.md.
+the least processor time of each program over the turns in milliseconds, since whatever else a shared machine does only
+adds to it, and how far litgrep is ahead of the best other one; with --write the tables go to bench/LISTS.md, and a plot to
+bench/lists.svg.
 """
 import argparse
 import itertools
@@ -21,8 +22,9 @@ import sys
 import sysconfig
 import tempfile
 
-from programs import (COMMON, HERE, MB, UNITS, Row, ahead, best_of_others, differs, english_block, fill, litgreps, log_block,
-                      machine, measure, median, peers, run, word, write_lines)
+from plot import plot_of_lists
+from programs import (COMMON, HERE, MB, UNITS, Row, differs, english_block, fill, litgreps, log_block, machine, measure, peers,
+                      run, word, write_lines)
 
 COUNTS = (5, 10, 30, 100, 300, 1000)
 FEWER = (10, 100, 1000)
@@ -336,10 +338,10 @@ class Result:
 
     def __init__(self, search, found, ours, turns):
         self.name, self.group = search.name, search.group
-        self.times = {name: median(runs, "cpu") * 1000 for name, runs in found.items() if runs}
-        self.ahead = {name: ahead(found, name) for name in ours}
+        self.times = {name: least(runs) for name, runs in found.items() if runs}
+        self.best = min(time for name, time in self.times.items() if name not in ours)
+        self.ahead = {name: self.best / self.times[name] for name in ours}
         self.memory = {name: max(done.memory for done in found[name]) / 1024 for name in ours}
-        self.best = best_of_others(found) * 1000
         self.reading = reading(search.files[0], turns) if search.reads else None
 
     def line(self):
@@ -347,10 +349,15 @@ class Result:
                                        ", ".join("%.2f" % ratio for ratio in self.ahead.values()))
 
 
+def least(runs):
+    """The least processor time of some runs, in milliseconds."""
+    return max(min(done.cpu for done in runs) * 1000, 1e-3)
+
+
 def reading(path, turns):
-    """The milliseconds that reading a file takes, the median of so many turns."""
+    """The milliseconds that reading a file takes, the least of so many turns."""
     words = ["dd", "if=" + path, "of=/dev/null", "bs=128K", "status=none"]
-    return max(median([run(words, None) for _ in range(turns)], "cpu") * 1000, 1e-3)
+    return least([run(words, None) for _ in range(turns)])
 
 
 def gathered(results, key):
@@ -402,10 +409,10 @@ HEAD = """# litgrep beside other greps, with lists of a text's own words
 Seed %d, %d lists of each kind and length, %d turns; the source code is the standard library of Python %s.
 The greatest memory in MiB: %s.
 
-`ahead` is the processor time of the best other grep by litgrep's, the median over the lists: above 1, litgrep is ahead.
-`least` is that of one list."""
+`ahead` is the processor time of the best other grep by litgrep's, each the least of the turns, and the median over the lists:
+above 1, litgrep is ahead. `least` is that of one list."""
 READING = "Reading is that of `dd` in blocks of 128 KiB, in milliseconds; the others are times of it."
-EACH = "Processor time in milliseconds (user and system), the medians of the turns and lists."
+EACH = "Processor time in milliseconds (user and system), the least of the turns and the median of the lists."
 
 
 def as_tables(results, names, options):
@@ -452,6 +459,8 @@ def main():
     if options.write:
         with open(os.path.join(HERE, "LISTS.md"), "w") as out:
             out.write(tables)
+        with open(os.path.join(HERE, "lists.svg"), "w") as out:
+            out.write(plot_of_lists())
     for line in wrong:
         print("other output or status than GNU grep: " + line)
     return 1 if wrong else 0

@@ -1,7 +1,8 @@
 """A plot of ratios as bars, written as SVG: how far ahead, on a scale of powers of two, and which side is the better one.
 
-    python3 bench/plot.py        draws the plots of the tables PROGRAMS.md and SCANNING.md again
+    python3 bench/plot.py        draws the plots of the tables PROGRAMS.md, LISTS.md and SCANNING.md again
 """
+import itertools
 import math
 import os
 
@@ -75,18 +76,31 @@ def scanning_plot(names, rows):
     return as_svg("GB/s of whole texts / those of Hyperscan's block mode", "ours", "Hyperscan", names, rows)
 
 
-def table_of(path):
-    """The heads and the rows of a file's one table."""
-    lines = [line for line in open(os.path.join(HERE, path)) if line.startswith("|")]
+def table_of(path, title):
+    """The heads and the rows of the first table of a file, or of the first behind a title."""
+    with open(os.path.join(HERE, path)) as file:
+        text = file.read()
+    text = text[text.index(title):]
+    lines = list(itertools.takewhile(lambda line: line.startswith("|"),
+                                     itertools.dropwhile(lambda line: not line.startswith("|"), text.splitlines())))
     cells = [[cell.strip() for cell in line.strip().strip("|").split("|")] for line in lines]
     return cells[0], cells[2:]
 
 
-def ratios_of(path, is_ratio):
+def ratios_of(path, is_ratio, title=""):
     """Each row's name, with the cells of the columns whose heads are ratios."""
-    heads, rows = table_of(path)
+    heads, rows = table_of(path, title)
     columns = [k for k, head in enumerate(heads) if is_ratio(head)]
     return [(row[0], [float(row[k]) if row[k] else None for k in columns]) for row in rows]
+
+
+def plot_of_lists():
+    """The plot of the kinds of lists in LISTS.md, for the builds that were measured."""
+    is_ratio = lambda head: head.startswith("ahead")
+    heads, _ = table_of("LISTS.md", "## By kind")
+    builds = [head.replace("ahead", "litgrep").strip() for head in heads if is_ratio(head)]
+    return as_svg("processor time of the best other grep / that of litgrep, medians over lists", "litgrep", "the best other grep",
+                  builds, ratios_of("LISTS.md", is_ratio, "## By kind"))
 
 
 def main():
@@ -97,6 +111,8 @@ def main():
         out.write(programs_plot(levels, programs))
     with open(os.path.join(HERE, "summary.svg"), "w") as out:
         out.write(programs_plot(levels, [row for row in programs if row[0] in SUMMARY]))
+    with open(os.path.join(HERE, "lists.svg"), "w") as out:
+        out.write(plot_of_lists())
     with open(os.path.join(HERE, "scanning.svg"), "w") as out:
         out.write(scanning_plot(levels, scanning))
 
