@@ -21,7 +21,8 @@ SECONDS = 60
 # Each of the first growths of a test is refused, and behind them those whose numbers grow by this factor.
 FIRST, BEHIND = 400, 1.3
 # Below, a test has its crate's name in front. Of those that do the same thousands of times only so many growths are refused.
-LONG, FEW = re.compile("par_scan::tests::(agrees_with_a_plain_loop_from_seed_.|finds_an_end_wherever_parts_meet)"), 20
+LONG, FEW = re.compile("flow_scan::tests::choosing::.*"
+                       "|par_scan::tests::(agrees_with_a_plain_loop_from_seed_.|finds_an_end_wherever_parts_meet)"), 20
 # How a test that fails shows what it was answered: a fault, or a value that it makes of one.
 STARVED = re.compile(rb"(error|there is memory): (OutOfMemory|AllocError|AllocFailed|Kind\(OutOfMemory\))|left: (Err|Some)\(OutOfMemory\)$", re.M)
 # What those of a crate show besides: the fault, or its number 1, with what stands then as it is wanted.
