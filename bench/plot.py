@@ -8,7 +8,7 @@ import os
 
 HEIGHT = 11          # of one bar
 TITLE, SIDES, SCALE, BARS = 16, 34, 50, 60
-LEFT, RIGHT = 270, 760
+LEFT, RIGHT = 290, 780
 LEAST, MOST = -3.0, 5.0
 AHEAD, BEHIND = ("#1b7f4b", "#7cc7a0"), ("#b3372b", "#e39a92")
 SUMMARY = ["log: one rare", "log: -n frequent", "log: -f 100 rare", "english: -i -f 1000 rare", "log: -x -f 1000",
