@@ -29,7 +29,7 @@ literal_at l place = slice_index_or l.texts place []
 abbrev pub told_at : Literals → ℕ → ℕ
 told_at l place = told_width (length (literal_at l place))
 
--- the key of the last bytes that a text is told by
+-- the key of the last bytes that the literal at a place is told by
 abbrev pub told_key : Literals → ℕ → ℕ
 told_key l place = suffix_key l.folding (literal_at l place) (length (literal_at l place)) (told_at l place)
 
