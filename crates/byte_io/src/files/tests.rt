@@ -3,9 +3,8 @@ ghost use Rattle.std.specs.Prelude.{◌≡◌, [], ◌∷◌, ◌++◌, string_b
 
 use super::*;
 use crate::cut_device::{CutIn, CutOut};
-use crate::device::ByteIn;
+use crate::device::{ByteIn, Failed};
 use std::process::Abort;
-use std::test::Fail;
 
 /// What was asked for: a file, standard input, or a new file.
 #[derive(Drop)]
@@ -72,16 +71,19 @@ impl<R: Abort + AllocGlobal> Files for NoFiles<'_, R> {
     }
 }
 
-#[test]
-fn keeps_what_it_is_asked_for(rt: HostRuntime) -> Result<(), Fail> {
+/// Whether no file opens, what standard input gives, whether none is made, and how many asks are kept.
+fn asked_for_each<R: Abort + AllocGlobal>(rt: &R) -> (bool, Result<usize, Failed>, bool, usize) {
     let mut files = NoFiles {
-        rt: &rt,
+        rt,
         asks: Vec::new(rt.alloc()),
     };
-    assert!(rt; files.open_named("a").is_err());
-    let mut input = files.standard_input();
-    assert_eq!(rt; input.read_some(&mut [0; 4]), Ok(0));
-    assert!(rt; files.create_named("b").is_err());
-    assert_eq!(rt; files.asks.len(), 3);
-    Ok(())
+    let is_missing = files.open_named("a").is_err();
+    let given = files.standard_input().read_some(&mut [0; 4]);
+    let is_refused = files.create_named("b").is_err();
+    (is_missing, given, is_refused, files.asks.len())
+}
+
+#[test]
+fn keeps_what_it_is_asked_for(rt: HostRuntime) {
+    assert_eq!(rt; asked_for_each(&rt), (true, Ok(0), true, 3));
 }

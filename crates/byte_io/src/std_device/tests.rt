@@ -3,9 +3,10 @@ ghost use Rattle.std.specs.Prelude.{◌≤◌, IfOk};
 
 use super::*;
 use crate::transfer::{ReadError, read_to_end, write_all};
+use std::alloc::Global;
 use std::io;
 use std::io::Cursor;
-use std::test::Fail;
+use std::process::Abort;
 
 /// A reader and writer that does at each call what the next letter of its script says: `i` is
 /// interrupted by a signal, `e` fails, and a digit moves so many bytes at most. Behind its script
@@ -61,89 +62,129 @@ impl Write for Scripted {
     }
 }
 
-#[test]
-fn reads_again_after_a_signal_and_stops_at_a_fault(rt: HostRuntime) -> Result<(), Fail> {
-    for (script, want, len) in [
-        (b"".as_slice(), Ok(()), 0),
-        (b"23", Ok(()), 5),
-        (b"ii2i3i", Ok(()), 5),
-        (b"e", Err(ReadError::Failed), 0),
-        (b"i2ie3", Err(ReadError::Failed), 2),
-    ] {
-        let mut input = FromRead::new(Scripted::new(script));
-        let mut text = Vec::new(rt.alloc());
-        assert_eq!(rt; read_to_end(&mut input, 100, &mut text), want, "{script:?}");
-        assert_eq!(rt; text.len(), len, "{script:?}");
-        assert_eq!(rt; input.has_failed, want.is_err(), "{script:?}");
+/// The answer to a reading or writing, how many bytes it moved, and whether the device has failed.
+type Moved<E> = (Result<(), E>, usize, bool);
+
+/// What is read by a script.
+fn read_by(alloc: Global, script: &'static [u8]) -> Result<Moved<ReadError>, ReadError> {
+    let mut input = FromRead::new(Scripted::new(script));
+    let mut text = Vec::new(alloc);
+    match read_to_end(&mut input, 100, &mut text) {
+        Err(ReadError::OutOfMemory) => Err(ReadError::OutOfMemory),
+        answer => Ok((answer, text.len(), input.has_failed)),
     }
-    Ok(())
+}
+
+/// Asserts that so many bytes are read by a script before a fault, or to the end.
+fn assert_read<R: Abort + AllocGlobal>(
+    rt: &R,
+    script: &'static [u8],
+    answer: Result<(), ReadError>,
+    len: usize,
+) {
+    let moved = (answer, len, answer.is_err());
+    assert_eq!(*rt; read_by(rt.alloc(), script), Ok(moved), "{script:?}");
 }
 
 #[test]
-fn writes_again_after_a_signal_and_stops_where_nothing_is_taken(
-    rt: HostRuntime,
-) -> Result<(), Fail> {
-    for (script, want, len) in [
-        (b"9".as_slice(), Ok(()), 7),
-        (b"333", Ok(()), 7),
-        (b"ii3i9", Ok(()), 7),
-        (b"0", Err(Failed), 0),
-        (b"30", Err(Failed), 3),
-        (b"2i2e9", Err(Failed), 4),
-    ] {
-        let mut out = ToWrite::new(Scripted::new(script));
-        assert_eq!(rt; write_all(&mut out, b"abcdefg"), want, "{script:?}");
-        assert_eq!(rt; out.has_failed, want.is_err(), "{script:?}");
-        assert_eq!(rt; out.into_inner().moved, len, "{script:?}");
-    }
-    Ok(())
+fn reads_again_after_a_signal_and_stops_at_a_fault(rt: HostRuntime) {
+    assert_read(&rt, b"", Ok(()), 0);
+    assert_read(&rt, b"23", Ok(()), 5);
+    assert_read(&rt, b"ii2i3i", Ok(()), 5);
+    assert_read(&rt, b"e", Err(ReadError::Failed), 0);
+    assert_read(&rt, b"i2ie3", Err(ReadError::Failed), 2);
+}
+
+/// What is written of seven bytes by a script.
+fn written_by(script: &'static [u8]) -> Moved<Failed> {
+    let mut out = ToWrite::new(Scripted::new(script));
+    let answer = write_all(&mut out, b"abcdefg");
+    let has_failed = out.has_failed;
+    (answer, out.into_inner().moved, has_failed)
+}
+
+/// Asserts that so many bytes are written by a script before a fault, or all.
+fn assert_written<R: Abort>(rt: &R, script: &'static [u8], answer: Result<(), Failed>, len: usize) {
+    let moved = (answer, len, answer.is_err());
+    assert_eq!(*rt; written_by(script), moved, "{script:?}");
 }
 
 #[test]
-fn reads_and_writes_bytes_in_memory(rt: HostRuntime) -> Result<(), Fail> {
-    let mut text = Vec::new(rt.alloc());
+fn writes_again_after_a_signal_and_stops_where_nothing_is_taken(rt: HostRuntime) {
+    assert_written(&rt, b"9", Ok(()), 7);
+    assert_written(&rt, b"333", Ok(()), 7);
+    assert_written(&rt, b"ii3i9", Ok(()), 7);
+    assert_written(&rt, b"0", Err(Failed), 0);
+    assert_written(&rt, b"30", Err(Failed), 3);
+    assert_written(&rt, b"2i2e9", Err(Failed), 4);
+}
+
+/// What is read of two readers in memory.
+fn read_in_memory(alloc: Global) -> Result<Vec<u8>, ReadError> {
+    let mut text = Vec::new(alloc);
     read_to_end(&mut FromRead::new(b"abc".as_slice()), 9, &mut text)?;
-    read_to_end(
-        &mut FromRead::new(Cursor::new(b"def".as_slice())),
-        9,
-        &mut text,
-    )?;
-    let mut out = ToWrite::new(Vec::with_capacity(rt.alloc(), text.len())?);
-    write_all(&mut out, text.as_slice())?;
-    write_all(&mut out, b"")?;
-    assert_eq!(rt; out.into_inner().as_slice(), b"abcdef".as_slice());
-    Ok(())
+    let cursor = Cursor::new(b"def".as_slice());
+    read_to_end(&mut FromRead::new(cursor), 9, &mut text)?;
+    Ok(text)
+}
+
+/// What a writer in memory holds of the text, and of none behind it.
+fn written_in_memory(alloc: Global, text: &[u8]) -> Result<Vec<u8>, ReadError> {
+    let mut out = ToWrite::new(Vec::with_capacity(alloc, text.len())?);
+    if write_all(&mut out, text).is_err() || write_all(&mut out, b"").is_err() {
+        return Err(ReadError::Failed);
+    }
+    Ok(out.into_inner())
+}
+
+/// Whether what was read is written.
+fn are_moved_in_memory(alloc: Global) -> Result<bool, ReadError> {
+    let text = read_in_memory(alloc)?;
+    Ok(written_in_memory(alloc, &text)?.as_slice() == b"abcdef".as_slice())
 }
 
 #[test]
-fn fails_where_the_count_of_bytes_could_overflow(rt: HostRuntime) -> Result<(), Fail> {
+fn reads_and_writes_bytes_in_memory(rt: HostRuntime) {
+    assert_eq!(rt; are_moved_in_memory(rt.alloc()), Ok(true));
+}
+
+/// The answers to reads of so many bytes, where three more can be counted, and whether the first one
+/// failed the device.
+fn answers_at_the_last_count() -> (Result<usize, Failed>, bool, [Result<usize, Failed>; 3]) {
     let mut input = FromRead::new(b"abcdef".as_slice());
     input.given = u64::MAX - 3;
     let mut buf = [0; 4];
-    assert_eq!(rt; input.read_some(&mut buf), Err(Failed));
-    assert_eq!(rt; input.has_failed, true);
-    assert_eq!(rt; input.read_some(&mut buf[..3]), Ok(3));
-    assert_eq!(rt; input.read_some(&mut buf[..0]), Ok(0));
-    assert_eq!(rt; input.read_some(&mut buf[..1]), Err(Failed));
-    Ok(())
+    let first = input.read_some(&mut buf);
+    let has_failed = input.has_failed;
+    let second = input.read_some(&mut buf[..3]);
+    let third = input.read_some(&mut buf[..0]);
+    (
+        first,
+        has_failed,
+        [second, third, input.read_some(&mut buf[..1])],
+    )
 }
 
 #[test]
-fn reads_and_writes_64_mebibytes(rt: HostRuntime) -> Result<(), Fail> {
-    let text = vec![in rt.alloc(); b'x'; mebibytes(64)]?;
-    let mut out = ToWrite::new(Vec::with_capacity(rt.alloc(), text.len())?);
-    write_all(&mut out, text.as_slice())?;
-    let written = out.into_inner();
-    assert_eq!(rt; written.len(), text.len());
-    let mut read = Vec::new(rt.alloc());
-    read_to_end(
-        &mut FromRead::new(written.as_slice()),
-        text.len(),
-        &mut read,
-    )?;
-    assert_eq!(rt; read.len(), text.len());
-    assert_eq!(rt; read.last(), Some(&b'x'));
-    Ok(())
+fn fails_where_the_count_of_bytes_could_overflow(rt: HostRuntime) {
+    let wanted = (Err(Failed), true, [Ok(3), Ok(0), Err(Failed)]);
+    assert_eq!(rt; answers_at_the_last_count(), wanted);
+}
+
+/// How many bytes are written of so many and read again, and the last of them.
+fn moved_of(alloc: Global, len: usize) -> Result<(usize, usize, Option<u8>), ReadError> {
+    let text = vec![in alloc; b'x'; len]?;
+    let written = written_in_memory(alloc, &text)?;
+    let mut read = Vec::new(alloc);
+    let mut input = FromRead::new(written.as_slice());
+    read_to_end(&mut input, len, &mut read)?;
+    Ok((written.len(), read.len(), read.last().copied()))
+}
+
+#[test]
+fn reads_and_writes_64_mebibytes(rt: HostRuntime) {
+    let len = mebibytes(64);
+    assert_eq!(rt; moved_of(rt.alloc(), len), Ok((len, len, Some(b'x'))));
 }
 
 fn mebibytes(count: u8) -> usize {

@@ -5,35 +5,53 @@ use crate::transfer::{ReadError, read_to_end, write_all};
 use std::path::PathBuf;
 use std::test::Fail;
 
+/// Whether a file of the name can be made and given these bytes.
+fn is_made(rt: &HostRuntime, name: &str, bytes: &[u8]) -> bool {
+    match SystemFiles::new(rt, rt.stdin()).create_named(name) {
+        Ok(mut made) => write_all(&mut made, bytes).is_ok(),
+        Err(Missing) => false,
+    }
+}
+
+/// What the file of the name gives to its end, if it opens; the name is removed before it is read.
+fn text_of(rt: &HostRuntime, name: &str) -> Result<Vec<u8>, Fail> {
+    let opened = SystemFiles::new(rt, rt.stdin()).open_named(name);
+    fs::remove_file(rt, name)?;
+    let mut file = opened.map_err(|_| "it is there")?;
+    let mut text = Vec::new(rt.alloc());
+    read_to_end(&mut file, 100, &mut text)?;
+    Ok(text)
+}
+
 #[test]
 fn makes_a_file_and_opens_it(rt: HostRuntime) -> Result<(), Fail> {
     let path = path_of(&rt, "made")?;
     let name = path.as_path().as_str();
-    let mut files = SystemFiles::new(&rt, rt.stdin());
-    let mut made = files.create_named(name).map_err(|_| "it can be made")?;
-    assert!(rt; write_all(&mut made, b"two\nlines").is_ok());
-    let opened = files.open_named(name);
-    fs::remove_file(&rt, name)?;
-    let mut text = Vec::new(rt.alloc());
-    let mut file = opened.map_err(|_| "it is there")?;
-    read_to_end(&mut file, 100, &mut text)?;
+    assert!(rt; is_made(&rt, name, b"two\nlines"));
+    let text = text_of(&rt, name)?;
     assert_eq!(rt; text.as_slice(), b"two\nlines".as_slice());
     Ok(())
+}
+
+/// Whether a file of the name opens.
+fn is_there(rt: &HostRuntime, name: &str) -> bool {
+    SystemFiles::new(rt, rt.stdin()).open_named(name).is_ok()
+}
+
+/// How the reading of a folder fails, if it opens.
+fn fault_of_folder(rt: &HostRuntime) -> Option<ReadError> {
+    let opened = SystemFiles::new(rt, rt.stdin()).open_named("/");
+    let mut text = Vec::new(rt.alloc());
+    read_to_end(&mut opened.ok()?, 100, &mut text).err()
 }
 
 #[test]
 fn tells_what_is_missing(rt: HostRuntime) -> Result<(), Fail> {
     let path = path_of(&rt, "missing")?;
-    let mut files = SystemFiles::new(&rt, rt.stdin());
-    assert!(rt; files.open_named(path.as_path().as_str()).is_err());
-    assert!(rt; files.create_named("/").is_err());
+    assert!(rt; !is_there(&rt, path.as_path().as_str()));
+    assert!(rt; !is_made(&rt, "/", b""));
     // A directory opens, and its reading fails.
-    let mut text = Vec::new(rt.alloc());
-    let mut folder = files.open_named("/").map_err(|_| "a folder opens")?;
-    assert_eq!(rt;
-        read_to_end(&mut folder, 100, &mut text),
-        Err(ReadError::Failed)
-    );
+    assert_eq!(rt; fault_of_folder(&rt), Some(ReadError::Failed));
     Ok(())
 }
 
