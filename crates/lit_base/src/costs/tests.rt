@@ -3,6 +3,7 @@ use super::*;
 use crate::fold::Fold;
 use crate::raw_list::RawList;
 use std::alloc::Global;
+use std::process::Abort;
 
 /// The weights by their shortest lengths, from 1 on, and what groups of one and of two literals cost.
 static TABLE: [(u64, u64, u64); 9] = [
@@ -17,15 +18,21 @@ static TABLE: [(u64, u64, u64); 9] = [
     (8, 208, 232),
 ];
 
-#[test]
-fn weighs_and_prices_by_the_table(rt: HostRuntime) {
+/// The first shortest length at which the table has other numbers.
+fn first_wrong_row() -> Option<usize> {
     for (place, row) in TABLE.iter().enumerate() {
         let shortest = place + 1;
-        let found = (weight(shortest), cost(1, shortest), cost(2, shortest));
-        assert_eq!(rt; found, *row, "at {shortest}");
+        if (weight(shortest), cost(1, shortest), cost(2, shortest)) != *row {
+            return Some(shortest);
+        }
     }
-    assert_eq!(rt; weight(4095), 8);
-    assert_eq!(rt; cost(1024, 1), 4_294_967_496);
+    None
+}
+
+#[test]
+fn weighs_and_prices_by_the_table(rt: HostRuntime) {
+    assert_eq!(rt; first_wrong_row(), None);
+    assert_eq!(rt; (weight(4095), cost(1024, 1)), (8, 4_294_967_496));
 }
 
 /// The normal form of the words of a text.
@@ -136,12 +143,20 @@ fn price_of_two(alloc: Global, numbers: &[u8]) -> Option<Option<u64>> {
     Some(price_in_buckets(&list, numbers))
 }
 
+/// Asserts that it is this.
+fn assert_two<R: Abort + AllocGlobal>(rt: &R, numbers: &[u8], price: Option<u64>) {
+    assert_eq!(*rt;
+        price_of_two(rt.alloc(), numbers),
+        Some(price),
+        "{numbers:?}"
+    );
+}
+
 #[test]
 fn prices_a_bucket_by_its_shortest(rt: HostRuntime) {
-    let alloc = rt.alloc();
-    assert_eq!(rt; price_of_two(alloc, &[0, 0]), Some(Some(16584)));
-    assert_eq!(rt; price_of_two(alloc, &[7, 7]), Some(Some(16584)));
-    assert_eq!(rt; price_of_two(alloc, &[0, 1]), Some(Some(4647)));
-    assert_eq!(rt; price_of_two(alloc, &[0, 8]), Some(None));
-    assert_eq!(rt; price_of_two(alloc, &[0]), Some(None));
+    assert_two(&rt, &[0, 0], Some(16584));
+    assert_two(&rt, &[7, 7], Some(16584));
+    assert_two(&rt, &[0, 1], Some(4647));
+    assert_two(&rt, &[0, 8], None);
+    assert_two(&rt, &[0], None);
 }

@@ -2,6 +2,7 @@
 mod spoilt;
 
 use super::*;
+use std::process::Abort;
 
 /// A raw list of these patterns.
 fn raw_of(alloc: Global, patterns: &[&[u8]]) -> Option<RawList> {
@@ -10,6 +11,12 @@ fn raw_of(alloc: Global, patterns: &[&[u8]]) -> Option<RawList> {
         raw.push(pattern).ok()?;
     }
     Some(raw)
+}
+
+/// The normal form of a raw list.
+fn normal_of(alloc: Global, raw: &RawList, fold: Fold) -> Option<LitList> {
+    let (list, _) = LitList::normal(alloc, raw, fold).ok()?;
+    Some(list)
 }
 
 /// Whether these are the list's literals, in order.
@@ -25,6 +32,12 @@ fn has_literals(list: &LitList, literals: &[&[u8]]) -> bool {
     true
 }
 
+/// Whether patterns stand at these places of a normal form, and a null one where a place is none.
+fn stand_at(normal: &Normal, places: &[Option<u16>]) -> bool {
+    let is_told = normal.has_empty == places.contains(&None);
+    is_told && normal.place_of.as_slice() == places
+}
+
 /// Whether these patterns have these literals in normal form, and stand there at these places.
 fn is_normal_form(
     alloc: Global,
@@ -35,13 +48,8 @@ fn is_normal_form(
 ) -> Option<bool> {
     let raw = raw_of(alloc, patterns)?;
     let (list, normal) = LitList::normal(alloc, &raw, fold).ok()?;
-    let is_told = normal.has_empty == places.contains(&None);
-    Some(
-        has_literals(&list, literals)
-            && list.fold() == fold
-            && is_told
-            && normal.place_of.as_slice() == places,
-    )
+    let is_list = has_literals(&list, literals) && list.fold() == fold;
+    Some(is_list && stand_at(&normal, places))
 }
 
 #[test]
@@ -90,17 +98,16 @@ fn literals_of_pairs(alloc: Global, count: u16, fold: Fold) -> Option<Result<usi
     }
 }
 
+/// Asserts that it is so many, or that number.
+fn assert_pairs<R: Abort + AllocGlobal>(rt: &R, count: u16, fold: Fold, wanted: Result<usize, u8>) {
+    assert_eq!(*rt; literals_of_pairs(rt.alloc(), count, fold), Some(wanted));
+}
+
 #[test]
 fn takes_1024_literals_and_refuses_more_by_6(rt: HostRuntime) {
-    assert_eq!(rt;
-        literals_of_pairs(rt.alloc(), 1023, Fold::Ascii),
-        Some(Ok(1024))
-    );
-    assert_eq!(rt; literals_of_pairs(rt.alloc(), 1023, Fold::No), Some(Err(6)));
-    assert_eq!(rt;
-        literals_of_pairs(rt.alloc(), 1024, Fold::Ascii),
-        Some(Err(6))
-    );
+    assert_pairs(&rt, 1023, Fold::Ascii, Ok(1024));
+    assert_pairs(&rt, 1023, Fold::No, Err(6));
+    assert_pairs(&rt, 1024, Fold::Ascii, Err(6));
 }
 
 /// So many patterns of 256 bytes, of which 1,024 differ.
@@ -146,36 +153,45 @@ fn count_at(list: &LitList, text: &[u8], end: usize) -> usize {
 }
 
 /// How many end at each place up to the eighth, a digit each.
-fn digits_of(alloc: Global, fold: Fold, patterns: &[&[u8]], text: &[u8]) -> Option<u64> {
-    let raw = raw_of(alloc, patterns)?;
-    let (list, _) = LitList::normal(alloc, &raw, fold).ok()?;
+fn digits_in(list: &LitList, text: &[u8]) -> u64 {
     let mut digits = 0u64;
     for end in 1..=8 {
-        let count = count_at(&list, text, end) as u64;
+        let count = count_at(list, text, end) as u64;
         digits = digits.wrapping_mul(10).wrapping_add(count);
     }
-    Some(digits)
+    digits
+}
+
+/// That for the normal form of these patterns.
+fn digits_of(alloc: Global, fold: Fold, patterns: &[&[u8]], text: &[u8]) -> Option<u64> {
+    let list = normal_of(alloc, &raw_of(alloc, patterns)?, fold)?;
+    Some(digits_in(&list, text))
+}
+
+/// Asserts that they are these.
+fn assert_digits<R: Abort + AllocGlobal>(
+    rt: &R,
+    fold: Fold,
+    patterns: &[&[u8]],
+    text: &[u8],
+    digits: u64,
+) {
+    assert_eq!(*rt;
+        digits_of(rt.alloc(), fold, patterns, text),
+        Some(digits),
+        "{text:?}"
+    );
 }
 
 const PRONOUNS: [&[u8]; 4] = [b"he", b"his", b"she", b"hers"];
 
 #[test]
 fn finds_what_ends_at_each_place(rt: HostRuntime) {
-    let alloc = rt.alloc();
-    assert_eq!(rt;
-        digits_of(alloc, Fold::No, &PRONOUNS, b"ushers"),
-        Some(2_0100)
-    );
-    assert_eq!(rt; digits_of(alloc, Fold::No, &PRONOUNS, b"usHers"), Some(0));
-    assert_eq!(rt;
-        digits_of(alloc, Fold::Ascii, &PRONOUNS, b"UsHers"),
-        Some(2_0100)
-    );
-    assert_eq!(rt;
-        digits_of(alloc, Fold::No, &[b"ab"], b"ab.abab"),
-        Some(100_1010)
-    );
-    assert_eq!(rt; digits_of(alloc, Fold::No, &[], b"abababab"), Some(0));
+    assert_digits(&rt, Fold::No, &PRONOUNS, b"ushers", 2_0100);
+    assert_digits(&rt, Fold::No, &PRONOUNS, b"usHers", 0);
+    assert_digits(&rt, Fold::Ascii, &PRONOUNS, b"UsHers", 2_0100);
+    assert_digits(&rt, Fold::No, &[b"ab"], b"ab.abab", 100_1010);
+    assert_digits(&rt, Fold::No, &[], b"abababab", 0);
 }
 
 /// Sixty patterns of letters `a`, each by one longer than the one before.
@@ -191,15 +207,19 @@ fn letters(alloc: Global) -> Option<RawList> {
 
 /// How many of them end at a place of so many letters `a`.
 fn letters_at(alloc: Global, count: usize, end: usize) -> Option<usize> {
-    let raw = letters(alloc)?;
-    let (list, _) = LitList::normal(alloc, &raw, Fold::No).ok()?;
+    let list = normal_of(alloc, &letters(alloc)?, Fold::No)?;
     let text = vec![in alloc; b'a'; count].ok()?;
-    Some(count_at(&list, text.as_slice(), end))
+    Some(count_at(&list, &text, end))
+}
+
+/// Asserts that so many end at a place of 80.
+fn assert_letters<R: Abort + AllocGlobal>(rt: &R, end: usize, wanted: usize) {
+    assert_eq!(*rt; letters_at(rt.alloc(), 80, end), Some(wanted));
 }
 
 #[test]
 fn finds_literals_that_end_in_one_another(rt: HostRuntime) {
-    assert_eq!(rt; letters_at(rt.alloc(), 80, 7), Some(7));
-    assert_eq!(rt; letters_at(rt.alloc(), 80, 59), Some(59));
-    assert_eq!(rt; letters_at(rt.alloc(), 80, 80), Some(60));
+    assert_letters(&rt, 7, 7);
+    assert_letters(&rt, 59, 59);
+    assert_letters(&rt, 80, 60);
 }

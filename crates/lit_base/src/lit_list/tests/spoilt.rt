@@ -1,8 +1,10 @@
 //! Texts of literals with one byte spoilt, beside a search that compares each literal.
 use crate::fold::{Fold, fold_byte};
 use crate::lit_list::LitList;
+use crate::lit_list::tests::normal_of;
 use crate::raw_list::RawList;
 use std::alloc::Global;
+use std::process::Abort;
 
 /// What is done to a byte: nothing, another byte in its place, and its letter in the other case.
 const KEPT: u8 = 0;
@@ -27,8 +29,16 @@ fn words_from(alloc: Global, shortest: u8, fold: Fold) -> Option<LitList> {
     for len in shortest..21 {
         raw.push(&word_of(alloc, len)?).ok()?;
     }
-    let (list, _) = LitList::normal(alloc, &raw, fold).ok()?;
-    Some(list)
+    normal_of(alloc, &raw, fold)
+}
+
+/// The word of so many bytes, with the byte at a place spoilt so.
+fn spoilt_word(alloc: Global, len: u8, place: u8, spoilt: u8) -> Option<Vec<u8>> {
+    let mut word = word_of(alloc, len)?;
+    if let Some(byte) = word.get_mut(place as usize) {
+        *byte ^= spoilt;
+    }
+    Some(word)
 }
 
 /// A text of these words, each once with the byte at each of its places spoilt so.
@@ -36,11 +46,8 @@ fn spoilt_words(alloc: Global, shortest: u8, spoilt: u8) -> Option<Vec<u8>> {
     let mut text = Vec::new(alloc);
     for len in shortest..21 {
         for place in 0..len {
-            let mut word = word_of(alloc, len)?;
-            if let Some(byte) = word.get_mut(place as usize) {
-                *byte ^= spoilt;
-            }
-            text.extend_from_slice(&word).ok()?;
+            text.extend_from_slice(&spoilt_word(alloc, len, place, spoilt)?)
+                .ok()?;
         }
     }
     Some(text)
@@ -88,26 +95,21 @@ fn differences(alloc: Global, fold: Fold, shortest: u8, spoilt: u8) -> Option<us
     Some(differences_in(&list, text.as_slice()))
 }
 
-#[test]
-fn tells_words_from_spoilt_ones(rt: HostRuntime) {
+/// Asserts that there are none, for the words of one byte and more, or of more bytes, spoilt in each way.
+fn assert_none_differ<R: Abort + AllocGlobal>(rt: &R, fold: Fold) {
     for shortest in [1, 4, 7, 9] {
         for spoilt in [KEPT, CHANGED, TURNED] {
-            assert_eq!(rt;
-                differences(rt.alloc(), Fold::No, shortest, spoilt),
-                Some(0)
-            );
+            assert_eq!(*rt; differences(rt.alloc(), fold, shortest, spoilt), Some(0));
         }
     }
 }
 
 #[test]
+fn tells_words_from_spoilt_ones(rt: HostRuntime) {
+    assert_none_differ(&rt, Fold::No);
+}
+
+#[test]
 fn tells_words_from_spoilt_ones_in_either_case(rt: HostRuntime) {
-    for shortest in [1, 4, 7, 9] {
-        for spoilt in [KEPT, CHANGED, TURNED] {
-            assert_eq!(rt;
-                differences(rt.alloc(), Fold::Ascii, shortest, spoilt),
-                Some(0)
-            );
-        }
-    }
+    assert_none_differ(&rt, Fold::Ascii);
 }
