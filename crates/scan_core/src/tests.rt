@@ -1,12 +1,15 @@
 //! What no clause says: that a request is answered where there is memory, that numbers begin at 0, and
 //! that a number of another session is found, in another thread too. Where memory runs out a test tells it, once the
 //! replies are seen to be none.
+ghost use Rattle.std.specs.Prelude.{◌≡◌, IfSome};
+
 use crate::session::Session;
-use crate::together::answered_at_once;
+use crate::together::{Answered, answered_at_once};
 use lit_base::Fold;
 use plan_store::PlanStore;
 use scan_wire::{Reply, Request};
 use std::alloc::Global;
+use std::process::Abort;
 use std::sync::Wait;
 use std::thread::Threads;
 
@@ -182,70 +185,61 @@ const OF_CONCAT: Replies = [Some(Told::Hits(7, 1, 6)), Some(Told::Fed(7, 6)), No
 
 const NOTHING: Ask = Ask::Feed(7, b"");
 
+/// Asserts that a session of a new store answers so to the last of what is asked.
+fn assert_last<R: Abort + AllocGlobal + Wait>(rt: &R, asks: &[Ask<'_>], wanted: Replies) {
+    assert_eq!(*rt; last_of(rt, rt.alloc(), asks), wanted);
+}
+
 #[test]
 fn tells_the_hits_of_a_stream(rt: HostRuntime) {
-    let alloc = rt.alloc();
-    assert_eq!(rt; last_of(&rt, alloc, &[CAT]), one(Told::Published(0)));
-    assert_eq!(rt; last_of(&rt, alloc, &[CAT, CAT]), one(Told::Published(1)));
-    assert_eq!(rt; last_of(&rt, alloc, &[CAT, OPEN]), one(Told::Opened(7)));
-    assert_eq!(rt; last_of(&rt, alloc, &[CAT, OPEN, CONCAT]), OF_CONCAT);
+    assert_last(&rt, &[CAT], one(Told::Published(0)));
+    assert_last(&rt, &[CAT, CAT], one(Told::Published(1)));
+    assert_last(&rt, &[CAT, OPEN], one(Told::Opened(7)));
+    assert_last(&rt, &[CAT, OPEN, CONCAT], OF_CONCAT);
 }
 
 #[test]
 fn goes_on_with_a_stream(rt: HostRuntime) {
-    let alloc = rt.alloc();
-    let nothing = last_of(&rt, alloc, &[CAT, OPEN, CONCAT, NOTHING]);
-    assert_eq!(rt; nothing, one(Told::Fed(7, 6)));
-    let second = last_of(&rt, alloc, &[CAT, OPEN, CONC, Ask::Feed(7, b"at")]);
-    assert_eq!(rt; second, OF_CONCAT);
+    assert_last(&rt, &[CAT, OPEN, CONCAT, NOTHING], one(Told::Fed(7, 6)));
+    assert_last(&rt, &[CAT, OPEN, CONC, Ask::Feed(7, b"at")], OF_CONCAT);
 }
 
 #[test]
 fn forgets_a_closed_stream(rt: HostRuntime) {
-    let alloc = rt.alloc();
-    let closed = last_of(&rt, alloc, &[CAT, OPEN, CONC, Ask::Close(7)]);
-    assert_eq!(rt; closed, one(Told::Closed(7)));
-    let nothing = last_of(&rt, alloc, &[CAT, OPEN, CONC, Ask::Close(7), OPEN, NOTHING]);
-    assert_eq!(rt; nothing, one(Told::Fed(7, 0)));
+    let closed = [CAT, OPEN, CONC, Ask::Close(7), OPEN, NOTHING];
+    assert_last(&rt, &closed[..4], one(Told::Closed(7)));
+    assert_last(&rt, &closed, one(Told::Fed(7, 0)));
 }
 
 #[test]
 fn shows_the_plan_of_a_stream(rt: HostRuntime) {
-    let shown = last_of(&rt, rt.alloc(), &[CAT, OPEN, Ask::ShowPlan(7)]);
-    assert_eq!(rt; shown, one(Told::Plan(7, Fold::No, 1, 351, 1)));
+    let plan = Told::Plan(7, Fold::No, 1, 351, 1);
+    assert_last(&rt, &[CAT, OPEN, Ask::ShowPlan(7)], one(plan));
 }
 
 #[test]
 fn refuses_streams(rt: HostRuntime) {
-    let alloc = rt.alloc();
-    assert_eq!(rt; last_of(&rt, alloc, &[CONCAT]), refused(7, 13, 0));
-    assert_eq!(rt; last_of(&rt, alloc, &[Ask::Close(7)]), refused(7, 13, 0));
-    assert_eq!(rt; last_of(&rt, alloc, &[Ask::ShowPlan(7)]), refused(7, 13, 0));
-    assert_eq!(rt; last_of(&rt, alloc, &[Ask::Open(7, 5)]), refused(7, 14, 0));
-    assert_eq!(rt;
-        last_of(&rt, alloc, &[CAT, OPEN, Ask::Open(7, 5)]),
-        refused(7, 12, 0)
-    );
-    assert_eq!(rt; last_of(&rt, alloc, &[CAT, OPEN, OPEN]), refused(7, 12, 0));
+    assert_last(&rt, &[CONCAT], refused(7, 13, 0));
+    assert_last(&rt, &[Ask::Close(7)], refused(7, 13, 0));
+    assert_last(&rt, &[Ask::ShowPlan(7)], refused(7, 13, 0));
+    assert_last(&rt, &[Ask::Open(7, 5)], refused(7, 14, 0));
+    assert_last(&rt, &[CAT, OPEN, Ask::Open(7, 5)], refused(7, 12, 0));
+    assert_last(&rt, &[CAT, OPEN, OPEN], refused(7, 12, 0));
 }
 
-/// What a session of a new store answers to a Publish of these literals.
-fn published<R: Wait>(rt: &R, alloc: Global, literals: &[&[u8]]) -> Replies {
-    last_of(rt, alloc, &[Ask::Publish(Fold::No, literals)])
+/// Asserts that a session of a new store answers so to a Publish of these literals.
+fn assert_published<R: Abort + AllocGlobal + Wait>(rt: &R, literals: &[&[u8]], wanted: Told) {
+    assert_last(rt, &[Ask::Publish(Fold::No, literals)], one(wanted));
 }
 
 #[test]
 fn refuses_literals(rt: HostRuntime) {
-    let alloc = rt.alloc();
     let (empty, letters): (&[u8], &[u8]) = (b"", &[b'a'; 4096]);
-    assert_eq!(rt; published(&rt, alloc, &[]), refused(0, 5, 0));
-    assert_eq!(rt; published(&rt, alloc, &[b"a", b""]), refused(0, 4, 1));
-    assert_eq!(rt; published(&rt, alloc, &[empty; 4097]), refused(0, 2, 0));
-    assert_eq!(rt;
-        published(&rt, alloc, &[&letters[1..]]),
-        one(Told::Published(0))
-    );
-    assert_eq!(rt; published(&rt, alloc, &[letters]), refused(0, 3, 0));
+    assert_published(&rt, &[], Told::Refused(0, 5, 0));
+    assert_published(&rt, &[b"a", b""], Told::Refused(0, 4, 1));
+    assert_published(&rt, &[empty; 4097], Told::Refused(0, 2, 0));
+    assert_published(&rt, &[&letters[1..]], Told::Published(0));
+    assert_published(&rt, &[letters], Told::Refused(0, 3, 0));
 }
 
 /// So many different literals of two bytes that are no letters, and these behind them.
@@ -259,8 +253,23 @@ fn many(alloc: Global, count: u16, others: &[&[u8]]) -> Option<Vec<Vec<u8>>> {
     Some(all)
 }
 
-/// What a session of a new store answers to a Publish of many literals, and then to an Open and a
-/// ShowPlan; none where memory ran out, and then no plan is shown.
+/// What a session answers to a Publish of many literals, and then to an Open and a ShowPlan; none where
+/// memory ran out, and then no plan is shown.
+fn publish_and_show<R: Wait>(
+    rt: &R,
+    alloc: Global,
+    session: &mut Session<'_>,
+    request: Request,
+) -> Option<(Replies, Replies)> {
+    let first = answered(rt, alloc, session, request);
+    let shown = unless_starved(last_answer(rt, alloc, session, &[OPEN, Ask::ShowPlan(7)]))?;
+    if first == STARVED && shown == refused(7, 13, 0) {
+        return None;
+    }
+    Some((first, shown))
+}
+
+/// That of a session of a new store.
 fn shown_of_many<R: Wait>(
     rt: &R,
     alloc: Global,
@@ -268,13 +277,8 @@ fn shown_of_many<R: Wait>(
     literals: Vec<Vec<u8>>,
 ) -> Option<(Replies, Replies)> {
     let store = PlanStore::new(alloc).ok()?;
-    let mut session = Session::new(&store);
-    let first = answered(rt, alloc, &mut session, Request::Publish { fold, literals });
-    let shown = unless_starved(last_answer(rt, alloc, &mut session, &[OPEN, Ask::ShowPlan(7)]))?;
-    if first == STARVED && shown == refused(7, 13, 0) {
-        return None;
-    }
-    Some((first, shown))
+    let request = Request::Publish { fold, literals };
+    publish_and_show(rt, alloc, &mut Session::new(&store), request)
 }
 
 /// That of so many literals and these behind them.
@@ -287,15 +291,25 @@ fn of_many<R: Wait>(
     shown_of_many(rt, alloc, Fold::Ascii, many(alloc, count, others)?)
 }
 
+/// Asserts that these are the replies.
+fn assert_many<R: Abort + AllocGlobal + Wait>(
+    rt: &R,
+    count: u16,
+    others: &[&[u8]],
+    first: Told,
+    shown: Told,
+) {
+    let wanted = (one(first), one(shown));
+    assert_eq!(*rt; of_many(rt, rt.alloc(), count, others), Some(wanted));
+}
+
 #[test]
 fn counts_the_literals_of_the_normal_form(rt: HostRuntime) {
-    let alloc = rt.alloc();
-    let wanted = (refused(0, 6, 0), refused(7, 13, 0));
-    assert_eq!(rt; of_many(&rt, alloc, 1025, &[]), Some(wanted));
+    let unknown = Told::Refused(7, 13, 0);
+    assert_many(&rt, 1025, &[], Told::Refused(0, 6, 0), unknown);
     // A run of the letter and 17 literals of two bytes, and seven runs of 143 or 144 of the others.
     let plan = Told::Plan(7, Fold::Ascii, 1024, 75_352_640, 8);
-    let wanted = (one(Told::Published(0)), one(plan));
-    assert_eq!(rt; of_many(&rt, alloc, 1023, &[b"A", b"a"]), Some(wanted));
+    assert_many(&rt, 1023, &[b"A", b"a"], Told::Published(0), plan);
 }
 
 /// The replies to a Feed of so many letters `a`, by the plan of one.
@@ -400,67 +414,96 @@ fn publish_up_to<R: Wait>(
     Some(published)
 }
 
-/// How many of 64 streams a session opens, and what it then answers to one more.
+/// How many of 64 streams a session opens, and what it then answers to this.
+fn open_and_ask<R: Wait>(
+    rt: &R,
+    alloc: Global,
+    session: &mut Session<'_>,
+    ask: Ask<'_>,
+) -> Option<(u32, Replies)> {
+    let _ = unless_starved(asked(rt, alloc, session, CAT))?;
+    let opened = open_up_to(rt, alloc, session, 64)?;
+    Some((opened, unless_starved(asked(rt, alloc, session, ask))?))
+}
+
+/// That of a session of a new store.
 fn opened_beside<R: Wait>(rt: &R, alloc: Global, ask: Ask<'_>) -> Option<(u32, Replies)> {
     let store = PlanStore::new(alloc).ok()?;
-    let mut session = Session::new(&store);
-    let _ = unless_starved(asked(rt, alloc, &mut session, CAT))?;
-    let opened = open_up_to(rt, alloc, &mut session, 64)?;
-    let said = unless_starved(asked(rt, alloc, &mut session, ask))?;
-    Some((opened, said))
+    open_and_ask(rt, alloc, &mut Session::new(&store), ask)
 }
 
 /// How many of 64 plans a session publishes, and what it then answers to this.
+fn publish_and_ask<R: Wait>(
+    rt: &R,
+    alloc: Global,
+    session: &mut Session<'_>,
+    ask: Ask<'_>,
+) -> Option<(u64, Replies)> {
+    let published = publish_up_to(rt, alloc, session, 64)?;
+    Some((published, unless_starved(asked(rt, alloc, session, ask))?))
+}
+
+/// That of a session of a new store.
 fn published_beside<R: Wait>(rt: &R, alloc: Global, ask: Ask<'_>) -> Option<(u64, Replies)> {
     let store = PlanStore::new(alloc).ok()?;
-    let mut session = Session::new(&store);
-    let published = publish_up_to(rt, alloc, &mut session, 64)?;
-    let said = unless_starved(asked(rt, alloc, &mut session, ask))?;
-    Some((published, said))
+    publish_and_ask(rt, alloc, &mut Session::new(&store), ask)
+}
+
+/// Asserts that all 64 are opened, and one more is refused by this code.
+fn assert_opened<R: Abort + AllocGlobal + Wait>(rt: &R, stream: u32, number: u64, code: u8) {
+    let wanted = Some((64, refused(stream, code, 0)));
+    let ask = Ask::Open(stream, number);
+    assert_eq!(*rt; opened_beside(rt, rt.alloc(), ask), wanted);
 }
 
 #[test]
 fn has_64_streams_open(rt: HostRuntime) {
-    let alloc = rt.alloc();
-    let wanted = Some((64, refused(65, 16, 0)));
-    assert_eq!(rt; opened_beside(&rt, alloc, Ask::Open(65, 0)), wanted);
-    assert_eq!(rt; opened_beside(&rt, alloc, Ask::Open(65, 5)), wanted);
-    let in_use = Some((64, refused(64, 12, 0)));
-    assert_eq!(rt; opened_beside(&rt, alloc, Ask::Open(64, 0)), in_use);
+    assert_opened(&rt, 65, 0, 16);
+    assert_opened(&rt, 65, 5, 16);
+    assert_opened(&rt, 64, 0, 12);
+}
+
+/// Asserts that all 64 are published, and this is refused.
+fn assert_full<R: Abort + AllocGlobal + Wait>(rt: &R, ask: Ask<'_>) {
+    let wanted = Some((64, refused(0, 15, 0)));
+    assert_eq!(*rt; published_beside(rt, rt.alloc(), ask), wanted);
 }
 
 #[test]
 fn publishes_64_plans(rt: HostRuntime) {
-    let alloc = rt.alloc();
-    let wanted = Some((64, refused(0, 15, 0)));
-    assert_eq!(rt; published_beside(&rt, alloc, CAT), wanted);
-    assert_eq!(rt;
-        published_beside(&rt, alloc, Ask::Publish(Fold::No, &[])),
-        wanted
-    );
+    assert_full(&rt, CAT);
+    assert_full(&rt, Ask::Publish(Fold::No, &[]));
 }
 
-/// What a session answers to this beside one that published `dog` and then `cat`.
+/// What a new session answers to the last of what is asked, none where memory ran out.
+fn answer_by<R: Wait>(
+    rt: &R,
+    alloc: Global,
+    store: &PlanStore,
+    asks: &[Ask<'_>],
+) -> Option<Replies> {
+    unless_starved(last_answer(rt, alloc, &mut Session::new(store), asks))
+}
+
+/// That beside a session that published `dog` and then `cat`.
 fn answer_of_another<R: Wait>(rt: &R, alloc: Global, asks: &[Ask<'_>]) -> Option<Replies> {
     let store = PlanStore::new(alloc).ok()?;
     let dog = Ask::Publish(Fold::No, &[b"dog"]);
-    let _ = unless_starved(last_answer(rt, alloc, &mut Session::new(&store), &[dog, CAT]))?;
-    unless_starved(last_answer(rt, alloc, &mut Session::new(&store), asks))
+    let _ = answer_by(rt, alloc, &store, &[dog, CAT])?;
+    answer_by(rt, alloc, &store, asks)
+}
+
+/// Asserts that this is the answer.
+fn assert_another<R: Abort + AllocGlobal + Wait>(rt: &R, asks: &[Ask<'_>], wanted: Replies) {
+    assert_eq!(*rt; answer_of_another(rt, rt.alloc(), asks), Some(wanted));
 }
 
 #[test]
 fn opens_what_another_session_published(rt: HostRuntime) {
-    let alloc = rt.alloc();
-    let opened = answer_of_another(&rt, alloc, &[Ask::Open(7, 1)]);
-    assert_eq!(rt; opened, Some(one(Told::Opened(7))));
-    assert_eq!(rt;
-        answer_of_another(&rt, alloc, &[Ask::Open(7, 1), CONCAT]),
-        Some(OF_CONCAT)
-    );
-    let missed = answer_of_another(&rt, alloc, &[OPEN, CONCAT]);
-    assert_eq!(rt; missed, Some(one(Told::Fed(7, 6))));
-    let unknown = answer_of_another(&rt, alloc, &[Ask::Open(7, 2)]);
-    assert_eq!(rt; unknown, Some(refused(7, 14, 0)));
+    assert_another(&rt, &[Ask::Open(7, 1)], one(Told::Opened(7)));
+    assert_another(&rt, &[Ask::Open(7, 1), CONCAT], OF_CONCAT);
+    assert_another(&rt, &[OPEN, CONCAT], one(Told::Fed(7, 6)));
+    assert_another(&rt, &[Ask::Open(7, 2)], refused(7, 14, 0));
 }
 
 /// The number that was told.
@@ -471,22 +514,59 @@ fn number_in(replies: &[Reply]) -> Option<u64> {
     }
 }
 
-/// What two sessions in two threads answer to `concat`, each by the plan that the other published.
+/// Two sessions of a store, each behind what it is asked in a thread of its own.
+fn both_asked<'s, R: Threads + Wait + Sync>(
+    rt: &R,
+    alloc: Global,
+    one: Session<'s>,
+    ask_of_one: Ask<'_>,
+    other: Session<'s>,
+    ask_of_other: Ask<'_>,
+) -> Option<(Answered<'s>, Answered<'s>)>
+    requires { one.store ≡ other.store }
+    ensures { IfSome result (λ met. met.0.session.store ≡ met.1.session.store) }
+{
+    let of_one = request_of(alloc, ask_of_one)?;
+    let of_other = request_of(alloc, ask_of_other)?;
+    match answered_at_once(rt, alloc, one, of_one, other, of_other) {
+        Ok(met) => Some(met),
+        Err(_) => None,
+    }
+}
+
+/// Two sessions of a store, each behind an Open of the number that the other was told.
+fn both_opened<'s, R: Threads + Wait + Sync>(
+    rt: &R,
+    alloc: Global,
+    one: Answered<'s>,
+    other: Answered<'s>,
+) -> Option<(Answered<'s>, Answered<'s>)>
+    requires { one.session.store ≡ other.session.store }
+    ensures { IfSome result (λ met. met.0.session.store ≡ met.1.session.store) }
+{
+    let of_one = Ask::Open(7, number_in(&other.replies)?);
+    let of_other = Ask::Open(7, number_in(&one.replies)?);
+    both_asked(rt, alloc, one.session, of_one, other.session, of_other)
+}
+
+/// What two sessions of a store in two threads answer to `concat`, each by the plan that the other published.
+fn answers_by<R: Threads + Wait + Sync>(
+    rt: &R,
+    alloc: Global,
+    store: &PlanStore,
+) -> Option<(Replies, Replies)> {
+    let con = Ask::Publish(Fold::No, &[b"con"]);
+    let (one, other) = (Session::new(store), Session::new(store));
+    let (one, other) = both_asked(rt, alloc, one, CAT, other, con)?;
+    let (one, other) = both_opened(rt, alloc, one, other)?;
+    let (one, other) = both_asked(rt, alloc, one.session, CONCAT, other.session, CONCAT)?;
+    Some((all_said(&one.replies), all_said(&other.replies)))
+}
+
+/// That of a new store.
 fn answers_of_two<R: Threads + Wait + Sync>(rt: &R, alloc: Global) -> Option<(Replies, Replies)> {
     let store = PlanStore::new(alloc).ok()?;
-    let publish_cat = request_of(alloc, CAT)?;
-    let publish_con = request_of(alloc, Ask::Publish(Fold::No, &[b"con"]))?;
-    let (one, other) = (Session::new(&store), Session::new(&store));
-    let (one, other) = answered_at_once(rt, alloc, one, publish_cat, other, publish_con).ok()?;
-    let open_con = request_of(alloc, Ask::Open(7, number_in(&other.replies)?))?;
-    let open_cat = request_of(alloc, Ask::Open(7, number_in(&one.replies)?))?;
-    let (one, other) = (one.session, other.session);
-    let (one, other) = answered_at_once(rt, alloc, one, open_con, other, open_cat).ok()?;
-    let feed = request_of(alloc, CONCAT)?;
-    let feed_too = request_of(alloc, CONCAT)?;
-    let (one, other) = (one.session, other.session);
-    let (one, other) = answered_at_once(rt, alloc, one, feed, other, feed_too).ok()?;
-    Some((all_said(&one.replies), all_said(&other.replies)))
+    answers_by(rt, alloc, &store)
 }
 
 #[test]
