@@ -9,7 +9,6 @@ use list_plan::compile;
 use lit_base::{Fold, LitList, RawList};
 use std::alloc::Global;
 use std::sync::Wait;
-use std::test::Fail;
 use std::thread::{Threads, map_indices};
 
 /// How many threads publish, and how many plans each.
@@ -25,63 +24,32 @@ const CA: Pair = (b'c', b'a');
 const DO: Pair = (b'd', b'o');
 
 #[test]
-fn finds_what_was_published(rt: HostRuntime) -> Result<(), Fail> {
-    let store = PlanStore::new(rt.alloc())?;
-    assert_eq!(rt; found(&store, 5), None);
-    let first = publish(&rt, rt.alloc(), &store, (b'c', b'a'));
-    let second = publish(&rt, rt.alloc(), &store, (b'd', b'o'));
-    assert_eq!(rt; first, Some(0));
-    assert_eq!(rt; second, Some(1));
-    assert_eq!(rt; found(&store, 0), Some((b'c', b'a')));
-    assert_eq!(rt; found(&store, 1), Some((b'd', b'o')));
-    assert_eq!(rt; found(&store, 2), None);
-    assert_eq!(rt; found(&store, u64::MAX), None);
-    Ok(())
+fn finds_what_was_published(rt: HostRuntime) {
+    let under = [Some(CA), Some(DO), None, None];
+    let wanted = (None, [0, 1], under);
+    assert_eq!(rt; found_in_new(&rt, rt.alloc()), Some(wanted));
 }
 
 #[test]
-fn finds_what_eight_threads_published(rt: HostRuntime) -> Result<(), Fail> {
-    let store = PlanStore::new(rt.alloc())?;
-    let told = publish_in_threads(&rt, rt.alloc(), &store)?;
-    assert_eq!(rt; found_count(&store, &told), THREADS * usize::from(PLANS));
-    assert_eq!(rt;
-        distinct_count(rt.alloc(), &told),
-        Some(THREADS * usize::from(PLANS))
-    );
-    Ok(())
+fn finds_what_eight_threads_published(rt: HostRuntime) {
+    let all = THREADS * usize::from(PLANS);
+    assert_eq!(rt; counts_of_threads(&rt, rt.alloc()), Some((all, all)));
 }
 
 #[test]
-fn shows_in_one_thread_what_another_published(rt: HostRuntime) -> Result<(), Fail> {
-    let store = PlanStore::new(rt.alloc())?;
-    let alloc = rt.alloc();
-    assert_eq!(rt; shown(&rt, alloc, &store, CA), Some((0, CA)));
-    assert_eq!(rt; there(&rt, alloc, &store, DO), Some((1, DO)));
-    assert_eq!(rt; handed_on(&rt, alloc, &store, CA), Some((2, CA)));
-    assert_eq!(rt; found_meanwhile(&rt, alloc, &store, CA, 1), Some((3, DO)));
-    assert_eq!(rt; found_meanwhile(&rt, alloc, &store, CA, 9), None);
-    Ok(())
+fn shows_in_one_thread_what_another_published(rt: HostRuntime) {
+    let wanted = [(0, CA), (1, DO), (2, CA), (3, DO)];
+    assert_eq!(rt; all_shown(&rt, rt.alloc()), Some((wanted, None)));
 }
 
 #[test]
-fn tells_two_threads_two_numbers(rt: HostRuntime) -> Result<(), Fail> {
-    let store = PlanStore::new(rt.alloc())?;
-    let told = told_to_two(&rt, rt.alloc(), &store, CA);
-    assert_eq!(rt;
-        told.map(|(one, other)| (one.min(other), one.max(other))),
-        Some((0, 1))
-    );
-    Ok(())
+fn tells_two_threads_two_numbers(rt: HostRuntime) {
+    assert_eq!(rt; told_in_new(&rt, rt.alloc()), Some((0, 1)));
 }
 
 #[test]
-fn finds_in_each_of_two_threads_what_the_other_published(rt: HostRuntime) -> Result<(), Fail> {
-    let store = PlanStore::new(rt.alloc())?;
-    assert_eq!(rt;
-        found_by_each(&rt, rt.alloc(), &store, CA, DO),
-        Some((DO, CA))
-    );
-    Ok(())
+fn finds_in_each_of_two_threads_what_the_other_published(rt: HostRuntime) {
+    assert_eq!(rt; found_by_each_in_new(&rt, rt.alloc()), Some((DO, CA)));
 }
 
 /// The plan of one literal of two bytes.
@@ -105,6 +73,33 @@ fn publish<R: Wait>(rt: &R, alloc: Global, store: &PlanStore, literal: Pair) -> 
 fn found(store: &PlanStore, number: u64) -> Option<Pair> {
     let ticket = store.find(number)?;
     literal_of(store.at(&ticket))
+}
+
+/// What a store has under the first two numbers, and under two others.
+fn four_found(store: &PlanStore) -> [Option<Pair>; 4] {
+    [
+        found(store, 0),
+        found(store, 1),
+        found(store, 2),
+        found(store, u64::MAX),
+    ]
+}
+
+/// What a new store has under 5, the numbers that it then tells of two plans, and what it has behind them.
+fn found_in_new<R: Wait>(
+    rt: &R,
+    alloc: Global,
+) -> Option<(Option<Pair>, [u64; 2], [Option<Pair>; 4])> {
+    let store = PlanStore::new(alloc).ok()?;
+    let before = found(&store, 5);
+    let told = publish_two(rt, alloc, &store)?;
+    Some((before, told, four_found(&store)))
+}
+
+/// The numbers under which two plans were stored.
+fn publish_two<R: Wait>(rt: &R, alloc: Global, store: &PlanStore) -> Option<[u64; 2]> {
+    let first = publish(rt, alloc, store, CA)?;
+    Some([first, publish(rt, alloc, store, DO)?])
 }
 
 /// The literal of a plan that has one, of two bytes.
@@ -139,14 +134,16 @@ fn publish_in_threads<R: Threads + Wait + Sync>(
     rt: &R,
     alloc: Global,
     store: &PlanStore,
-) -> Result<Vec<Vec<u64>>, Fail> {
-    let told = map_indices(
-        rt,
-        alloc,
-        THREADS,
-        &|thread| publish_all(rt, alloc, store, thread),
-    )?;
-    Ok(told)
+) -> Option<Vec<Vec<u64>>> {
+    let publish_own = |thread: usize| publish_all(rt, alloc, store, thread);
+    map_indices(rt, alloc, THREADS, &publish_own).ok()
+}
+
+/// How many of the numbers told of a new store have the plans of whom they were told, and how many differ.
+fn counts_of_threads<R: Threads + Wait + Sync>(rt: &R, alloc: Global) -> Option<(usize, usize)> {
+    let store = PlanStore::new(alloc).ok()?;
+    let told = publish_in_threads(rt, alloc, &store)?;
+    Some((found_count(&store, &told), distinct_count(alloc, &told)?))
 }
 
 /// How many of a thread's numbers have its plans.
@@ -224,6 +221,33 @@ fn found_meanwhile<R: Threads + Wait + Sync>(
     Some((store.number(&ticket), literal_of(store.at(&found?))?))
 }
 
+/// What a store shows of four plans, in each of these ways.
+fn four_shown<R: Threads + Wait + Sync>(
+    rt: &R,
+    alloc: Global,
+    store: &PlanStore,
+) -> Option<[(u64, Pair); 4]> {
+    let first = shown(rt, alloc, store, CA)?;
+    let second = there(rt, alloc, store, DO)?;
+    let third = handed_on(rt, alloc, store, CA)?;
+    Some([
+        first,
+        second,
+        third,
+        found_meanwhile(rt, alloc, store, CA, 1)?,
+    ])
+}
+
+/// That of a new store, and what is then found under a number that it has not told.
+fn all_shown<R: Threads + Wait + Sync>(
+    rt: &R,
+    alloc: Global,
+) -> Option<([(u64, Pair); 4], Option<(u64, Pair)>)> {
+    let store = PlanStore::new(alloc).ok()?;
+    let shown = four_shown(rt, alloc, &store)?;
+    Some((shown, found_meanwhile(rt, alloc, &store, CA, 9)))
+}
+
 /// The numbers that two threads are told of equal plans.
 fn told_to_two<R: Threads + Wait + Sync>(
     rt: &R,
@@ -235,6 +259,13 @@ fn told_to_two<R: Threads + Wait + Sync>(
     let same = plan_of(alloc, literal)?;
     let (first, second) = numbers_are_apart(rt, store, plan, same).ok()?;
     Some((store.number(&first), store.number(&second)))
+}
+
+/// Those of a new store, the lower one first.
+fn told_in_new<R: Threads + Wait + Sync>(rt: &R, alloc: Global) -> Option<(u64, u64)> {
+    let store = PlanStore::new(alloc).ok()?;
+    let (one, other) = told_to_two(rt, alloc, &store, CA)?;
+    Some((one.min(other), one.max(other)))
 }
 
 /// What each of two threads finds under the number that the other is told.
@@ -254,4 +285,10 @@ fn found_by_each<R: Threads + Wait + Sync>(
         literal_of(store.at(&by_first?))?,
         literal_of(store.at(&by_second?))?,
     ))
+}
+
+/// That in a new store.
+fn found_by_each_in_new<R: Threads + Wait + Sync>(rt: &R, alloc: Global) -> Option<(Pair, Pair)> {
+    let store = PlanStore::new(alloc).ok()?;
+    found_by_each(rt, alloc, &store, CA, DO)
 }
