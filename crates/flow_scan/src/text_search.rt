@@ -1,0 +1,97 @@
+//! A search of one text for one end after the other.
+ghost use Rattle.std.specs.Prelude.{◌≡◌, ◌≤◌, MatchOption, length};
+ghost use Rattle.flow_scan.specs.NextEnds.{IsNextEnd, NoEndAfter};
+
+use crate::compiled::Compiled;
+use crate::endings::{Backoff, next_verified};
+use crate::searching::skip_short_ends;
+use lane_filter::Candidates;
+use std::marker::Model;
+
+/// A search of one text for the literals of a plan, for one end after the other. Where the next end is looked for from a
+/// place further on, what was told of the places behind that is not told anew.
+#[derive(Drop)]
+pub struct TextSearch<'a> {
+    compiled: &'a Compiled,
+    text: &'a [u8],
+    candidates: Candidates<'a>,
+    backoff: Backoff,
+}
+
+impl<'a> Model for TextSearch<'a> {
+    ghost use Rattle.flow_scan.specs.Searched.{Searched};
+
+    ghost Value = { Searched };
+
+    ghost use Rattle.std.specs.Prelude.{◌≡◌};
+    ghost use Rattle.nib_mask.specs.Candidates.{CoversBy};
+    ghost use Rattle.lane_filter.specs.Sieves.{Passes};
+
+    ghost view = { λ s. record { plan = s.compiled.now; text = s.text.now } };
+
+    ghost invariant = { λ s. CoversBy s.compiled.now.literals (Passes s.candidates.sieve)
+        × (s.candidates.text ≡ s.text.now) };
+}
+
+impl<'a> TextSearch<'a> {
+    /// A search of the text by a plan. It looks at nothing yet, and takes no memory.
+    pub fn new(compiled: &'a Compiled, text: &'a [u8]) -> TextSearch<'a>
+        ensures { result ≡ record { plan = compiled.now; text = text.now } }
+    {
+        let candidates = Candidates::new(compiled.sieve(), text, 0);
+        TextSearch {
+            compiled,
+            text,
+            candidates,
+            backoff: Backoff::new(),
+        }
+    }
+
+    /// The first place of the text behind `from` at which some literal ends, wherever it begins, if
+    /// there is one. It takes no memory.
+    pub fn next_end(&mut self, from: usize) -> Option<usize>
+        ensures same { self.new ≡ self.old }
+        ensures next { MatchOption result
+            (NoEndAfter self.old.plan.literals self.old.text from)
+            (IsNextEnd self.old.plan.literals self.old.text from) }
+    {
+        let start = skip_short_ends(self.compiled.list(), from);
+        if start >= self.text.len() {
+            return None;
+        }
+        match self.next_behind(start) {
+            Some((end, _)) => Some(end),
+            None => None,
+        }
+    }
+
+    /// The search of `next_end` behind a place of the text, with the first literal that ends at the place found.
+    #[inline]
+    pub(crate) fn next_behind(&mut self, from: usize) -> Option<(usize, usize)>
+        requires { from ≤ length self.old.text }
+        ensures same { self.new ≡ self.old }
+        ensures next { MatchOption result
+            (NoEndAfter self.old.plan.literals self.old.text from)
+            (λ found. IsNextEnd self.old.plan.literals self.old.text from found.0) }
+    {
+        self.candidates.skip_to(from);
+        next_verified(
+            self.compiled.list(),
+            self.text,
+            &mut self.candidates,
+            &mut self.backoff,
+        )
+    }
+
+    /// The text.
+    pub(crate) fn text(&self) -> &'a [u8]
+        ensures { result.now ≡ self.now.text }
+    {
+        self.text
+    }
+
+    /// What the search spent so far on candidates and marks at which nothing ended, and on looks, in tenths of a nanosecond.
+    pub(crate) fn spent(&self) -> usize {
+        self.backoff.spent()
+    }
+}
