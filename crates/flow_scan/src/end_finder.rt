@@ -103,14 +103,35 @@ impl<'p> EndFinder<'p> {
             (NoEndAfter self.old.literals search.old.text from)
             (λ found. IsNextEnd self.old.literals search.old.text from found.0) }
     {
-        let text = search.text();
         if self.learning.is_windowed() {
-            return self.next_windowed(text, from);
+            return self.next_windowed(search.text(), from);
         }
+        match search.next_near(from) {
+            Ok(found) => Some(found),
+            Err(seen) => self.next_plainly(search, from, seen),
+        }
+    }
+
+    /// The search of `next_end_of` by the plan, from a place on up to which nothing was found. What is found near by marks
+    /// is no gain of windows, and is not noted.
+    fn next_plainly(
+        &mut self,
+        search: &mut TextSearch<'_>,
+        from: usize,
+        seen: usize,
+    ) -> Option<(usize, usize)>
+        requires plan { search.old.plan ≡ self.old }
+        requires inside { seen ≤ length search.old.text }
+        ensures same { self.new ≡ self.old }
+        ensures search { search.new ≡ search.old }
+        ensures next { MatchOption result
+            (NoEndAfter self.old.literals search.old.text seen)
+            (λ found. IsNextEnd self.old.literals search.old.text seen found.0) }
+    {
         let before = search.spent();
-        let found = search.next_behind(from);
+        let found = search.next_far(from, seen);
         self.learning.note(
-            passed(text, from, found),
+            passed(search.text(), seen, found),
             search.spent().saturating_sub(before),
         );
         found

@@ -10,6 +10,7 @@ mod fault;
 mod hit;
 mod learning;
 mod mark_budget;
+mod nearby;
 mod pace;
 mod scanner;
 mod scanning;

@@ -1,9 +1,11 @@
 //! A search of one text for one end after the other.
-ghost use Rattle.std.specs.Prelude.{◌≡◌, ◌≤◌, MatchOption, length};
-ghost use Rattle.flow_scan.specs.NextEnds.{IsNextEnd, NoEndAfter};
+ghost use Rattle.std.specs.Prelude.{◌≡◌, ◌≤◌, IfErr, IfOk, MatchOption, length};
+ghost use Rattle.flow_scan.specs.NextEnds.{IsNextEnd, IsPassed, NoEndAfter};
 
 use crate::compiled::Compiled;
 use crate::endings::{Backoff, next_verified};
+use crate::nearby::{is_near, next_nearby};
+use crate::pace::FALSE_COST;
 use crate::searching::skip_short_ends;
 use lane_filter::Candidates;
 use std::marker::Model;
@@ -16,6 +18,8 @@ pub struct TextSearch<'a> {
     text: &'a [u8],
     candidates: Candidates<'a>,
     backoff: Backoff,
+    /// Whether the next end is likely to be so near that marks find it sooner than the sieve does.
+    is_near: bool,
 }
 
 impl<'a> Model for TextSearch<'a> {
@@ -44,6 +48,7 @@ impl<'a> TextSearch<'a> {
             text,
             candidates,
             backoff: Backoff::new(),
+            is_near: false,
         }
     }
 
@@ -59,28 +64,51 @@ impl<'a> TextSearch<'a> {
         if start >= self.text.len() {
             return None;
         }
-        match self.next_behind(start) {
+        match self.next_far(start, start) {
             Some((end, _)) => Some(end),
             None => None,
         }
     }
 
-    /// The search of `next_end` behind a place of the text, with the first literal that ends at the place found.
+    /// Where ends are near each other, a search behind a place of the text over some places by marks alone: an end, with the
+    /// first literal that ends there, or a place up to which there is none.
     #[inline]
-    pub(crate) fn next_behind(&mut self, from: usize) -> Option<(usize, usize)>
+    pub(crate) fn next_near(&mut self, from: usize) -> Result<(usize, usize), usize>
         requires { from ≤ length self.old.text }
         ensures same { self.new ≡ self.old }
-        ensures next { MatchOption result
-            (NoEndAfter self.old.plan.literals self.old.text from)
-            (λ found. IsNextEnd self.old.plan.literals self.old.text from found.0) }
+        ensures next { IfOk result (λ found. IsNextEnd self.old.plan.literals self.old.text from found.0) }
+        ensures passed { IfErr result (IsPassed self.old.plan.literals self.old.text from) }
     {
-        self.candidates.skip_to(from);
-        next_verified(
+        if !self.is_near {
+            return Err(from);
+        }
+        let before = self.backoff.spent();
+        let found = next_nearby(self.compiled.list(), self.text, from, &mut self.backoff);
+        self.is_near = self.backoff.spent().saturating_sub(before) < FALSE_COST;
+        found
+    }
+
+    /// The search of `next_end` behind a place of the text up to which a search from another one found nothing, with the first
+    /// literal that ends at the place found.
+    #[inline]
+    pub(crate) fn next_far(&mut self, from: usize, seen: usize) -> Option<(usize, usize)>
+        requires { seen ≤ length self.old.text }
+        ensures same { self.new ≡ self.old }
+        ensures next { MatchOption result
+            (NoEndAfter self.old.plan.literals self.old.text seen)
+            (λ found. IsNextEnd self.old.plan.literals self.old.text seen found.0) }
+    {
+        let before = self.backoff.spent();
+        self.candidates.skip_to(seen);
+        let found = next_verified(
             self.compiled.list(),
             self.text,
             &mut self.candidates,
             &mut self.backoff,
-        )
+        );
+        let spent = self.backoff.spent().saturating_sub(before);
+        self.is_near = is_near(self.compiled.list(), from, found, spent);
+        found
     }
 
     /// The text.
