@@ -4,6 +4,7 @@ pub mod NextEnds
 pub mod Plans
 pub mod Scanners
 pub mod Seams
+pub mod Searched
 pub mod Starts
 pub mod Tails
 pub mod Windowed

@@ -4,9 +4,9 @@ ghost use Rattle.lit_base.specs.Occurrences.{IsFirstEnding};
 ghost use Rattle.flow_scan.specs.NextEnds.{IsNextEnd, NoEndAfter};
 
 use crate::compiled::Compiled;
-use crate::endings::Backoff;
 use crate::learning::{Learning, MARK_COST, cost_of_looks};
-use crate::searching::{next_plainly, skip_short_ends};
+use crate::searching::skip_short_ends;
+use crate::text_search::TextSearch;
 use crate::windowed::next_end_by_windows;
 use std::alloc::{AllocError, Global};
 use std::marker::Model;
@@ -67,32 +67,73 @@ impl<'p> EndFinder<'p> {
             (NoEndAfter self.old.literals text.now from)
             (IsNextEnd self.old.literals text.now from) }
     {
+        let compiled = self.compiled;
+        self.next_end_of(&mut TextSearch::new(compiled, text), from)
+    }
+
+    /// The first place of a search's text behind `from` at which some literal ends, wherever it begins, if
+    /// there is one: as `next_end` of the text, and sooner where one end after the other is looked for. It takes no memory.
+    pub fn next_end_of(&mut self, search: &mut TextSearch<'_>, from: usize) -> Option<usize>
+        requires { search.old.plan ≡ self.old }
+        ensures same { self.new ≡ self.old }
+        ensures search { search.new ≡ search.old }
+        ensures next { MatchOption result
+            (NoEndAfter self.old.literals search.old.text from)
+            (IsNextEnd self.old.literals search.old.text from) }
+    {
+        let text = search.text();
         let start = skip_short_ends(self.compiled.list(), from);
         if start >= text.len() {
             return None;
         }
         self.learn_if_due(text, start);
-        match self.next_behind(text, start) {
+        match self.next_behind(search, start) {
             Some((end, _)) => Some(end),
             None => None,
         }
     }
 
-    /// The search of `next_end` in the way that was chosen.
-    fn next_behind(&mut self, text: &[u8], from: usize) -> Option<(usize, usize)>
-        requires { from < length text.now }
+    /// The search of `next_end_of` in the way that was chosen.
+    fn next_behind(&mut self, search: &mut TextSearch<'_>, from: usize) -> Option<(usize, usize)>
+        requires plan { search.old.plan ≡ self.old }
+        requires inside { from < length search.old.text }
         ensures same { self.new ≡ self.old }
+        ensures search { search.new ≡ search.old }
         ensures next { MatchOption result
-            (NoEndAfter self.old.literals text.now from)
-            (λ found. IsNextEnd self.old.literals text.now from found.0) }
+            (NoEndAfter self.old.literals search.old.text from)
+            (λ found. IsNextEnd self.old.literals search.old.text from found.0) }
     {
         if self.learning.is_windowed() {
-            return self.next_windowed(text, from);
+            return self.next_windowed(search.text(), from);
         }
-        let mut backoff = Backoff::new();
-        let found = next_plainly(self.compiled, text, from, &mut backoff);
-        self.learning
-            .note(passed(text, from, found), backoff.spent());
+        match search.next_near(from) {
+            Ok(found) => Some(found),
+            Err(seen) => self.next_plainly(search, from, seen),
+        }
+    }
+
+    /// The search of `next_end_of` by the plan, from a place on up to which nothing was found. What is found near by marks
+    /// is no gain of windows, and is not noted.
+    fn next_plainly(
+        &mut self,
+        search: &mut TextSearch<'_>,
+        from: usize,
+        seen: usize,
+    ) -> Option<(usize, usize)>
+        requires plan { search.old.plan ≡ self.old }
+        requires inside { seen ≤ length search.old.text }
+        ensures same { self.new ≡ self.old }
+        ensures search { search.new ≡ search.old }
+        ensures next { MatchOption result
+            (NoEndAfter self.old.literals search.old.text seen)
+            (λ found. IsNextEnd self.old.literals search.old.text seen found.0) }
+    {
+        let before = search.spent();
+        let found = search.next_far(from, seen);
+        self.learning.note(
+            passed(search.text(), seen, found),
+            search.spent().saturating_sub(before),
+        );
         found
     }
 

@@ -45,6 +45,11 @@ impl Backoff {
         self.spend(met.saturating_mul(MARK_COST));
     }
 
+    /// It met a mark at which nothing ended.
+    pub(crate) fn spend_on_mark(&mut self) {
+        self.spend(MARK_COST);
+    }
+
     /// It gave up at a place, and waits behind it.
     fn wait_behind(&mut self, place: usize) {
         self.retry_at = place.saturating_add(self.delay);

@@ -10,12 +10,14 @@ mod fault;
 mod hit;
 mod learning;
 mod mark_budget;
+mod nearby;
 mod pace;
 mod scanner;
 mod scanning;
 mod seam;
 mod searching;
 mod strides;
+mod text_search;
 mod windowed;
 
 pub use compiled::{Compiled, least_law};
@@ -25,6 +27,7 @@ pub use hit::Hit;
 pub use scanner::Scanner;
 pub use scanning::{pieces_law, scan_all, scan_behind, scan_pieces};
 pub use searching::next_end;
+pub use text_search::TextSearch;
 
 #[cfg(test)]
 mod tests;

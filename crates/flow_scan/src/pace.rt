@@ -35,3 +35,14 @@ pub(crate) const BLOCK: usize = 64;
 /// Marks at which nothing ends crowd where two looks in a row met as many as one in so many ends. With
 /// blocks behind each such mark, lists of 30 and 100 took 1.1 times as long in JSON lines and source code.
 pub(crate) const NEAR: usize = 32;
+
+/// So many looks at most are made for an end that is likely to be near before the sieve is begun. With 16 and 32 lists of
+/// 100 and 1,000 frequent literals took longer, by up to 1.3 times in log lines; with 96 those of 10 and 100 did.
+pub(crate) const NEAR_LOOKS: usize = 64;
+
+/// To begin a search by the sieve takes about so long, in tenths of a nanosecond.
+pub(crate) const START_COST: usize = 100;
+
+/// Where marks at which nothing ends took so long on the way to an end, which is two of them, the next end is not looked for by
+/// marks alone.
+pub(crate) const FALSE_COST: usize = 500;

@@ -192,7 +192,7 @@ fn skip_unmarked(list: &LitList, text: &[u8], from: usize) -> usize
 /// Of so many places behind `seen`, the first at which some literal ends, if there is one. The
 /// places where one ends are marked.
 #[inline(never)]
-fn first_marked(
+pub(crate) fn first_marked(
     list: &LitList,
     text: &[u8],
     seen: usize,

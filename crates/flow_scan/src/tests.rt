@@ -1,6 +1,7 @@
 //! Worked scans, and what no clause says.
 mod choosing;
 mod finding;
+mod going_on;
 mod single;
 mod spoilt;
 

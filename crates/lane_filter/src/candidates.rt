@@ -218,7 +218,8 @@ impl<'a> Candidates<'a> {
         Some(self.from)
     }
 
-    /// Goes on after a place of the text, as if that were the last candidate handed out.
+    /// Goes on after a place of the text, as if that were the last candidate handed out. What was told of
+    /// places further on stays told.
     #[inline]
     pub fn skip_to(&mut self, place: usize)
         requires { place ≤ length self.old.text }
@@ -226,6 +227,14 @@ impl<'a> Candidates<'a> {
         ensures text { self.new.text ≡ self.old.text }
         ensures from { self.new.from ≡ place }
     {
+        if self.from <= place && place < self.done {
+            let passed = (place + 1).saturating_sub(self.first);
+            if passed < 64 {
+                self.mask = from_bit(self.mask, passed);
+                self.from = place;
+                return;
+            }
+        }
         *self = Candidates::new(self.sieve, self.text, place);
     }
 }

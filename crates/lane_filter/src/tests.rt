@@ -139,6 +139,18 @@ fn cursor_agrees(masks: &Masks, text: &[u8], from: usize) -> bool
     false
 }
 
+/// Whether a cursor that has given the first candidate behind a place gives the first one behind another.
+fn skip_agrees(masks: &Masks, text: &[u8], from: usize, place: usize) -> bool
+    requires from { from ≤ length text.now }
+    requires place { place ≤ length text.now }
+{
+    let sieve = Sieve::Nibbles(*masks);
+    let mut cursor = Candidates::new(&sieve, text, from);
+    let _first = cursor.next();
+    cursor.skip_to(place);
+    cursor.next() == plain_next(masks, text, place)
+}
+
 #[test]
 fn finds_one_literal_past_the_last_full_vector(rt: HostRuntime) -> Result<(), Fail> {
     let mut raw = RawList::new(rt.alloc());
@@ -200,6 +212,22 @@ fn cursor_gives_each_candidate_once(rt: HostRuntime) -> Result<(), Fail> {
             for from in [0, 1, 2, 3, 63, 64, 65, 66, 67, 130, len] {
                 let agree = from > text.len() || cursor_agrees(masks, text, from);
                 assert!(rt; agree, "{len} bytes from {from}");
+            }
+        }
+    }
+    Ok(())
+}
+
+#[test]
+fn cursor_goes_on_behind_any_place(rt: HostRuntime) -> Result<(), Fail> {
+    let bytes = bytes(rt.alloc(), 270)?;
+    for masks in &all_masks(rt.alloc())? {
+        for from in [0, 1, 62, 63, 64, 65, 130, 205] {
+            for place in 0..=270 {
+                let agree = place > bytes.len()
+                    || from > bytes.len()
+                    || skip_agrees(masks, &bytes, from, place);
+                assert!(rt; agree, "behind {place}, from {from}");
             }
         }
     }

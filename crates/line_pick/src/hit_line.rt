@@ -5,7 +5,7 @@ ghost use Rattle.flow_scan.specs.NextEnds.{IsNextEnd, NoEndAfter};
 ghost use Rattle.line_pick.specs.HitLines.{AllMiss, IsBehindLines, IsFirstHitLine};
 
 use crate::cutting::{split_front, split_near_line};
-use flow_scan::{Compiled, EndFinder, next_end};
+use flow_scan::{Compiled, EndFinder, TextSearch};
 
 /// A line that holds a literal, with the text round it.
 #[derive(Clone, Copy)]
@@ -18,25 +18,28 @@ pub(crate) struct HitLine<'t> {
 }
 
 /// The first line of a text of ended lines that holds a literal, if there is one. No line before it
-/// is split. The text stands in a whole behind other lines, which a search looks back at and need
-/// not begin anew for each line.
+/// is split. The text stands in a whole behind other lines: the search is one of the whole, which looks back at
+/// them and goes on from where it stands.
 pub(crate) fn first_hit_line<'t>(
     compiled: &Compiled,
     finder: &mut Option<EndFinder<'_>>,
+    search: &mut TextSearch<'_>,
     whole: &[u8],
     text: &'t [u8],
 ) -> Option<HitLine<'t>>
     requires finder { IfSome finder.old (λ plan. plan ≡ compiled.now) }
+    requires search { search.old ≡ record { plan = compiled.now; text = whole.now } }
     requires behind { IsBehindLines whole.now text.now }
     requires closed { open_rest text.now ≡ [] }
     requires apart { All IsOnePiece compiled.now.literals.texts }
     ensures same { finder.new ≡ finder.old }
+    ensures search { search.new ≡ search.old }
     ensures hit { MatchOption result
         (AllMiss compiled.now.literals text.now)
         (λ hit. IsFirstHitLine compiled.now.literals text.now hit.missed.now hit.line.now hit.behind.now) }
 {
     compiled.list().normal_law();
-    let end = first_end(compiled, finder, whole, text)?;
+    let end = first_end(compiled, finder, search, whole, text)?;
     let (front, tail) = text.split_at(end - 1);
     let (missed, head) = split_front(front, text);
     let (ending, behind) = split_near_line(tail)?;
@@ -55,39 +58,45 @@ pub(crate) fn first_hit_line<'t>(
 fn first_end(
     compiled: &Compiled,
     finder: &mut Option<EndFinder<'_>>,
+    search: &mut TextSearch<'_>,
     whole: &[u8],
     text: &[u8],
 ) -> Option<usize>
     requires finder { IfSome finder.old (λ plan. plan ≡ compiled.now) }
+    requires search { search.old ≡ record { plan = compiled.now; text = whole.now } }
     requires behind { IsBehindLines whole.now text.now }
     requires apart { All IsOnePiece compiled.now.literals.texts }
     ensures same { finder.new ≡ finder.old }
+    ensures search { search.new ≡ search.old }
     ensures next { MatchOption result
         (NoEndAfter compiled.now.literals text.now 0)
         (IsNextEnd compiled.now.literals text.now 0) }
 {
     let from = whole.len() - text.len();
-    let end = next_end_behind(compiled, finder, whole, from)?;
+    let end = next_end_behind(compiled, finder, search, whole, from)?;
     Some(end - from)
 }
 
-/// The first place of a text behind another one at which some literal ends, by the finder if there is one, and else by the
-/// plan alone.
+/// The first place of a search's text behind another one at which some literal ends, by the finder if there is one, and else
+/// by the plan alone.
 #[inline]
 fn next_end_behind(
     compiled: &Compiled,
     finder: &mut Option<EndFinder<'_>>,
+    search: &mut TextSearch<'_>,
     text: &[u8],
     from: usize,
 ) -> Option<usize>
-    requires { IfSome finder.old (λ plan. plan ≡ compiled.now) }
+    requires finder { IfSome finder.old (λ plan. plan ≡ compiled.now) }
+    requires search { search.old ≡ record { plan = compiled.now; text = text.now } }
     ensures same { finder.new ≡ finder.old }
+    ensures search { search.new ≡ search.old }
     ensures next { MatchOption result
         (NoEndAfter compiled.now.literals text.now from)
         (IsNextEnd compiled.now.literals text.now from) }
 {
     match finder {
-        Some(finder) => finder.next_end(text, from),
-        None => next_end(compiled, text, from),
+        Some(finder) => finder.next_end_of(search, from),
+        None => search.next_end(from),
     }
 }

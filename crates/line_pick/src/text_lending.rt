@@ -14,7 +14,7 @@ use crate::lending::{lend_if, lend_lines};
 use crate::line_rule::LineRule;
 use crate::matcher::{Matcher, is_literal};
 use crate::sink::Sink;
-use flow_scan::{Compiled, EndFinder};
+use flow_scan::{Compiled, EndFinder, TextSearch};
 
 /// A hit and its line take about as long as splitting so many bytes into lines: 120 ns with one literal
 /// in English text, where splitting took 0.5 ns a byte. With 1,000 literals a hit takes ten times as long.
@@ -122,10 +122,11 @@ fn lend_hit_lines<S: Sink>(
     ensures bound { IfOk result (λ lines. lines ≤ before + length text.now) }
     ensures faults { result ≢ Err (Halt.Failed Fault.StreamTooLong) }
 {
+    let mut search = TextSearch::new(compiled, text);
     let mut rest = text;
     let mut lines = before;
     let mut credit = CREDIT;
-    while let Some(hit) = first_hit_line(compiled, finder, text, rest) {
+    while let Some(hit) = first_hit_line(compiled, finder, &mut search, text, rest) {
         lines = lend_all(rule.invert, hit.missed, lines, sink)?;
         let selected = selects_at_hit(compiled, rule, hit.line);
         lend_if(selected, hit.line, lines, sink)?;

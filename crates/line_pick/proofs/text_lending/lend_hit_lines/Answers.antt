@@ -34,6 +34,7 @@ returns-in_err-lend_if-clause-lent g c =
 pub loop-hit-init : goal.loop-hit-init
 loop-hit-init g c = record {
   finder = refl;
+  search = c.new-search.ensures;
   behind = behind-nothing c.args.text.now;
   closed = c.requires.closed;
   room = omega arith;
@@ -50,6 +51,7 @@ loop-hit-preserved g c =
     let parts = hit-numbered l c.args.rule.whole c.args.rule.invert rest hit.missed.now hit.line.now hit.behind.now c.in-Some.ensures.hit c.loop-hit.lines after c.in_ok-lines.ensures.count c.selects_at_hit-selected.result c.selects_at_hit-selected.ensures in
     record {
       finder = c.first_hit_line.ensures.same ∙ c.loop-hit.invariant.finder;
+      search = c.first_hit_line.ensures.search ∙ c.loop-hit.invariant.search;
       behind = behind-hit l c.args.text.now rest hit.missed.now hit.line.now hit.behind.now c.loop-hit.invariant.behind c.in-Some.ensures.hit;
       closed = hit-closed l c.args.rule.whole c.args.rule.invert rest hit.missed.now hit.line.now hit.behind.now c.in-Some.ensures.hit c.loop-hit.invariant.closed;
       room = omega (arith, c.loop-hit.invariant.room, c.in_ok-lines.ensures.bound, hit-length l c.args.rule.whole c.args.rule.invert rest hit.missed.now hit.line.now hit.behind.now c.in-Some.ensures.hit);

@@ -10,6 +10,7 @@ use Rattle.line_pick.proofs.text_lending.lend_hit_lines.Given as goal
 abbrev pub invariant-loop-hit : goal.invariant-loop-hit
 invariant-loop-hit g l = record {
   finder : l.finder ≡ l.fn.finder;
+  search : l.search ≡ record { plan = l.compiled; text = l.text };
   behind : IsBehindLines l.text l.rest;
   closed : open_rest l.rest ≡ [];
   room : l.lines + length l.rest ≤ l.fn.before + length l.fn.text;

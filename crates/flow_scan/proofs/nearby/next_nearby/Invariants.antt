@@ -1,0 +1,14 @@
+use Rattle.std.proofs.Common.{◌≤◌, length}
+use Rattle.flow_scan.specs.NextEnds.{NoEndUpTo}
+use Rattle.flow_scan.proofs.nearby.next_nearby.Given as goal
+
+-- no literal ends at the places passed
+abbrev pub invariant-strides : goal.invariant-strides
+invariant-strides l = record {
+  ahead : l.from ≤ l.seen;
+  inside : l.seen ≤ length l.text;
+  none : NoEndUpTo l.list l.text l.from l.seen;
+}
+
+abbrev pub decreases-strides : goal.decreases-strides
+decreases-strides l = l.looks

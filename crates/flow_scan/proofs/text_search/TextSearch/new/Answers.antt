@@ -1,0 +1,5 @@
+-- The candidates are those of the text by the plan's sieve.
+use Rattle.flow_scan.proofs.text_search.TextSearch.new.Goals as goal
+
+pub invariant_of-result : goal.invariant_of-result
+invariant_of-result c = (rw c.new-candidates.ensures.sieve c.sieve.ensures, c.new-candidates.ensures.text)

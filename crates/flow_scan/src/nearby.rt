@@ -1,0 +1,60 @@
+//! The search for an end that is likely to be near.
+ghost use Rattle.std.specs.Prelude.{◌≤◌, IfErr, IfOk, length};
+ghost use Rattle.flow_scan.specs.NextEnds.{IsNextEnd, IsPassed};
+
+use crate::endings::Backoff;
+use crate::learning::cost_of_looks;
+use crate::pace::{NEAR_LOOKS, START_COST};
+use crate::strides::first_marked;
+use lit_base::LitList;
+
+/// A list of at most so many literals is searched for by two bytes of each, which tell little that is false.
+const PAIRED: usize = 3;
+
+/// Whether looks at the marks of all places up to the end that a search found behind a place would have taken well less than
+/// the sieve, which spent so much on candidates at which nothing ended: half as long, since a mark at which nothing ends takes
+/// longer than a candidate.
+pub(crate) fn is_near(
+    list: &LitList,
+    from: usize,
+    found: Option<(usize, usize)>,
+    spent: usize,
+) -> bool {
+    let Some((end, _)) = found else {
+        return false;
+    };
+    let distance = end.saturating_sub(from);
+    list.len() > PAIRED
+        && distance / list.stride() < NEAR_LOOKS
+        && cost_of_looks(list.stride(), distance) < spent.saturating_add(START_COST) / 2
+}
+
+/// The first end near a place of a text, with the first literal that ends there, or a place up to which nothing ends: looked for by
+/// the marks alone, a stride after the other. Within the loop over lines, where it would lack registers, it took up to twice as long.
+#[inline(never)]
+pub(crate) fn next_nearby(
+    list: &LitList,
+    text: &[u8],
+    from: usize,
+    backoff: &mut Backoff,
+) -> Result<(usize, usize), usize>
+    requires { from ≤ length text.now }
+    ensures next { IfOk result (λ found. IsNextEnd list.now text.now from found.0) }
+    ensures passed { IfErr result (IsPassed list.now text.now from) }
+{
+    let stride = list.stride();
+    let mut looks = NEAR_LOOKS;
+    let mut seen = from;
+    'strides: while looks > 0 && seen >= 7 && text.len() - seen > stride {
+        let marks = list.marks_before(text, seen + 1);
+        if marks != 0 {
+            if let Some(found) = first_marked(list, text, seen, stride, marks as u64) {
+                return Ok(found);
+            }
+            backoff.spend_on_mark();
+        }
+        seen += stride;
+        looks -= 1;
+    }
+    Err(seen)
+}

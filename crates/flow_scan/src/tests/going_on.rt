@@ -1,0 +1,95 @@
+//! Searches of one text that go on behind each end that they find, beside searches that begin anew.
+use super::finding::{CAPITALS, Draws, Told, WORDS, pieces_of, plan_of_pieces, text_of, with_end};
+use crate::compiled::Compiled;
+use crate::end_finder::EndFinder;
+use crate::searching::next_end;
+use crate::text_search::TextSearch;
+use lit_base::Fold;
+use std::alloc::Global;
+
+/// The ends that one search of a text by a finder finds, each so many bytes or more behind the one before.
+fn by_finder(finder: &mut EndFinder<'_>, text: &[u8], skip: usize) -> Told {
+    let (mut told, mut from) = ((0, 0), 0);
+    let mut search = TextSearch::new(finder.compiled(), text);
+    'ends: for _ in 0..=text.len() {
+        let Some(end) = finder.next_end_of(&mut search, from) else {
+            return told;
+        };
+        told = with_end(told, end);
+        from = end.saturating_add(skip);
+    }
+    told
+}
+
+/// Those that one search by the plan alone finds.
+fn by_plan(compiled: &Compiled, text: &[u8], skip: usize) -> Told {
+    let (mut told, mut from) = ((0, 0), 0);
+    let mut search = TextSearch::new(compiled, text);
+    'ends: for _ in 0..=text.len() {
+        let Some(end) = search.next_end(from) else {
+            return told;
+        };
+        told = with_end(told, end);
+        from = end.saturating_add(skip);
+    }
+    told
+}
+
+/// Those that a search finds which begins anew behind each.
+fn anew(compiled: &Compiled, text: &[u8], skip: usize) -> Told {
+    let (mut told, mut from) = ((0, 0), 0);
+    for _ in 0..=text.len() {
+        let Some(end) = next_end(compiled, text, from) else {
+            return told;
+        };
+        told = with_end(told, end);
+        from = end.saturating_add(skip);
+    }
+    told
+}
+
+/// Whether all three find the same at each of these distances.
+fn find_the_same(alloc: Global, compiled: &Compiled, text: &[u8]) -> Option<bool> {
+    let mut finder = EndFinder::new(alloc, compiled).ok()?;
+    for skip in [0, 1, 7, 31, 61, 62, 63, 64, 65, 66, 127, 128, 129, 1000] {
+        let wanted = anew(compiled, text, skip);
+        if by_plan(compiled, text, skip) != wanted || by_finder(&mut finder, text, skip) != wanted {
+            return Some(false);
+        }
+    }
+    Some(true)
+}
+
+/// Whether they do for forty pieces of a text whose halves are of these words, the shortest of so many bytes.
+fn agree(alloc: Global, fold: Fold, halves: [&[&[u8]]; 2], least: usize) -> Option<bool> {
+    let [first, second] = halves;
+    let mut draws = Draws { state: 3 };
+    let text = text_of(alloc, &mut draws, first, second)?;
+    let raw = pieces_of(alloc, &mut draws, &text, least, 1)?;
+    let compiled = plan_of_pieces(alloc, &raw, fold)?;
+    find_the_same(alloc, &compiled, &text)
+}
+
+#[test]
+fn goes_on_behind_each_end(rt: HostRuntime) {
+    assert_eq!(rt;
+        agree(rt.alloc(), Fold::No, [&WORDS, &WORDS], 4),
+        Some(true)
+    );
+}
+
+#[test]
+fn goes_on_behind_each_end_of_longer_ones(rt: HostRuntime) {
+    assert_eq!(rt;
+        agree(rt.alloc(), Fold::No, [&WORDS, &WORDS], 9),
+        Some(true)
+    );
+}
+
+#[test]
+fn goes_on_behind_short_ends_in_either_case(rt: HostRuntime) {
+    assert_eq!(rt;
+        agree(rt.alloc(), Fold::Ascii, [&CAPITALS, &CAPITALS], 2),
+        Some(true)
+    );
+}
