@@ -3,8 +3,9 @@ ghost use Rattle.std.specs.Prelude.{◌≡◌, ◌<◌, ◌≤◌, IfOk, IfSome,
 ghost use Rattle.lit_base.specs.Occurrences.{IsFirstEnding};
 ghost use Rattle.flow_scan.specs.NextEnds.{IsNextEnd, NoEndAfter};
 
+use crate::aim::Met;
 use crate::compiled::Compiled;
-use crate::learning::{Learning, MARK_COST, cost_of_looks};
+use crate::learning::{Learning, cost_by_windows};
 use crate::searching::skip_short_ends;
 use crate::text_search::TextSearch;
 use crate::windowed::next_end_by_windows;
@@ -133,6 +134,7 @@ impl<'p> EndFinder<'p> {
         self.learning.note(
             passed(search.text(), seen, found),
             search.spent().saturating_sub(before),
+            found.is_some(),
         );
         found
     }
@@ -146,14 +148,14 @@ impl<'p> EndFinder<'p> {
             (λ found. IsNextEnd self.old.literals text.now from found.0) }
     {
         let list = self.compiled.list();
-        let mut met = 0;
+        let mut met = Met::nothing();
         let found = next_end_by_windows(&self.windows, list, text, from, &mut met);
         let count = passed(text, from, found);
-        let looks = cost_of_looks(self.windows.stride(), count).saturating_mul(
-            self.windows.widths(),
+        self.learning.note(
+            count,
+            cost_by_windows(&self.windows, list.len(), count, met),
+            found.is_some(),
         );
-        let marks = met.saturating_mul(MARK_COST);
-        self.learning.note(count, looks.saturating_add(marks));
         found
     }
 

@@ -5,11 +5,12 @@ ghost use Rattle.nib_mask.specs.Candidates.{CoversBy};
 ghost use Rattle.lane_filter.specs.Sieves.{Passes};
 ghost use Rattle.flow_scan.specs.NextEnds.{IsNextEnd, IsPassed, NoEndAfter};
 
-use crate::learning::{MARK_COST, cost_of_candidate, cost_of_looks};
+use crate::learning::{cost_of_candidate, cost_of_looks};
 use crate::pace::{CROWD, LONGEST_DELAY, LOOKS, LOOKS_OF_MARK, SHORTEST_DELAY, WINDOW};
 use crate::strides::next_end_within_budget;
 use lane_filter::Candidates;
 use lit_base::LitList;
+use text_windows::MARK_COST;
 
 /// Where the search by strides is tried again on a text on which it gave up: exponential backoff, in bytes.
 #[derive(Clone, Copy)]

@@ -1,7 +1,7 @@
 //! When a search learns from the text. Nothing here decides what is found, only how soon.
 
-/// A look at the marks before a place takes so many tenths of a nanosecond.
-const LOOK_COST: usize = 8;
+use crate::aim::Met;
+use text_windows::{LOOK_COST, MARK_COST, SIEVE_COST, Windows};
 
 /// A candidate of the sieve at which nothing ends takes so many, where the marks before it tell that.
 const CANDIDATE_COST: usize = 50;
@@ -21,21 +21,47 @@ pub(crate) fn cost_of_candidate(shortest: usize) -> usize {
     }
 }
 
-/// A mark at which nothing ends takes so many.
-pub(crate) const MARK_COST: usize = 250;
+/// What a search by the plan may take for 1,024 bytes beside what the sieve takes, without learning: one place in a hundred
+/// may be a candidate.
+const PLAIN_COST: usize = 512;
 
-/// What a search that meets nothing may take for 1,024 bytes without learning: less is hardly to be had.
-const FREE_COST: usize = 2560;
+/// What a search by windows may take for 1,024 bytes beyond one and a half times its estimate.
+const WINDOWED_COST: usize = 2048;
 
-/// To learn takes about so long: a quarter of a millisecond. It is worth while once as much was lost.
-const LEAST_LOSS: usize = 2_500_000;
+/// A hit takes so much longer by windows than by the plan: they stand before its end, which is known to be the least only
+/// once all places up to it are looked at. Without that, a hundred frequent literals took 1.3 times as long in log lines.
+const HIT_COST: usize = 300;
+
+/// To learn takes about so long: half a millisecond. It is worth while once as much was lost.
+const LEAST_LOSS: usize = 5_000_000;
 
 /// The greatest loss that is waited for where learning gains little.
-const MOST_LOSS: usize = 64 * LEAST_LOSS;
+const MOST_LOSS: usize = 32 * LEAST_LOSS;
 
 /// What `count` bytes take by looks that are a stride apart.
 pub(crate) fn cost_of_looks(stride: usize, count: usize) -> usize {
     count.saturating_mul(LOOK_COST) / stride.max(1)
+}
+
+/// What a search by windows took that passed so many bytes and met so much, for a list of `len` literals.
+pub(crate) fn cost_by_windows(windows: &Windows<'_>, len: usize, count: usize, met: Met) -> usize {
+    let split = windows.split();
+    let sieve = if split == 0 {
+        0
+    } else {
+        count.saturating_mul(SIEVE_COST) / 1024
+    };
+    let looks = if split == len {
+        0
+    } else {
+        cost_of_looks(windows.stride(), count).saturating_mul(windows.widths())
+    };
+    let passes = met.passed.saturating_mul(windows.pass_cost());
+    let marks = met.marked.saturating_mul(MARK_COST);
+    sieve
+        .saturating_add(looks)
+        .saturating_add(passes)
+        .saturating_add(marks)
 }
 
 /// How a search has fared since it chose its way: what it took for how many bytes, and how much more that was than
@@ -45,6 +71,7 @@ pub(crate) struct Learning {
     is_windowed: bool,
     passed: usize,
     spent: usize,
+    hits: usize,
     /// What it may take for 1,024 bytes.
     allowed: usize,
     lost: usize,
@@ -59,7 +86,8 @@ impl Learning {
             is_windowed: false,
             passed: 0,
             spent: 0,
-            allowed: FREE_COST,
+            hits: 0,
+            allowed: PLAIN_COST,
             lost: 0,
             most_lost: LEAST_LOSS,
         }
@@ -77,10 +105,11 @@ impl Learning {
         self.lost >= self.most_lost
     }
 
-    /// Adds what so many bytes took.
-    pub fn note(&mut self, passed: usize, spent: usize) {
+    /// Adds what so many bytes took, and whether an end was found behind them.
+    pub fn note(&mut self, passed: usize, spent: usize, is_hit: bool) {
         self.passed = self.passed.saturating_add(passed);
         self.spent = self.spent.saturating_add(spent);
+        self.hits = self.hits.saturating_add(usize::from(is_hit));
         let allowed = passed.saturating_mul(self.allowed) / 1024;
         self.lost = self.lost.saturating_add(spent).saturating_sub(allowed);
     }
@@ -88,8 +117,8 @@ impl Learning {
     /// It has learned windows by which 1,024 bytes are likely to take so long: it goes on by them if that is less
     /// than they took.
     pub fn choose(&mut self, cost: usize) {
-        let taken = self.taken();
-        let is_better = cost < taken - taken / 8;
+        let allowed = cost.saturating_add(cost / 2).saturating_add(WINDOWED_COST);
+        let is_better = self.is_better(cost, allowed);
         self.most_lost = if is_better {
             (self.most_lost / 2).max(LEAST_LOSS)
         } else {
@@ -97,11 +126,29 @@ impl Learning {
         };
         if is_better || self.is_windowed {
             self.is_windowed = true;
-            self.allowed = cost.saturating_add(cost / 2).saturating_add(FREE_COST);
+            self.allowed = allowed;
         }
         self.passed = 0;
         self.spent = 0;
+        self.hits = 0;
         self.lost = 0;
+    }
+
+    /// Whether windows that were learned are likely to take less by a good part: than the plan took, or than those before
+    /// them were to take, or less than half of what these took. An estimate may be too low again and again: of frequent
+    /// literals windows cost more than a sample tells.
+    fn is_better(&self, cost: usize, allowed: usize) -> bool {
+        let taken = self.taken();
+        if self.is_windowed {
+            allowed < self.allowed - self.allowed / 8 || allowed < taken / 2
+        } else {
+            cost.saturating_add(self.cost_of_hits()) < taken - taken / 8
+        }
+    }
+
+    /// What the hits in 1,024 bytes would take more by windows than they did.
+    fn cost_of_hits(&self) -> usize {
+        self.hits.saturating_mul(HIT_COST).saturating_mul(1024) / self.passed.max(1)
     }
 
     /// What 1,024 bytes took since the last choice.
@@ -110,7 +157,7 @@ impl Learning {
         if self.is_windowed {
             taken
         } else {
-            taken.saturating_add(FREE_COST)
+            taken.saturating_add(SIEVE_COST)
         }
     }
 }

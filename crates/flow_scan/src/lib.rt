@@ -2,6 +2,7 @@
 //! whatever pieces the stream comes.
 #![tactic(auto)]
 
+mod aim;
 mod carry;
 mod compiled;
 mod end_finder;
@@ -16,6 +17,8 @@ mod scanner;
 mod scanning;
 mod seam;
 mod searching;
+mod sieved;
+mod strided;
 mod strides;
 mod text_search;
 mod windowed;

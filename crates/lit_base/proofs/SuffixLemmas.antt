@@ -224,7 +224,7 @@ key-occurs l text place end width bytes narrow wide occurs =
     (λ w. same_key l.folding text t end width bytes narrow w occurs.begins occurs.ends occurs.bytes) wide
 
 -- of a text that folds to a literal, the front folds to the literal's front
-front_folds : (fold : Fold) (text t : List ℕ) (end back : ℕ) → back ≤ length t → length t ≤ end → folded_text fold (slice_range text (end - length t) end) ≡ t
+pub front_folds : (fold : Fold) (text t : List ℕ) (end back : ℕ) → back ≤ length t → length t ≤ end → folded_text fold (slice_range text (end - length t) end) ≡ t
     → folded_text fold (slice_range text (end - length t) (end - back)) ≡ take (length t - back) t
 front_folds fold text t end back few begins is =
     let n : ℕ = length t - back in

@@ -88,7 +88,7 @@ passes-agrees fold a b c literal at_a at_b at_c run holds =
     (passes_at-agrees fold 2 c run literal holds at_c)
 
 -- where a literal ends in a text, the last bytes up to there agree with it, whatever stands before the text
-agrees-occurs : (l : Literals) (text before : List ℕ) (place end position i : ℕ) (occurs : Occurs l text place end) → length before ≡ 2 → position < 3 → i ≡ end + position - 1 → Agrees l.folding position (get_or (before ++ text) i 0) occurs.literal
+pub agrees-occurs : (l : Literals) (text before : List ℕ) (place end position i : ℕ) (occurs : Occurs l text place end) → length before ≡ 2 → position < 3 → i ≡ end + position - 1 → Agrees l.folding position (get_or (before ++ text) i 0) occurs.literal
 agrees-occurs l text before place end position i occurs two low at = record {
   same = λ long.
       let literal = occurs.literal in

@@ -1,5 +1,6 @@
 pub mod Buckets
 pub mod Fingerprints
+pub mod FrontLemmas
 pub mod LawLemmas
 pub mod Ranges
 pub mod TableLemmas

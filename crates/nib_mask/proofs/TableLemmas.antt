@@ -73,7 +73,7 @@ byte-lt text i bytes =
     ]
 
 -- with two zero bytes before the text each is a byte too
-padded-lt : (text : List ℕ) (i : ℕ) → All (λ b. b < 256) text → get_or (0 ∷ 0 ∷ text) i 0 < 256
+pub padded-lt : (text : List ℕ) (i : ℕ) → All (λ b. b < 256) text → get_or (0 ∷ 0 ∷ text) i 0 < 256
 padded-lt text zero bytes = omega arith
 padded-lt text (suc zero) bytes = omega arith
 padded-lt text (suc (suc i)) bytes = byte-lt text i bytes

@@ -1,4 +1,5 @@
 pub mod Candidates
 pub mod FilterSet
+pub mod Fronts
 pub mod Runs
 pub mod Tables

@@ -18,7 +18,7 @@ fn capital(fold: Fold, byte: u8) -> u8
 }
 
 /// Whether the literal has a byte at the position.
-fn reaches(position: usize, literal: &[u8]) -> bool
+pub fn reaches(position: usize, literal: &[u8]) -> bool
     requires { position < 3 }
     ensures { result ≡ reaches position literal.now }
 {
@@ -27,7 +27,7 @@ fn reaches(position: usize, literal: &[u8]) -> bool
 
 /// Whether the literal has a byte at the position that, small or as a capital, has this half.
 #[tactic(auto, unfolding(crate::specs::FilterSet::has_half))]
-fn has_half(fold: Fold, position: usize, half: Half, value: u8, literal: &[u8]) -> bool
+pub fn has_half(fold: Fold, position: usize, half: Half, value: u8, literal: &[u8]) -> bool
     requires { position < 3 }
     ensures { result ≡ has_half fold position half value literal.now }
 {

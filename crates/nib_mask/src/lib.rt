@@ -6,6 +6,7 @@
 
 mod candidates;
 mod fingerprint;
+mod fronts;
 mod half;
 mod masks;
 

@@ -8,9 +8,10 @@ use Rattle.lit_base.specs.Occurrences.{Occurs}
 use Rattle.lit_base.specs.declared.suffixes.marks.TheConstants.{HASH_BITS}
 use Rattle.text_windows.specs.Shapes.{width_at}
 
--- what a contract sees of `Windows`: the literals, how far apart a search looks, and how far before its end each literal has the last of its windows
+-- what a contract sees of `Windows`: the literals, how many of them are sieved, how far apart a search for the others looks, and how far before its end each literal has the last of its windows
 pub record Windowing : Type 0 where
   pub literals : Literals
+  pub split : ℕ
   pub stride : ℕ
   pub offsets : List ℕ
 
@@ -18,15 +19,27 @@ pub record Windowing : Type 0 where
 abbrev pub offset_at : Windowing → ℕ → ℕ
 offset_at w place = slice_index w.offsets place
 
--- each literal's windows, as many as a stride has places, lie within it, and no further back than a byte of marks tells
+-- a literal's windows, as many as a stride has places, lie within it, and no further back than a byte of marks tells
+pub record IsWithin (w : Windowing) (stride place : ℕ) : Type 0 where
+  pub near : offset_at w place + stride ≤ 8
+  pub within : offset_at w place + stride ≤ length (literal_at w.literals place)
+
+-- so do those of all: the literals before the split are sieved and have one each, and the others are strided
 pub record AreWithin (w : Windowing) : Type 0 where
   pub some : 0 < w.stride
-  pub near : (place : ℕ) → place < length w.literals.texts → offset_at w place + w.stride ≤ 8
-  pub within : (place : ℕ) → place < length w.literals.texts → offset_at w place + w.stride ≤ length (literal_at w.literals place)
+  pub sieved : (place : ℕ) → place < w.split → IsWithin w 1 place
+  pub strided : (place : ℕ) → w.split ≤ place → place < length w.literals.texts → IsWithin w w.stride place
 
--- marks at a place of a text tell each end of a literal that has one of its windows before that place, by how far it is ahead
-abbrev pub AreMarksAt : Windowing → List ℕ → ℕ → ℕ → Type 0
-AreMarksAt w text at marks = (place back : ℕ) → offset_at w place ≤ back → back < offset_at w place + w.stride → Occurs w.literals text place (at + back) → bit_at marks back ≡ 1
+-- marks at a place of a text tell each end of the literals from one place of the list up to another, if such a literal has one of its windows before that place of the text, by how far it is ahead
+abbrev pub AreMarksOf : ℕ → ℕ → ℕ → Windowing → List ℕ → ℕ → ℕ → Type 0
+AreMarksOf low high stride w text at marks = (place back : ℕ) → low ≤ place → place < high → offset_at w place ≤ back → back < offset_at w place + stride → Occurs w.literals text place (at + back) → bit_at marks back ≡ 1
+
+-- those of the sieved literals, and of the strided ones
+abbrev pub AreSievedMarks : Windowing → List ℕ → ℕ → ℕ → Type 0
+AreSievedMarks w = AreMarksOf 0 w.split 1 w
+
+abbrev pub AreStridedMarks : Windowing → List ℕ → ℕ → ℕ → Type 0
+AreStridedMarks w = AreMarksOf w.split (length w.literals.texts) w.stride w
 
 -- a literal is marked by its windows of so many bytes at an offset
 pub record IsWindowed (l : Literals) (marks : List ℕ) (place width offset stride : ℕ) : Type 0 where
@@ -34,8 +47,9 @@ pub record IsWindowed (l : Literals) (marks : List ℕ) (place width offset stri
   pub wide : width + offset + stride ≤ length (literal_at l place) + 1
   pub marked : IsMarkedFor marks l.folding (literal_at l place) width offset stride
 
--- each literal before a place is marked
-pub record AreWindowed (l : Literals) (stride : ℕ) (offsets marks : List ℕ) (count : ℕ) : Type 0 where
+-- each literal before a place is marked, by one window if it stands before the split
+pub record AreWindowed (l : Literals) (split stride : ℕ) (offsets marks : List ℕ) (count : ℕ) : Type 0 where
   pub offsets_len : length offsets ≡ length l.texts
   pub marks_len : length marks ≡ 2 ^ HASH_BITS
-  pub windowed : (place : ℕ) → place < count → IsWindowed l marks place (width_at l place) (slice_index offsets place) stride
+  pub sieved : (place : ℕ) → place < count → place < split → IsWindowed l marks place (width_at l place) (slice_index offsets place) 1
+  pub strided : (place : ℕ) → place < count → split ≤ place → IsWindowed l marks place (width_at l place) (slice_index offsets place) stride

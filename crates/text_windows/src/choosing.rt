@@ -3,57 +3,192 @@ ghost use Rattle.std.specs.Prelude.{◌≡◌, ◌^◌, ◌<◌, ◌≤◌, leng
 ghost use Rattle.lit_base.specs.declared.suffixes.marks.TheConstants.{HASH_BITS};
 
 use crate::counts::{Counts, NEVER, PLACES};
+use crate::grouping::group;
 use crate::shape::{Shape, WIDTH};
-use lit_base::LitList;
+use lit_base::{HASH_BITS, LitList};
+use nib_mask::{Masks, plain_byte};
 
 /// A look at the marks of a place takes so many tenths of a nanosecond.
-const LOOK: usize = 8;
+pub const LOOK_COST: usize = 8;
 
 /// A mark at which nothing ends takes so many.
-const FALSE_MARK: usize = 250;
+pub const MARK_COST: usize = 250;
 
-/// A stride, and what a search by the best windows for it takes, in tenths of a nanosecond for 1,024 bytes.
+/// To sieve 1,024 bytes takes so many, where no place passes.
+pub const SIEVE_COST: usize = 1536;
+
+/// A place that passes the sieve, and has no mark, takes so many, and as many again for each width that it is looked up by.
+const PASS_COST: usize = 30;
+
+/// An estimate takes so many marks for each that a sample had: windows are chosen that the sample happens to lack,
+/// and so a text has more of them.
+const BIAS: usize = 2;
+
+/// So many literals at most are sieved: with more, most places pass.
+const MOST_SIEVED: usize = 128;
+
+/// Those are sieved that have fewer bytes than one of these, so that the others are left to longer strides.
+const SIEVED_LENS: [usize; 5] = [3, 4, 5, 7, usize::MAX];
+
+/// So many hashes may be marked.
+const HASHES: usize = 1 << HASH_BITS;
+
+/// One place of so many tells how many of a sample pass.
+const SPARSE: usize = 31;
+
+/// How many literals, the shortest of a list, are sieved, how far apart a search for the others looks, and what both
+/// take, in tenths of a nanosecond for 1,024 bytes.
 #[derive(Clone, Copy, Debug)]
-pub(crate) struct Estimate {
+pub(crate) struct Choice {
+    pub split: usize,
     pub stride: usize,
     pub cost: usize,
 }
 
-/// The stride for which a search is likely to cost least.
-pub(crate) fn best_stride(list: &LitList, shape: Shape, counts: &Counts) -> Estimate
-    requires room { vec_len counts.now.counts ≡ 2 ^ HASH_BITS }
-    requires some { 0 < shape.most_stride }
-    ensures some { 0 < result.stride }
-    ensures within { result.stride ≤ shape.most_stride }
+/// The choice that is likely to cost least. It leaves offsets and buckets as they come.
+pub(crate) fn best_choice(
+    list: &LitList,
+    counts: &Counts,
+    sample: &[u8],
+    offsets: &mut Vec<u8>,
+    buckets: &mut Vec<u8>,
+) -> Choice
+    requires fours { vec_len counts.now.fours ≡ 2 ^ HASH_BITS }
+    requires threes { vec_len counts.now.threes ≡ 2 ^ HASH_BITS }
+    requires offsets { vec_len offsets.old ≡ length list.now.texts }
+    requires buckets { vec_len buckets.old ≡ length list.now.texts }
+    ensures split { result.split ≤ length list.now.texts }
+    ensures offsets { vec_len offsets.new ≡ vec_len offsets.old }
+    ensures buckets { vec_len buckets.new ≡ vec_len buckets.old }
 {
-    let totals = totals(list, shape, counts);
-    let mut best = Estimate {
+    let mut best = best_stride(list, 0, counts);
+    let mut last = 0;
+    for number in 0..SIEVED_LENS.len() {
+        let split = count_shorter(list, SIEVED_LENS[number]);
+        if split > last && split <= MOST_SIEVED {
+            let sieve = cost_of_sieve(list, split, counts, sample, offsets, buckets);
+            let rest = best_stride(list, split, counts);
+            let cost = rest.cost.saturating_add(sieve);
+            if cost < best.cost {
+                best = Choice { cost, ..rest };
+            }
+        }
+        last = split;
+    }
+    best
+}
+
+/// How many literals have fewer bytes.
+fn count_shorter(list: &LitList, len: usize) -> usize
+    ensures { result ≤ length list.now.texts }
+{
+    for place in 0..list.len() {
+        if list.get(place).len() >= len {
+            return place;
+        }
+    }
+    list.len()
+}
+
+/// What it takes to sieve the first literals of a list, by the windows that suit them.
+fn cost_of_sieve(
+    list: &LitList,
+    split: usize,
+    counts: &Counts,
+    sample: &[u8],
+    offsets: &mut Vec<u8>,
+    buckets: &mut Vec<u8>,
+) -> usize
+    requires fours { vec_len counts.now.fours ≡ 2 ^ HASH_BITS }
+    requires threes { vec_len counts.now.threes ≡ 2 ^ HASH_BITS }
+    requires split { split ≤ length list.now.texts }
+    requires offsets { vec_len offsets.old ≡ length list.now.texts }
+    requires buckets { vec_len buckets.old ≡ length list.now.texts }
+    ensures offsets { vec_len offsets.new ≡ vec_len offsets.old }
+    ensures buckets { vec_len buckets.new ≡ vec_len buckets.old }
+{
+    choose_sieved(list, split, counts, offsets);
+    group(list, split, offsets, buckets);
+    let masks = Masks::of_fronts(list, split, offsets, buckets);
+    let (passed, all) = count_passed(&masks, sample);
+    let price = cost_of_pass(Shape::of(list, 0).widths());
+    let passes = passed.saturating_mul(price).saturating_mul(1024) / all.max(1);
+    SIEVE_COST.saturating_add(passes)
+}
+
+/// What a place takes that passes, and is looked up by so many widths.
+pub(crate) fn cost_of_pass(widths: usize) -> usize {
+    PASS_COST.saturating_add(PASS_COST.saturating_mul(widths))
+}
+
+/// How many of some places of a sample pass the masks, and how many these are.
+fn count_passed(masks: &Masks, sample: &[u8]) -> (usize, usize) {
+    let (mut passed, mut all) = (0usize, 0usize);
+    for stretch in sample.chunks(SPARSE) {
+        if let [third, second, last, ..] = stretch {
+            all = all.saturating_add(1);
+            if plain_byte(masks, *third, *second, *last) != 0 {
+                passed = passed.saturating_add(1);
+            }
+        }
+    }
+    (passed, all)
+}
+
+/// The stride for which a search for the literals from a place of the list on is likely to cost least.
+fn best_stride(list: &LitList, first: usize, counts: &Counts) -> Choice
+    requires fours { vec_len counts.now.fours ≡ 2 ^ HASH_BITS }
+    requires first { first ≤ length list.now.texts }
+    ensures { result.split ≡ first }
+{
+    let shape = Shape::of(list, first);
+    if first == list.len() {
+        return Choice {
+            split: first,
+            stride: shape.most_stride,
+            cost: 0,
+        };
+    }
+    let totals = totals(list, first, shape.most_stride, counts);
+    let rest = list.len() - first;
+    let mut best = Choice {
+        split: first,
         stride: shape.most_stride,
-        cost: cost_of(shape.most_stride, shape.widths(), totals[0], counts.all),
+        cost: cost_of(
+            shape.most_stride,
+            shape.widths(),
+            totals[0],
+            counts.all,
+            rest,
+        ),
     };
     let mut stride = shape.most_stride;
     for step in 1..4usize {
         stride = (stride / 2).max(1);
-        let cost = cost_of(stride, shape.widths(), totals[step], counts.all);
+        let cost = cost_of(stride, shape.widths(), totals[step], counts.all, rest);
         if cost < best.cost {
-            best = Estimate { stride, cost };
+            best = Choice {
+                split: first,
+                stride,
+                cost,
+            };
         }
     }
     best
 }
 
-/// How often the best windows of all literals occurred: for the longest stride, and for the half of each.
-fn totals(list: &LitList, shape: Shape, counts: &Counts) -> [usize; 4]
-    requires { vec_len counts.now.counts ≡ 2 ^ HASH_BITS }
+/// How often the best windows of the literals from a place on occurred: for the longest stride, and for the half of each.
+fn totals(list: &LitList, first: usize, most_stride: usize, counts: &Counts) -> [usize; 4]
+    requires { vec_len counts.now.fours ≡ 2 ^ HASH_BITS }
 {
     let mut totals = [0usize; 4];
-    for place in 0..list.len() {
+    for place in first..list.len() {
         if list.get(place).len() < WIDTH {
             // All of it is its window: none is to be chosen.
             continue;
         }
         let windows = counts.of_literal(list, place);
-        let mut stride = shape.most_stride;
+        let mut stride = most_stride;
         for step in 0..4usize {
             let (_, cost) = best_offset(windows, stride);
             totals[step] = totals[step].saturating_add(cost);
@@ -63,10 +198,15 @@ fn totals(list: &LitList, shape: Shape, counts: &Counts) -> [usize; 4]
     totals
 }
 
-/// What a search takes that looks at every `stride`-th place, by so many widths, where of `all` places so many are marked.
-fn cost_of(stride: usize, widths: usize, marked: usize, all: usize) -> usize {
-    let looks = (LOOK * 1024).saturating_mul(widths);
-    let marks = FALSE_MARK.saturating_mul(marked).saturating_mul(1024) / all.max(1);
+/// What a search takes that looks at every `stride`-th place, by so many widths, where of `all` places so many are marked,
+/// and others have the hash of a window of one of `count` literals.
+fn cost_of(stride: usize, widths: usize, marked: usize, all: usize, count: usize) -> usize {
+    let alike = MARK_COST.saturating_mul(count).saturating_mul(stride) / HASHES;
+    let looks = LOOK_COST
+        .saturating_add(alike)
+        .saturating_mul(widths)
+        .saturating_mul(1024);
+    let marks = (MARK_COST * BIAS * 1024).saturating_mul(marked) / all.max(1);
     looks.saturating_add(marks) / stride.max(1)
 }
 
@@ -84,14 +224,38 @@ fn best_offset(windows: [u32; 8], stride: usize) -> (usize, usize)
     best
 }
 
-/// Chooses for each literal the windows that occurred least.
-pub(crate) fn choose_offsets(list: &LitList, counts: &Counts, stride: usize, offsets: &mut Vec<u8>)
-    requires counts { vec_len counts.now.counts ≡ 2 ^ HASH_BITS }
+/// Chooses for each literal the windows that occurred least, for a stride from a place of the list on.
+pub(crate) fn choose_offsets(
+    list: &LitList,
+    split: usize,
+    counts: &Counts,
+    stride: usize,
+    offsets: &mut Vec<u8>,
+)
+    requires fours { vec_len counts.now.fours ≡ 2 ^ HASH_BITS }
+    requires threes { vec_len counts.now.threes ≡ 2 ^ HASH_BITS }
+    requires split { split ≤ length list.now.texts }
     requires offsets { vec_len offsets.old ≡ length list.now.texts }
     ensures { vec_len offsets.new ≡ vec_len offsets.old }
 {
-    for place in 0..list.len() {
+    choose_sieved(list, split, counts, offsets);
+    for place in split..list.len() {
         let (offset, _) = best_offset(counts.of_literal(list, place), stride);
+        offsets[place] = offset as u8;
+    }
+}
+
+/// Chooses for each of the first literals the window whose last three bytes occurred least. Lists of ten of a text's own
+/// words have up to sixty times fewer candidates so than by the windows that occurred least as a whole.
+fn choose_sieved(list: &LitList, split: usize, counts: &Counts, offsets: &mut Vec<u8>)
+    requires fours { vec_len counts.now.fours ≡ 2 ^ HASH_BITS }
+    requires threes { vec_len counts.now.threes ≡ 2 ^ HASH_BITS }
+    requires split { split ≤ length list.now.texts }
+    requires offsets { vec_len offsets.old ≡ length list.now.texts }
+    ensures { vec_len offsets.new ≡ vec_len offsets.old }
+{
+    for place in 0..split {
+        let (offset, _) = best_offset(counts.of_sieved(list, place), 1);
         offsets[place] = offset as u8;
     }
 }

@@ -10,41 +10,54 @@ use std::alloc::{AllocError, Global};
 pub(crate) const PLACES: usize = 8;
 
 /// What stands for a window that a literal has not.
-pub(crate) const NEVER: u32 = 1 << 24;
+pub(crate) const NEVER: u32 = 1 << 28;
 
-/// How often windows of four bytes occurred in samples of texts, older ones counted half for each later sample.
+/// So many bytes of a window are sieved.
+const SIEVED: usize = 3;
+
+/// How often windows of four bytes, and the last three bytes of windows, occurred in samples of texts, older ones
+/// counted half for each later sample.
 #[derive(Debug, Drop)]
 pub(crate) struct Counts {
-    pub counts: Vec<u16>,
-    /// Half of how many windows were counted, so that an estimate takes a false mark for twice what it costs: the
-    /// constants were chosen with that.
+    pub fours: Vec<u16>,
+    pub threes: Vec<u16>,
+    /// How many windows were counted.
     pub all: usize,
 }
 
 impl Counts {
     /// Those of no text.
     pub fn new(alloc: Global) -> Result<Counts, AllocError>
-        ensures { IfOk result (λ counts. vec_len counts.counts ≡ 2 ^ HASH_BITS) }
+        ensures fours { IfOk result (λ counts. vec_len counts.fours ≡ 2 ^ HASH_BITS) }
+        ensures threes { IfOk result (λ counts. vec_len counts.threes ≡ 2 ^ HASH_BITS) }
     {
+        let fours = Vec::from_elem(alloc, 0, 1 << HASH_BITS)?;
+        let threes = Vec::from_elem(alloc, 0, 1 << HASH_BITS)?;
         Ok(Counts {
-            counts: Vec::from_elem(alloc, 0, 1 << HASH_BITS)?,
+            fours,
+            threes,
             all: 0,
         })
     }
 
     /// Halves what was counted, and counts the windows of a sample.
     pub fn count(&mut self, list: &LitList, sample: &[u8])
-        requires { vec_len self.old.counts ≡ 2 ^ HASH_BITS }
-        ensures { vec_len self.new.counts ≡ 2 ^ HASH_BITS }
+        requires fours { vec_len self.old.fours ≡ 2 ^ HASH_BITS }
+        requires threes { vec_len self.old.threes ≡ 2 ^ HASH_BITS }
+        ensures fours { vec_len self.new.fours ≡ 2 ^ HASH_BITS }
+        ensures threes { vec_len self.new.threes ≡ 2 ^ HASH_BITS }
     {
-        halve(&mut self.counts);
-        count_windows(&mut self.counts, case_bits(list.fold()), sample);
-        self.all = self.all / 2 + sample.len() / 2;
+        let case_bits = case_bits(list.fold());
+        halve(&mut self.fours);
+        count_windows(&mut self.fours, WIDTH, case_bits, sample);
+        halve(&mut self.threes);
+        count_windows(&mut self.threes, SIEVED, case_bits, sample);
+        self.all = (self.all / 2).saturating_add(sample.len());
     }
 
     /// How often each of the last windows of a literal occurred.
     pub fn of_literal(&self, list: &LitList, place: usize) -> [u32; 8]
-        requires room { vec_len self.now.counts ≡ 2 ^ HASH_BITS }
+        requires room { vec_len self.now.fours ≡ 2 ^ HASH_BITS }
         requires within { place < length list.now.texts }
     {
         let literal = list.get(place);
@@ -52,7 +65,27 @@ impl Counts {
         for back in 0..PLACES {
             if WIDTH + back <= literal.len() {
                 let key = suffix_key(list.fold(), literal, literal.len() - back, WIDTH);
-                found[back] = u32::from(self.counts[hash_of(HASH_BITS, key)]);
+                found[back] = u32::from(self.fours[hash_of(HASH_BITS, key)]);
+            }
+        }
+        found
+    }
+
+    /// How often the last three bytes of each of these windows occurred. Of windows that are alike in that, one counts
+    /// for less that itself occurred less.
+    pub fn of_sieved(&self, list: &LitList, place: usize) -> [u32; 8]
+        requires fours { vec_len self.now.fours ≡ 2 ^ HASH_BITS }
+        requires threes { vec_len self.now.threes ≡ 2 ^ HASH_BITS }
+        requires within { place < length list.now.texts }
+    {
+        let literal = list.get(place);
+        let fours = self.of_literal(list, place);
+        let mut found = [NEVER; 8];
+        for back in 0..PLACES {
+            if WIDTH + back <= literal.len() {
+                let key = suffix_key(list.fold(), literal, literal.len() - back, SIEVED);
+                let last_bytes = u32::from(self.threes[hash_of(HASH_BITS, key)]);
+                found[back] = last_bytes * 1024 + fours[back].min(1023);
             }
         }
         found
@@ -68,13 +101,15 @@ fn halve(counts: &mut Vec<u16>)
     }
 }
 
-/// Counts each window of a sample that has eight bytes up to its end.
-fn count_windows(counts: &mut Vec<u16>, case_bits: u64, sample: &[u8])
-    requires { vec_len counts.old ≡ 2 ^ HASH_BITS }
+/// Counts each window of a sample that has so many bytes, and eight bytes up to its end.
+fn count_windows(counts: &mut Vec<u16>, width: usize, case_bits: u64, sample: &[u8])
+    requires room { vec_len counts.old ≡ 2 ^ HASH_BITS }
+    requires some { 0 < width }
+    requires narrow { width ≤ 8 }
     ensures { vec_len counts.new ≡ vec_len counts.old }
 {
     for end in 8..sample.len() {
-        let key = (last_word(sample, end) & last_bits(WIDTH)) | case_bits;
+        let key = (last_word(sample, end) & last_bits(width)) | case_bits;
         let number = hash_of(HASH_BITS, key);
         counts[number] = counts[number].saturating_add(1);
     }

@@ -3,10 +3,12 @@
 
 mod choosing;
 mod counts;
+mod grouping;
 mod marking;
 mod shape;
 mod windows;
 
+pub use choosing::{LOOK_COST, MARK_COST, SIEVE_COST};
 pub use windows::Windows;
 
 #[cfg(test)]

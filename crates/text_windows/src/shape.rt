@@ -11,7 +11,7 @@ pub(crate) const WIDTH: usize = 4;
 /// As many places may be told by a byte of marks.
 const MOST_STRIDE: usize = 8;
 
-/// How the literals of a list are marked: each by windows of four bytes, or of all that it has where it is shorter.
+/// How literals of a list are marked: each by windows of four bytes, or of all that it has where it is shorter.
 #[derive(Clone, Copy, Debug)]
 pub(crate) struct Shape {
     /// No window has fewer bytes; four at most.
@@ -21,19 +21,19 @@ pub(crate) struct Shape {
 }
 
 impl Shape {
-    /// The shape for a list.
-    pub fn of(list: &LitList) -> Shape
-        ensures { IsShapeOf list.now result }
+    /// The shape for the literals from a place of a list on.
+    pub fn of(list: &LitList, first: usize) -> Shape
+        ensures { IsShapeOf list.now first result }
     {
         list.normal_law();
         let count = list.len();
-        if count == 0 {
+        if first >= count {
             return Shape {
-                least_width: 1,
-                most_stride: 1,
+                least_width: WIDTH,
+                most_stride: MOST_STRIDE,
             };
         }
-        let shortest = list.shortest();
+        let shortest = list.get(first).len();
         Shape {
             least_width: shortest.min(WIDTH),
             most_stride: shortest.saturating_sub(WIDTH - 1).clamp(1, MOST_STRIDE),

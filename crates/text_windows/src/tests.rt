@@ -1,6 +1,7 @@
 //! Windows of lists with short literals and with long ones, and of literals whose last bytes a text is full of.
 use crate::windows::Windows;
 use lit_base::{Fold, LitList, RawList};
+use nib_mask::plain_byte;
 use std::alloc::Global;
 
 /// Literals of each length that is marked in its own way.
@@ -43,6 +44,37 @@ fn sample_of(alloc: Global, bytes: [u8; 4]) -> Option<Vec<u8>> {
     Some(sample)
 }
 
+/// The byte so many places before one of a text, or 0 before its first.
+fn byte_before(text: &[u8], at: usize, back: usize) -> u8 {
+    match at.checked_sub(back) {
+        Some(place) => text.get(place).copied().unwrap_or(0),
+        None => 0,
+    }
+}
+
+/// Whether a place of a text passes the masks.
+fn passes(windows: &Windows<'_>, text: &[u8], at: usize) -> bool {
+    let third = byte_before(text, at, 3);
+    let second = byte_before(text, at, 2);
+    plain_byte(windows.masks(), third, second, byte_before(text, at, 1)) != 0
+}
+
+/// Whether the place so far before an end passes the masks, and its marks tell the end.
+fn is_sieved_at(windows: &Windows<'_>, text: &[u8], end: usize, back: usize) -> bool {
+    let Some(at) = end.checked_sub(back) else {
+        return false;
+    };
+    if back >= 8 || at > text.len() {
+        return false;
+    }
+    passes(windows, text, at) && (windows.sieved_marks_at(text, at) >> back) & 1 == 1
+}
+
+/// Whether a search of the places that pass meets an end.
+fn is_sieved(windows: &Windows<'_>, text: &[u8], end: usize) -> bool {
+    (0..8usize).any(|back| is_sieved_at(windows, text, end, back))
+}
+
 /// Whether the marks of the place so far before an end tell it.
 fn is_told(windows: &Windows<'_>, text: &[u8], end: usize, back: usize) -> bool {
     let Some(at) = end.checked_sub(back) else {
@@ -78,7 +110,7 @@ fn is_always_met(windows: &Windows<'_>, text: &[u8], end: usize) -> bool {
 /// Whether it meets each of these.
 fn are_met(windows: &Windows<'_>, text: &[u8], ends: &[usize]) -> bool {
     for end in ends {
-        if !is_always_met(windows, text, *end) {
+        if !is_always_met(windows, text, *end) && !is_sieved(windows, text, *end) {
             return false;
         }
     }
@@ -138,36 +170,77 @@ fn meets_long_literals_of_common_bytes(rt: HostRuntime) {
     assert_eq!(rt; meets_long_words(rt.alloc(), *b"y do"), Some((true, true)));
 }
 
-/// At how many places of a text there are marks.
+/// At how many places of a text a search has to look closer: those with marks of strided literals, or those that pass.
 fn count_marked(windows: &Windows<'_>, text: &[u8]) -> usize {
     let mut count = 0usize;
-    for at in 0..text.len() {
-        if windows.marks_at(text, at) != 0 {
+    for at in 3..text.len() {
+        let has_marks = windows.split() == 0 && windows.marks_at(text, at) != 0;
+        if has_marks || passes(windows, text, at) {
             count = count.saturating_add(1);
         }
     }
     count
 }
 
-/// How far apart a search for a list looks, and how many marks it may meet in a sample: before it learns from it, and then.
-fn learned(alloc: Global, list: &LitList, sample: &[u8]) -> Option<[(usize, usize); 2]> {
+/// How many literals of a list are sieved, how far apart a search for the others looks, and how many places of a sample
+/// cost more than a look: before it learns from it, and then.
+fn learned(alloc: Global, list: &LitList, sample: &[u8]) -> Option<[(usize, usize, usize); 2]> {
     let mut windows = Windows::new(alloc, list).ok()?;
-    let before = (windows.stride(), count_marked(&windows, sample));
+    let before = (
+        windows.split(),
+        windows.stride(),
+        count_marked(&windows, sample),
+    );
     windows.learn(sample);
-    Some([before, (windows.stride(), count_marked(&windows, sample))])
+    let behind = (
+        windows.split(),
+        windows.stride(),
+        count_marked(&windows, sample),
+    );
+    Some([before, behind])
 }
 
 /// That for a literal whose last four bytes are all that the sample has.
-fn moves_off_common_bytes(alloc: Global) -> Option<[(usize, usize); 2]> {
+fn moves_off_common_bytes(alloc: Global) -> Option<[(usize, usize, usize); 2]> {
     let list = list_of(alloc, Fold::No, &[b"abcdxyzt"])?;
     let sample = sample_of(alloc, *b"xyzt")?;
     learned(alloc, &list, &sample)
 }
 
 #[test]
-fn marks_rare_bytes_once_it_has_learned(rt: HostRuntime) {
+fn sieves_by_rare_bytes_once_it_has_learned(rt: HostRuntime) {
     assert_eq!(rt;
         moves_off_common_bytes(rt.alloc()),
-        Some([(1, 4999), (2, 0)])
+        Some([(0, 1, 4999), (1, 8, 0)])
+    );
+}
+
+/// That for a long literal of which the sample has nothing.
+fn strides_over_other_bytes(alloc: Global) -> Option<[(usize, usize, usize); 2]> {
+    let list = list_of(alloc, Fold::No, &[b"the quick fox"])?;
+    let sample = sample_of(alloc, *b"....")?;
+    learned(alloc, &list, &sample)
+}
+
+#[test]
+fn strides_where_long_windows_are_rare(rt: HostRuntime) {
+    assert_eq!(rt;
+        strides_over_other_bytes(rt.alloc()),
+        Some([(0, 1, 0), (0, 8, 0)])
+    );
+}
+
+/// That for a literal of two bytes beside a long one: to sieve both takes no longer than to sieve one.
+fn sieves_a_short_one(alloc: Global) -> Option<[(usize, usize, usize); 2]> {
+    let list = list_of(alloc, Fold::No, &[b"ox", b"the quick fox"])?;
+    let sample = sample_of(alloc, *b"....")?;
+    learned(alloc, &list, &sample)
+}
+
+#[test]
+fn sieves_short_literals_and_long_ones(rt: HostRuntime) {
+    assert_eq!(rt;
+        sieves_a_short_one(rt.alloc()),
+        Some([(0, 1, 0), (2, 8, 0)])
     );
 }

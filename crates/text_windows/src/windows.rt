@@ -5,86 +5,133 @@ ghost use Rattle.std.specs.Int.RustNames.{bit_and, bit_or};
 ghost use Rattle.lit_base.specs.Marks.{IsMarked};
 ghost use Rattle.lit_base.specs.Suffixes.{hash_of, last_bits, spelled, suffix_key};
 ghost use Rattle.lit_base.specs.declared.suffixes.marks.TheConstants.{HASH_BITS};
+ghost use Rattle.nib_mask.specs.Fronts.{CoversFronts};
 ghost use Rattle.text_windows.specs.declared.shape.TheConstants.{WIDTH};
-ghost use Rattle.text_windows.specs.Windows.{AreMarksAt, AreWithin};
+ghost use Rattle.text_windows.specs.Windows.{AreSievedMarks, AreStridedMarks, AreWithin};
 
-use crate::choosing::{best_stride, choose_offsets};
+use crate::choosing::{best_choice, choose_offsets, cost_of_pass};
 use crate::counts::Counts;
+use crate::grouping::group;
 use crate::marking::mark_all;
 use crate::shape::{Shape, WIDTH};
 use lit_base::{Fold, HASH_BITS, LitList, case_bits, hash_of, last_bits, suffix_key};
+use nib_mask::Masks;
 use std::alloc::{AllocError, Global};
 use std::marker::Model;
 
 /// The literals of a list, marked by windows of their bytes: of each literal those that are rare in a text at hand.
-/// Whoever looks at every `stride`-th place of a text misses no end. All memory is taken when it is made.
+///
+/// The literals before the split, the shortest ones, are sieved: whoever looks at each place that the masks let pass
+/// misses none of their ends. The others are strided: whoever looks at every `stride`-th place of a text misses none of theirs.
+/// All memory is taken when it is made.
 #[derive(Debug, Drop)]
 pub struct Windows<'p> {
     list: &'p LitList,
-    shape: Shape,
+    split: usize,
     stride: usize,
+    /// The shape of all literals, and of those that are strided.
+    whole: Shape,
+    strided: Shape,
     /// How far before its end each literal has the last of its windows.
     offsets: Vec<u8>,
+    /// The bucket of the masks that each sieved literal has.
+    buckets: Vec<u8>,
     /// A byte for each hash. Bit `back` says that some literal has a window of this hash `back` places before its end.
     marks: Vec<u8>,
+    masks: Masks,
     counts: Counts,
 }
 
 impl<'p> Model for Windows<'p> {
     ghost use Rattle.std.specs.Prelude.{◌≡◌, ◌^◌, ◌<◌, ◌≤◌, length, vec_len};
     ghost use Rattle.lit_base.specs.declared.suffixes.marks.TheConstants.{HASH_BITS};
+    ghost use Rattle.nib_mask.specs.Fronts.{CoversFronts};
     ghost use Rattle.text_windows.specs.Shapes.{IsShapeOf};
     ghost use Rattle.text_windows.specs.Windows.{AreWindowed, Windowing};
 
     ghost Value = { Windowing };
 
-    ghost view = { λ w. record { literals = w.list.now; stride = w.stride; offsets = w.offsets.items } };
+    ghost view = { λ w. record { literals = w.list.now; split = w.split; stride = w.stride; offsets = w.offsets.items } };
 
-    ghost invariant = { λ w. IsShapeOf w.list.now w.shape × (0 < w.stride) × (w.stride ≤ w.shape.most_stride)
-        × AreWindowed w.list.now w.stride w.offsets.items w.marks.items (length w.list.now.texts)
-        × (vec_len w.counts.counts ≡ 2 ^ HASH_BITS) };
+    ghost invariant = { λ w. IsShapeOf w.list.now 0 w.whole × IsShapeOf w.list.now w.split w.strided
+        × (0 < w.stride) × (w.stride ≤ w.strided.most_stride) × (w.split ≤ length w.list.now.texts)
+        × AreWindowed w.list.now w.split w.stride w.offsets.items w.marks.items (length w.list.now.texts)
+        × CoversFronts w.list.now w.split w.offsets.items w.masks
+        × (vec_len w.buckets ≡ length w.list.now.texts)
+        × (vec_len w.counts.fours ≡ 2 ^ HASH_BITS) × (vec_len w.counts.threes ≡ 2 ^ HASH_BITS) };
 }
 
 impl<'p> Windows<'p> {
-    /// The literals of a list, marked by their last bytes at every place.
+    /// The literals of a list, none of them sieved, marked by their last bytes at every place.
     pub fn new(alloc: Global, list: &'p LitList) -> Result<Windows<'p>, AllocError>
         ensures { IfOk result (λ windows. windows.literals ≡ list.now) }
     {
-        let shape = Shape::of(list);
+        let shape = Shape::of(list, 0);
         let mut offsets = Vec::from_elem(alloc, 0, list.len())?;
+        let buckets = Vec::from_elem(alloc, 0, list.len())?;
         let mut marks = Vec::from_elem(alloc, 0, 1 << HASH_BITS)?;
         let counts = Counts::new(alloc)?;
-        mark_all(list, shape, 1, &mut offsets, &mut marks);
+        mark_all(list, 0, 1, &mut offsets, &mut marks);
+        let masks = Masks::of_fronts(list, 0, &offsets, &buckets);
         Ok(Windows {
             list,
-            shape,
+            split: 0,
             stride: 1,
+            whole: shape,
+            strided: shape,
             offsets,
+            buckets,
             marks,
+            masks,
             counts,
         })
     }
 
-    /// Chooses windows that are rare in a sample of the text to come, and answers what a search by them is likely
-    /// to take, in tenths of a nanosecond for 1,024 bytes. Earlier samples count half as much.
+    /// Chooses windows that are rare in a sample of the text to come, and which literals are sieved, and answers what a
+    /// search by them is likely to take, in tenths of a nanosecond for 1,024 bytes. Earlier samples count half as much.
     pub fn learn(&mut self, sample: &[u8]) -> usize
         ensures { self.new.literals ≡ self.old.literals }
     {
         self.counts.count(self.list, sample);
-        let estimate = best_stride(self.list, self.shape, &self.counts);
-        self.stride = estimate.stride;
-        choose_offsets(self.list, &self.counts, self.stride, &mut self.offsets);
-        mark_all(
+        let choice = best_choice(
             self.list,
-            self.shape,
-            self.stride,
+            &self.counts,
+            sample,
             &mut self.offsets,
-            &mut self.marks,
+            &mut self.buckets,
         );
-        estimate.cost
+        let split = choice.split;
+        let strided = Shape::of(self.list, split);
+        let stride = choice.stride.clamp(1, strided.most_stride);
+        choose_offsets(self.list, split, &self.counts, stride, &mut self.offsets);
+        group(self.list, split, &self.offsets, &mut self.buckets);
+        mark_all(self.list, split, stride, &mut self.offsets, &mut self.marks);
+        self.masks = Masks::of_fronts(self.list, split, &self.offsets, &self.buckets);
+        self.split = split;
+        self.stride = stride;
+        self.strided = strided;
+        choice.cost
     }
 
-    /// How far apart the places are at which a search has to look.
+    /// How many literals are sieved, the shortest ones.
+    #[inline(always)]
+    pub fn split(&self) -> usize
+        ensures value { result ≡ self.now.split }
+        ensures few { result ≤ length self.now.literals.texts }
+        ensures within { AreWithin self.now }
+    {
+        self.split
+    }
+
+    /// The masks that sieve: where a sieved literal ends in a text, a candidate stands so far before as its offset says.
+    #[inline(always)]
+    pub fn masks(&self) -> &Masks
+        ensures { CoversFronts self.now.literals self.now.split self.now.offsets result.now }
+    {
+        &self.masks
+    }
+
+    /// How far apart the places are at which a search for strided literals has to look.
     #[inline(always)]
     pub fn stride(&self) -> usize
         ensures value { result ≡ self.now.stride }
@@ -94,38 +141,51 @@ impl<'p> Windows<'p> {
         self.stride
     }
 
-    /// Marks of the places from `at` on by the bytes before it: bit `back` is set where a literal ends at
+    /// Marks of the places from `at` on by the bytes before it: bit `back` is set where a strided literal ends at
     /// `at + back` that has one of its windows before `at`, and rarely elsewhere.
     #[inline(always)]
     pub fn marks_at(&self, text: &[u8], at: usize) -> u8
         requires { at ≤ length text.now }
-        ensures { AreMarksAt self.now text.now at result }
+        ensures { AreStridedMarks self.now text.now at result }
     {
         if at < WIDTH {
-            let least = self.shape.least_width;
+            let least = self.strided.least_width;
             return marks_near_front(&self.marks, self.list.fold(), least, text, at);
         }
         self.marks_behind_front(text, at)
     }
 
-    /// Whether some literal is so short that windows of fewer than four bytes have to be looked at.
+    /// The same for sieved literals.
     #[inline(always)]
-    pub fn has_short(&self) -> bool {
-        self.shape.least_width < WIDTH
+    pub fn sieved_marks_at(&self, text: &[u8], at: usize) -> u8
+        requires { at ≤ length text.now }
+        ensures { AreSievedMarks self.now text.now at result }
+    {
+        let least = self.whole.least_width;
+        if at < WIDTH {
+            return marks_near_front(&self.marks, self.list.fold(), least, text, at);
+        }
+        marks_of_widths(&self.marks, self.list.fold(), least, text, at)
     }
 
-    /// Whether two places a stride apart have no mark, so that no literal ends that has its windows before one of them.
-    /// `has_short` is what the windows say of that: a loop for which it is settled is made for the one case or the other.
+    /// Whether some strided literal is so short that windows of fewer than four bytes have to be looked at.
+    #[inline(always)]
+    pub fn has_short(&self) -> bool {
+        self.strided.least_width < WIDTH
+    }
+
+    /// Whether two places a stride apart have no mark, so that no strided literal ends that has its windows before one of
+    /// them. `has_short` is what the windows say of that: a loop for which it is settled is made for the one case or the other.
     #[inline(always)]
     pub fn are_unmarked(&self, text: &[u8], at: usize, has_short: bool) -> bool
         requires four { 4 ≤ at }
         requires inside { at + self.now.stride ≤ length text.now }
-        ensures { IsTrue result → AreMarksAt self.now text.now at 0 × AreMarksAt self.now text.now (at + self.now.stride) 0 }
+        ensures { IsTrue result → AreStridedMarks self.now text.now at 0 × AreStridedMarks self.now text.now (at + self.now.stride) 0 }
     {
         if has_short {
             return self.have_no_mark(text, at);
         }
-        if self.shape.least_width < WIDTH {
+        if self.strided.least_width < WIDTH {
             return self.have_no_mark_by_call(text, at);
         }
         self.have_no_mark(text, at)
@@ -136,7 +196,7 @@ impl<'p> Windows<'p> {
     fn have_no_mark(&self, text: &[u8], at: usize) -> bool
         requires four { 4 ≤ at }
         requires inside { at + self.now.stride ≤ length text.now }
-        ensures { IsTrue result → AreMarksAt self.now text.now at 0 × AreMarksAt self.now text.now (at + self.now.stride) 0 }
+        ensures { IsTrue result → AreStridedMarks self.now text.now at 0 × AreStridedMarks self.now text.now (at + self.now.stride) 0 }
     {
         let near = self.marks_behind_front(text, at);
         let far = self.marks_behind_front(text, at + self.stride);
@@ -151,7 +211,7 @@ impl<'p> Windows<'p> {
     fn have_no_mark_by_call(&self, text: &[u8], at: usize) -> bool
         requires four { 4 ≤ at }
         requires inside { at + self.now.stride ≤ length text.now }
-        ensures { IsTrue result → AreMarksAt self.now text.now at 0 × AreMarksAt self.now text.now (at + self.now.stride) 0 }
+        ensures { IsTrue result → AreStridedMarks self.now text.now at 0 × AreStridedMarks self.now text.now (at + self.now.stride) 0 }
     {
         self.have_no_mark(text, at)
     }
@@ -161,24 +221,43 @@ impl<'p> Windows<'p> {
     fn marks_behind_front(&self, text: &[u8], at: usize) -> u8
         requires four { 4 ≤ at }
         requires inside { at ≤ length text.now }
-        ensures { AreMarksAt self.now text.now at result }
+        ensures { AreStridedMarks self.now text.now at result }
     {
-        let word = last_four(text, at);
-        let case_bits = case_bits(self.list.fold());
-        let long = marks_of(&self.marks, word, WIDTH, case_bits);
-        let least = self.shape.least_width;
-        if least >= WIDTH {
-            return long;
-        }
-        let short = short_marks(&self.marks, word, least, case_bits);
-        long | short
+        let least = self.strided.least_width;
+        marks_of_widths(&self.marks, self.list.fold(), least, text, at)
     }
 
-    /// How many times as long a look takes as one for windows of one width.
+    /// How many times as long a look for strided literals takes as one for windows of one width.
     #[inline]
     pub fn widths(&self) -> usize {
-        self.shape.widths()
+        self.strided.widths()
     }
+
+    /// What a place that passes the masks and has no mark takes, in tenths of a nanosecond.
+    #[inline]
+    pub fn pass_cost(&self) -> usize {
+        cost_of_pass(self.whole.widths())
+    }
+}
+
+/// The marks of a place that has as many bytes before it as a window, by all widths from the least on.
+#[inline(always)]
+fn marks_of_widths(marks: &Vec<u8>, fold: Fold, least: usize, text: &[u8], at: usize) -> u8
+    requires room { vec_len marks.now ≡ 2 ^ HASH_BITS }
+    requires some { 0 < least }
+    requires four { 4 ≤ at }
+    requires inside { at ≤ length text.now }
+    ensures { (width back : ℕ) → least ≤ width → width ≤ WIDTH
+        → IsMarked marks.now.items (hash_of HASH_BITS (suffix_key fold text.now at width)) back → bit_at result back ≡ 1 }
+{
+    let word = last_four(text, at);
+    let case_bits = case_bits(fold);
+    let long = marks_of(marks, word, WIDTH, case_bits);
+    if least >= WIDTH {
+        return long;
+    }
+    let short = short_marks(marks, word, least, case_bits);
+    long | short
 }
 
 /// What the four bytes before a place spell, behind four zeros.

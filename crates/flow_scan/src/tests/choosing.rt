@@ -1,5 +1,6 @@
 //! Searches that change their way at places drawn by chance in the middle of a text: by the plan alone, by windows that
 //! some piece of the text chooses, by a search that learns. What they find together is what the plan alone finds.
+use crate::aim::Met;
 use crate::compiled::Compiled;
 use crate::end_finder::EndFinder;
 use crate::searching::next_end;
@@ -61,7 +62,7 @@ fn by_windows(
     let mut windows = Windows::new(alloc, list).ok()?;
     windows.learn(sample);
     let (mut from, mut told) = progress;
-    let mut met = 0;
+    let mut met = Met::nothing();
     for _ in 0..count {
         let Some((end, _)) = next_end_by_windows(&windows, list, text, from, &mut met) else {
             return Some((text.len(), told));

@@ -1,21 +1,19 @@
--- One look after the other, until none is left before the least end found.
-use Rattle.std.proofs.Common.{ℕ, ◌+◌, sym, subst, arith}
-use Rattle.flow_scan.specs.Windowed.{IsLookedUpTo}
-use Rattle.flow_scan.proofs.WindowSteps.{next_found}
+-- Nothing ends in the spans before the one in which an end is found.
+use Rattle.std.proofs.Common.{arith}
+use Rattle.flow_scan.proofs.EndLemmas.{next_further, none_joined}
 use Rattle.flow_scan.proofs.windowed.next_end_by_windows.Goals as goal
 
-pub returns-then-saturating_sub-stride-clause-next : goal.returns-then-saturating_sub-stride-clause-next
-returns-then-saturating_sub-stride-clause-next c =
-    let w = c.args.windows.now in
-    rw c.requires at (next_found w c.args.text.now c.args.from c.look-aim.result.last (c.skip-at.result + w.stride) c.look-aim.result.best
-    (omega (arith, c.if-saturating_sub-stride.true, c.saturating_sub.ensures, c.stride-stride.ensures.value)) c.look-aim.ensures.looked (rw c.requires c.look-aim.ensures.aim.best))
+pub returns-in-Some-clause-next : goal.returns-in-Some-clause-next
+returns-in-Some-clause-next c =
+    next_further c.args.list.now c.args.text.now c.args.from c.spans.start c.spans.invariant.none c.in-Some.found.0 c.spans.invariant.ahead c.in-Some.ensures.next
 
-pub looks-preserved : goal.looks-preserved
-looks-preserved c = record {
-  aim = c.look-aim.ensures.aim;
-  looked = subst (λ (s : ℕ). IsLookedUpTo c.args.windows.now c.args.text.now c.args.from c.look-aim.result.last (c.skip-at.result + s)) (sym c.stride-stride.ensures.value) c.look-aim.ensures.looked;
+pub returns-then-stop-text-clause-next : goal.returns-then-stop-text-clause-next
+returns-then-stop-text-clause-next c end after here =
+    none_joined c.args.list.now c.args.text.now c.args.from c.spans.start c.spans.invariant.none c.min-stop.result c.in_default.ensures.next end after (omega (arith, here.1.ends, c.if-stop-text.true)) here
+
+pub spans-preserved : goal.spans-preserved
+spans-preserved c = record {
+  ahead = omega (arith, c.spans.invariant.ahead, c.if-stop-text.false, c.min-stop.ensures, c.saturating_add.ensures);
+  some = omega (arith, c.min-span.ensures, c.saturating_mul.ensures, c.spans.invariant.some);
+  none = none_joined c.args.list.now c.args.text.now c.args.from c.spans.start c.spans.invariant.none c.min-stop.result c.in_default.ensures.next;
 }
-
-pub returns-clause-next : goal.returns-clause-next
-returns-clause-next c =
-    rw c.requires at (next_found c.args.windows.now c.args.text.now c.args.from c.looks.aim.last c.looks.at c.looks.aim.best c.looks-test.false c.looks.invariant.looked (rw c.requires c.looks.invariant.aim.best))

@@ -1,13 +1,14 @@
-use Rattle.std.proofs.Common.{◌+◌, ◌-◌}
-use Rattle.flow_scan.specs.Windowed.{IsAim, IsLookedUpTo}
+use Rattle.std.proofs.Common.{◌-◌, ◌<◌, ◌≤◌, length}
+use Rattle.flow_scan.specs.NextEnds.{NoEndUpTo}
 use Rattle.flow_scan.proofs.windowed.next_end_by_windows.Given as goal
 
--- it has looked up to the place reached
-abbrev pub invariant-looks : goal.invariant-looks
-invariant-looks l = record {
-  aim : IsAim l.list l.text l.from l.aim;
-  looked : IsLookedUpTo l.windows l.text l.from l.aim.last l.at;
+-- nothing ends in the spans passed
+abbrev pub invariant-spans : goal.invariant-spans
+invariant-spans l = record {
+  ahead : l.from ≤ l.start;
+  some : 0 < l.span;
+  none : NoEndUpTo l.list l.text l.from l.start;
 }
 
-abbrev pub decreases-looks : goal.decreases-looks
-decreases-looks l = l.aim.last + 1 - l.at
+abbrev pub decreases-spans : goal.decreases-spans
+decreases-spans l = length l.text - l.start

@@ -1,11 +1,6 @@
-use Rattle.std.proofs.Common.{◌<◌, ◌≤◌}
+use Rattle.std.proofs.Common.{◌≡◌}
 use Rattle.text_windows.proofs.choosing.best_stride.Given as goal
 
--- each stride is one that the shape allows
+-- the best so far sieves as many
 abbrev pub invariant-loop-step : goal.invariant-loop-step
-invariant-loop-step l = record {
-  some : 0 < l.stride;
-  within : l.stride ≤ l.fn.shape.most_stride;
-  best_some : 0 < l.best.stride;
-  best_within : l.best.stride ≤ l.fn.shape.most_stride;
-}
+invariant-loop-step l = l.best.split ≡ l.first

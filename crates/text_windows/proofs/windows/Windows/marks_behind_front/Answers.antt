@@ -1,47 +1,19 @@
--- What is looked at has the marks of the bytes before the place, whatever their width.
-use Rattle.std.proofs.Common.{ℕ, ◌≤◌, inl, inr, ap, ◌∙◌, sym, subst, arith}
-use Rattle.std.specs.Int.RustNames.{bit_and, bit_or}
-use Rattle.std.proofs.lemmas.Bool.{cases_lt}
+-- What is looked at has the marks of the bytes before the place.
+use Rattle.std.proofs.Common.{sym, subst}
 use Rattle.lit_base.specs.Marks.{IsMarked}
-use Rattle.lit_base.specs.Suffixes.{case_bits, hash_of, last_bits, suffix_key}
+use Rattle.lit_base.specs.Suffixes.{hash_of, suffix_key}
+use Rattle.lit_base.specs.declared.fold.Fold.{Fold}
 use Rattle.lit_base.specs.declared.suffixes.marks.TheConstants.{HASH_BITS}
 use Rattle.lit_base.proofs.SuffixLemmas.{are_bytes}
-use Rattle.text_windows.specs.Windows.{AreMarksAt, Windowing}
-use Rattle.text_windows.specs.declared.shape.TheConstants.{WIDTH}
-use Rattle.text_windows.proofs.WindowLemmas.{marked_left, marked_right, marks_are, read_width, word_key}
+use Rattle.text_windows.specs.Windows.{AreStridedMarks, Windowing}
+use Rattle.text_windows.proofs.WindowLemmas.{strided_are}
 use Rattle.text_windows.proofs.windows.Windows.marks_behind_front.Goals as goal
-use Rattle.text_windows.proofs.windows.Windows.marks_behind_front.Goals.{After-marks_of-long}
-
--- a mark by the text's last bytes is one by those of the word that was read
-marked_word : (c : After-marks_of-long) (width back : ℕ) → width ≤ WIDTH
-    → IsMarked c.self.inside.marks.items (hash_of HASH_BITS (suffix_key c.self.inside.list.now.folding c.args.text.now c.args.at width)) back
-    → IsMarked c.self.inside.marks.items (hash_of HASH_BITS (bit_or (bit_and c.last_four-word.result (last_bits width)) c.case_bits-case_bits.result)) back
-marked_word c width back narrow marked =
-    let case = c.case_bits-case_bits.ensures ∙ ap case_bits c.fold.ensures in
-    let key = word_key c.self.inside.list.now.folding c.args.text.now c.args.at width c.last_four-word.result c.case_bits-case_bits.result (are_bytes c.args.text.now c.type_inv.text) narrow c.requires.four c.requires.inside c.last_four-word.ensures case in
-    subst (λ k. IsMarked c.self.inside.marks.items (hash_of HASH_BITS k) back) (sym key) marked
-
-pub returns-then-least-ge-WIDTH : goal.returns-then-least-ge-WIDTH
-returns-then-least-ge-WIDTH c =
-    let at = (goal.at.returns-then-least-ge-WIDTH c).After-marks_of-long in
-    let w : Windowing = record { literals = c.self.inside.list.now; stride = c.self.inside.stride; offsets = c.self.inside.offsets.items } in
-    let marks = c.self.inside.marks.items in
-    subst (λ (v : Windowing). AreMarksAt v c.args.text.now c.args.at c.marks_of-long.result) c.self.view_is
-    (marks_are w c.self.inside.shape marks c.args.text.now c.args.at c.marks_of-long.result c.self.invariant.0 c.self.invariant.3 (are_bytes c.args.text.now c.type_inv.text)
-    (λ width back enough most begins marked.
-    read_width marks c.last_four-word.result c.case_bits-case_bits.result WIDTH width c.marks_of-long.result back c.marks_of-long.ensures (omega (arith, enough, most, c.if-least-ge-WIDTH.true)) (marked_word at width back most marked)))
 
 pub returns : goal.returns
 returns c =
-    let at = (goal.at.returns c).After-marks_of-long in
-    let w : Windowing = record { literals = c.self.inside.list.now; stride = c.self.inside.stride; offsets = c.self.inside.offsets.items } in
+    let w : Windowing = record { literals = c.self.inside.list.now; split = c.self.inside.split; stride = c.self.inside.stride; offsets = c.self.inside.offsets.items } in
     let marks = c.self.inside.marks.items in
-    let long = c.marks_of-long.result in
-    let short = c.short_marks-short.result in
-    subst (λ (v : Windowing). AreMarksAt v c.args.text.now c.args.at (bit_or long short)) c.self.view_is
-    (marks_are w c.self.inside.shape marks c.args.text.now c.args.at (bit_or long short) c.self.invariant.0 c.self.invariant.3 (are_bytes c.args.text.now c.type_inv.text)
-    (λ width back enough most begins marked. elim (cases_lt width WIDTH) [
-      | inl less ↦ marked_right long short back (c.short_marks-short.ensures width back enough less (marked_word at width back most marked))
-      | inr all ↦ marked_left long short back
-          (read_width marks c.last_four-word.result c.case_bits-case_bits.result WIDTH width long back c.marks_of-long.ensures (omega (arith, most, all)) (marked_word at width back most marked))
-    ]))
+    subst (λ (v : Windowing). AreStridedMarks v c.args.text.now c.args.at c.marks_of_widths.result) c.self.view_is
+    (strided_are w c.self.inside.strided marks c.args.text.now c.args.at c.marks_of_widths.result c.self.invariant.1 c.self.invariant.5 (are_bytes c.args.text.now c.type_inv.text)
+    (λ width back enough most begins marked. c.marks_of_widths.ensures width back enough most
+    (subst (λ (f : Fold). IsMarked marks (hash_of HASH_BITS (suffix_key f c.args.text.now c.args.at width)) back) (sym c.fold.ensures) marked)))

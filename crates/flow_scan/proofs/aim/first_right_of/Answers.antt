@@ -6,7 +6,7 @@ use Rattle.std.proofs.lemmas.Bool.{cases_lt}
 use Rattle.std.proofs.lemmas.Nat.Bits.{bit_at-trailing_zeros, bit_at_above}
 use Rattle.flow_scan.specs.Windowed.{IsRightMark}
 use Rattle.flow_scan.proofs.MarkSteps.{first_left, left_behind, shifted_bit}
-use Rattle.flow_scan.proofs.windowed.first_right.Goals as goal
+use Rattle.flow_scan.proofs.aim.first_right_of.Goals as goal
 
 pub returns-then-last-at-clause-none : goal.returns-then-last-at-clause-none
 returns-then-last-at-clause-none c = λ other right.

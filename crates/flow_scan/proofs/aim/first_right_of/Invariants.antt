@@ -1,7 +1,7 @@
 use Rattle.std.proofs.Common.{◌≡◌, ℕ, ◌+◌, ◌-◌, ◌≤◌}
 use Rattle.std.specs.Int.{bit_at}
 use Rattle.flow_scan.specs.Windowed.{IsRightMark}
-use Rattle.flow_scan.proofs.windowed.first_right.Given as goal
+use Rattle.flow_scan.proofs.aim.first_right_of.Given as goal
 
 -- each right mark is left
 abbrev pub invariant-loop-rest : goal.invariant-loop-rest

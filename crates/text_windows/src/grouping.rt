@@ -1,0 +1,88 @@
+//! Which sieved literals share a bucket of the masks. Nothing here decides what is found, only how soon.
+ghost use Rattle.std.specs.Prelude.{◌≡◌, ◌≤◌, length, vec_len};
+
+use lit_base::LitList;
+
+/// So many buckets have a bit in a byte.
+const BUCKETS: usize = 8;
+
+/// The masks tell the last bytes of a front by their halves, so many of them.
+const POSITIONS: usize = 3;
+
+/// Which halves of bytes the fronts of a bucket have at the last three positions: bit v of a set stands for the half v.
+#[derive(Clone, Copy)]
+struct Halves {
+    low: [u16; 3],
+    high: [u16; 3],
+}
+
+impl Halves {
+    /// Those of no front.
+    fn none() -> Halves {
+        Halves {
+            low: [0; 3],
+            high: [0; 3],
+        }
+    }
+
+    /// Those with the ones of a front. One that does not reach a position has all there.
+    fn with(self, front: &[u8]) -> Halves {
+        let mut more = self;
+        for back in 0..POSITIONS {
+            if back < front.len() {
+                let byte = front[front.len() - 1 - back];
+                more.low[back] |= 1 << (byte & 15);
+                more.high[back] |= 1 << (byte >> 4);
+            } else {
+                more.low[back] = u16::MAX;
+                more.high[back] = u16::MAX;
+            }
+        }
+        more
+    }
+
+    /// How many of the 2^24 triples of bytes have these halves.
+    fn triples(self) -> u32 {
+        let mut count = 1u32;
+        for position in 0..POSITIONS {
+            count = count.saturating_mul(self.low[position].count_ones());
+            count = count.saturating_mul(self.high[position].count_ones());
+        }
+        count
+    }
+}
+
+/// Gives each of the first literals of a list the bucket that lets the fewest more triples of bytes pass.
+/// With text of four kinds, lists of ten to a hundred literals of its own words have 0.5 to 0.9 times the candidates
+/// that runs of an order by their last bytes have.
+pub(crate) fn group(list: &LitList, split: usize, offsets: &Vec<u8>, buckets: &mut Vec<u8>)
+    requires split { split ≤ length list.now.texts }
+    requires offsets { vec_len offsets.now ≡ length list.now.texts }
+    requires buckets { vec_len buckets.old ≡ length list.now.texts }
+    ensures { vec_len buckets.new ≡ vec_len buckets.old }
+{
+    let mut groups = [Halves::none(); 8];
+    for place in 0..split {
+        let literal = list.get(place);
+        let len = literal.len().saturating_sub(usize::from(offsets[place]));
+        let (front, _) = literal.split_at(len);
+        let bucket = best_bucket(groups, front);
+        groups[bucket] = groups[bucket].with(front);
+        buckets[place] = bucket as u8;
+    }
+}
+
+/// The bucket that lets the fewest more triples pass with a front.
+fn best_bucket(groups: [Halves; 8], front: &[u8]) -> usize
+    ensures { result ≤ 7 }
+{
+    let mut best = (0, u32::MAX);
+    for bucket in 0..BUCKETS {
+        let group = groups[bucket];
+        let more = group.with(front).triples().saturating_sub(group.triples());
+        if more < best.1 {
+            best = (bucket, more);
+        }
+    }
+    best.0
+}
