@@ -108,13 +108,16 @@ impl<'p> EndFinder<'p> {
             return self.next_windowed(search.text(), from);
         }
         match search.next_near(from) {
-            Ok(found) => Some(found),
+            Ok(found) => {
+                self.learning.count_hit();
+                Some(found)
+            }
             Err(seen) => self.next_plainly(search, from, seen),
         }
     }
 
     /// The search of `next_end_of` by the plan, from a place on up to which nothing was found. What is found near by marks
-    /// is no gain of windows, and is not noted.
+    /// is no gain of windows: it counts as a hit, and what it took is not noted.
     fn next_plainly(
         &mut self,
         search: &mut TextSearch<'_>,
@@ -178,7 +181,7 @@ impl<'p> EndFinder<'p> {
     {
         let (_, behind) = text.split_at(from);
         let (sample, _) = behind.split_at(behind.len().min(SAMPLE));
-        let cost = self.windows.learn(sample);
+        let cost = self.windows.learn(sample, self.learning.hits());
         self.learning.choose(cost);
     }
 }

@@ -28,10 +28,6 @@ const PLAIN_COST: usize = 512;
 /// What a search by windows may take for 1,024 bytes beyond one and a half times its estimate.
 const WINDOWED_COST: usize = 2048;
 
-/// A hit takes so much longer by windows than by the plan: they stand before its end, which is known to be the least only
-/// once all places up to it are looked at. Without that, a hundred frequent literals took 1.3 times as long in log lines.
-const HIT_COST: usize = 300;
-
 /// To learn takes about so long: half a millisecond. It is worth while once as much was lost.
 const LEAST_LOSS: usize = 5_000_000;
 
@@ -142,13 +138,19 @@ impl Learning {
         if self.is_windowed {
             allowed < self.allowed - self.allowed / 8 || allowed < taken / 2
         } else {
-            cost.saturating_add(self.cost_of_hits()) < taken - taken / 8
+            cost < taken - taken / 8
         }
     }
 
-    /// What the hits in 1,024 bytes would take more by windows than they did.
-    fn cost_of_hits(&self) -> usize {
-        self.hits.saturating_mul(HIT_COST).saturating_mul(1024) / self.passed.max(1)
+    /// Counts one hit more, which a search of another kind found.
+    #[inline(always)]
+    pub fn count_hit(&mut self) {
+        self.hits = self.hits.saturating_add(1);
+    }
+
+    /// How many hits there were in 1,024 bytes since the last choice.
+    pub fn hits(&self) -> usize {
+        self.hits.saturating_mul(1024) / self.passed.max(1)
     }
 
     /// What 1,024 bytes took since the last choice.

@@ -128,7 +128,7 @@ fn meets(
     let sample = sample_of(alloc, bytes)?;
     let mut windows = Windows::new(alloc, list).ok()?;
     let before = are_met(&windows, text, ends);
-    windows.learn(&sample);
+    windows.learn(&sample, 0);
     Some((before, are_met(&windows, text, ends)))
 }
 
@@ -191,7 +191,7 @@ fn learned(alloc: Global, list: &LitList, sample: &[u8]) -> Option<[(usize, usiz
         windows.stride(),
         count_marked(&windows, sample),
     );
-    windows.learn(sample);
+    windows.learn(sample, 0);
     let behind = (
         windows.split(),
         windows.stride(),

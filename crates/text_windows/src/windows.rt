@@ -88,8 +88,9 @@ impl<'p> Windows<'p> {
     }
 
     /// Chooses windows that are rare in a sample of the text to come, and which literals are sieved, and answers what a
-    /// search by them is likely to take, in tenths of a nanosecond for 1,024 bytes. Earlier samples count half as much.
-    pub fn learn(&mut self, sample: &[u8]) -> usize
+    /// search by them is likely to take, in tenths of a nanosecond for 1,024 bytes, if it is begun anew for so many hits in
+    /// these. Earlier samples count half as much.
+    pub fn learn(&mut self, sample: &[u8], hits: usize) -> usize
         ensures { self.new.literals ≡ self.old.literals }
     {
         self.counts.count(self.list, sample);
@@ -97,6 +98,7 @@ impl<'p> Windows<'p> {
             self.list,
             &self.counts,
             sample,
+            hits,
             &mut self.offsets,
             &mut self.buckets,
         );

@@ -60,7 +60,7 @@ fn by_windows(
 ) -> Option<Progress> {
     let list = compiled.list();
     let mut windows = Windows::new(alloc, list).ok()?;
-    windows.learn(sample);
+    windows.learn(sample, 0);
     let (mut from, mut told) = progress;
     let mut met = Met::nothing();
     for _ in 0..count {
