@@ -1,10 +1,10 @@
-//! How long a scan takes: `bench_scan TEXT LITERALS all|stream|WORKERS TURNS` reads both files and
+//! How long a scan takes: `bench_scan TEXT LITERALS all|learned|stream|WORKERS TURNS` reads both files and
 //! prints the median seconds of a scan and the number of hits. A number of workers from 1 to 16 share
 //! the text. It prints nothing without arguments; `bench/README.md` says what it is measured beside.
 #![tactic(auto)]
 
 use anyhow::{Result, ensure};
-use flow_scan::{Compiled, Hit, Scanner, scan_all};
+use flow_scan::{Compiled, EndFinder, Hit, Scanner, scan_all};
 use list_plan::compile;
 use lit_base::{Fold, LitList, RawList};
 use par_scan::{MAX_WORKERS, NoGate, scan_parts};
@@ -22,6 +22,8 @@ const PIECE: usize = 65536;
 enum Mode {
     /// In one call.
     Whole,
+    /// In one call that learns from the text.
+    Learned,
     /// As a stream, in pieces.
     Pieces,
     /// By so many workers, each of which scans a part.
@@ -35,6 +37,7 @@ fn main(rt: HostRuntime) -> Result<()> {
     };
     let mode = match mode.as_str() {
         "all" => Mode::Whole,
+        "learned" => Mode::Learned,
         "stream" => Mode::Pieces,
         workers => Mode::Parts(workers.parse::<usize>()?),
     };
@@ -89,12 +92,27 @@ fn scan<R: Threads + Sync>(
 ) -> Result<usize> {
     match mode {
         Mode::Whole => Ok(scan_all(alloc, compiled, text)?.len()),
+        Mode::Learned => scan_learning(alloc, compiled, text),
         Mode::Pieces => scan_pieces(alloc, compiled, text),
         Mode::Parts(workers) => {
             ensure!((1..=MAX_WORKERS).contains(&workers), "1 to 16 workers");
             Ok(scan_parts(rt, alloc, &NoGate, compiled, text, workers)?.len())
         }
     }
+}
+
+/// How many hits a text has, by what learns from it if the list has literals enough.
+fn scan_learning(alloc: Global, compiled: &Compiled, text: &[u8]) -> Result<usize> {
+    match EndFinder::if_of_use(alloc, compiled)? {
+        Some(finder) => scan_by(alloc, finder, text),
+        None => Ok(scan_all(alloc, compiled, text)?.len()),
+    }
+}
+
+/// How many hits a finder finds in a text.
+fn scan_by(alloc: Global, finder: EndFinder<'_>, text: &[u8]) -> Result<usize> {
+    let mut finder = finder;
+    Ok(finder.scan_behind(alloc, text, 0)?.len())
 }
 
 /// How many hits a text has, fed in pieces, the hits of each let go before the next.

@@ -82,6 +82,10 @@ hits_none l text from at none = record {
 pub none_past : (l : Literals) (text : List ℕ) (from : ℕ) → length text ≤ from → NoEndAfter l text from
 none_past l text from past = λ end after here. omega (arith, after, here.1.ends)
 
+-- where nothing ends in a text behind a place, nothing does in a front of it behind a place further on
+pub none_in_front : (l : Literals) (text : List ℕ) (from m stop : ℕ) → from ≤ m → NoEndAfter l text from → NoEndAfter l (take stop text) m
+none_in_front l text from m stop further none = λ end after here. none end (omega (arith, after, further)) (here.0, from_front l text stop here.0 end here.1)
+
 -- the hits at a place of the text, where nothing ends between another one and it
 pub hits_here : (l : Literals) (text : List ℕ) (m end at : ℕ) (here : List (ℕ × ℕ)) → m < end → end ≤ length text → ((other : ℕ) → m < other → other < end → ¬ HasEnd l text other) → AreHitsAt l text end (at + (end - m)) here → AreHitsBehind l (take end text) m at here
 hits_here l text m end at here after within first hits = record {

@@ -1,10 +1,12 @@
 -- Where a search through a piece stops, seen from its first bytes and from the rest of it.
-use Rattle.std.proofs.Common.{◌≡◌, ℕ, ◌+◌, ◌-◌, ◌<◌, ◌≤◌, List, ◌++◌, length, take, inl, inr, sym, subst, arith}
+use Rattle.std.proofs.Common.{◌≡◌, ℕ, ◌+◌, ◌-◌, ◌<◌, ◌≤◌, List, [], ◌++◌, length, take, inl, inr, sym, subst, arith}
 use Rattle.std.proofs.lemmas.Bool.{cases_lt}
-use Rattle.std.proofs.lemmas.List.{length-append, length-take, take-take, take_all}
+use Rattle.std.proofs.lemmas.List.{append-nil, length-append, length-take, take-take, take_all}
 use Rattle.lit_base.specs.Literals.{Literals}
+use Rattle.flow_scan.specs.NextEnds.{IsNextEnd, NoEndAfter}
+use Rattle.flow_scan.specs.HitsAt.{AreHitsAt, GainsHitsAt}
 use Rattle.flow_scan.specs.Tails.{AreAdded, AreHitsBehind, GainsHitsBehind, HasBounds, StopsAt, StopsIn, carry_of}
-use Rattle.flow_scan.proofs.HitLists.{gained_both, gained_more}
+use Rattle.flow_scan.proofs.HitLists.{gained_both, gained_more, hits_ended, hits_further, hits_joined, hits_none, none_past}
 use Rattle.flow_scan.proofs.SeamLemmas.{front_behind}
 use Rattle.flow_scan.proofs.TailSteps.{added_in_place}
 
@@ -62,3 +64,51 @@ all_fed l tail piece at most count old new small search = elim (cases_lt count (
   | inl sooner ↦ absurd (omega (arith, search.enough sooner, small))
   | inr there ↦ take_all count piece there
 ]
+
+-- what a list gained up to a place of a text, and then behind it, it gained in the text
+pub gained_joined : (l : Literals) (text : List ℕ) (from m at : ℕ) (old middle new : List (ℕ × ℕ)) → from ≤ m → m ≤ length text
+    → GainsHitsBehind l (take m text) from at old middle → GainsHitsBehind l text m (at + (m - from)) middle new → GainsHitsBehind l text from at old new
+gained_joined l text from m at old middle new starts within early late = record {
+  found = early.found ++ late.found;
+  grown = gained_both old middle new early.found late.found early.grown late.grown;
+  added = hits_joined l text from m at early.found late.found starts within early.added late.added;
+}
+
+-- so too where it stops before the text's end each time
+pub gained_further : (l : Literals) (text : List ℕ) (from m stop : ℕ) (old middle new : List (ℕ × ℕ)) → from ≤ m → m ≤ stop → stop ≤ length text
+    → GainsHitsBehind l (take m text) from from old middle → GainsHitsBehind l (take stop text) m m middle new → GainsHitsBehind l (take stop text) from from old new
+gained_further l text from m stop old middle new starts further within early late =
+    let front : take m (take stop text) ≡ take m text = take-take m stop text further in
+    let told : m ≡ from + (m - from) = omega (arith, starts) in
+    gained_joined l (take stop text) from m from old middle new starts (omega (arith, further, within, length-take stop text))
+    (subst (λ t. GainsHitsBehind l t from from old middle) (sym front) early)
+    (subst (λ x. GainsHitsBehind l (take stop text) m x middle new) told late)
+
+-- nothing is gained where a search begins
+pub gained_nothing : (l : Literals) (text : List ℕ) (from at : ℕ) (old : List (ℕ × ℕ)) → GainsHitsBehind l (take from text) from at old old
+gained_nothing l text from at old = record {
+  found = [];
+  grown = sym (append-nil old);
+  added = hits_none l (take from text) from at (none_past l (take from text) from (omega (arith, length-take from text)));
+}
+
+-- the hits up to a place and those at the next one are the hits up to there
+pub gained_here : (l : Literals) (text : List ℕ) (from m end : ℕ) (old middle new : List (ℕ × ℕ)) → from ≤ m → IsNextEnd l text m end
+    → GainsHitsBehind l (take m text) from from old middle → GainsHitsAt l text end end middle new → GainsHitsBehind l (take end text) from from old new
+gained_here l text from m end old middle new starts next early late =
+    let told : end ≡ from + (end - from) = omega (arith, starts, next.after) in
+    record {
+      found = early.found ++ late.found;
+      grown = gained_both old middle new early.found late.found early.grown late.grown;
+      added = hits_further l text from m end from early.found late.found starts next.after next.within next.first early.added
+          (subst (λ x. AreHitsAt l text end x late.found) told late.added);
+    }
+
+-- those up to a place behind which nothing ends are all
+pub gained_ended : (l : Literals) (text : List ℕ) (from m at : ℕ) (old new : List (ℕ × ℕ)) → from ≤ m → m ≤ length text → NoEndAfter l text m
+    → GainsHitsBehind l (take m text) from at old new → GainsHitsBehind l text from at old new
+gained_ended l text from m at old new starts within none early = record {
+  found = early.found;
+  grown = early.grown;
+  added = hits_ended l text from m at early.found starts within none early.added;
+}

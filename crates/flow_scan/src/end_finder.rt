@@ -1,12 +1,17 @@
 //! A search through texts that learns from them.
-ghost use Rattle.std.specs.Prelude.{◌≡◌, ◌<◌, ◌≤◌, IfOk, IfSome, MatchOption, length};
+ghost use Rattle.std.specs.Prelude.{◌≡◌, ◌<◌, ◌≤◌, IfOk, IfSome, IsOk, IsOkUnless, MatchOption, OnOk, length};
 ghost use Rattle.lit_base.specs.Occurrences.{IsFirstEnding};
+ghost use Rattle.flow_scan.specs.declared.fault.Fault.TheVariants.{OutOfMemory};
 ghost use Rattle.flow_scan.specs.NextEnds.{IsNextEnd, NoEndAfter};
+ghost use Rattle.flow_scan.specs.Tails.{AreHitsBehind, Continues, GainsHitsBehind};
 
 use crate::aim::Met;
 use crate::compiled::Compiled;
+use crate::fault::Fault;
+use crate::hit::Hit;
 use crate::learning::{Learning, cost_by_windows};
-use crate::searching::skip_short_ends;
+use crate::pace::PAIRED;
+use crate::searching::{add_hits, add_hits_at, skip_short_ends};
 use crate::text_search::TextSearch;
 use crate::windowed::next_end_by_windows;
 use std::alloc::{AllocError, Global};
@@ -15,6 +20,9 @@ use text_windows::Windows;
 
 /// So many bytes of a text are learned from at most.
 const SAMPLE: usize = 65536;
+
+/// A scan goes on in the way that was chosen for so many bytes: as many as a run of grep reads at once.
+const SPAN: usize = 131_072;
 
 /// Fewer bytes tell too little of a text.
 const LEAST_SAMPLE: usize = 16384;
@@ -51,6 +59,19 @@ impl<'p> EndFinder<'p> {
             windows,
             learning: Learning::new(),
         })
+    }
+
+    /// Such a search, if the plan has literals enough: at most three are searched for by two bytes of each, whatever the text.
+    pub fn if_of_use(
+        alloc: Global,
+        compiled: &'p Compiled,
+    ) -> Result<Option<EndFinder<'p>>, AllocError>
+        ensures { IfOk result (λ finder. IfSome finder (λ plan. plan ≡ compiled.now)) }
+    {
+        if compiled.list().len() <= PAIRED {
+            return Ok(None);
+        }
+        Ok(Some(EndFinder::new(alloc, compiled)?))
     }
 
     /// The plan.
@@ -137,18 +158,104 @@ impl<'p> EndFinder<'p> {
         self.learning.note(
             passed(search.text(), seen, found),
             search.spent().saturating_sub(before),
-            found.is_some(),
+            usize::from(found.is_some()),
         );
         found
     }
 
+    /// The hits of a text that end behind a place of it, as `scan_behind` gives them: it learns on the way, before each span of
+    /// the text. The only refusal is `OutOfMemory`.
+    pub fn scan_behind(
+        &mut self,
+        alloc: Global,
+        text: &[u8],
+        from: usize,
+    ) -> Result<Vec<Hit>, Fault>
+        requires { from ≤ length text.now }
+        ensures same { self.new ≡ self.old }
+        ensures ok { IfOk result (λ hits. AreHitsBehind self.old.literals text.now from from hits.items) }
+        ensures continues { IfOk result (λ hits. Continues self.old.literals text.now from hits.items) }
+        ensures refused { IsOkUnless result OutOfMemory }
+
+        // Where nothing ends behind the place, it takes no memory.
+        ensures quiet { NoEndAfter self.old.literals text.now from → IsOk result }
+    {
+        let _carry = self.compiled.carry();
+        let mut hits = Vec::new(alloc);
+        let mut place = from;
+        'spans: while place < text.len() {
+            let stop = text.len().min(place.saturating_add(SPAN));
+            let (front, _) = text.split_at(stop);
+            self.add_hits(front, place, &mut hits)?;
+            place = stop;
+        }
+        Ok(hits)
+    }
+
+    /// Adds the hits that end in a text behind a place, in the way that was chosen.
+    fn add_hits(&mut self, text: &[u8], from: usize, out: &mut Vec<Hit>) -> Result<(), AllocError>
+        requires { from < length text.now }
+        ensures same { self.new ≡ self.old }
+        ensures ok { OnOk result (GainsHitsBehind self.old.literals text.now from from out.old.items out.new.items) }
+        ensures quiet { NoEndAfter self.old.literals text.now from → IsOk result }
+    {
+        self.learn_if_due(text, from);
+        if self.learning.is_windowed() {
+            self.add_hits_by_windows(text, from, out)
+        } else {
+            self.add_hits_plainly(text, from, out)
+        }
+    }
+
+    /// Adds them by the plan.
+    fn add_hits_plainly(
+        &mut self,
+        text: &[u8],
+        from: usize,
+        out: &mut Vec<Hit>,
+    ) -> Result<(), AllocError>
+        requires { from < length text.now }
+        ensures same { self.new ≡ self.old }
+        ensures ok { OnOk result (GainsHitsBehind self.old.literals text.now from from out.old.items out.new.items) }
+        ensures quiet { NoEndAfter self.old.literals text.now from → IsOk result }
+    {
+        let mut spent = 0;
+        let before = out.len();
+        let at = from as u64;
+        add_hits(self.compiled, text, from, at, usize::MAX, &mut spent, out)?;
+        let gained = out.len().saturating_sub(before);
+        self.learning.note(text.len() - from, spent, gained);
+        Ok(())
+    }
+
+    /// Adds them by windows.
+    fn add_hits_by_windows(
+        &mut self,
+        text: &[u8],
+        from: usize,
+        out: &mut Vec<Hit>,
+    ) -> Result<(), AllocError>
+        requires { from < length text.now }
+        ensures same { self.new ≡ self.old }
+        ensures ok { OnOk result (GainsHitsBehind self.old.literals text.now from from out.old.items out.new.items) }
+        ensures quiet { NoEndAfter self.old.literals text.now from → IsOk result }
+    {
+        let list = self.compiled.list();
+        let mut place = from;
+        while let Some((end, first)) = self.next_windowed(text, place) {
+            add_hits_at(list, text, end, first, end as u64, out)?;
+            place = end;
+        }
+        Ok(())
+    }
+
     /// The search of `next_end` by windows.
     fn next_windowed(&mut self, text: &[u8], from: usize) -> Option<(usize, usize)>
-        requires { from < length text.now }
         ensures same { self.new ≡ self.old }
         ensures next { MatchOption result
             (NoEndAfter self.old.literals text.now from)
             (λ found. IsNextEnd self.old.literals text.now from found.0) }
+        ensures first { IfSome result (λ found. IsFirstEnding self.old.literals text.now 0 found.0 found.1) }
     {
         let list = self.compiled.list();
         let mut met = Met::nothing();
@@ -157,7 +264,7 @@ impl<'p> EndFinder<'p> {
         self.learning.note(
             count,
             cost_by_windows(&self.windows, list.len(), count, met),
-            found.is_some(),
+            usize::from(found.is_some()),
         );
         found
     }

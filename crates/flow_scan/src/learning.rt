@@ -101,11 +101,11 @@ impl Learning {
         self.lost >= self.most_lost
     }
 
-    /// Adds what so many bytes took, and whether an end was found behind them.
-    pub fn note(&mut self, passed: usize, spent: usize, is_hit: bool) {
+    /// Adds what so many bytes took, and how many ends were found in them.
+    pub fn note(&mut self, passed: usize, spent: usize, hits: usize) {
         self.passed = self.passed.saturating_add(passed);
         self.spent = self.spent.saturating_add(spent);
-        self.hits = self.hits.saturating_add(usize::from(is_hit));
+        self.hits = self.hits.saturating_add(hits);
         let allowed = passed.saturating_mul(self.allowed) / 1024;
         self.lost = self.lost.saturating_add(spent).saturating_sub(allowed);
     }

@@ -4,12 +4,9 @@ ghost use Rattle.flow_scan.specs.NextEnds.{IsNextEnd, IsPassed};
 
 use crate::endings::Backoff;
 use crate::learning::cost_of_looks;
-use crate::pace::{NEAR_LOOKS, START_COST};
+use crate::pace::{NEAR_LOOKS, PAIRED, START_COST};
 use crate::strides::first_marked;
 use lit_base::LitList;
-
-/// A list of at most so many literals is searched for by two bytes of each, which tell little that is false.
-const PAIRED: usize = 3;
 
 /// Whether looks at the marks of all places up to the end that a search found behind a place would have taken well less than
 /// the sieve, which spent so much on candidates at which nothing ended: half as long, since a mark at which nothing ends takes

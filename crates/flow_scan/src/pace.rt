@@ -46,3 +46,6 @@ pub(crate) const START_COST: usize = 100;
 /// Where marks at which nothing ends took so long on the way to an end, which is two of them, the next end is not looked for by
 /// marks alone.
 pub(crate) const FALSE_COST: usize = 500;
+
+/// A list of at most so many literals is searched for by two bytes of each, which tell little that is false.
+pub(crate) const PAIRED: usize = 3;

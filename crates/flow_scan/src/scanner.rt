@@ -171,7 +171,15 @@ fn add_piece(
     ensures quiet { NoEndAfter compiled.now.literals (seam.now.tail ++ piece.now) (length seam.now.tail) → IsOk result }
 {
     let before = out.len();
-    let stop = add_hits(compiled, seam.text(), seam.tail_len(), at, most, out)?;
+    let stop = add_hits(
+        compiled,
+        seam.text(),
+        seam.tail_len(),
+        at,
+        most,
+        &mut 0,
+        out,
+    )?;
     let gained = out.len() - before;
     if gained >= most {
         return Ok(stop - seam.tail_len());
@@ -186,6 +194,7 @@ fn add_piece(
         carry,
         at + carry as u64,
         most - gained,
+        &mut 0,
         out,
     )?;
     Ok(in_place)

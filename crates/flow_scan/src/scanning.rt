@@ -47,7 +47,8 @@ pub fn scan_behind(
 {
     let _carry = compiled.carry();
     let mut hits = Vec::new(alloc);
-    add_hits(compiled, text, from, from as u64, usize::MAX, &mut hits)?;
+    let at = from as u64;
+    add_hits(compiled, text, from, at, usize::MAX, &mut 0, &mut hits)?;
     Ok(hits)
 }
 

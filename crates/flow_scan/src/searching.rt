@@ -61,7 +61,8 @@ pub(crate) fn skip_short_ends(list: &LitList, from: usize) -> usize
 }
 
 /// Adds the hits that end in the text behind `from`, where this place counts as `at`, up to the first
-/// end by which `out` gained at least `most` of them. The answer is that end, or the text's length.
+/// end by which `out` gained at least `most` of them. The answer is that end, or the text's length. Where it comes to
+/// the text's end, `spent` is told what the search spent on what ended nothing.
 /// Memory is refused only after a hit was found, and then the hits before it were added.
 pub(crate) fn add_hits(
     compiled: &Compiled,
@@ -69,6 +70,7 @@ pub(crate) fn add_hits(
     from: usize,
     at: u64,
     most: usize,
+    spent: &mut usize,
     out: &mut Vec<Hit>,
 ) -> Result<usize, AllocError>
     requires inside { from ≤ length text.now }
@@ -87,12 +89,13 @@ pub(crate) fn add_hits(
             return Ok(end);
         }
     }
+    *spent = backoff.spent();
     Ok(text.len())
 }
 
 /// Adds the hits at one place of the text, which counts as `at`, `first` being the first literal
 /// that ends there. Where memory is refused the hits before were added.
-fn add_hits_at(
+pub(crate) fn add_hits_at(
     list: &LitList,
     text: &[u8],
     end: usize,

@@ -2,6 +2,7 @@
 mod choosing;
 mod finding;
 mod going_on;
+mod scanned;
 mod single;
 mod spoilt;
 

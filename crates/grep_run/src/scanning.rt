@@ -9,13 +9,10 @@ ghost use Rattle.grep_run.specs.Writers.{Writer, is_write_fault, writer};
 use crate::block::Block;
 use crate::request::{End, Request};
 use crate::status::Stop;
-use flow_scan::{Compiled, EndFinder};
+use flow_scan::EndFinder;
 use line_pick::{Fault, LineRule, Next, Picker};
 use lit_base::{ByteIn, ByteOut, Failed, MAX_TURNS};
 use std::alloc::{AllocError, Global};
-
-/// A list of at most so many literals is searched for by bytes of each of them, and learns nothing from a text.
-const FEW_LITERALS: usize = 3;
 
 /// What learns from the inputs of a request which parts of its literals are rare there, if it has so many literals that it
 /// gains by that.
@@ -23,19 +20,9 @@ pub fn finder_for<'a>(request: &Request<'a>) -> Result<Option<EndFinder<'a>>, Al
     ensures { IfOk result (λ finder. IfSome finder (λ plan. request.now.patterns.now.plan ≡ Some plan)) }
 {
     match request.patterns.plan.as_ref() {
-        Some(plan) => finder_of(request.alloc, plan),
+        Some(plan) => EndFinder::if_of_use(request.alloc, plan),
         None => Ok(None),
     }
-}
-
-/// What learns, for the literals of a plan.
-fn finder_of<'a>(alloc: Global, plan: &'a Compiled) -> Result<Option<EndFinder<'a>>, AllocError>
-    ensures { IfOk result (λ finder. IfSome finder (λ found. found ≡ plan.now)) }
-{
-    if plan.list().len() <= FEW_LITERALS {
-        return Ok(None);
-    }
-    Ok(Some(EndFinder::new(alloc, plan)?))
 }
 
 /// A picker of the lines that a request selects, before any text, with what learned from the inputs before.

@@ -1,5 +1,5 @@
 //! A text in parts, each scanned by a worker of its own.
-ghost use Rattle.std.specs.Prelude.{◌≡◌, ◌+◌, ◌-◌, ◌*◌, ◌<◌, ◌≤◌, IfOk, IsOk, IsOkUnless, length};
+ghost use Rattle.std.specs.Prelude.{◌≡◌, ◌+◌, ◌-◌, ◌*◌, ◌<◌, ◌≤◌, IfOk, IfSome, IsOk, IsOkUnless, length};
 ghost use Rattle.lit_base.specs.Occurrences.{IsHits};
 ghost use Rattle.flow_scan.specs.NextEnds.{NoEndAfter};
 ghost use Rattle.flow_scan.specs.Tails.{Continues};
@@ -7,12 +7,15 @@ ghost use Rattle.flow_scan.specs.declared.fault.Fault.TheVariants.{OutOfMemory};
 ghost use denote.Param.Send.{IsSync};
 
 use crate::gate::Gate;
-use flow_scan::{Compiled, Fault, Hit, scan_behind};
+use flow_scan::{Compiled, EndFinder, Fault, Hit, scan_behind};
 use std::alloc::Global;
 use std::thread::{Threads, join};
 
 /// How many workers may share a text.
 pub const MAX_WORKERS: usize = 16;
+
+/// Fewer bytes are scanned before anything is learned from them.
+const LEAST_LEARNED: usize = 262_144;
 
 /// All hits in a text, in order, found by so many workers, each of which scans a part of the text
 /// between its calls of the gate. The parts are as even as they can be. That of a worker that cannot
@@ -32,7 +35,7 @@ pub fn scan_parts<R: Threads + Sync, G: Gate>(
     ensures ok { IfOk result (λ hits. IsHits compiled.now.literals text.now hits.items) }
     ensures refused { IsOkUnless result OutOfMemory }
 
-    // Where nothing ends in the text, it takes no memory.
+    // Where nothing ends in the text, it needs no memory.
     ensures quiet { NoEndAfter compiled.now.literals text.now 0 → IsOk result }
 {
     compiled.list().normal_law();
@@ -86,7 +89,54 @@ fn scan_part<G: Gate>(
     ensures quiet { NoEndAfter compiled.now.literals text.now from → IsOk result }
 {
     gate.enter(worker);
-    let hits = scan_behind(alloc, compiled, text, from);
+    let hits = hits_behind(alloc, compiled, text, from);
     gate.leave(worker);
     hits
+}
+
+/// What ends in a text behind a place, by a scan that learns from the text where it is long.
+fn hits_behind(
+    alloc: Global,
+    compiled: &Compiled,
+    text: &[u8],
+    from: usize,
+) -> Result<Vec<Hit>, Fault>
+    requires { from ≤ length text.now }
+    ensures continues { IfOk result (λ hits. Continues compiled.now.literals text.now from hits.items) }
+    ensures refused { IsOkUnless result OutOfMemory }
+    ensures quiet { NoEndAfter compiled.now.literals text.now from → IsOk result }
+{
+    match finder_for(alloc, compiled, text.len() - from) {
+        Some(finder) => scan_learning(alloc, finder, text, from),
+        None => scan_behind(alloc, compiled, text, from),
+    }
+}
+
+/// A scan that learns from the text, of what ends in it behind a place.
+fn scan_learning(
+    alloc: Global,
+    finder: EndFinder<'_>,
+    text: &[u8],
+    from: usize,
+) -> Result<Vec<Hit>, Fault>
+    requires { from ≤ length text.now }
+    ensures continues { IfOk result (λ hits. Continues finder.entry.literals text.now from hits.items) }
+    ensures refused { IsOkUnless result OutOfMemory }
+    ensures quiet { NoEndAfter finder.entry.literals text.now from → IsOk result }
+{
+    let mut finder = finder;
+    finder.scan_behind(alloc, text, from)
+}
+
+/// What learns from so many bytes of a text, where these are many and there is memory for it.
+fn finder_for<'p>(alloc: Global, compiled: &'p Compiled, count: usize) -> Option<EndFinder<'p>>
+    ensures { IfSome result (λ plan. plan ≡ compiled.now) }
+{
+    if count < LEAST_LEARNED {
+        return None;
+    }
+    match EndFinder::if_of_use(alloc, compiled) {
+        Ok(finder) => finder,
+        Err(_) => None,
+    }
 }

@@ -253,3 +253,50 @@ fn agrees_with_a_plain_loop_from_seed_4(rt: HostRuntime) -> Result<(), Fail> {
     assert_eq!(rt; first_disagreement(&rt, 4)?, None);
     Ok(())
 }
+
+/// What long texts are made of.
+const WORDS: [&[u8]; 8] = [
+    b"con", b"nect", b"ion ", b"sess", b"the ", b"plan", b"ner ", b"of ",
+];
+
+/// Literals that occur in such texts, and others that nearly do.
+const PHRASES: [&[u8]; 6] = [
+    b"connection ",
+    b"session ",
+    b"the plan",
+    b"planner of",
+    b"sesscon",
+    b"necessary",
+];
+
+/// At least so many bytes of words drawn by chance.
+fn long_text(alloc: Global, len: usize) -> Result<Vec<u8>, AllocError> {
+    let mut text = Vec::new(alloc);
+    let mut state = 9;
+    for _ in 0..len {
+        let word = WORDS.get((next_random(&mut state) % 8) as usize);
+        if let Some(word) = word
+            && text.len() < len
+        {
+            text.extend_from_slice(word)?;
+        }
+    }
+    Ok(text)
+}
+
+/// Whether so many workers find all of many hits in a long text, whose parts are long enough to learn from.
+fn find_all_of_many<R: Threads + Sync + AllocGlobal>(rt: &R, workers: usize) -> Result<bool, Fail> {
+    let alloc = rt.alloc();
+    let text = long_text(alloc, 540_000)?;
+    let compiled = plan_of(alloc, &PHRASES)?;
+    let workers = workers.clamp(1, MAX_WORKERS);
+    let hits = scan_parts(rt, alloc, &NoGate, &compiled, &text, workers)?;
+    let wanted = plain_hits(alloc, compiled.list(), &text)?;
+    Ok(hits.as_slice() == wanted.as_slice() && wanted.len() > 1_000)
+}
+
+#[test]
+fn learns_from_long_parts(rt: HostRuntime) -> Result<(), Fail> {
+    assert!(rt; find_all_of_many(&rt, 2)?);
+    Ok(())
+}

@@ -1,0 +1,15 @@
+use Rattle.std.proofs.Common.{◌≡◌, ◌-◌, ◌≤◌, [], length, take}
+use Rattle.flow_scan.specs.Tails.{GainsHitsBehind}
+use Rattle.flow_scan.proofs.end_finder.EndFinder.scan_behind.Given as goal
+
+-- the hits are those up to the place reached
+abbrev pub invariant-spans : goal.invariant-spans
+invariant-spans l = record {
+  finder : l.self ≡ l.fn.self;
+  ahead : l.from ≤ l.place;
+  within : l.place ≤ length l.text;
+  gained : GainsHitsBehind l.fn.self.literals (take l.place l.text) l.from l.from [] l.hits.items;
+}
+
+abbrev pub decreases-spans : goal.decreases-spans
+decreases-spans l = length l.text - l.place

@@ -1,0 +1,65 @@
+//! Scans that learn from the text, beside those by the plan alone: the hits are the same.
+use crate::compiled::Compiled;
+use crate::end_finder::EndFinder;
+use crate::hit::Hit;
+use crate::scanning::scan_all;
+use crate::tests::finding::{CAPITALS, Draws, FIGURES, WORDS, pieces_of, plan_of_pieces, text_of};
+use lit_base::Fold;
+use std::alloc::Global;
+
+/// How many of the text's hits end behind a place.
+fn count_behind(hits: &[Hit], from: usize) -> usize {
+    hits.iter().filter(|hit| hit.end_at > from as u64).count()
+}
+
+/// Whether a scan that learns finds so many hits of a text behind a place, the same each time.
+fn are_found(
+    alloc: Global,
+    finder: &mut EndFinder<'_>,
+    text: &[u8],
+    from: usize,
+    wanted: &[Hit],
+) -> Option<bool> {
+    let hits = finder.scan_behind(alloc, text, from.min(text.len())).ok()?;
+    let (_, behind) = wanted.split_at_checked(wanted.len().checked_sub(hits.len())?)?;
+    Some(hits.as_slice() == behind && hits.len() == count_behind(wanted, from))
+}
+
+/// Whether a finder that is asked four times finds the hits of a text, and then those behind a place of it.
+fn scans_the_same(alloc: Global, compiled: &Compiled, text: &[u8]) -> Option<bool> {
+    let wanted = scan_all(alloc, compiled, text).ok()?;
+    let mut finder = EndFinder::if_of_use(alloc, compiled).ok()??;
+    for _ in 0..4 {
+        if !are_found(alloc, &mut finder, text, 0, &wanted)? {
+            return Some(false);
+        }
+    }
+    let are_behind = are_found(alloc, &mut finder, text, 70_001, &wanted)?;
+    Some(wanted.len() > 100 && are_behind)
+}
+
+/// Whether it does for forty pieces of a text whose halves are of these words.
+fn agrees(alloc: Global, fold: Fold, halves: [&[&[u8]]; 2], least: usize) -> Option<bool> {
+    let [first, second] = halves;
+    let mut draws = Draws { state: 7 };
+    let text = text_of(alloc, &mut draws, first, second)?;
+    let raw = pieces_of(alloc, &mut draws, &text, least, 1)?;
+    let compiled = plan_of_pieces(alloc, &raw, fold)?;
+    scans_the_same(alloc, &compiled, &text)
+}
+
+#[test]
+fn finds_the_hits_of_the_plan_alone(rt: HostRuntime) {
+    assert_eq!(rt;
+        agrees(rt.alloc(), Fold::No, [&WORDS, &FIGURES], 4),
+        Some(true)
+    );
+}
+
+#[test]
+fn finds_short_hits_in_either_case(rt: HostRuntime) {
+    assert_eq!(rt;
+        agrees(rt.alloc(), Fold::Ascii, [&CAPITALS, &WORDS], 2),
+        Some(true)
+    );
+}
