@@ -1,0 +1,134 @@
+#!/usr/bin/env python3
+"""Measures scans in memory that learn from their text beside scans by the plan alone and Hyperscan's block mode.
+
+    python3 bench/learned.py [--size MB] [--turns N] [--seed S] [--only WORD] [--scanner PATH] [--write]
+
+The texts and lists are those of lists.py: literals made of a text's own words or syllables, rare and frequent ones, and such
+lists of which every tenth literal is short. Each program is started in turn, scans the text three times over and gives the
+median; the figure is the least of the turns. Hit counts are compared. With --write the tables go to bench/LEARNED.md.
+"""
+import argparse
+import os
+import random
+import statistics
+import sys
+import tempfile
+
+from lists import COUNTS, FEWER, gathered, make_texts, pick, pools
+from programs import HERE, MB, machine, write_lines
+from scanning import PEERS, scan
+
+KINDS = (("rare", COUNTS), ("rare, some short", FEWER), ("frequent", COUNTS))
+SCANS = 3
+PLAN, LEARNED, HYPERSCAN = "plan", "learned", "Hyperscan"
+
+
+def rows(folder, size, seed):
+    """The group, the name, the text and the list of each row."""
+    rng = random.Random(seed)
+    for text in make_texts(folder, size, seed):
+        pool = pools(text, rng)
+        for kind, counts in KINDS:
+            for count in counts:
+                path = os.path.join(folder, "%s-%s-%d" % (text.name, kind.replace(", ", "-"), count))
+                write_lines(path, pick(rng, pool, kind, count))
+                group = "%s: %s, %s" % (text.name, kind, "5 to 29" if count < 30 else "30 to 1,000")
+                yield group, "%s: %d %s" % (text.name, count, kind), text.path, path
+
+
+def programs(scanner):
+    """The words that start each program, and its mode."""
+    found = {PLAN: ([scanner], "all"), LEARNED: ([scanner], "learned")}
+    peer = os.path.join(PEERS, "hyperscan")
+    if os.path.exists(peer):
+        found[HYPERSCAN] = ([peer], "block")
+    return found
+
+
+class Result:
+    """The milliseconds of each program in one row, and the hits that each counted."""
+
+    def __init__(self, group, name):
+        self.group, self.name, self.times, self.hits = group, name, {}, set()
+
+    def add(self, program, answer):
+        seconds, hits = answer
+        self.times[program] = min(self.times.get(program, float("inf")), 1000 * seconds)
+        self.hits.add(hits)
+
+    def over_learned(self, program):
+        """The time of a program by that of the scan that learns, if it was measured."""
+        return self.times[program] / self.times[LEARNED] if program in self.times else None
+
+    def line(self):
+        return "| %s | %d | %s |" % (self.name, max(self.hits), " | ".join(
+            ["%.1f" % self.times[name] if name in self.times else "" for name in (PLAN, LEARNED, HYPERSCAN)]
+            + [ratio(self.over_learned(name)) for name in (PLAN, HYPERSCAN)]))
+
+
+def ratio(value):
+    return "" if value is None else "%.2f" % value
+
+
+def measured(tools, turns, row):
+    group, name, text, literals = row
+    result = Result(group, name)
+    for _ in range(turns):
+        for program, (words, mode) in tools.items():
+            answer = scan(words, text, literals, mode, SCANS)
+            if answer is None:
+                sys.exit("%s gives nothing for %s" % (words[0], name))
+            result.add(program, answer)
+    return result
+
+
+def as_groups(results):
+    lines = ["| lists | rows | plan / learned | least | Hyperscan / learned | least |", "|---" * 6 + "|"]
+    for group, like in gathered(results, "group"):
+        cells = []
+        for program in (PLAN, HYPERSCAN):
+            values = [value for value in (result.over_learned(program) for result in like) if value is not None]
+            cells += [ratio(statistics.median(values)), ratio(min(values))] if values else ["", ""]
+        lines.append("| %s | %d | %s |" % (group, len(like), " | ".join(cells)))
+    return lines
+
+
+def as_rows(results):
+    heads = ["text and list", "hits", "plan, ms", "learned, ms", "Hyperscan, ms", "plan / learned", "Hyperscan / learned"]
+    return ["| %s |" % " | ".join(heads), "|---" * len(heads) + "|"] + [result.line() for result in results]
+
+
+def report(results, options):
+    return "\n".join(
+        ["# Scans that learn", "", machine(options.size), "Seed %d, %d turns." % (options.seed, options.turns), "",
+         "A ratio is the time of another scan by that of the one that learns, each the least of the turns: above 1, it pays to",
+         "learn, and the scan is ahead of Hyperscan. `least` is that of one list.", "", "## By kind", ""]
+        + as_groups(results) + ["", "## Each list", ""] + as_rows(results)) + "\n"
+
+
+def main():
+    parser = argparse.ArgumentParser(description=__doc__, formatter_class=argparse.RawDescriptionHelpFormatter)
+    parser.add_argument("--size", type=int, default=16, metavar="MB")
+    parser.add_argument("--turns", type=int, default=3)
+    parser.add_argument("--seed", type=int, default=1)
+    parser.add_argument("--only", default="", metavar="WORD")
+    parser.add_argument("--scanner", default=os.path.join(HERE, "../bin/bench_scan"), metavar="PATH")
+    parser.add_argument("--write", action="store_true")
+    options = parser.parse_args()
+    tools, results = programs(options.scanner), []
+    with tempfile.TemporaryDirectory(prefix="learned-bench-") as folder:
+        for row in rows(folder, options.size * MB, options.seed):
+            if options.only in row[1]:
+                results.append(measured(tools, options.turns, row))
+                print(results[-1].line(), flush=True)
+    if options.write:
+        with open(os.path.join(HERE, "LEARNED.md"), "w") as out:
+            out.write(report(results, options))
+    wrong = [result for result in results if len(result.hits) > 1]
+    for result in wrong:
+        print("other counts: %s: %s" % (result.name, sorted(result.hits)))
+    return 1 if wrong else 0
+
+
+if __name__ == "__main__":
+    sys.exit(main())
