@@ -3,6 +3,8 @@ memory runs out or a write fails."""
 
 import functools
 import os
+import random
+import re
 from typing import Callable, NamedTuple
 
 import plain_grep
@@ -215,6 +217,10 @@ HITS = scan_plans.plain_scan(WORDS, FILES["t"], False)
 COUNT = b"%d\n" % HITS.count(b"\n")
 A_FOUND = b"".join(b"0 %d\n" % end for end in range(1, 3001))
 MANY = "\n".join(MANY_WORDS).encode()
+# A text that is long enough to learn from, and phrases that occur in it or nearly do.
+PHRASES = [b"connection ", b"session ", b"the plan", b"planner of", b"sesscon", b"necessary"]
+FILES["big"] = b"".join(random.Random(9).choices([b"con", b"nect", b"ion ", b"sess", b"the ", b"plan", b"ner ", b"of "], k=80000))
+COUNT_BIG = b"%d\n" % sum(len(re.findall(b"(?=%s)" % re.escape(phrase), FILES["big"])) for phrase in PHRASES)
 MANY_PLANNED = plain_plan.spelled(plain_plan.plan_of(plain_plan.literals_of(MANY.split(), False)))
 PLANS = [
     planned(["plan", "-"], ["-"], FILES["c"], FILES["w"]),
@@ -228,6 +234,7 @@ PLANS = [
     planned(["scan", "--workers", "4", "-", "many"], ["-", "many"], A_FOUND, b"a\n", has_threads=True),
     planned(["scan", "--count", "--workers", "1", "-", "t"], ["-", "t"], COUNT, FILES["w"]),
     planned(["scan", "--count", "--workers", "16", "-", "t"], ["-", "t"], COUNT, FILES["w"], has_threads=True),
+    planned(["scan", "--count", "--workers", "1", "-", "big"], ["-", "big"], COUNT_BIG, b"\n".join(PHRASES)),
 ]
 FILES["r"] = b"He\nshe\n\nhers\nHE\nhe\nshe\n"
 REPEATED = FILES["r"].split(b"\n")[:-1]
