@@ -1,10 +1,11 @@
 #!/usr/bin/env python3
-"""Measures scans in memory that learn from their text beside scans by the plan alone and Hyperscan's block mode.
+"""Measures scans in memory that learn from their text beside scans by the plan alone and Hyperscan.
 
     python3 bench/learned.py [--size MB] [--turns N] [--seed S] [--only WORD] [--scanner PATH] [--write]
 
 The texts and lists are those of lists.py: literals made of a text's own words or syllables, rare and frequent ones, and such
-lists of which every tenth literal is short. Each program is started in turn, scans the text three times over and gives the
+lists of which every tenth literal is short. The text is at hand, beside Hyperscan's block mode, and then a stream in pieces of
+64 KiB, beside its streaming mode. Each program is started in turn, scans the text three times over and gives the
 median; the figure is the least of the turns. Hit counts are compared. With --write the tables go to bench/LEARNED.md.
 """
 import argparse
@@ -21,6 +22,8 @@ from scanning import PEERS, scan
 KINDS = (("rare", COUNTS), ("rare, some short", FEWER), ("frequent", COUNTS))
 SCANS = 3
 PLAN, LEARNED, HYPERSCAN = "plan", "learned", "Hyperscan"
+# How a text is given, with the modes of the three.
+WAYS = {"at hand": ("all", "learned", "block"), "in pieces": ("stream", "learned-stream", "stream")}
 
 
 def rows(folder, size, seed):
@@ -36,12 +39,13 @@ def rows(folder, size, seed):
                 yield group, "%s: %d %s" % (text.name, count, kind), text.path, path
 
 
-def programs(scanner):
-    """The words that start each program, and its mode."""
-    found = {PLAN: ([scanner], "all"), LEARNED: ([scanner], "learned")}
+def programs(scanner, way):
+    """The words that start each program, and its mode, where the text is given in this way."""
+    plan, learned, block = WAYS[way]
+    found = {PLAN: ([scanner], plan), LEARNED: ([scanner], learned)}
     peer = os.path.join(PEERS, "hyperscan")
     if os.path.exists(peer):
-        found[HYPERSCAN] = ([peer], "block")
+        found[HYPERSCAN] = ([peer], block)
     return found
 
 
@@ -99,11 +103,15 @@ def as_rows(results):
 
 
 def report(results, options):
-    return "\n".join(
-        ["# Scans that learn", "", machine(options.size), "Seed %d, %d turns." % (options.seed, options.turns), "",
-         "A ratio is the time of another scan by that of the one that learns, each the least of the turns: above 1, it pays to",
-         "learn, and the scan is ahead of Hyperscan. `least` is that of one list.", "", "## By kind", ""]
-        + as_groups(results) + ["", "## Each list", ""] + as_rows(results)) + "\n"
+    lines = ["# Scans that learn", "", machine(options.size), "Seed %d, %d turns." % (options.seed, options.turns), "",
+             "A ratio is the time of another scan by that of the one that learns, each the least of the turns: above 1, it pays to",
+             "learn, and the scan is ahead of Hyperscan. `least` is that of one list. A text is at hand, or a stream that comes",
+             "in pieces of 64 KiB.", ""]
+    for way, rows_of_way in results.items():
+        lines += ["## By kind, %s" % way, ""] + as_groups(rows_of_way) + [""]
+    for way, rows_of_way in results.items():
+        lines += ["## Each list, %s" % way, ""] + as_rows(rows_of_way) + [""]
+    return "\n".join(lines)
 
 
 def main():
@@ -112,19 +120,21 @@ def main():
     parser.add_argument("--turns", type=int, default=3)
     parser.add_argument("--seed", type=int, default=1)
     parser.add_argument("--only", default="", metavar="WORD")
+    parser.add_argument("--ways", nargs="+", choices=WAYS, default=list(WAYS), metavar="WAY")
     parser.add_argument("--scanner", default=os.path.join(HERE, "../bin/bench_scan"), metavar="PATH")
     parser.add_argument("--write", action="store_true")
     options = parser.parse_args()
-    tools, results = programs(options.scanner), []
+    results = {way: [] for way in options.ways}
     with tempfile.TemporaryDirectory(prefix="learned-bench-") as folder:
         for row in rows(folder, options.size * MB, options.seed):
             if options.only in row[1]:
-                results.append(measured(tools, options.turns, row))
-                print(results[-1].line(), flush=True)
+                for way, found in results.items():
+                    found.append(measured(programs(options.scanner, way), options.turns, row))
+                    print(way, found[-1].line(), flush=True)
     if options.write:
         with open(os.path.join(HERE, "LEARNED.md"), "w") as out:
             out.write(report(results, options))
-    wrong = [result for result in results if len(result.hits) > 1]
+    wrong = [result for found in results.values() for result in found if len(result.hits) > 1]
     for result in wrong:
         print("other counts: %s: %s" % (result.name, sorted(result.hits)))
     return 1 if wrong else 0

@@ -284,7 +284,10 @@ MIXED = (
 )
 MANY_HITS = publish([b"a", b"aa"]) + open_stream(1, 0) + feed(1, b"a" * 5000) + feed(1, b"xa")
 BAD = session_cases.FIRST_THREE + b"\0\0\0\4"
-SESSIONS = [served(text) for text in (session_cases.FIRST_THREE, BAD, MIXED, MANY_HITS)]
+# A stream that is long enough to learn from, three times over.
+LONG = publish(PHRASES) + open_stream(1, 0) + b"".join(
+    feed(1, FILES["big"][at : at + 65536]) for _ in range(3) for at in range(0, len(FILES["big"]), 65536))
+SESSIONS = [served(text) for text in (session_cases.FIRST_THREE, BAD, MIXED, MANY_HITS, LONG)]
 
 
 def preplanned(name, lists, text):

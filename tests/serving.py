@@ -5,6 +5,7 @@ import bisect
 import concurrent.futures
 import functools
 import os
+import random
 import resource
 import select
 import socket
@@ -13,7 +14,7 @@ import tempfile
 
 import session_cases
 from session_cases import CAT_IN_7, CLOSE_7, FEED_CONCAT, FIRST_THREE, OPEN_7, PUBLISH_CAT, SHOW_PLAN_7, THEIR_REPLIES
-from sessions import HITS, conversation, fed, feed, frame, open_stream, publish, refused, replies_of, requests_of
+from sessions import HITS, close, conversation, fed, feed, frame, open_stream, publish, refused, replies_of, requests_of
 
 TOP = os.path.dirname(os.path.dirname(os.path.abspath(__file__)))
 SCAND = os.environ.get("SCAND", os.path.join(TOP, "bin", "scand"))
@@ -308,4 +309,60 @@ def random_serving():
     yield from side_by_side(cases)
 
 
-PARTS = (words, model, rows, cuts, waits, halves, costliest, faults, random_serving)
+# What streams are made of that the server learns from: words of lines, and figures.
+LINE_WORDS = [b"con", b"nect", b"ion ", b"sess", b"the ", b"plan", b"ner ", b"of ", b"it", b"ation", b"search", b"ed\n"]
+FIGURES = [b"0x", b"1f", b"07", b", ", b"00", b"\xff\xfe", b"con", b"7e3", b"ION "]
+
+
+def text_of(rng, words, size):
+    """About so many bytes of these words."""
+    return b"".join(rng.choices(words, k=size // 4))
+
+
+def literals_from(rng, text, count, least):
+    """So many literals: pieces of a text, each second one with a byte spoilt."""
+    found = []
+    for place in range(count):
+        at, size = rng.randrange(len(text) - 20), rng.randint(least, least + 9)
+        spoilt = rng.randrange(size) if place % 2 else size
+        found.append(bytes(byte ^ (place == spoilt) for place, byte in enumerate(text[at : at + size])))
+    return found
+
+
+def in_turn(rng, texts, sizes):
+    """Feeds of streams by turns, in pieces of these sizes, until each has its text."""
+    places = dict.fromkeys(texts, 0)
+    while places:
+        for stream, at in list(places.items()):
+            size = rng.choice(sizes)
+            yield feed(stream, texts[stream][at : at + size])
+            places[stream] += size
+            if places[stream] >= len(texts[stream]):
+                del places[stream]
+
+
+def long_session(seed):
+    """A session whose streams are long enough to learn from: two plans one after the other and by turns, a plan of two
+    literals, texts that change their kind, and a stream that is opened anew by another plan."""
+    rng = random.Random(seed)
+    lines, figures = text_of(rng, LINE_WORDS, 1 << 20), text_of(rng, FIGURES, 1 << 19)
+    lists = [literals_from(rng, lines, 40, 5), literals_from(rng, figures, 40, 4), [b"search", b"ation"]]
+    yield b"".join(publish(literals, is_folded) for literals, is_folded in zip(lists, (False, True, False)))
+    yield b"".join(open_stream(stream, number) for stream, number in ((1, 0), (2, 1), (3, 0), (4, 2)))
+    yield from in_turn(rng, {1: lines}, [65536])
+    yield from in_turn(rng, {2: figures * 4 + lines}, [65536])
+    yield from in_turn(rng, {1: figures + lines, 2: lines, 3: lines + figures, 4: lines}, [65536, 65536, 30000, 1000, 61, 0])
+    yield close(1) + open_stream(1, 1)
+    yield from in_turn(rng, {1: lines}, [65536, 20000])
+
+
+def long_streams():
+    """Streams that are searched by what was learned from them, beside the model."""
+    for seed in range(3):
+        text = b"".join(long_session(seed))
+        status, replies, messages = served(text)
+        yield f"long streams of seed {seed}", (status, replies, messages) == outcome(text), True
+        yield f"hits in long streams of seed {seed}", len(replies) > 1 << 20, True
+
+
+PARTS = (words, model, rows, cuts, waits, halves, costliest, long_streams, faults, random_serving)

@@ -1,4 +1,4 @@
-//! How long a scan takes: `bench_scan TEXT LITERALS all|learned|stream|WORKERS TURNS` reads both files and
+//! How long a scan takes: `bench_scan TEXT LITERALS all|learned|stream|learned-stream|WORKERS TURNS` reads both files and
 //! prints the median seconds of a scan and the number of hits. A number of workers from 1 to 16 share
 //! the text. It prints nothing without arguments; `bench/README.md` says what it is measured beside.
 #![tactic(auto)]
@@ -26,6 +26,8 @@ enum Mode {
     Learned,
     /// As a stream, in pieces.
     Pieces,
+    /// As a stream, in pieces that are learned from.
+    LearnedPieces,
     /// By so many workers, each of which scans a part.
     Parts(usize),
 }
@@ -39,6 +41,7 @@ fn main(rt: HostRuntime) -> Result<()> {
         "all" => Mode::Whole,
         "learned" => Mode::Learned,
         "stream" => Mode::Pieces,
+        "learned-stream" => Mode::LearnedPieces,
         workers => Mode::Parts(workers.parse::<usize>()?),
     };
     let text = fs::read(&rt, text.as_str())?;
@@ -94,6 +97,7 @@ fn scan<R: Threads + Sync>(
         Mode::Whole => Ok(scan_all(alloc, compiled, text)?.len()),
         Mode::Learned => scan_learning(alloc, compiled, text),
         Mode::Pieces => scan_pieces(alloc, compiled, text),
+        Mode::LearnedPieces => scan_pieces_learning(alloc, compiled, text),
         Mode::Parts(workers) => {
             ensure!((1..=MAX_WORKERS).contains(&workers), "1 to 16 workers");
             Ok(scan_parts(rt, alloc, &NoGate, compiled, text, workers)?.len())
@@ -103,16 +107,10 @@ fn scan<R: Threads + Sync>(
 
 /// How many hits a text has, by what learns from it if the list has literals enough.
 fn scan_learning(alloc: Global, compiled: &Compiled, text: &[u8]) -> Result<usize> {
-    match EndFinder::if_of_use(alloc, compiled)? {
-        Some(finder) => scan_by(alloc, finder, text),
+    match EndFinder::new_unless_few(alloc, compiled)? {
+        Some(mut finder) => Ok(finder.scan_behind(alloc, text, 0)?.len()),
         None => Ok(scan_all(alloc, compiled, text)?.len()),
     }
-}
-
-/// How many hits a finder finds in a text.
-fn scan_by(alloc: Global, finder: EndFinder<'_>, text: &[u8]) -> Result<usize> {
-    let mut finder = finder;
-    Ok(finder.scan_behind(alloc, text, 0)?.len())
 }
 
 /// How many hits a text has, fed in pieces, the hits of each let go before the next.
@@ -122,6 +120,22 @@ fn scan_pieces(alloc: Global, compiled: &Compiled, text: &[u8]) -> Result<usize>
     let mut count = 0usize;
     for piece in text.chunks(PIECE) {
         scanner.feed(piece, &mut out)?;
+        count = count.saturating_add(out.len());
+        out.clear();
+    }
+    Ok(count)
+}
+
+/// The same by what learns from the pieces if the list has literals enough.
+fn scan_pieces_learning(alloc: Global, compiled: &Compiled, text: &[u8]) -> Result<usize> {
+    let Some(mut finder) = EndFinder::new_unless_few(alloc, compiled)? else {
+        return scan_pieces(alloc, compiled, text);
+    };
+    let mut scanner = Scanner::new(alloc, compiled)?;
+    let mut out: Vec<Hit> = Vec::new(alloc);
+    let mut count = 0usize;
+    'pieces: for piece in text.chunks(PIECE) {
+        scanner.feed_learning(&mut finder, piece, usize::MAX, &mut out)?;
         count = count.saturating_add(out.len());
         out.clear();
     }

@@ -1,12 +1,19 @@
 -- Where literals occur in a text and in its parts.
-use Rattle.std.proofs.Common.{◌≡◌, ℕ, ◌+◌, ◌-◌, ◌<◌, ◌≤◌, List, ◌++◌, Option, Some, None, IfSome, MatchOption, length, take, drop, slice_range, sym, ap, ◌∙◌, subst, arith}
+use Rattle.std.proofs.Common.{◌≡◌, ℕ, ◌+◌, ◌-◌, ◌<◌, ◌≤◌, List, ◌++◌, Option, Some, None, IfSome, MatchOption, All, length, take, drop, slice_range, sym, ap, ◌∙◌, subst, arith}
 use Rattle.std.proofs.Math.Seq.{drop-append-add}
 use Rattle.std.proofs.lemmas.List.{length-append, length-drop, length-take, drop-append-le, take-append-le, append_assoc, take-append-drop}
+use Rattle.std.specs.List.{slice_get}
+use Rattle.std.proofs.lemmas.Option.{get_or_from_slice_get, slice_get_within}
 use Rattle.lit_base.specs.Folding.{folded_text}
 use Rattle.lit_base.specs.Literals.{Literals}
 use Rattle.flow_scan.specs.NextEnds.{IsNextEnd, IsPassed, NoEndAfter, NoEndUpTo}
 use Rattle.lit_base.specs.Occurrences.{IsFirstEnding, Occurs}
 use Rattle.flow_scan.specs.Tails.{HasBounds, carry_of, last_bytes}
+
+-- what holds of all literals holds of one
+pub of_literal : (P : List ℕ → Type 0) (texts : List (List ℕ)) (place : ℕ) (literal : List ℕ) → All P texts → slice_get texts place ≡ Some literal → P literal
+of_literal P texts place literal all stands =
+    subst P (get_or_from_slice_get texts place literal literal stands) (all place literal (slice_get_within texts place literal stands))
 
 -- the last m of the bytes up to an end in the second text are the same in both
 range_behind : (a b : List ℕ) (m e : ℕ) → m ≤ e → slice_range (a ++ b) (length a + e - m) (length a + e) ≡ slice_range b (e - m) e

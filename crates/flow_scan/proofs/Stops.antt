@@ -4,7 +4,7 @@ use Rattle.std.proofs.lemmas.Bool.{cases_lt}
 use Rattle.std.proofs.lemmas.List.{append-nil, length-append, length-take, take-take, take_all}
 use Rattle.lit_base.specs.Literals.{Literals}
 use Rattle.flow_scan.specs.NextEnds.{IsNextEnd, NoEndAfter}
-use Rattle.flow_scan.specs.HitsAt.{AreHitsAt, GainsHitsAt}
+use Rattle.flow_scan.specs.HitsAt.{GainsHitsAt}
 use Rattle.flow_scan.specs.Tails.{AreAdded, AreHitsBehind, GainsHitsBehind, HasBounds, StopsAt, StopsIn, carry_of}
 use Rattle.flow_scan.proofs.HitLists.{gained_both, gained_more, hits_ended, hits_further, hits_joined, hits_none, none_past}
 use Rattle.flow_scan.proofs.SeamLemmas.{front_behind}
@@ -93,16 +93,13 @@ gained_nothing l text from at old = record {
 }
 
 -- the hits up to a place and those at the next one are the hits up to there
-pub gained_here : (l : Literals) (text : List ℕ) (from m end : ℕ) (old middle new : List (ℕ × ℕ)) → from ≤ m → IsNextEnd l text m end
-    → GainsHitsBehind l (take m text) from from old middle → GainsHitsAt l text end end middle new → GainsHitsBehind l (take end text) from from old new
-gained_here l text from m end old middle new starts next early late =
-    let told : end ≡ from + (end - from) = omega (arith, starts, next.after) in
-    record {
-      found = early.found ++ late.found;
-      grown = gained_both old middle new early.found late.found early.grown late.grown;
-      added = hits_further l text from m end from early.found late.found starts next.after next.within next.first early.added
-          (subst (λ x. AreHitsAt l text end x late.found) told late.added);
-    }
+pub gained_here : (l : Literals) (text : List ℕ) (from m end at : ℕ) (old middle new : List (ℕ × ℕ)) → from ≤ m → IsNextEnd l text m end
+    → GainsHitsBehind l (take m text) from at old middle → GainsHitsAt l text end (at + (end - from)) middle new → GainsHitsBehind l (take end text) from at old new
+gained_here l text from m end at old middle new starts next early late = record {
+  found = early.found ++ late.found;
+  grown = gained_both old middle new early.found late.found early.grown late.grown;
+  added = hits_further l text from m end at early.found late.found starts next.after next.within next.first early.added late.added;
+}
 
 -- those up to a place behind which nothing ends are all
 pub gained_ended : (l : Literals) (text : List ℕ) (from m at : ℕ) (old new : List (ℕ × ℕ)) → from ≤ m → m ≤ length text → NoEndAfter l text m

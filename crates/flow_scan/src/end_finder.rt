@@ -1,14 +1,16 @@
 //! A search through texts that learns from them.
-ghost use Rattle.std.specs.Prelude.{◌≡◌, ◌<◌, ◌≤◌, IfOk, IfSome, IsOk, IsOkUnless, MatchOption, OnOk, length};
-ghost use Rattle.lit_base.specs.Occurrences.{IsFirstEnding};
+ghost use Rattle.std.specs.Prelude.{◌≡◌, ◌+◌, ◌-◌, ◌^◌, ◌<◌, ◌≤◌, IfOk, IfSome, IsOk, IsOkUnless, MatchOption, length};
+ghost use Rattle.std.specs.Option.{IfNone};
 ghost use Rattle.flow_scan.specs.declared.fault.Fault.TheVariants.{OutOfMemory};
+ghost use Rattle.flow_scan.specs.HitsAt.{Extends};
 ghost use Rattle.flow_scan.specs.NextEnds.{IsNextEnd, NoEndAfter};
-ghost use Rattle.flow_scan.specs.Tails.{AreHitsBehind, Continues, GainsHitsBehind};
+ghost use Rattle.flow_scan.specs.Tails.{AreHitsBehind, Continues, StopsAt};
 
 use crate::aim::Met;
 use crate::compiled::Compiled;
 use crate::fault::Fault;
 use crate::hit::Hit;
+use crate::hit_search::HitSearch;
 use crate::learning::{Learning, cost_by_windows};
 use crate::pace::PAIRED;
 use crate::searching::{add_hits, add_hits_at, skip_short_ends};
@@ -24,8 +26,8 @@ const SAMPLE: usize = 65536;
 /// A scan goes on in the way that was chosen for so many bytes: as many as a run of grep reads at once.
 const SPAN: usize = 131_072;
 
-/// Fewer bytes tell too little of a text.
-const LEAST_SAMPLE: usize = 16384;
+/// Fewer bytes tell too little of a text: of a shorter text, or a shorter piece of a stream, nothing is learned.
+pub const LEAST_SAMPLE: usize = 16384;
 
 /// A search through the texts of one run for the literals of a plan. It begins as `next_end` does; where what
 /// it meets in a text ends nothing too often, it learns which windows of the literals are rare there, and goes on by
@@ -61,12 +63,14 @@ impl<'p> EndFinder<'p> {
         })
     }
 
-    /// Such a search, if the plan has literals enough: at most three are searched for by two bytes of each, whatever the text.
-    pub fn if_of_use(
+    /// Such a search, unless the plan has at most three literals: these are searched for by two bytes of each, whatever the text.
+    pub fn new_unless_few(
         alloc: Global,
         compiled: &'p Compiled,
     ) -> Result<Option<EndFinder<'p>>, AllocError>
-        ensures { IfOk result (λ finder. IfSome finder (λ plan. plan ≡ compiled.now)) }
+        ensures plan { IfOk result (λ finder. IfSome finder (λ plan. plan ≡ compiled.now)) }
+        ensures few { IfOk result (λ finder. IfNone finder (length compiled.now.literals.texts ≤ 3)) }
+        ensures many { IfOk result (λ finder. IfSome finder (λ _. 3 < length compiled.now.literals.texts)) }
     {
         if compiled.list().len() <= PAIRED {
             return Ok(None);
@@ -186,93 +190,123 @@ impl<'p> EndFinder<'p> {
         'spans: while place < text.len() {
             let stop = text.len().min(place.saturating_add(SPAN));
             let (front, _) = text.split_at(stop);
-            self.add_hits(front, place, &mut hits)?;
+            self.add_hits(front, place, place as u64, usize::MAX, &mut hits)?;
             place = stop;
         }
         Ok(hits)
     }
 
-    /// Adds the hits that end in a text behind a place, in the way that was chosen.
-    fn add_hits(&mut self, text: &[u8], from: usize, out: &mut Vec<Hit>) -> Result<(), AllocError>
-        requires { from < length text.now }
-        ensures same { self.new ≡ self.old }
-        ensures ok { OnOk result (GainsHitsBehind self.old.literals text.now from from out.old.items out.new.items) }
-        ensures quiet { NoEndAfter self.old.literals text.now from → IsOk result }
-    {
-        self.learn_if_due(text, from);
-        if self.learning.is_windowed() {
-            self.add_hits_by_windows(text, from, out)
-        } else {
-            self.add_hits_plainly(text, from, out)
-        }
-    }
-
-    /// Adds them by the plan.
+    /// Adds hits by the plan, as `add_hits` does.
     fn add_hits_plainly(
         &mut self,
         text: &[u8],
         from: usize,
+        at: u64,
+        most: usize,
         out: &mut Vec<Hit>,
-    ) -> Result<(), AllocError>
-        requires { from < length text.now }
+    ) -> Result<usize, AllocError>
+        requires inside { from ≤ length text.now }
+        requires room { at + (length text.now - from) < 2 ^ 64 }
         ensures same { self.new ≡ self.old }
-        ensures ok { OnOk result (GainsHitsBehind self.old.literals text.now from from out.old.items out.new.items) }
+        ensures ok { IfOk result (λ stop. StopsAt self.old.literals text.now from at most stop out.old.items out.new.items) }
+        ensures kept { Extends out.old.items out.new.items }
         ensures quiet { NoEndAfter self.old.literals text.now from → IsOk result }
     {
         let mut spent = 0;
         let before = out.len();
-        let at = from as u64;
-        add_hits(self.compiled, text, from, at, usize::MAX, &mut spent, out)?;
+        let stop = add_hits(self.compiled, text, from, at, most, &mut spent, out)?;
         let gained = out.len().saturating_sub(before);
-        self.learning.note(text.len() - from, spent, gained);
-        Ok(())
+        self.learning.note(stop - from, spent, gained);
+        Ok(stop)
     }
 
-    /// Adds them by windows.
-    fn add_hits_by_windows(
+    /// Adds hits by windows, as `add_hits` does.
+    fn add_hits_windowed(
         &mut self,
         text: &[u8],
         from: usize,
+        at: u64,
+        most: usize,
         out: &mut Vec<Hit>,
-    ) -> Result<(), AllocError>
-        requires { from < length text.now }
+    ) -> Result<usize, AllocError>
+        requires inside { from ≤ length text.now }
+        requires room { at + (length text.now - from) < 2 ^ 64 }
         ensures same { self.new ≡ self.old }
-        ensures ok { OnOk result (GainsHitsBehind self.old.literals text.now from from out.old.items out.new.items) }
+        ensures ok { IfOk result (λ stop. StopsAt self.old.literals text.now from at most stop out.old.items out.new.items) }
+        ensures kept { Extends out.old.items out.new.items }
         ensures quiet { NoEndAfter self.old.literals text.now from → IsOk result }
     {
+        let mut met = Met::nothing();
+        let before = out.len();
+        let stop = self.add_hits_by_windows(text, from, at, most, &mut met, out)?;
+        let gained = out.len().saturating_sub(before);
+        self.note_windowed(stop - from, met, gained);
+        Ok(stop)
+    }
+
+    /// Adds hits by windows, as `add_hits` does, and to `met` what is met at which nothing ends.
+    fn add_hits_by_windows(
+        &self,
+        text: &[u8],
+        from: usize,
+        at: u64,
+        most: usize,
+        met: &mut Met,
+        out: &mut Vec<Hit>,
+    ) -> Result<usize, AllocError>
+        requires inside { from ≤ length text.now }
+        requires room { at + (length text.now - from) < 2 ^ 64 }
+        ensures ok { IfOk result (λ stop. StopsAt self.now.literals text.now from at most stop out.old.items out.new.items) }
+        ensures kept { Extends out.old.items out.new.items }
+        ensures quiet { NoEndAfter self.now.literals text.now from → IsOk result }
+    {
         let list = self.compiled.list();
+        let before = out.len();
         let mut place = from;
-        while let Some((end, first)) = self.next_windowed(text, place) {
-            add_hits_at(list, text, end, first, end as u64, out)?;
+        while let Some((end, first)) = next_end_by_windows(&self.windows, list, text, place, met) {
+            add_hits_at(
+                self.compiled,
+                text,
+                end,
+                first,
+                at + (end - from) as u64,
+                out,
+            )?;
+            if out.len() - before >= most {
+                return Ok(end);
+            }
             place = end;
         }
-        Ok(())
+        Ok(text.len())
+    }
+
+    /// Notes what a search by windows met in so many bytes, and how many hits.
+    fn note_windowed(&mut self, count: usize, met: Met, hits: usize)
+        ensures { self.new ≡ self.old }
+    {
+        let spent = cost_by_windows(&self.windows, self.compiled.list().len(), count, met);
+        self.learning.note(count, spent, hits);
     }
 
     /// The search of `next_end` by windows.
     fn next_windowed(&mut self, text: &[u8], from: usize) -> Option<(usize, usize)>
+        requires { from < length text.now }
         ensures same { self.new ≡ self.old }
         ensures next { MatchOption result
             (NoEndAfter self.old.literals text.now from)
             (λ found. IsNextEnd self.old.literals text.now from found.0) }
-        ensures first { IfSome result (λ found. IsFirstEnding self.old.literals text.now 0 found.0 found.1) }
     {
         let list = self.compiled.list();
         let mut met = Met::nothing();
         let found = next_end_by_windows(&self.windows, list, text, from, &mut met);
-        let count = passed(text, from, found);
-        self.learning.note(
-            count,
-            cost_by_windows(&self.windows, list.len(), count, met),
-            usize::from(found.is_some()),
-        );
+        self.note_windowed(passed(text, from, found), met, usize::from(found.is_some()));
         found
     }
 
     /// Learns from the text behind a place, where that is worth while and enough of it is left.
     #[inline(always)]
     fn learn_if_due(&mut self, text: &[u8], from: usize)
-        requires { from < length text.now }
+        requires { from ≤ length text.now }
         ensures { self.new ≡ self.old }
     {
         if self.learning.is_due() && text.len() - from >= LEAST_SAMPLE {
@@ -283,13 +317,33 @@ impl<'p> EndFinder<'p> {
     /// Learns from the text behind a place.
     #[inline(never)]
     fn learn(&mut self, text: &[u8], from: usize)
-        requires { from < length text.now }
+        requires { from ≤ length text.now }
         ensures { self.new ≡ self.old }
     {
         let (_, behind) = text.split_at(from);
         let (sample, _) = behind.split_at(behind.len().min(SAMPLE));
         let cost = self.windows.learn(sample, self.learning.hits());
         self.learning.choose(cost);
+    }
+}
+
+impl<'p> HitSearch for EndFinder<'p> {
+    ghost plan = { λ finder. finder };
+
+    fn add_hits(
+        &mut self,
+        text: &[u8],
+        from: usize,
+        at: u64,
+        most: usize,
+        out: &mut Vec<Hit>,
+    ) -> Result<usize, AllocError> {
+        self.learn_if_due(text, from);
+        if self.learning.is_windowed() {
+            self.add_hits_windowed(text, from, at, most, out)
+        } else {
+            self.add_hits_plainly(text, from, at, most, out)
+        }
     }
 }
 

@@ -5,7 +5,7 @@ ghost use Rattle.flow_scan.specs.NextEnds.{IsNextEnd, IsPassed};
 use crate::endings::Backoff;
 use crate::learning::cost_of_looks;
 use crate::pace::{NEAR_LOOKS, PAIRED, START_COST};
-use crate::strides::first_marked;
+use crate::strides::{first_marked, skip_unmarked};
 use lit_base::LitList;
 
 /// Whether looks at the marks of all places up to the end that a search found behind a place would have taken well less than
@@ -27,7 +27,8 @@ pub(crate) fn is_near(
 }
 
 /// The first end near a place of a text, with the first literal that ends there, or a place up to which nothing ends: looked for by
-/// the marks alone, a stride after the other. Within the loop over lines, where it would lack registers, it took up to twice as long.
+/// the marks alone, two strides after the other. Within the loop over lines, where it would lack registers, it took up to twice as
+/// long.
 #[inline(never)]
 pub(crate) fn next_nearby(
     list: &LitList,
@@ -40,9 +41,16 @@ pub(crate) fn next_nearby(
     ensures passed { IfErr result (IsPassed list.now text.now from) }
 {
     let stride = list.stride();
-    let mut looks = NEAR_LOOKS;
+    let last = text.len().min(from.saturating_add(NEAR_LOOKS * stride));
+    if from < 7 || from >= last {
+        return Err(from);
+    }
     let mut seen = from;
-    'strides: while looks > 0 && seen >= 7 && text.len() - seen > stride {
+    'marks: loop {
+        seen = skip_unmarked(list, text, seen, last);
+        if last - seen <= stride {
+            return Err(seen);
+        }
         let marks = list.marks_before(text, seen + 1);
         if marks != 0 {
             if let Some(found) = first_marked(list, text, seen, stride, marks as u64) {
@@ -51,7 +59,5 @@ pub(crate) fn next_nearby(
             backoff.spend_on_mark();
         }
         seen += stride;
-        looks -= 1;
     }
-    Err(seen)
 }

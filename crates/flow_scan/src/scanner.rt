@@ -7,10 +7,11 @@ ghost use Rattle.flow_scan.specs.Scanners.{Scanning, fed, started};
 ghost use Rattle.flow_scan.specs.Tails.{GainsHits, StopsIn, carry_of};
 
 use crate::compiled::Compiled;
+use crate::end_finder::EndFinder;
 use crate::fault::Fault;
 use crate::hit::Hit;
+use crate::hit_search::{HitSearch, PlainSearch};
 use crate::seam::Seam;
-use crate::searching::add_hits;
 use std::alloc::{AllocError, Global};
 use std::marker::Model;
 
@@ -110,12 +111,66 @@ impl<'p> Scanner<'p> {
         ensures quiet { NoEndAfter self.old.plan.literals (self.old.tail ++ piece.now) (length self.old.tail)
             → IsOkUnless result StreamTooLong }
     {
+        let mut search = PlainSearch {
+            compiled: self.compiled,
+        };
+        self.feed_by(&mut search, piece, most, out)
+    }
+
+    /// Feeds the next piece as `feed_until` does, by a search that learns from it: the finder is one by the scan's plan, and may
+    /// serve any number of scans by it. What is found does not depend on what it learned.
+    ///
+    /// Refusals as those of `feed`, for the whole piece.
+    pub fn feed_learning(
+        &mut self,
+        finder: &mut EndFinder<'_>,
+        piece: &[u8],
+        most: usize,
+        out: &mut Vec<Hit>,
+    ) -> Result<usize, Fault>
+        requires { finder.old ≡ self.old.plan }
+        ensures finder { finder.new ≡ finder.old }
+        ensures ok { IfOk result (λ count. self.new ≡ fed self.old (take count piece.now)) }
+        ensures hits { IfOk result (λ count. StopsIn self.old.plan.literals self.old.tail piece.now self.old.place most count out.old.items out.new.items) }
+
+        ensures too_long { IsErrOf result StreamTooLong ↔ (2 ^ 64 ≤ self.old.place + length piece.now) }
+        ensures faults { IfErr result (λ fault. (fault ≡ StreamTooLong) ⊎ (fault ≡ OutOfMemory)) }
+        ensures same { OnErr result (self.new ≡ self.old) }
+        ensures same_hits { OnErr result (out.new.items ≡ out.old.items) }
+
+        // Where nothing ends in the piece, it takes no memory.
+        ensures quiet { NoEndAfter self.old.plan.literals (self.old.tail ++ piece.now) (length self.old.tail)
+            → IsOkUnless result StreamTooLong }
+    {
+        self.feed_by(finder, piece, most, out)
+    }
+
+    /// Feeds the next piece as `feed_until` does, by a search for its hits.
+    fn feed_by<S: HitSearch>(
+        &mut self,
+        search: &mut S,
+        piece: &[u8],
+        most: usize,
+        out: &mut Vec<Hit>,
+    ) -> Result<usize, Fault>
+        requires { S.plan search.old ≡ self.old.plan }
+        ensures plan { S.plan search.new ≡ S.plan search.old }
+        ensures ok { IfOk result (λ count. self.new ≡ fed self.old (take count piece.now)) }
+        ensures hits { IfOk result (λ count. StopsIn self.old.plan.literals self.old.tail piece.now self.old.place most count out.old.items out.new.items) }
+        ensures too_long { IsErrOf result StreamTooLong ↔ (2 ^ 64 ≤ self.old.place + length piece.now) }
+        ensures faults { IfErr result (λ fault. (fault ≡ StreamTooLong) ⊎ (fault ≡ OutOfMemory)) }
+        ensures same { OnErr result (self.new ≡ self.old) }
+        ensures same_hits { OnErr result (out.new.items ≡ out.old.items) }
+        ensures quiet { NoEndAfter self.old.plan.literals (self.old.tail ++ piece.now) (length self.old.tail)
+            → IsOkUnless result StreamTooLong }
+    {
         if piece.len() as u64 > u64::MAX - self.place() {
             return Err(Fault::StreamTooLong);
         }
         self.seam.offer(piece);
         let before = out.len();
-        match add_piece(self.compiled, &self.seam, piece, self.place(), most, out) {
+        let at = self.place();
+        match add_piece(search, self.compiled, &self.seam, piece, at, most, out) {
             Ok(count) => {
                 self.seam.commit(piece, count);
                 self.count += count as u64;
@@ -151,11 +206,12 @@ impl<'p> Scanner<'p> {
     }
 }
 
-/// Adds the hits that end in a piece, whose first bytes stand at the seam: those in its first bytes
+/// Adds the hits that end in a piece by a search, where its first bytes stand at the seam: those in its first bytes
 /// from there, and the others from the piece in place, up to the first end by which `out` gained at
 /// least `most` of them. The answer is how many bytes of the piece lie up to there, or its length.
 /// Where memory is refused, hits before were added.
-fn add_piece(
+fn add_piece<S: HitSearch>(
+    search: &mut S,
     compiled: &Compiled,
     seam: &Seam,
     piece: &[u8],
@@ -163,23 +219,17 @@ fn add_piece(
     most: usize,
     out: &mut Vec<Hit>,
 ) -> Result<usize, AllocError>
+    requires plan { S.plan search.old ≡ compiled.now }
     requires carry { seam.now.carry ≡ carry_of compiled.now.literals }
     requires front { seam.now.front ≡ take seam.now.carry piece.now }
     requires room { at + length piece.now < 2 ^ 64 }
+    ensures plan { S.plan search.new ≡ S.plan search.old }
     ensures ok { IfOk result (λ count. StopsIn compiled.now.literals seam.now.tail piece.now at most count out.old.items out.new.items) }
     ensures kept { Extends out.old.items out.new.items }
     ensures quiet { NoEndAfter compiled.now.literals (seam.now.tail ++ piece.now) (length seam.now.tail) → IsOk result }
 {
     let before = out.len();
-    let stop = add_hits(
-        compiled,
-        seam.text(),
-        seam.tail_len(),
-        at,
-        most,
-        &mut 0,
-        out,
-    )?;
+    let stop = search.add_hits(seam.text(), seam.tail_len(), at, most, out)?;
     let gained = out.len() - before;
     if gained >= most {
         return Ok(stop - seam.tail_len());
@@ -188,14 +238,6 @@ fn add_piece(
     if piece.len() <= carry {
         return Ok(stop - seam.tail_len());
     }
-    let in_place = add_hits(
-        compiled,
-        piece,
-        carry,
-        at + carry as u64,
-        most - gained,
-        &mut 0,
-        out,
-    )?;
+    let in_place = search.add_hits(piece, carry, at + carry as u64, most - gained, out)?;
     Ok(in_place)
 }

@@ -61,8 +61,8 @@ pub(crate) fn skip_short_ends(list: &LitList, from: usize) -> usize
 }
 
 /// Adds the hits that end in the text behind `from`, where this place counts as `at`, up to the first
-/// end by which `out` gained at least `most` of them. The answer is that end, or the text's length. Where it comes to
-/// the text's end, `spent` is told what the search spent on what ended nothing.
+/// end by which `out` gained at least `most` of them. The answer is that end, or the text's length, and `spent` is told what
+/// the search spent on what ended nothing.
 /// Memory is refused only after a hit was found, and then the hits before it were added.
 pub(crate) fn add_hits(
     compiled: &Compiled,
@@ -84,8 +84,9 @@ pub(crate) fn add_hits(
     let mut backoff = Backoff::new();
     let before = out.len();
     while let Some((end, first)) = next_verified(list, text, &mut candidates, &mut backoff) {
-        add_hits_at(list, text, end, first, at + (end - from) as u64, out)?;
+        add_hits_at(compiled, text, end, first, at + (end - from) as u64, out)?;
         if out.len() - before >= most {
+            *spent = backoff.spent();
             return Ok(end);
         }
     }
@@ -96,6 +97,29 @@ pub(crate) fn add_hits(
 /// Adds the hits at one place of the text, which counts as `at`, `first` being the first literal
 /// that ends there. Where memory is refused the hits before were added.
 pub(crate) fn add_hits_at(
+    compiled: &Compiled,
+    text: &[u8],
+    end: usize,
+    first: usize,
+    at: u64,
+    out: &mut Vec<Hit>,
+) -> Result<(), AllocError>
+    requires inside { end ≤ length text.now }
+    requires first { IsFirstEnding compiled.now.literals text.now 0 end first }
+    ensures ok { OnOk result (GainsHitsAt compiled.now.literals text.now end at out.old.items out.new.items) }
+    ensures few { OnOk result (length out.new.items ≤ length out.old.items + length compiled.now.literals.texts) }
+    ensures kept { Extends out.old.items out.new.items }
+{
+    let list = compiled.list();
+    if compiled.ends_alone(first) {
+        out.push(hit_of(list, first, at))?;
+        return Ok(());
+    }
+    add_all_at(list, text, end, first, at, out)
+}
+
+/// The same where it is not known that no other literal ends there.
+fn add_all_at(
     list: &LitList,
     text: &[u8],
     end: usize,

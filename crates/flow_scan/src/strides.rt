@@ -133,7 +133,7 @@ fn look_ahead(list: &LitList, text: &[u8], from: usize, is_crowded: bool) -> Loo
     if is_crowded && text.len() - from > BLOCK {
         return block_behind(list, text, from);
     }
-    let seen = skip_unmarked(list, text, from);
+    let seen = skip_unmarked(list, text, from, text.len());
     Look {
         seen,
         count: list.stride(),
@@ -166,19 +166,20 @@ fn block_behind(list: &LitList, text: &[u8], from: usize) -> Look
 }
 
 /// A place from `from` on that strides come to, two at a time, up to which nothing ends: there is
-/// a mark near it, or the end. Where marks are rare, two at a time take a fifth less time than one,
+/// a mark near it, or the place `last`. Where marks are rare, two at a time take a fifth less time than one,
 /// and half as long in a build for newer processors, where the loop for one came to lie badly.
 #[inline(always)]
-fn skip_unmarked(list: &LitList, text: &[u8], from: usize) -> usize
+pub(crate) fn skip_unmarked(list: &LitList, text: &[u8], from: usize, last: usize) -> usize
     requires seven { 7 ≤ from }
-    requires inside { from < length text.now }
+    requires before { from < last }
+    requires inside { last ≤ length text.now }
     ensures ahead { from ≤ result }
-    ensures inside { result < length text.now }
+    ensures inside { result < last }
     ensures none { NoEndUpTo list.now text.now from result }
 {
     let stride = list.stride();
     let mut seen = from;
-    'strides: while text.len() - seen > 2 * stride {
+    'strides: while last - seen > 2 * stride {
         let near = list.marks_before(text, seen + 1);
         let far = list.marks_before(text, seen + stride + 1);
         if near | far != 0 {

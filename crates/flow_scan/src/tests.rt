@@ -5,6 +5,7 @@ mod going_on;
 mod scanned;
 mod single;
 mod spoilt;
+mod streamed;
 
 use crate::compiled::{Compiled, least_law};
 use crate::fault::Fault;

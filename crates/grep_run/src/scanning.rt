@@ -20,7 +20,7 @@ pub fn finder_for<'a>(request: &Request<'a>) -> Result<Option<EndFinder<'a>>, Al
     ensures { IfOk result (λ finder. IfSome finder (λ plan. request.now.patterns.now.plan ≡ Some plan)) }
 {
     match request.patterns.plan.as_ref() {
-        Some(plan) => EndFinder::if_of_use(request.alloc, plan),
+        Some(plan) => EndFinder::new_unless_few(request.alloc, plan),
         None => Ok(None),
     }
 }

@@ -14,7 +14,8 @@ use std::thread::{Threads, join};
 /// How many workers may share a text.
 pub const MAX_WORKERS: usize = 16;
 
-/// Fewer bytes are scanned before anything is learned from them.
+/// Of fewer bytes nothing is learned: at two nanoseconds a byte, which is a slow search, half a millisecond is lost in so many,
+/// and to learn takes as long.
 const LEAST_LEARNED: usize = 262_144;
 
 /// All hits in a text, in order, found by so many workers, each of which scans a part of the text
@@ -107,25 +108,9 @@ fn hits_behind(
     ensures quiet { NoEndAfter compiled.now.literals text.now from → IsOk result }
 {
     match finder_for(alloc, compiled, text.len() - from) {
-        Some(finder) => scan_learning(alloc, finder, text, from),
+        Some(mut finder) => finder.scan_behind(alloc, text, from),
         None => scan_behind(alloc, compiled, text, from),
     }
-}
-
-/// A scan that learns from the text, of what ends in it behind a place.
-fn scan_learning(
-    alloc: Global,
-    finder: EndFinder<'_>,
-    text: &[u8],
-    from: usize,
-) -> Result<Vec<Hit>, Fault>
-    requires { from ≤ length text.now }
-    ensures continues { IfOk result (λ hits. Continues finder.entry.literals text.now from hits.items) }
-    ensures refused { IsOkUnless result OutOfMemory }
-    ensures quiet { NoEndAfter finder.entry.literals text.now from → IsOk result }
-{
-    let mut finder = finder;
-    finder.scan_behind(alloc, text, from)
 }
 
 /// What learns from so many bytes of a text, where these are many and there is memory for it.
@@ -135,7 +120,7 @@ fn finder_for<'p>(alloc: Global, compiled: &'p Compiled, count: usize) -> Option
     if count < LEAST_LEARNED {
         return None;
     }
-    match EndFinder::if_of_use(alloc, compiled) {
+    match EndFinder::new_unless_few(alloc, compiled) {
         Ok(finder) => finder,
         Err(_) => None,
     }

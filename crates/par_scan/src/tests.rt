@@ -296,7 +296,7 @@ fn find_all_of_many<R: Threads + Sync + AllocGlobal>(rt: &R, workers: usize) -> 
 }
 
 #[test]
-fn learns_from_long_parts(rt: HostRuntime) -> Result<(), Fail> {
+fn finds_all_hits_of_long_parts(rt: HostRuntime) -> Result<(), Fail> {
     assert!(rt; find_all_of_many(&rt, 2)?);
     Ok(())
 }

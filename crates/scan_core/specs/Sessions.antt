@@ -1,5 +1,5 @@
 -- What a contract sees of a `Session`: its store, the tickets that it was told, and its open streams as their tickets and what their scanners keep.
-use Rattle.std.specs.Prelude.{◌≡◌, ℕ, List, [], ◌++◌, All, map, Option}
+use Rattle.std.specs.Prelude.{◌≡◌, ℕ, List, [], ◌++◌, All, map, Option, IfSome}
 use Rattle.boxcar.specs.Table.{Shelves}
 use Rattle.plan_store.specs.Tickets.{IsOf, Told}
 use Rattle.flow_scan.specs.Scanners.{Scanning, fed, started}
@@ -50,6 +50,11 @@ pub record IsBound (store : Shelves) (state : Bound) : Type 0 where
 pub record IsServing (s : Serving) : Type 0 where
   pub told : All (IsOf s.store) s.told
   pub streams : All (λ stream. IsBound s.store stream.1) s.streams
+
+-- and the search that it learns by, if it has one, is by the plan of a ticket of its store
+pub record IsSession (s : Serving) (learner : Option Told) : Type 0 where
+  pub serving : IsServing s
+  pub own : IfSome learner (IsOf s.store)
 
 -- a request is one step of the session, with these replies
 pub record IsEvent (before : Serving) (request : RequestParts) (replies : List ReplyParts) (after : Serving) : Type 0 where

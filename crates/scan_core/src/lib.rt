@@ -5,6 +5,7 @@
 mod answering;
 mod fault;
 mod few;
+mod learner;
 mod limits;
 mod publishing;
 mod refusal;

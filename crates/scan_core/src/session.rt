@@ -12,6 +12,7 @@ ghost use Rattle.scan_core.specs.declared.fault.Fault.TheVariants.{OutOfMemory};
 use crate::answering::push_answer;
 use crate::fault::Fault;
 use crate::few::Few;
+use crate::learner::Learner;
 use crate::limits::MAX_STREAMS;
 use crate::publishing::planned;
 use crate::refusal::{Refusal, refusal_of_literals};
@@ -31,17 +32,18 @@ pub struct Session<'s> {
     store: &'s PlanStore,
     told: Few<Ticket>,
     streams: Few<Stream<'s>>,
+    learner: Learner<'s>,
 }
 
-/// A contract sees the store, the tickets told and the open streams.
+/// A contract sees the store, the tickets told and the open streams. What was learned changes no answer.
 impl<'s> Model for Session<'s> {
-    ghost use Rattle.scan_core.specs.Sessions.{IsServing, Serving};
+    ghost use Rattle.scan_core.specs.Sessions.{IsSession, Serving};
 
     ghost Value = { Serving };
 
     ghost view = { λ s. record { store = s.store.now; told = s.told; streams = s.streams } };
 
-    ghost invariant = { λ s. IsServing record { store = s.store.now; told = s.told; streams = s.streams } };
+    ghost invariant = { λ s. IsSession record { store = s.store.now; told = s.told; streams = s.streams } s.learner };
 }
 
 impl<'s> Session<'s> {
@@ -53,6 +55,7 @@ impl<'s> Session<'s> {
             store,
             told: Few::new(),
             streams: Few::new(),
+            learner: Learner::new(),
         }
     }
 
@@ -238,8 +241,12 @@ impl<'s> Session<'s> {
     /// hits: up to the first end by which `out` gained at least `most` of them, or the whole piece. The
     /// answer is how many bytes were fed. The only fault is `OutOfMemory`: session and `out` are then as
     /// they were.
+    ///
+    /// Of long streams it learns which bytes of the literals are rare in them, and searches by these: for one plan at a
+    /// time, whose streams share what was learned. Where there is no memory for that it searches without.
     pub fn feed_front(
         &mut self,
+        alloc: Global,
         stream: u32,
         piece: &[u8],
         most: usize,
@@ -254,7 +261,15 @@ impl<'s> Session<'s> {
         let Some(place) = find_stream(&self.streams, stream) else {
             unreachable!()
         };
-        let (next, count) = self.streams.get(place).fed_front(piece, most, out)?;
+        let bound = self.streams.get(place);
+        self.learner.prepare(
+            alloc,
+            self.store,
+            bound.ticket(),
+            bound.place(),
+            piece.len(),
+        );
+        let (next, count) = bound.fed_front(self.store, &mut self.learner, piece, most, out)?;
         self.streams.set(place, next);
         Ok(count)
     }

@@ -1,9 +1,10 @@
 //! An open stream.
-ghost use Rattle.std.specs.Prelude.{◌≡◌, ◌+◌, ◌^◌, ◌≤◌, ◌<◌, IfOk, IsOkUnless, MatchOption, OnErr, length};
+ghost use Rattle.std.specs.Prelude.{◌≡◌, ◌+◌, ◌^◌, ◌≤◌, ◌<◌, IfOk, IfSome, IsOkUnless, MatchOption, OnErr, length};
 ghost use Rattle.plan_store.specs.Tickets.{IsOf};
 ghost use Rattle.flow_scan.specs.Scanners.{fed, started};
 ghost use Rattle.flow_scan.specs.Tails.{GainsHits};
 ghost use Rattle.scan_wire.specs.Messages.{reply_parts};
+ghost use Rattle.scan_core.specs.Sessions.{IsBound};
 ghost use Rattle.scan_core.specs.Steps.{IsSound, plan_reply};
 ghost use Rattle.scan_core.specs.Fronts.{IsKept, MovesUpTo};
 ghost use Rattle.scan_core.specs.Streams.{StandsAt, MovesTo};
@@ -13,6 +14,7 @@ ghost use Rattle.std.specs.Prelude.{nat_eq, None};
 
 use crate::fault::Fault;
 use crate::few::Few;
+use crate::learner::Learner;
 use flow_scan::{Compiled, Fault as ScanFault, Hit, Scanner};
 use plan_store::{PlanStore, Ticket};
 use scan_wire::Reply;
@@ -98,15 +100,20 @@ impl<'s> Stream<'s> {
     }
 
     /// The stream behind a front of a piece, and how many bytes that has: the piece is fed up to the
-    /// first end by which `out` gained at least `most` hits, or whole. Where memory is refused, `out` is
-    /// as it was.
+    /// first end by which `out` gained at least `most` hits, or whole, by what was learned if that is by the stream's
+    /// plan. Where memory is refused, `out` is as it was.
     pub(crate) fn fed_front(
         &self,
+        store: &PlanStore,
+        learner: &mut Learner<'s>,
         piece: &[u8],
         most: usize,
         out: &mut Vec<Hit>,
     ) -> Result<(Stream<'s>, usize), Fault>
-        requires { self.now.1.scan.place + length piece.now < 2 ^ 64 }
+        requires bound { IsBound store.now self.now.1 }
+        requires own { IfSome learner.old (IsOf store.now) }
+        requires room { self.now.1.scan.place + length piece.now < 2 ^ 64 }
+        ensures learner { learner.new ≡ learner.old }
         ensures ok { IfOk result (λ next. MovesUpTo self.now piece.now most next.1 out.old.items out.new.items next.0) }
         ensures same_hits { OnErr result (out.new.items ≡ out.old.items) }
         ensures fault { IsOkUnless result OutOfMemory }
@@ -114,9 +121,7 @@ impl<'s> Stream<'s> {
         let Ok(mut scanner) = self.scanner.copy() else {
             return Err(Fault::OutOfMemory);
         };
-        let Ok(count) = scanner.feed_until(piece, most, out) else {
-            return Err(Fault::OutOfMemory);
-        };
+        let count = learner.feed(store, &self.ticket, &mut scanner, piece, most, out)?;
         let next = Stream {
             number: self.number,
             ticket: self.ticket.again(),

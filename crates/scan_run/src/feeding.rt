@@ -14,10 +14,12 @@ use flow_scan::Hit;
 use scan_core::Session;
 use scan_serve::{Outbox, Stop};
 use scan_wire::MAX_HITS;
+use std::alloc::Global;
 
 /// Feeds a front of a piece, and tells in full replies the hits gained by then, of which fewer than
 /// a reply takes are left. The answer is how many bytes were fed.
 fn feed_on<W: ByteOut>(
+    alloc: Global,
     session: &mut Session<'_>,
     hits: &mut Vec<Hit>,
     stream: u32,
@@ -34,7 +36,7 @@ fn feed_on<W: ByteOut>(
     ensures fault { result ≡ Err Stop.WriteFault → IsTrue (W.has_failed out.new) }
 {
     let most = MAX_HITS - hits.len();
-    let Ok(count) = session.feed_front(stream, piece, most, hits) else {
+    let Ok(count) = session.feed_front(alloc, stream, piece, most, hits) else {
         return Err(Stop::OutOfMemory);
     };
     tell_full(stream, hits, outbox, out)?;
@@ -43,6 +45,7 @@ fn feed_on<W: ByteOut>(
 
 /// Answers a Feed that is not refused.
 fn feed_whole<W: ByteOut>(
+    alloc: Global,
     session: &mut Session<'_>,
     hits: &mut Vec<Hit>,
     stream: u32,
@@ -61,7 +64,7 @@ fn feed_whole<W: ByteOut>(
     hits.clear();
     let mut rest = piece;
     while !rest.is_empty() {
-        let count = feed_on(session, hits, stream, rest, outbox, out)?;
+        let count = feed_on(alloc, session, hits, stream, rest, outbox, out)?;
         let (_, behind) = rest.split_at(count);
         rest = behind;
     }
@@ -71,6 +74,7 @@ fn feed_whole<W: ByteOut>(
 /// Answers a Feed: the hits of the piece in replies that are full but for the last, written as they
 /// are found, and the place.
 pub(crate) fn answer_feed<W: ByteOut>(
+    alloc: Global,
     session: &mut Session<'_>,
     hits: &mut Vec<Hit>,
     stream: u32,
@@ -85,7 +89,7 @@ pub(crate) fn answer_feed<W: ByteOut>(
     ensures fault { result ≡ Err Stop.WriteFault → IsTrue (W.has_failed out.new) }
 {
     match session.place_behind(stream, piece) {
-        Ok(place) => feed_whole(session, hits, stream, piece, place, outbox, out),
+        Ok(place) => feed_whole(alloc, session, hits, stream, piece, place, outbox, out),
         Err(refusal) => outbox.push(out, &refusal.reply(stream)),
     }
 }

@@ -12,7 +12,7 @@ fn count_behind(hits: &[Hit], from: usize) -> usize {
     hits.iter().filter(|hit| hit.end_at > from as u64).count()
 }
 
-/// Whether a scan that learns finds so many hits of a text behind a place, the same each time.
+/// Whether a scan that learns finds those of a text's hits that end behind a place, and no other.
 fn are_found(
     alloc: Global,
     finder: &mut EndFinder<'_>,
@@ -28,7 +28,7 @@ fn are_found(
 /// Whether a finder that is asked four times finds the hits of a text, and then those behind a place of it.
 fn scans_the_same(alloc: Global, compiled: &Compiled, text: &[u8]) -> Option<bool> {
     let wanted = scan_all(alloc, compiled, text).ok()?;
-    let mut finder = EndFinder::if_of_use(alloc, compiled).ok()??;
+    let mut finder = EndFinder::new_unless_few(alloc, compiled).ok()??;
     for _ in 0..4 {
         if !are_found(alloc, &mut finder, text, 0, &wanted)? {
             return Some(false);

@@ -4,12 +4,8 @@ use Rattle.std.specs.List.{slice_get}
 use Rattle.std.proofs.lemmas.List.{get_or-map, length-map}
 use Rattle.std.proofs.lemmas.Option.{slice_get_within, get_or_from_slice_get}
 use Rattle.lit_base.specs.Literals.{Literals, lengths}
+use Rattle.flow_scan.proofs.Occurring.{of_literal}
 use Rattle.flow_scan.proofs.carry.carry.Goals as goal
-
--- what holds of all literals holds of one
-of_literal : (P : List ℕ → Type 0) (texts : List (List ℕ)) (place : ℕ) (literal : List ℕ) → All P texts → slice_get texts place ≡ Some literal → P literal
-of_literal P texts place literal all stands =
-    subst P (get_or_from_slice_get texts place literal literal stands) (all place literal (slice_get_within texts place literal stands))
 
 -- what holds of all lengths holds of a literal's
 of_length : (P : ℕ → Type 0) (l : Literals) (place : ℕ) (literal : List ℕ) → All P (lengths l) → slice_get l.texts place ≡ Some literal → P (length literal)

@@ -1,14 +1,14 @@
-use Rattle.std.proofs.Common.{◌≤◌, length}
+use Rattle.std.proofs.Common.{◌-◌, ◌<◌, ◌≤◌}
 use Rattle.flow_scan.specs.NextEnds.{NoEndUpTo}
 use Rattle.flow_scan.proofs.nearby.next_nearby.Given as goal
 
 -- no literal ends at the places passed
-abbrev pub invariant-strides : goal.invariant-strides
-invariant-strides l = record {
+abbrev pub invariant-marks : goal.invariant-marks
+invariant-marks l = record {
   ahead : l.from ≤ l.seen;
-  inside : l.seen ≤ length l.text;
+  inside : l.seen < l.last;
   none : NoEndUpTo l.list l.text l.from l.seen;
 }
 
-abbrev pub decreases-strides : goal.decreases-strides
-decreases-strides l = l.looks
+abbrev pub decreases-marks : goal.decreases-marks
+decreases-marks l = l.last - l.seen

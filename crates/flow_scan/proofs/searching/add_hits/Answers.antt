@@ -1,11 +1,11 @@
 -- One place after the other is gone to, until nothing ends behind it.
-use Rattle.std.proofs.Common.{◌≡◌, ℕ, ◌+◌, ◌-◌, List, [], ◌++◌, take, sym, ◌∙◌, subst, arith, ◌≤◌, length}
+use Rattle.std.proofs.Common.{◌≡◌, ◌+◌, ◌-◌, take, ◌∙◌, arith, ◌≤◌, length}
 use Rattle.std.proofs.Math.Seq.{take-length}
-use Rattle.std.proofs.lemmas.List.{append-nil, length-take}
 use Rattle.flow_scan.specs.NextEnds.{IsNextEnd, NoEndAfter}
 use Rattle.flow_scan.specs.HitsAt.{GainsHitsAt}
-use Rattle.flow_scan.specs.Tails.{AreHitsBehind}
-use Rattle.flow_scan.proofs.HitLists.{gained_both, gained_more, hits_ended, hits_further, hits_none, none_past}
+use Rattle.flow_scan.specs.Tails.{GainsHitsBehind}
+use Rattle.flow_scan.proofs.HitLists.{gained_more}
+use Rattle.flow_scan.proofs.Stops.{gained_ended, gained_here, gained_nothing}
 use Rattle.flow_scan.proofs.searching.add_hits.Goals as goal
 use Rattle.flow_scan.proofs.searching.add_hits.Goals.{In_ok-add_hits_at}
 
@@ -15,43 +15,33 @@ next_end c = rw c.list-list.ensures at c.in-Some.ensures.next
 
 -- what the list gains there
 here : (c : In_ok-add_hits_at) → GainsHitsAt c.args.compiled.now.literals c.args.text.now c.in-Some.end (c.args.at + (c.in-Some.end - c.args.from)) c.loop-end.out.items c.add_hits_at.new.out.items
-here c = rw c.list-list.ensures at c.in_ok-add_hits_at.ensures.ok
+here c = c.in_ok-add_hits_at.ensures.ok
 
 pub loop-end-init : goal.loop-end-init
 loop-end-init c =
-    let l = c.args.compiled.now.literals in
     let start : c.new-candidates.result.from ≡ c.args.from = c.new-candidates.ensures.from in
-    let front : List ℕ = take c.new-candidates.result.from c.args.text.now in
     record {
       covers = rw c.new-candidates.ensures.sieve c.sieve.ensures;
       text = c.new-candidates.ensures.text;
       ahead = omega (arith, start);
       within = omega (arith, start, c.requires.inside);
       few = omega arith;
-      found = [];
-      grown = sym (append-nil c.args.out.now.items);
-      added = hits_none l front c.args.from c.args.at (none_past l front c.args.from (omega (arith, start, length-take c.new-candidates.result.from c.args.text.now)));
+      gained = rw start (gained_nothing c.args.compiled.now.literals c.args.text.now c.args.from c.args.at c.args.out.now.items);
     }
 
 pub next_verified-requires-clause-covers : goal.next_verified-requires-clause-covers
 next_verified-requires-clause-covers c = rw c.list-list.ensures c.loop-end.invariant.covers
 
 -- the hits up to the end that was gone to
-further : (c : In_ok-add_hits_at) → AreHitsBehind c.args.compiled.now.literals (take c.in-Some.end c.args.text.now) c.args.from c.args.at (c.loop-end.invariant.found ++ (here c).found)
+further : (c : In_ok-add_hits_at) → GainsHitsBehind c.args.compiled.now.literals (take c.in-Some.end c.args.text.now) c.args.from c.args.at c.args.out.now.items c.add_hits_at.new.out.items
 further c =
     let before = c.loop-end.invariant in
-    let next = next_end c in
-    hits_further c.args.compiled.now.literals c.args.text.now c.args.from c.loop-end.candidates.from c.in-Some.end c.args.at before.found (here c).found before.ahead next.after next.within next.first before.added (here c).added
-
--- and that the list gained
-grown : (c : In_ok-add_hits_at) → c.add_hits_at.new.out.items ≡ c.args.out.now.items ++ (c.loop-end.invariant.found ++ (here c).found)
-grown c = gained_both c.args.out.now.items c.loop-end.out.items c.add_hits_at.new.out.items c.loop-end.invariant.found (here c).found c.loop-end.invariant.grown (here c).grown
+    gained_here c.args.compiled.now.literals c.args.text.now c.args.from c.loop-end.candidates.from c.in-Some.end c.args.at c.args.out.now.items c.loop-end.out.items c.add_hits_at.new.out.items
+    before.ahead (next_end c) before.gained (here c)
 
 pub loop-end-preserved : goal.loop-end-preserved
 loop-end-preserved c =
     let at = (goal.at.loop-end-preserved c).In_ok-add_hits_at in
-    let l = c.args.compiled.now.literals in
-    let text = c.args.text.now in
     let before = c.loop-end.invariant in
     let next = next_end at in
     let reached : c.next_verified.new.candidates.from ≡ c.in-Some.end = c.in-Some.ensures.reached in
@@ -61,9 +51,7 @@ loop-end-preserved c =
       ahead = omega (arith, reached, next.after, before.ahead);
       within = omega (arith, reached, next.within);
       few = omega (arith, c.len-before.ensures);
-      found = before.found ++ (here at).found;
-      grown = grown at;
-      added = subst (λ m. AreHitsBehind l (take m text) c.args.from c.args.at (before.found ++ (here at).found)) (sym reached) (further at);
+      gained = rw reached (further at);
     }
 
 -- enough was gained
@@ -71,12 +59,13 @@ pub returns-then-len-before-clause-ok : goal.returns-then-len-before-clause-ok
 returns-then-len-before-clause-ok c =
     let at = (goal.at.returns-then-len-before-clause-ok c).In_ok-add_hits_at in
     let next = next_end at in
-    let more = gained_more c.args.out.now.items c.add_hits_at.new.out.items _ (grown at) in
-    let few : length c.add_hits_at.new.out.items ≤ length c.loop-end.out.items + length c.args.compiled.now.literals.texts = rw c.list-list.ensures at c.in_ok-add_hits_at.ensures.few in
+    let gained = further at in
+    let more = gained_more c.args.out.now.items c.add_hits_at.new.out.items gained.found gained.grown in
+    let few : length c.add_hits_at.new.out.items ≤ length c.loop-end.out.items + length c.args.compiled.now.literals.texts = c.in_ok-add_hits_at.ensures.few in
     record {
       after = omega (arith, next.after, c.loop-end.invariant.ahead);
       within = next.within;
-      gained = record { found = c.loop-end.invariant.found ++ (here at).found; grown = grown at; added = further at };
+      gained = gained;
       enough = λ _. omega (arith, more, c.len-before.ensures, c.args.out.now.ok.0, c.add_hits_at.new.out.ok.0);
       few = omega (arith, c.loop-end.invariant.few, few);
     }
@@ -96,11 +85,7 @@ returns-clause-ok c =
     record {
       after = c.requires.inside;
       within = omega arith;
-      gained = record {
-        found = all.found;
-        grown = all.grown;
-        added = subst (λ t. AreHitsBehind l t c.args.from c.args.at all.found) (sym (take-length text)) (hits_ended l text c.args.from c.loop-end.candidates.from c.args.at all.found all.ahead all.within none all.added);
-      };
+      gained = rw (take-length text) (gained_ended l text c.args.from c.loop-end.candidates.from c.args.at c.args.out.now.items c.loop-end.out.items all.ahead all.within none all.gained);
       enough = λ more. absurd (omega (arith, more));
       few = omega (arith, all.few);
     }

@@ -1,7 +1,7 @@
-use Rattle.std.proofs.Common.{◌≡◌, ℕ, ◌+◌, ◌-◌, ◌≤◌, ◌++◌, List, length, take}
+use Rattle.std.proofs.Common.{◌≡◌, ◌+◌, ◌-◌, ◌≤◌, length, take}
 use Rattle.nib_mask.specs.Candidates.{CoversBy}
 use Rattle.lane_filter.specs.Sieves.{Passes}
-use Rattle.flow_scan.specs.Tails.{AreHitsBehind}
+use Rattle.flow_scan.specs.Tails.{GainsHitsBehind}
 use Rattle.flow_scan.proofs.searching.add_hits.Given as goal
 
 -- the hits added are those up to the place reached
@@ -12,9 +12,7 @@ invariant-loop-end l = record {
   ahead : l.from ≤ l.candidates.from;
   within : l.candidates.from ≤ length l.text;
   few : length l.out.items ≤ length l.fn.out.items + l.most;
-  found : List (ℕ × ℕ);
-  grown : l.out.items ≡ l.fn.out.items ++ found;
-  added : AreHitsBehind l.compiled.literals (take l.candidates.from l.text) l.from l.at found;
+  gained : GainsHitsBehind l.compiled.literals (take l.candidates.from l.text) l.from l.at l.fn.out.items l.out.items;
 }
 
 abbrev pub decreases-loop-end : goal.decreases-loop-end

@@ -1,4 +1,4 @@
-use Rattle.std.proofs.Common.{◌-◌, ◌<◌, ◌≤◌, length}
+use Rattle.std.proofs.Common.{◌-◌, ◌<◌, ◌≤◌}
 use Rattle.flow_scan.specs.NextEnds.{NoEndUpTo}
 use Rattle.flow_scan.proofs.strides.skip_unmarked.Given as goal
 
@@ -6,9 +6,9 @@ use Rattle.flow_scan.proofs.strides.skip_unmarked.Given as goal
 abbrev pub invariant-strides : goal.invariant-strides
 invariant-strides l = record {
   ahead : l.from ≤ l.seen;
-  inside : l.seen < length l.text;
+  inside : l.seen < l.last;
   none : NoEndUpTo l.list l.text l.from l.seen;
 }
 
 abbrev pub decreases-strides : goal.decreases-strides
-decreases-strides l = length l.text - l.seen
+decreases-strides l = l.last - l.seen

@@ -6,4 +6,4 @@ use Rattle.par_scan.proofs.parts.hits_behind.Goals as goal
 pub returns-in-Some-clause-quiet : goal.returns-in-Some-clause-quiet
 returns-in-Some-clause-quiet c =
     let same : c.in-Some.finder ≡ c.args.compiled.now = rw c.in-Some.is at c.finder_for.ensures in
-    rw (ap (λ (p : Plan). p.literals) same) at c.scan_learning.ensures.quiet
+    rw (ap (λ (p : Plan). p.literals) same) at c.scan_behind.ensures.quiet

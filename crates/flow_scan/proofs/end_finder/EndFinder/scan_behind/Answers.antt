@@ -1,12 +1,12 @@
 -- Span by span the hits up to the span's end are added.
-use Rattle.std.proofs.Common.{◌≤◌, List, ℕ, [], length, take, refl, sym, ap, ◌∙◌, subst, arith}
+use Rattle.std.proofs.Common.{◌<◌, ◌≤◌, List, ℕ, [], length, take, refl, sym, ap, ◌∙◌, subst, arith}
 use Rattle.std.proofs.lemmas.Bool.{false≢true}
 use Rattle.std.proofs.lemmas.List.{take_all}
 use Rattle.lit_base.specs.Literals.{Literals}
 use Rattle.flow_scan.specs.Plans.{Plan}
 use Rattle.flow_scan.specs.Tails.{AreHitsBehind, GainsHitsBehind}
 use Rattle.flow_scan.proofs.HitLists.{none_in_front}
-use Rattle.flow_scan.proofs.Stops.{gained_further, gained_nothing}
+use Rattle.flow_scan.proofs.Stops.{all_searched, gained_further, gained_nothing}
 use Rattle.flow_scan.proofs.TailSteps.{gained_all, hits_continued}
 use Rattle.flow_scan.proofs.end_finder.EndFinder.scan_behind.Goals as goal
 
@@ -34,12 +34,15 @@ spans-preserved c =
     let stop = c.min-stop.result in
     let further : place ≤ stop = omega (arith, c.min-stop.ensures, c.saturating_add.ensures, before.within) in
     let within : stop ≤ length c.args.text.now = omega (arith, c.min-stop.ensures) in
+    let new = c.add_hits.new.out in
+    let small : length new.items < 18446744073709551615 = omega (arith, new.ok.0, new.ok.1, new.small) in
     record {
       finder = c.in_ok-add_hits.ensures.same ∙ before.finder;
       ahead = omega (arith, further, before.ahead);
       within = within;
-      gained = gained_further c.args.self.now.literals c.args.text.now c.args.from place stop [] c.spans.hits.items c.add_hits.new.out.items before.ahead further within before.gained
-          (rw (ap (λ (p : Plan). p.literals) before.finder, c.split_at.ensures.front) at c.in_ok-add_hits.ensures.ok);
+      gained = gained_further c.args.self.now.literals c.args.text.now c.args.from place stop [] c.spans.hits.items new.items before.ahead further within before.gained
+          (all_searched c.args.self.now.literals (take stop c.args.text.now) place place _ c.in_ok-add_hits.field-0 c.spans.hits.items new.items small
+          (rw (ap (λ (p : Plan). p.literals) before.finder, c.split_at.ensures.front) at c.in_ok-add_hits.ensures.ok));
     }
 
 -- from no hits on those up to the text's end are all

@@ -9,8 +9,11 @@ pub invariant_of-self : goal.invariant_of-self
 invariant_of-self c =
     let Here : ℕ × Bound → Type 0 = λ stream. IsBound c.self.inside.store.now stream.1 in
     record {
-      told = c.self.invariant.told;
-      streams = rw c.remove.ensures (All-remove Here c.self.inside.streams c.in-Some.place c.self.invariant.streams);
+      serving = record {
+        told = c.self.invariant.serving.told;
+        streams = rw c.remove.ensures (All-remove Here c.self.inside.streams c.in-Some.place c.self.invariant.serving.streams);
+      };
+      own = c.self.invariant.own;
     }
 
 pub returns : goal.returns

@@ -54,12 +54,15 @@ invariant_of-self c =
     let now = c.get.result.now in
     let Here : ℕ × Bound → Type 0 = λ stream. IsBound store stream.1 in
     let within = slice_get_within streams c.in-Some.place (c.args.stream, c.in-Some.ensures.state) c.in-Some.ensures.here in
-    let old : Here now = subst Here (sym c.get.ensures) (All-get_or Here streams c.in-Some.place now within c.self.invariant.streams) in
+    let old : Here now = subst Here (sym c.get.ensures) (All-get_or Here streams c.in-Some.place now within c.self.invariant.serving.streams) in
     let moves : MovesTo now c.args.piece.now c.new-hits.result.items c.fed.new.out.items c.in-Some-2.next = MatchOption-at_some _ _ c.in-Some-2.next c.in-Some-2.is c.in_ok-next.ensures.ok in
     let next : Here c.in-Some-2.next = subst Here (sym moves.state) record { here = old.here; plan = old.plan } in
     record {
-      told = c.self.invariant.told;
-      streams = rw c.set.ensures (All-set Here streams c.in-Some.place c.in-Some-2.next next c.self.invariant.streams);
+      serving = record {
+        told = c.self.invariant.serving.told;
+        streams = rw c.set.ensures (All-set Here streams c.in-Some.place c.in-Some-2.next next c.self.invariant.serving.streams);
+      };
+      own = c.self.invariant.own;
     }
 
 pub returns-clause-ok : goal.returns-clause-ok

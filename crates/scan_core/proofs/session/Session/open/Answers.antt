@@ -44,8 +44,11 @@ invariant_of-self-2 c =
     let here : IsOf store ticket = subst (λ (t : Serving). IsOf t.store ticket) (sym c.self.view_is) c.in-Some.ensures.here in
     let bound : Here (c.args.stream, record { ticket = ticket; scan = started ticket.plan 0 }) = record { here = here; plan = refl } in
     record {
-      told = c.self.invariant.told;
-      streams = rw c.push.ensures (All-push Here c.self.inside.streams c.in_ok-open.field-0 c.self.invariant.streams (subst Here (sym c.in_ok-open.ensures.ok) bound));
+      serving = record {
+        told = c.self.invariant.serving.told;
+        streams = rw c.push.ensures (All-push Here c.self.inside.streams c.in_ok-open.field-0 c.self.invariant.serving.streams (subst Here (sym c.in_ok-open.ensures.ok) bound));
+      };
+      own = c.self.invariant.own;
     }
 
 pub returns-clause-ok : goal.returns-clause-ok

@@ -13,8 +13,11 @@ use Rattle.scan_core.proofs.session.Session.publish.Goals as goal
 
 pub invariant_of-self : goal.invariant_of-self
 invariant_of-self g c = record {
-  told = rw c.push.ensures (All-push (IsOf c.self.inside.store.now) c.self.inside.told c.in-Ok.ticket c.self.invariant.told c.in-Ok.ensures.here);
-  streams = c.self.invariant.streams;
+  serving = record {
+    told = rw c.push.ensures (All-push (IsOf c.self.inside.store.now) c.self.inside.told c.in-Ok.ticket c.self.invariant.serving.told c.in-Ok.ensures.here);
+    streams = c.self.invariant.serving.streams;
+  };
+  own = c.self.invariant.own;
 }
 
 pub returns-clause-ok : goal.returns-clause-ok

@@ -5,10 +5,10 @@ use Rattle.lit_base.specs.Literals.{Literals}
 use Rattle.flow_scan.specs.NextEnds.{NoEndAfter}
 use Rattle.flow_scan.specs.Scanners.{Scanning}
 use Rattle.flow_scan.specs.Seams.{Seaming}
-use Rattle.flow_scan.proofs.scanner.Scanner.feed_until.Goals as goal
+use Rattle.flow_scan.proofs.scanner.Scanner.feed_by.Goals as goal
 
 pub returns-in-Err-clause-quiet : goal.returns-in-Err-clause-quiet
-returns-in-Err-clause-quiet c = λ none.
+returns-in-Err-clause-quiet g c = λ none.
     let piece = c.args.piece.now in
     let tail : c.offer.new.self.tail ≡ c.args.self.now.tail = ap (λ (s : Seaming). s.tail) c.offer.ensures ∙ ap (λ (s : Scanning). s.tail) c.self.view_is in
     let list : c.self.inside.compiled.now.literals ≡ c.args.self.now.plan.literals = ap (λ (s : Scanning). s.plan.literals) c.self.view_is in

@@ -1,6 +1,6 @@
 use Rattle.std.proofs.Common.{◌≡◌, ℕ, ◌-◌, ◌≤◌, ◌++◌, List, length}
 use Rattle.flow_scan.proofs.HitLists.{AreHitsAtBefore}
-use Rattle.flow_scan.proofs.searching.add_hits_at.Given as goal
+use Rattle.flow_scan.proofs.searching.add_all_at.Given as goal
 
 -- the hits added are those of the literals passed
 abbrev pub invariant-loop-place : goal.invariant-loop-place

@@ -1,0 +1,56 @@
+//! What finds the hits of a text: a search by a plan, or one that learns.
+ghost use Rattle.std.specs.Prelude.{◌≡◌, ◌+◌, ◌-◌, ◌^◌, ◌<◌, ◌≤◌, IfOk, IsOk, length};
+ghost use Rattle.flow_scan.specs.HitsAt.{Extends};
+ghost use Rattle.flow_scan.specs.NextEnds.{NoEndAfter};
+ghost use Rattle.flow_scan.specs.Plans.{Plan};
+ghost use Rattle.flow_scan.specs.Tails.{StopsAt};
+
+use crate::compiled::Compiled;
+use crate::hit::Hit;
+use crate::searching::add_hits;
+use std::alloc::AllocError;
+
+/// What finds the hits of a text by a plan.
+pub(crate) trait HitSearch {
+    /// The plan.
+    ghost plan: { Self → Plan };
+
+    /// Adds the hits that end in the text behind `from`, where this place counts as `at`, up to the first
+    /// end by which `out` gained at least `most` of them. The answer is that end, or the text's length.
+    /// Memory is refused only after a hit was found, and then the hits before it were added.
+    fn add_hits(
+        &mut self,
+        text: &[u8],
+        from: usize,
+        at: u64,
+        most: usize,
+        out: &mut Vec<Hit>,
+    ) -> Result<usize, AllocError>
+        requires inside { from ≤ length text.now }
+        requires room { at + (length text.now - from) < 2 ^ 64 }
+        ensures same { plan self.new ≡ plan self.old }
+        ensures ok { IfOk result (λ stop. StopsAt (plan self.old).literals text.now from at most stop out.old.items out.new.items) }
+        ensures kept { Extends out.old.items out.new.items }
+        ensures quiet { NoEndAfter (plan self.old).literals text.now from → IsOk result };
+}
+
+/// The search by a plan alone.
+#[derive(Drop)]
+pub(crate) struct PlainSearch<'p> {
+    pub compiled: &'p Compiled,
+}
+
+impl<'p> HitSearch for PlainSearch<'p> {
+    ghost plan = { λ search. search.compiled.now };
+
+    fn add_hits(
+        &mut self,
+        text: &[u8],
+        from: usize,
+        at: u64,
+        most: usize,
+        out: &mut Vec<Hit>,
+    ) -> Result<usize, AllocError> {
+        add_hits(self.compiled, text, from, at, most, &mut 0, out)
+    }
+}

@@ -1,0 +1,86 @@
+//! Streams that are searched by what learns from them, beside the hits of the whole text: they are the same.
+ghost use Rattle.std.specs.Prelude.{◌≡◌};
+
+use super::finding::{CAPITALS, Draws, FIGURES, WORDS, pieces_of, plan_of_pieces, text_of};
+use crate::compiled::Compiled;
+use crate::end_finder::EndFinder;
+use crate::hit::Hit;
+use crate::scanner::Scanner;
+use crate::scanning::scan_all;
+use lit_base::Fold;
+use std::alloc::Global;
+
+/// Feeds a piece in two: up to the first end by which a hundred hits were gained, and what is left.
+fn feed(
+    scanner: &mut Scanner<'_>,
+    finder: &mut EndFinder<'_>,
+    piece: &[u8],
+    hits: &mut Vec<Hit>,
+) -> Option<()>
+    requires { finder.old ≡ scanner.old.plan }
+    ensures scan { scanner.new.plan ≡ scanner.old.plan }
+    ensures finder { finder.new ≡ finder.old }
+{
+    let count = scanner.feed_learning(finder, piece, 100, hits).ok()?;
+    let (_, rest) = piece.split_at(count);
+    scanner.feed_learning(finder, rest, usize::MAX, hits).ok()?;
+    Some(())
+}
+
+/// Whether a text that comes in pieces of so many bytes has these hits.
+fn are_fed(
+    scanner: Scanner<'_>,
+    finder: &mut EndFinder<'_>,
+    hits: Vec<Hit>,
+    text: &[u8],
+    size: usize,
+    wanted: &[Hit],
+) -> Option<bool>
+    requires { finder.old ≡ scanner.plan }
+    ensures { finder.new ≡ finder.old }
+{
+    let (mut scanner, mut hits) = (scanner, hits);
+    'pieces: for piece in text.chunks(size.max(1)) {
+        feed(&mut scanner, finder, piece, &mut hits)?;
+    }
+    Some(hits.as_slice() == wanted)
+}
+
+/// Whether streams of one text, in pieces of all these sizes and one after the other by the same finder, have the text's hits.
+fn feed_the_same(alloc: Global, compiled: &Compiled, text: &[u8]) -> Option<bool> {
+    let wanted = scan_all(alloc, compiled, text).ok()?;
+    let mut finder = EndFinder::new(alloc, compiled).ok()?;
+    'sizes: for size in [65536, 20_000, 65536, 1000, 61] {
+        let scanner = Scanner::new(alloc, compiled).ok()?;
+        if !are_fed(scanner, &mut finder, Vec::new(alloc), text, size, &wanted)? {
+            return Some(false);
+        }
+    }
+    Some(wanted.len() > 100)
+}
+
+/// Whether they do for forty pieces of a text whose halves are of these words.
+fn agrees(alloc: Global, fold: Fold, halves: [&[&[u8]]; 2], least: usize) -> Option<bool> {
+    let [first, second] = halves;
+    let mut draws = Draws { state: 11 };
+    let text = text_of(alloc, &mut draws, first, second)?;
+    let raw = pieces_of(alloc, &mut draws, &text, least, 1)?;
+    let compiled = plan_of_pieces(alloc, &raw, fold)?;
+    feed_the_same(alloc, &compiled, &text)
+}
+
+#[test]
+fn finds_the_hits_of_the_whole_text(rt: HostRuntime) {
+    assert_eq!(rt;
+        agrees(rt.alloc(), Fold::No, [&WORDS, &FIGURES], 4),
+        Some(true)
+    );
+}
+
+#[test]
+fn finds_short_hits_of_a_stream_in_either_case(rt: HostRuntime) {
+    assert_eq!(rt;
+        agrees(rt.alloc(), Fold::Ascii, [&CAPITALS, &WORDS], 2),
+        Some(true)
+    );
+}

@@ -1,0 +1,218 @@
+//! What a session learns from the bytes that its streams are fed.
+ghost use Rattle.std.specs.Prelude.{◌≡◌, ◌+◌, ◌^◌, ◌<◌, IfOk, IfSome, IsOkUnless, IsTrue, None, OnErr, length, take};
+ghost use Rattle.plan_store.specs.Tickets.{IsOf};
+ghost use Rattle.flow_scan.specs.Scanners.{fed};
+ghost use Rattle.flow_scan.specs.Tails.{StopsIn};
+ghost use Rattle.scan_core.specs.declared.fault.Fault.TheVariants.{OutOfMemory};
+
+use crate::fault::Fault;
+use flow_scan::{EndFinder, Hit, LEAST_SAMPLE, Scanner};
+use plan_store::{PlanStore, Ticket};
+use std::alloc::Global;
+use std::marker::Model;
+
+/// A stream is searched by what learns once so many bytes of it were fed: as many as are scanned, at two nanoseconds a byte, in
+/// the time that it takes to make such a search and to learn.
+const LEAST_LEARNED: u64 = 262_144;
+
+/// Once streams of other plans were fed so many bytes, and none of its own plan since, the search is made anew for one of them:
+/// where two plans take turns, the first keeps it.
+const MOST_STRANGE: usize = 1 << 20;
+
+/// A search that learns, by the plan of a ticket.
+#[derive(Drop)]
+struct Learned<'s> {
+    ticket: Ticket,
+    finder: EndFinder<'s>,
+}
+
+/// A contract sees the ticket.
+impl<'s> Model for Learned<'s> {
+    ghost use Rattle.std.specs.Prelude.{◌≡◌};
+    ghost use Rattle.plan_store.specs.Tickets.{Told};
+
+    ghost Value = { Told };
+
+    ghost view = { λ l. l.ticket };
+
+    ghost invariant = { λ l. l.finder ≡ l.ticket.plan };
+}
+
+impl<'s> Learned<'s> {
+    /// Such a search before any text, if the plan has literals enough for it and there is memory.
+    fn by_plan_of(alloc: Global, store: &'s PlanStore, ticket: &Ticket) -> Option<Learned<'s>>
+        requires { IsOf store.now ticket.now }
+        ensures { IfSome result (λ learned. learned ≡ ticket.now) }
+    {
+        match EndFinder::new_unless_few(alloc, store.at(ticket)) {
+            Ok(Some(finder)) => Some(Learned {
+                ticket: ticket.again(),
+                finder,
+            }),
+            _ => None,
+        }
+    }
+
+    /// Whether it is by the plan of a ticket of the same store.
+    fn is_by(&self, store: &PlanStore, ticket: &Ticket) -> bool
+        requires own { IsOf store.now self.now }
+        requires ticket { IsOf store.now ticket.now }
+        ensures { IsTrue result → self.now.plan ≡ ticket.now.plan }
+    {
+        store.agree(&self.ticket, ticket);
+        store.number(&self.ticket) == store.number(ticket)
+    }
+
+    /// Feeds a front of a piece to a scan by the plan of a ticket, by what was learned if it is by the same plan.
+    fn feed(
+        &mut self,
+        store: &PlanStore,
+        ticket: &Ticket,
+        scanner: &mut Scanner<'s>,
+        piece: &[u8],
+        most: usize,
+        out: &mut Vec<Hit>,
+    ) -> Result<usize, Fault>
+        requires own { IsOf store.now self.old }
+        requires ticket { IsOf store.now ticket.now }
+        requires plan { scanner.old.plan ≡ ticket.now.plan }
+        requires room { scanner.old.place + length piece.now < 2 ^ 64 }
+        ensures same { self.new ≡ self.old }
+        ensures ok { IfOk result (λ count. scanner.new ≡ fed scanner.old (take count piece.now)) }
+        ensures hits { IfOk result (λ count. StopsIn scanner.old.plan.literals scanner.old.tail piece.now scanner.old.place most count out.old.items out.new.items) }
+        ensures same_hits { OnErr result (out.new.items ≡ out.old.items) }
+        ensures fault { IsOkUnless result OutOfMemory }
+    {
+        if !self.is_by(store, ticket) {
+            return feed_plainly(scanner, piece, most, out);
+        }
+        let Ok(count) = scanner.feed_learning(&mut self.finder, piece, most, out) else {
+            return Err(Fault::OutOfMemory);
+        };
+        Ok(count)
+    }
+}
+
+/// At most one search that learns, for all streams of a session that are scanned by its plan.
+#[derive(Drop)]
+pub(crate) struct Learner<'s> {
+    learned: Option<Learned<'s>>,
+    /// How many bytes streams of other plans were fed since one of its own was.
+    strange: usize,
+}
+
+/// A contract sees the ticket of its plan.
+impl<'s> Model for Learner<'s> {
+    ghost use Rattle.std.specs.Prelude.{Option};
+    ghost use Rattle.plan_store.specs.Tickets.{Told};
+
+    ghost Value = { Option Told };
+
+    ghost view = { λ l. l.learned };
+}
+
+impl<'s> Learner<'s> {
+    /// No such search. It takes no memory.
+    pub(crate) fn new() -> Learner<'s>
+        ensures { result ≡ None }
+    {
+        Learner {
+            learned: None,
+            strange: 0,
+        }
+    }
+
+    /// Makes ready for a feed of so many bytes to a stream by the plan of a ticket, which has come to a place: where that is far
+    /// enough to learn from it, there is a search by the plan, unless that of another plan is in use. Where there is no
+    /// memory for it, the stream is scanned without.
+    pub(crate) fn prepare(
+        &mut self,
+        alloc: Global,
+        store: &'s PlanStore,
+        ticket: &Ticket,
+        place: u64,
+        count: usize,
+    )
+        requires own { IfSome self.old (IsOf store.now) }
+        requires ticket { IsOf store.now ticket.now }
+        ensures { IfSome self.new (IsOf store.now) }
+    {
+        if self.is_by(store, ticket) {
+            self.strange = 0;
+        } else if place >= LEAST_LEARNED && count >= LEAST_SAMPLE {
+            self.strange = self.strange.saturating_add(count);
+            self.make_if_due(alloc, store, ticket);
+        }
+    }
+
+    /// Makes a search by the plan of a ticket where there is none, or that of another plan is out of use.
+    fn make_if_due(&mut self, alloc: Global, store: &'s PlanStore, ticket: &Ticket)
+        requires own { IfSome self.old (IsOf store.now) }
+        requires ticket { IsOf store.now ticket.now }
+        ensures { IfSome self.new (IsOf store.now) }
+    {
+        if self.learned.is_none() || self.strange >= MOST_STRANGE {
+            self.learned = Learned::by_plan_of(alloc, store, ticket);
+            self.strange = 0;
+        }
+    }
+
+    /// Whether it is by the plan of a ticket.
+    fn is_by(&self, store: &PlanStore, ticket: &Ticket) -> bool
+        requires own { IfSome self.now (IsOf store.now) }
+        requires ticket { IsOf store.now ticket.now }
+    {
+        match &self.learned {
+            Some(learned) => learned.is_by(store, ticket),
+            None => false,
+        }
+    }
+
+    /// Feeds a front of a piece to a scan by the plan of a ticket, as `feed_until` of the scan does: by what was learned, if that is
+    /// by the same plan.
+    pub(crate) fn feed(
+        &mut self,
+        store: &PlanStore,
+        ticket: &Ticket,
+        scanner: &mut Scanner<'s>,
+        piece: &[u8],
+        most: usize,
+        out: &mut Vec<Hit>,
+    ) -> Result<usize, Fault>
+        requires own { IfSome self.old (IsOf store.now) }
+        requires ticket { IsOf store.now ticket.now }
+        requires plan { scanner.old.plan ≡ ticket.now.plan }
+        requires room { scanner.old.place + length piece.now < 2 ^ 64 }
+        ensures same { self.new ≡ self.old }
+        ensures ok { IfOk result (λ count. scanner.new ≡ fed scanner.old (take count piece.now)) }
+        ensures hits { IfOk result (λ count. StopsIn scanner.old.plan.literals scanner.old.tail piece.now scanner.old.place most count out.old.items out.new.items) }
+        ensures same_hits { OnErr result (out.new.items ≡ out.old.items) }
+        ensures fault { IsOkUnless result OutOfMemory }
+    {
+        let Some(mut learned) = self.learned.take() else {
+            return feed_plainly(scanner, piece, most, out);
+        };
+        let fed = learned.feed(store, ticket, scanner, piece, most, out);
+        self.learned = Some(learned);
+        fed
+    }
+}
+
+/// Feeds a scan without what was learned.
+fn feed_plainly(
+    scanner: &mut Scanner<'_>,
+    piece: &[u8],
+    most: usize,
+    out: &mut Vec<Hit>,
+) -> Result<usize, Fault>
+    requires { scanner.old.place + length piece.now < 2 ^ 64 }
+    ensures ok { IfOk result (λ count. scanner.new ≡ fed scanner.old (take count piece.now)) }
+    ensures hits { IfOk result (λ count. StopsIn scanner.old.plan.literals scanner.old.tail piece.now scanner.old.place most count out.old.items out.new.items) }
+    ensures same_hits { OnErr result (out.new.items ≡ out.old.items) }
+    ensures fault { IsOkUnless result OutOfMemory }
+{
+    let Ok(count) = scanner.feed_until(piece, most, out) else {
+        return Err(Fault::OutOfMemory);
+    };
+    Ok(count)
+}
