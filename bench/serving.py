@@ -23,6 +23,7 @@ import sys
 import tempfile
 import time
 
+from lists import Text, pick, pools
 from programs import HERE, MB, log_block, machine, rare_literal, write_lines
 from talking import Port, Stdio
 
@@ -36,6 +37,14 @@ MANY = 64
 
 
 # ---------------------------------------------------------------- sessions
+
+def own_words(folder, text, count):
+    """Rare literals that are made of the text's own words or syllables, as `lists.py` makes them."""
+    path, rng = os.path.join(folder, "words"), random.Random(17)
+    with open(path, "wb") as out:
+        out.write(text)
+    return sorted(pick(rng, pools(Text("log", path), rng), "rare", count))
+
 
 def literals_of(kind, count, text):
     """Rare literals, which hardly occur, or frequent ones, cut out of the text itself."""
@@ -126,7 +135,8 @@ def feeding_alone(folder, literals, text, times):
 
 
 ROWS = [(piece, kind, count) for piece in (65536, 1000) for kind, count in
-        (("rare", 1), ("rare", 10), ("rare", 100), ("rare", 1000), ("frequent", 1000))]
+        (("rare", 1), ("rare", 10), ("rare", 100), ("rare", 1000), ("own words", 10), ("own words", 100), ("own words", 1000),
+         ("frequent", 1000))]
 
 
 def throughput(folder, ours, options):
@@ -142,7 +152,8 @@ def throughput(folder, ours, options):
         title = "%d bytes, %d %s" % (piece, count, kind)
         if options.only not in title:
             continue
-        path, literals = os.path.join(folder, "session"), literals_of(kind, count, text[:MB])
+        path = os.path.join(folder, "session")
+        literals = own_words(folder, text[:MB], count) if kind == "own words" else literals_of(kind, count, text[:MB])
         size = write_session(path, literals, text, options.size * MB // (8 if kind == "frequent" else 1), piece)
         alone = feeding_alone(folder, literals, text, size // len(text)) if piece == 65536 else None
         found, fed = costs(servers, path, options.turns, alone)
