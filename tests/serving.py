@@ -362,7 +362,7 @@ def long_streams():
         text = b"".join(long_session(seed))
         status, replies, messages = served(text)
         yield f"long streams of seed {seed}", (status, replies, messages) == outcome(text), True
-        yield f"hits in long streams of seed {seed}", len(replies) > 1 << 20, True
+        yield f"hits in long streams of seed {seed}", len(replies) > 1 << 19, True
 
 
 PARTS = (words, model, rows, cuts, waits, halves, costliest, long_streams, faults, random_serving)
