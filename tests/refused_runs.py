@@ -39,7 +39,8 @@ class Run(NamedTuple):
     """A run of a program over FILES. `answer` tells how it ends where some of its sources end in faults, by their
     names and how many bytes come before; `sources` are those that are there, in the order of reading, with their
     sizes. `is_starved` and `is_unwritten` say, of the ending as none is refused and another one, whether this is right
-    for want of memory, and for a write that failed. `made` names the files that it makes."""
+    for want of memory, and for a write that failed. `made` names the files that it makes. Of a run with much to read growths
+    alone may be refused."""
 
     words: list
     answer: Callable
@@ -49,6 +50,7 @@ class Run(NamedTuple):
     stdin: bytes = b""
     made: tuple = ()
     has_threads: bool = False
+    growths_alone: bool = False
 
 
 def is_front(part, whole):
@@ -284,10 +286,11 @@ MIXED = (
 )
 MANY_HITS = publish([b"a", b"aa"]) + open_stream(1, 0) + feed(1, b"a" * 5000) + feed(1, b"xa")
 BAD = session_cases.FIRST_THREE + b"\0\0\0\4"
-# A stream that is long enough to learn from, three times over.
+# A stream that is long enough to learn from, twice over.
 LONG = publish(PHRASES) + open_stream(1, 0) + b"".join(
-    feed(1, FILES["big"][at : at + 65536]) for _ in range(3) for at in range(0, len(FILES["big"]), 65536))
-SESSIONS = [served(text) for text in (session_cases.FIRST_THREE, BAD, MIXED, MANY_HITS, LONG)]
+    feed(1, FILES["big"][at : at + 65536]) for _ in range(2) for at in range(0, len(FILES["big"]), 65536))
+SESSIONS = [served(text) for text in (session_cases.FIRST_THREE, BAD, MIXED, MANY_HITS)]
+SESSIONS += [served(LONG)._replace(growths_alone=True)]
 
 
 def preplanned(name, lists, text):

@@ -43,6 +43,9 @@ class Sweep(NamedTuple):
 
 def sweeps_of(run):
     """All sweeps of a run. Long texts are not stopped at each byte."""
+    if run.growths_alone:
+        yield from (Sweep("growth", behind=behind) for behind in ("", "-on"))
+        return
     read, shown = sum(run.sources.values()), len(written(run.answer({})))
     piece = max(7, read // 40, shown // 40)
     for behind in "", "-on":
@@ -82,14 +85,27 @@ def taken(path):
     return held
 
 
+@contextlib.contextmanager
+def given_by(text):
+    """What gives these bytes: a pipe, or a file where they are more than it holds."""
+    if len(text) > 65536:
+        with tempfile.TemporaryFile() as given:
+            given.write(text)
+            given.seek(0)
+            yield given
+        return
+    near, far = os.pipe()
+    with open(near, "rb") as given:
+        with open(far, "wb") as giver:
+            giver.write(text)
+        yield given
+
+
 def ended(bench, words, stdin, made, settings):
     """How a run ends under these settings of the shim, and whether it was refused anything."""
     folder, mark = folder_of(os.getpid(), bench), os.path.join(bench, f"mark-{os.getpid()}")
     env = dict(os.environ, LD_PRELOAD=os.path.join(bench, "refuse.so"), REFUSED_MARK=mark, **settings)
-    near, far = os.pipe()
-    with open(near, "rb") as given:
-        with open(far, "wb") as giver:
-            giver.write(stdin)  # a pipe holds 65,536 bytes
+    with given_by(stdin) as given:
         try:
             done = subprocess.run(words, stdin=given, capture_output=True, cwd=folder, env=env, timeout=SECONDS)
             shown = done.returncode, done.stdout, done.stderr
