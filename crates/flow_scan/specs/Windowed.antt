@@ -1,27 +1,21 @@
--- What a search by chosen windows has seen.
-use Rattle.std.specs.Prelude.{◌≡◌, ℕ, ◌+◌, ◌<◌, ◌≤◌, List, MatchOption, length}
+-- What a search by chosen windows has seen: the ends that are claimed.
+use Rattle.std.specs.Prelude.{◌≡◌, ℕ, ◌+◌, ◌-◌, ◌<◌, ◌≤◌, List, length}
 use Rattle.std.specs.Int.{bit_at}
-use Rattle.lit_base.specs.Literals.{Literals}
-use Rattle.lit_base.specs.Occurrences.{HasEnd, IsFirstEnding, Occurs}
-use Rattle.flow_scan.specs.declared.aim.Aim.{Aim}
+use Rattle.lit_base.specs.Occurrences.{Occurs}
+use Rattle.flow_scan.specs.declared.claiming.TheConstants.{BLOCK}
+use Rattle.flow_scan.specs.declared.windowed.Claims.{Claims}
 use Rattle.text_windows.specs.Windows.{Windowing, offset_at}
 
--- it has looked up to a place for the literals from one place of the list up to another: such a literal that ends behind the first place with its last window before that one ends behind the last place of interest
-abbrev pub IsLookedUpTo : ℕ → ℕ → Windowing → List ℕ → ℕ → ℕ → ℕ → Type 0
-IsLookedUpTo low high w text from last at = (place end : ℕ) → low ≤ place → place < high → Occurs w.literals text place end → from < end → end < at + offset_at w place → last < end
+-- the ends of the literals from one place of the list up to another are claimed: such a literal that ends behind two places of the text, with its last window before the next place to look at, has a bit for its end. Bit k stands for the end k + 1 places behind the second of these places
+abbrev pub AreClaimed : ℕ → ℕ → Windowing → List ℕ → ℕ → ℕ → ℕ → ℕ → Type 0
+AreClaimed low high w text from seen next marks = (place end : ℕ) → low ≤ place → place < high → Occurs w.literals text place end → from < end → seen < end → end < next + offset_at w place → bit_at marks (end - (seen + 1)) ≡ 1
 
--- such a literal that ends behind the first place ends behind the last place of interest
-abbrev pub AreLookedFor : ℕ → ℕ → Windowing → List ℕ → ℕ → ℕ → Type 0
-AreLookedFor low high w text from last = (place end : ℕ) → low ≤ place → place < high → Occurs w.literals text place end → from < end → last < end
+-- the places of a block that pass: the last window of a sieved literal ends at a place with a bit. Bit k stands for the place k + 1 places behind
+abbrev pub ArePassing : Windowing → List ℕ → ℕ → ℕ → Type 0
+ArePassing w text seen passing = (place end : ℕ) → place < w.split → Occurs w.literals text place end → seen < end - offset_at w place → end - offset_at w place ≤ seen + BLOCK → bit_at passing (end - offset_at w place - (seen + 1)) ≡ 1
 
--- a mark at a place of the text is right: a literal ends so far behind it, within what is of interest
-pub record IsRightMark (l : Literals) (text : List ℕ) (from last at marks back : ℕ) : Type 0 where
-  pub set : bit_at marks back ≡ 1
-  pub after : from < at + back
-  pub within : at + back ≤ last
-  pub here : HasEnd l text (at + back)
-
--- the last place of interest is the one up to which the search goes, or stands before the least end found
-pub record IsAim (l : Literals) (text : List ℕ) (from stop : ℕ) (aim : Aim) : Type 0 where
-  pub inside : aim.last ≤ length text
-  pub best : MatchOption aim.best (aim.last ≡ stop) (λ found. (found.0 ≡ aim.last + 1) × (from < found.0) × IsFirstEnding l text 0 found.0 found.1)
+-- what a search goes on with: the next ends of the text, so many, are claimed by looks at all places up to the last of them
+pub record AreClaims (w : Windowing) (text : List ℕ) (c : Claims) : Type 0 where
+  pub claimed : AreClaimed 0 (length w.literals.texts) w text c.seen c.seen (c.seen + c.count + 1) c.marks
+  pub inside : c.seen + c.count ≤ length text
+  pub few : c.count ≤ BLOCK

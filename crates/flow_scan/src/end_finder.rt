@@ -6,7 +6,7 @@ ghost use Rattle.flow_scan.specs.HitsAt.{Extends};
 ghost use Rattle.flow_scan.specs.NextEnds.{IsNextEnd, NoEndAfter};
 ghost use Rattle.flow_scan.specs.Tails.{AreHitsBehind, Continues, StopsAt};
 
-use crate::aim::Met;
+use crate::met::Met;
 use crate::compiled::Compiled;
 use crate::fault::Fault;
 use crate::hit::Hit;
@@ -15,7 +15,7 @@ use crate::learning::{Learning, cost_by_windows};
 use crate::pace::PAIRED;
 use crate::searching::{add_hits, add_hits_at, skip_short_ends};
 use crate::text_search::TextSearch;
-use crate::windowed::next_end_by_windows;
+use crate::windowed::{Claims, next_end_by_windows};
 use std::alloc::{AllocError, Global};
 use std::marker::Model;
 use text_windows::Windows;
@@ -262,8 +262,8 @@ impl<'p> EndFinder<'p> {
     {
         let list = self.compiled.list();
         let before = out.len();
-        let mut place = from;
-        while let Some((end, first)) = next_end_by_windows(&self.windows, list, text, place, met) {
+        let mut claims = Claims::behind(&self.windows, list, text, from, met);
+        while let Some((end, first)) = claims.next_end(&self.windows, list, text, met) {
             add_hits_at(
                 self.compiled,
                 text,
@@ -275,7 +275,6 @@ impl<'p> EndFinder<'p> {
             if out.len() - before >= most {
                 return Ok(end);
             }
-            place = end;
         }
         Ok(text.len())
     }

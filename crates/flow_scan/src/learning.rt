@@ -1,6 +1,6 @@
 //! When a search learns from the text. Nothing here decides what is found, only how soon.
 
-use crate::aim::Met;
+use crate::met::Met;
 use text_windows::{LOOK_COST, MARK_COST, SIEVE_COST, Windows};
 
 /// A candidate of the sieve at which nothing ends takes so many, where the marks before it tell that.

@@ -2,8 +2,8 @@
 //! whatever pieces the stream comes.
 #![tactic(auto)]
 
-mod aim;
 mod carry;
+mod claiming;
 mod compiled;
 mod end_finder;
 mod endings;
@@ -12,14 +12,13 @@ mod hit;
 mod hit_search;
 mod learning;
 mod mark_budget;
+mod met;
 mod nearby;
 mod pace;
 mod scanner;
 mod scanning;
 mod seam;
 mod searching;
-mod sieved;
-mod strided;
 mod strides;
 mod suffix_flags;
 mod text_search;

@@ -206,6 +206,7 @@ pub(crate) fn first_marked(
     ensures next { MatchOption result
         ((back : ℕ) → back < count → ¬ HasEnd list.now text.now (seen + 1 + back))
         (λ found. IsNextEnd list.now text.now seen found.0) }
+    ensures within { IfSome result (λ found. found.0 ≤ seen + count) }
     ensures first { IfSome result (λ found. IsFirstEnding list.now text.now 0 found.0 found.1) }
 {
     let room = count.min(text.len() - seen);

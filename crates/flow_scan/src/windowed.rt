@@ -1,21 +1,159 @@
 //! The search for ends by windows that were chosen from a text.
-ghost use Rattle.std.specs.Prelude.{◌≡◌, ℕ, ◌<◌, ◌≤◌, IfSome, MatchOption, length};
+ghost use Rattle.std.specs.Prelude.{◌≡◌, ℕ, ◌+◌, ◌-◌, ◌^◌, ◌<◌, ◌≤◌, IfSome, MatchOption, length, min};
+ghost use Rattle.std.specs.Int.{bit_at};
 ghost use Rattle.lit_base.specs.Occurrences.{IsFirstEnding};
 ghost use Rattle.flow_scan.specs.NextEnds.{IsNextEnd, NoEndAfter, NoEndUpTo};
-ghost use Rattle.flow_scan.specs.Windowed.{AreLookedFor, IsAim};
+ghost use Rattle.flow_scan.specs.Windowed.{AreClaims};
+ghost use Rattle.flow_scan.specs.declared.claiming.TheConstants.{BLOCK};
 
-use crate::aim::{Aim, Met};
-use crate::sieved::sieve_up_to;
-use crate::strided::stride_up_to;
+use crate::claiming::{BLOCK, claims_behind, skip_quiet};
+use crate::met::Met;
+use crate::strides::first_marked;
 use lit_base::LitList;
 use text_windows::Windows;
 
-/// Where some literals are sieved and the others strided, so many bytes are first searched for both, and twice as many
-/// each further time, up to the longest span: what one of the searches passes beyond an end that the other finds is lost.
-const SHORTEST_SPAN: usize = 256;
+/// Marks tell ends that stand at most so many places behind them.
+const REACH: usize = 7;
 
-/// The longest such span.
-const LONGEST_SPAN: usize = 8192;
+/// The ends behind a place that are claimed: a search by windows that goes on behind each end that it finds.
+#[derive(Clone, Copy)]
+pub(crate) struct Claims {
+    /// What ends up to here is left behind.
+    pub seen: usize,
+    /// So many ends behind it are claimed if a literal ends there.
+    pub count: usize,
+    /// Bit k stands for the end k + 1 places behind.
+    pub marks: u64,
+}
+
+impl Claims {
+    /// Those of a search behind a place of a text. It takes no memory.
+    pub fn behind(
+        windows: &Windows<'_>,
+        list: &LitList,
+        text: &[u8],
+        from: usize,
+        met: &mut Met,
+    ) -> Claims
+        requires list { windows.now.literals ≡ list.now }
+        requires inside { from ≤ length text.now }
+        ensures claims { AreClaims windows.now text.now result }
+        ensures seen { result.seen ≡ from }
+    {
+        let _split = windows.split();
+        let start = from.saturating_sub(REACH);
+        let marks = claims_behind(windows, list, text, start, 0, met);
+        let block = Claims {
+            seen: start,
+            count: BLOCK.min(text.len() - start),
+            marks,
+        };
+        let rest = block.but_first(from - start);
+        met.claim(rest.marks);
+        rest
+    }
+
+    /// Those behind so many of the ends.
+    #[inline(always)]
+    fn but_first(self, count: usize) -> Claims
+        requires within { count ≤ self.count }
+        requires few { count < 64 }
+        requires room { self.seen + count < 2 ^ 64 }
+        ensures seen { result.seen ≡ self.seen + count }
+        ensures count { result.count ≡ self.count - count }
+        ensures marks { (back : ℕ) → bit_at result.marks back ≡ bit_at self.marks (count + back) }
+    {
+        Claims {
+            seen: self.seen + count,
+            count: self.count - count,
+            marks: self.marks >> count,
+        }
+    }
+
+    /// The next end that is claimed and at which some literal ends, with the first literal that ends there, if there is one: the
+    /// search goes on behind it. Adds to `met` what is claimed besides. It takes no memory.
+    #[inline(never)]
+    pub fn next_end(
+        &mut self,
+        windows: &Windows<'_>,
+        list: &LitList,
+        text: &[u8],
+        met: &mut Met,
+    ) -> Option<(usize, usize)>
+        requires list { windows.now.literals ≡ list.now }
+        requires claims { AreClaims windows.now text.now self.old }
+        ensures claims { AreClaims windows.now text.now self.new }
+        ensures next { MatchOption result
+            (NoEndAfter list.now text.now self.old.seen)
+            (λ found. IsNextEnd list.now text.now self.old.seen found.0) }
+        ensures first { IfSome result (λ found. IsFirstEnding list.now text.now 0 found.0 found.1) }
+        ensures seen { IfSome result (λ found. self.new.seen ≡ found.0) }
+    {
+        let mut claims = *self;
+        'blocks: loop {
+            if let Some(found) = claims.first_end(windows, list, text) {
+                *self = claims.but_first(found.0 - claims.seen);
+                met.hit();
+                return Some(found);
+            }
+            if text.len() - claims.seen == claims.count {
+                *self = claims;
+                return None;
+            }
+            claims = claims.next_block(windows, list, text, met);
+        }
+    }
+
+    /// The first of the claimed ends at which some literal ends, with the first literal that ends there, if there is one.
+    #[inline(always)]
+    fn first_end(
+        self,
+        windows: &Windows<'_>,
+        list: &LitList,
+        text: &[u8],
+    ) -> Option<(usize, usize)>
+        requires list { windows.now.literals ≡ list.now }
+        requires claims { AreClaims windows.now text.now self }
+        ensures next { MatchOption result
+            (NoEndUpTo list.now text.now self.seen (self.seen + self.count))
+            (λ found. IsNextEnd list.now text.now self.seen found.0) }
+        ensures within { IfSome result (λ found. found.0 ≤ self.seen + self.count) }
+        ensures first { IfSome result (λ found. IsFirstEnding list.now text.now 0 found.0 found.1) }
+    {
+        if self.marks == 0 || self.count == 0 {
+            return None;
+        }
+        first_marked(list, text, self.seen, self.count, self.marks)
+    }
+
+    /// Those of the next block, where nothing ends in this one.
+    #[inline(always)]
+    fn next_block(
+        self,
+        windows: &Windows<'_>,
+        list: &LitList,
+        text: &[u8],
+        met: &mut Met,
+    ) -> Claims
+        requires list { windows.now.literals ≡ list.now }
+        requires claims { AreClaims windows.now text.now self }
+        requires left { self.seen + self.count < length text.now }
+        ensures claims { AreClaims windows.now text.now result }
+        ensures ahead { self.seen + self.count ≤ result.seen }
+        ensures some { self.seen + self.count < result.seen + result.count }
+        ensures none { NoEndUpTo list.now text.now (self.seen + self.count) result.seen }
+    {
+        let rest = self.but_first(self.count);
+        let seen = skip_quiet(windows, list, text, rest.seen, rest.marks);
+        let marks = claims_behind(windows, list, text, seen, rest.marks, met);
+        met.claim(marks);
+        Claims {
+            seen,
+            count: BLOCK.min(text.len() - seen),
+            marks,
+        }
+    }
+}
 
 /// The first place of the text behind `from` at which some literal ends, wherever it begins, with the first
 /// literal that ends there, if there is one. Adds to `met` what is met at which none does. It takes no memory.
@@ -26,104 +164,13 @@ pub(crate) fn next_end_by_windows(
     from: usize,
     met: &mut Met,
 ) -> Option<(usize, usize)>
-    requires { windows.now.literals ≡ list.now }
+    requires list { windows.now.literals ≡ list.now }
+    requires inside { from ≤ length text.now }
     ensures next { MatchOption result
         (NoEndAfter list.now text.now from)
         (λ found. IsNextEnd list.now text.now from found.0) }
     ensures first { IfSome result (λ found. IsFirstEnding list.now text.now 0 found.0 found.1) }
 {
-    let mut start = from;
-    let mut span = first_span(windows, list);
-    'spans: loop {
-        let stop = text.len().min(start.saturating_add(span));
-        if let Some(found) = next_end_up_to(windows, list, text, start, stop, met) {
-            return Some(found);
-        }
-        if stop == text.len() {
-            return None;
-        }
-        start = stop;
-        span = span.saturating_mul(2).min(LONGEST_SPAN);
-    }
-}
-
-/// How many bytes are searched first: all of them, unless some literals are sieved and others strided.
-fn first_span(windows: &Windows<'_>, list: &LitList) -> usize
-    ensures { 0 < result }
-{
-    let split = windows.split();
-    if split == 0 || split == list.len() {
-        usize::MAX
-    } else {
-        SHORTEST_SPAN
-    }
-}
-
-/// The first place behind `from` and up to `stop` at which some literal ends, with the first one that does.
-#[inline(always)]
-fn next_end_up_to(
-    windows: &Windows<'_>,
-    list: &LitList,
-    text: &[u8],
-    from: usize,
-    stop: usize,
-    met: &mut Met,
-) -> Option<(usize, usize)>
-    requires list { windows.now.literals ≡ list.now }
-    requires inside { stop ≤ length text.now }
-    ensures next { MatchOption result
-        (NoEndUpTo list.now text.now from stop)
-        (λ found. IsNextEnd list.now text.now from found.0) }
-    ensures first { IfSome result (λ found. IsFirstEnding list.now text.now 0 found.0 found.1) }
-{
-    let whole = Aim {
-        last: stop,
-        best: None,
-    };
-    let sieved = sieve_if_any(windows, list, text, from, whole, met);
-    stride_if_any(windows, list, text, from, sieved, met).best
-}
-
-/// What a search is after behind its looks for sieved literals, if there are some.
-#[inline(always)]
-fn sieve_if_any(
-    windows: &Windows<'_>,
-    list: &LitList,
-    text: &[u8],
-    from: usize,
-    aim: Aim,
-    met: &mut Met,
-) -> Aim
-    requires list { windows.now.literals ≡ list.now }
-    requires inside { aim.last ≤ length text.now }
-    ensures aim { (stop : ℕ) → IsAim list.now text.now from stop aim → IsAim list.now text.now from stop result }
-    ensures less { result.last ≤ aim.last }
-    ensures looked { AreLookedFor 0 windows.now.split windows.now text.now from result.last }
-{
-    if windows.split() == 0 {
-        return aim;
-    }
-    sieve_up_to(windows, list, text, from, aim, met)
-}
-
-/// What a search is after behind its looks for strided literals, if there are some.
-#[inline(always)]
-fn stride_if_any(
-    windows: &Windows<'_>,
-    list: &LitList,
-    text: &[u8],
-    from: usize,
-    aim: Aim,
-    met: &mut Met,
-) -> Aim
-    requires list { windows.now.literals ≡ list.now }
-    requires inside { aim.last ≤ length text.now }
-    ensures aim { (stop : ℕ) → IsAim list.now text.now from stop aim → IsAim list.now text.now from stop result }
-    ensures less { result.last ≤ aim.last }
-    ensures looked { AreLookedFor windows.now.split (length windows.now.literals.texts) windows.now text.now from result.last }
-{
-    if windows.split() == list.len() {
-        return aim;
-    }
-    stride_up_to(windows, list, text, from, aim, met)
+    let mut claims = Claims::behind(windows, list, text, from, met);
+    claims.next_end(windows, list, text, met)
 }

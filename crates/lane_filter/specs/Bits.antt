@@ -7,4 +7,5 @@ pub record SplitsLowest (mask low rest : ℕ) : Type 0 where
   pub small : low < 64
   pub set : bit_at mask low ≡ 1
   pub lowest : (k : ℕ) → k < low → bit_at mask k ≡ 0
+  pub less : rest < mask
   pub others : (k : ℕ) → (bit_at rest k ≡ 1) ↔ ((low < k) × (bit_at mask k ≡ 1))

@@ -5,7 +5,7 @@ ghost use Rattle.lane_filter.specs.Bits.{SplitsLowest};
 
 /// The lowest bit's place, and the mask without it.
 #[inline(always)]
-pub(crate) fn split_lowest(mask: u64) -> (usize, u64)
+pub fn split_lowest(mask: u64) -> (usize, u64)
     requires { mask ≢ 0 }
     ensures { SplitsLowest mask result.0 result.1 }
 {

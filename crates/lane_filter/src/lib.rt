@@ -8,6 +8,7 @@
 
 mod any_of;
 mod bits;
+mod block_filter;
 mod candidates;
 mod end_test;
 mod entries;
@@ -22,6 +23,8 @@ mod sieve;
 mod tables;
 
 pub use any_of::AnyOf;
+pub use bits::split_lowest;
+pub use block_filter::BlockFilter;
 pub use candidates::Candidates;
 pub use exact_pair::ExactPair;
 pub use kernels::{any_set, filter, filter_wide};

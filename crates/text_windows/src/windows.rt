@@ -1,5 +1,5 @@
 //! The windows that literals are searched for by.
-ghost use Rattle.std.specs.Prelude.{◌≡◌, IsTrue, ℕ, ◌+◌, ◌^◌, ◌<◌, ◌≤◌, ◌++◌, ◌-◌, IfOk, length, replicate, slice_index, slice_range, vec_len};
+ghost use Rattle.std.specs.Prelude.{◌≡◌, ℕ, ◌+◌, ◌^◌, ◌<◌, ◌≤◌, ◌++◌, ◌-◌, IfOk, length, replicate, slice_index, slice_range, vec_len};
 ghost use Rattle.std.specs.Int.{bit_at};
 ghost use Rattle.std.specs.Int.RustNames.{bit_and, bit_or};
 ghost use Rattle.lit_base.specs.Marks.{IsMarked};
@@ -154,7 +154,7 @@ impl<'p> Windows<'p> {
             let least = self.strided.least_width;
             return marks_near_front(&self.marks, self.list.fold(), least, text, at);
         }
-        self.marks_behind_front(text, at)
+        self.marks_by_widths(text, at)
     }
 
     /// The same for sieved literals.
@@ -163,11 +163,16 @@ impl<'p> Windows<'p> {
         requires { at ≤ length text.now }
         ensures { AreSievedMarks self.now text.now at result }
     {
-        let least = self.whole.least_width;
         if at < WIDTH {
-            return marks_near_front(&self.marks, self.list.fold(), least, text, at);
+            return marks_near_front(
+                &self.marks,
+                self.list.fold(),
+                self.whole.least_width,
+                text,
+                at,
+            );
         }
-        marks_of_widths(&self.marks, self.list.fold(), least, text, at)
+        self.sieved_marks_behind_front(text, at)
     }
 
     /// Whether some strided literal is so short that windows of fewer than four bytes have to be looked at.
@@ -176,56 +181,52 @@ impl<'p> Windows<'p> {
         self.strided.least_width < WIDTH
     }
 
-    /// Whether two places a stride apart have no mark, so that no strided literal ends that has its windows before one of
-    /// them. `has_short` is what the windows say of that: a loop for which it is settled is made for the one case or the other.
+    /// The marks of `marks_at` for a place that has as many bytes before it as a window. `has_short` is what the windows say of
+    /// that: a loop for which it is settled is made for the one case or the other.
     #[inline(always)]
-    pub fn are_unmarked(&self, text: &[u8], at: usize, has_short: bool) -> bool
+    pub fn marks_behind_front(&self, text: &[u8], at: usize, has_short: bool) -> u8
         requires four { 4 ≤ at }
-        requires inside { at + self.now.stride ≤ length text.now }
-        ensures { IsTrue result → AreStridedMarks self.now text.now at 0 × AreStridedMarks self.now text.now (at + self.now.stride) 0 }
+        requires inside { at ≤ length text.now }
+        ensures { AreStridedMarks self.now text.now at result }
     {
         if has_short {
-            return self.have_no_mark(text, at);
+            return self.marks_by_widths(text, at);
         }
         if self.strided.least_width < WIDTH {
-            return self.have_no_mark_by_call(text, at);
+            return self.marks_by_call(text, at);
         }
-        self.have_no_mark(text, at)
+        self.marks_by_widths(text, at)
     }
 
-    /// Whether two places a stride apart have no mark.
+    /// The same, by all widths from the least on.
     #[inline(always)]
-    fn have_no_mark(&self, text: &[u8], at: usize) -> bool
-        requires four { 4 ≤ at }
-        requires inside { at + self.now.stride ≤ length text.now }
-        ensures { IsTrue result → AreStridedMarks self.now text.now at 0 × AreStridedMarks self.now text.now (at + self.now.stride) 0 }
-    {
-        let near = self.marks_behind_front(text, at);
-        let far = self.marks_behind_front(text, at + self.stride);
-        if near | far != 0 {
-            return false;
-        }
-        true
-    }
-
-    /// The same, apart from the loop that asks it.
-    #[inline(never)]
-    fn have_no_mark_by_call(&self, text: &[u8], at: usize) -> bool
-        requires four { 4 ≤ at }
-        requires inside { at + self.now.stride ≤ length text.now }
-        ensures { IsTrue result → AreStridedMarks self.now text.now at 0 × AreStridedMarks self.now text.now (at + self.now.stride) 0 }
-    {
-        self.have_no_mark(text, at)
-    }
-
-    /// The marks of `marks_at` for a place that has as many bytes before it as a window.
-    #[inline(always)]
-    fn marks_behind_front(&self, text: &[u8], at: usize) -> u8
+    fn marks_by_widths(&self, text: &[u8], at: usize) -> u8
         requires four { 4 ≤ at }
         requires inside { at ≤ length text.now }
         ensures { AreStridedMarks self.now text.now at result }
     {
         let least = self.strided.least_width;
+        marks_of_widths(&self.marks, self.list.fold(), least, text, at)
+    }
+
+    /// The same, apart from the loop that asks it.
+    #[inline(never)]
+    fn marks_by_call(&self, text: &[u8], at: usize) -> u8
+        requires four { 4 ≤ at }
+        requires inside { at ≤ length text.now }
+        ensures { AreStridedMarks self.now text.now at result }
+    {
+        self.marks_by_widths(text, at)
+    }
+
+    /// The marks of `sieved_marks_at` for a place that has as many bytes before it as a window.
+    #[inline(always)]
+    pub fn sieved_marks_behind_front(&self, text: &[u8], at: usize) -> u8
+        requires four { 4 ≤ at }
+        requires inside { at ≤ length text.now }
+        ensures { AreSievedMarks self.now text.now at result }
+    {
+        let least = self.whole.least_width;
         marks_of_widths(&self.marks, self.list.fold(), least, text, at)
     }
 

@@ -1,5 +1,5 @@
 -- One place after the other is gone to, until nothing ends behind it.
-use Rattle.std.proofs.Common.{◌+◌, ◌-◌, ◌≤◌, length, take, ap, ◌∙◌, sym, arith}
+use Rattle.std.proofs.Common.{ℕ, ◌+◌, ◌-◌, ◌≤◌, length, take, ap, ◌∙◌, sym, subst, arith}
 use Rattle.std.proofs.Math.Seq.{take-length}
 use Rattle.lit_base.specs.Literals.{Literals}
 use Rattle.flow_scan.specs.Plans.{Plan}
@@ -13,17 +13,22 @@ use Rattle.flow_scan.proofs.end_finder.EndFinder.add_hits_by_windows.Goals.{In_o
 
 pub loop-end-init : goal.loop-end-init
 loop-end-init c = record {
-  ahead = omega arith;
-  within = c.requires.inside;
+  claims = c.behind-claims.ensures.claims;
+  ahead = omega (arith, c.behind-claims.ensures.seen);
+  within = omega (arith, c.behind-claims.ensures.seen, c.requires.inside);
   few = omega arith;
-  gained = gained_nothing c.args.self.now.literals c.args.text.now c.args.from c.args.at c.args.out.now.items;
+  gained = subst (λ (seen : ℕ). GainsHitsBehind c.args.self.now.literals (take seen c.args.text.now) c.args.from c.args.at c.args.out.now.items c.args.out.now.items) (sym c.behind-claims.ensures.seen)
+      (gained_nothing c.args.self.now.literals c.args.text.now c.args.from c.args.at c.args.out.now.items);
 }
 
-pub next_end_by_windows-requires : goal.next_end_by_windows-requires
-next_end_by_windows-requires c = c.self.invariant ∙ sym c.list-list.ensures
+pub behind-claims-requires-clause-list : goal.behind-claims-requires-clause-list
+behind-claims-requires-clause-list c = c.self.invariant ∙ sym c.list-list.ensures
+
+pub next_end-requires-clause-list : goal.next_end-requires-clause-list
+next_end-requires-clause-list c = c.self.invariant ∙ sym c.list-list.ensures
 
 -- where the search goes to
-next_end : (c : In_ok-add_hits_at) → IsNextEnd c.args.self.now.literals c.args.text.now c.loop-end.place c.in-Some.end
+next_end : (c : In_ok-add_hits_at) → IsNextEnd c.args.self.now.literals c.args.text.now c.loop-end.claims.seen c.in-Some.end
 next_end c = rw (c.list-list.ensures ∙ ap (λ (p : Plan). p.literals) c.self.view_is) at c.in-Some.ensures.next
 
 -- what the list gains there
@@ -34,18 +39,20 @@ here c = rw (ap (λ (p : Plan). p.literals) c.self.view_is) at c.in_ok-add_hits_
 further : (c : In_ok-add_hits_at) → GainsHitsBehind c.args.self.now.literals (take c.in-Some.end c.args.text.now) c.args.from c.args.at c.args.out.now.items c.add_hits_at.new.out.items
 further c =
     let before = c.loop-end.invariant in
-    gained_here c.args.self.now.literals c.args.text.now c.args.from c.loop-end.place c.in-Some.end c.args.at c.args.out.now.items c.loop-end.out.items c.add_hits_at.new.out.items
+    gained_here c.args.self.now.literals c.args.text.now c.args.from c.loop-end.claims.seen c.in-Some.end c.args.at c.args.out.now.items c.loop-end.out.items c.add_hits_at.new.out.items
     before.ahead (next_end c) before.gained (here c)
 
 pub loop-end-preserved : goal.loop-end-preserved
 loop-end-preserved c =
     let at = (goal.at.loop-end-preserved c).In_ok-add_hits_at in
     let next = next_end at in
+    let seen = c.in-Some.ensures.seen in
     record {
-      ahead = omega (arith, next.after, c.loop-end.invariant.ahead);
-      within = next.within;
+      claims = c.next_end.ensures.claims;
+      ahead = omega (arith, next.after, seen, c.loop-end.invariant.ahead);
+      within = omega (arith, next.within, seen);
       few = omega (arith, c.len-before.ensures);
-      gained = further at;
+      gained = subst (λ (end : ℕ). GainsHitsBehind c.args.self.now.literals (take end c.args.text.now) c.args.from c.args.at c.args.out.now.items c.add_hits_at.new.out.items) (sym seen) (further at);
     }
 
 -- enough was gained
@@ -68,7 +75,7 @@ returns-then-len-before-clause-ok c =
 pub returns-in_err-add_hits_at-clause-quiet : goal.returns-in_err-add_hits_at-clause-quiet
 returns-in_err-add_hits_at-clause-quiet c =
     let before = c.loop-end.invariant in
-    let next : IsNextEnd c.args.self.now.literals c.args.text.now c.loop-end.place c.in-Some.end = rw (c.list-list.ensures ∙ ap (λ (p : Plan). p.literals) c.self.view_is) at c.in-Some.ensures.next in
+    let next : IsNextEnd c.args.self.now.literals c.args.text.now c.loop-end.claims.seen c.in-Some.end = rw (c.list-list.ensures ∙ ap (λ (p : Plan). p.literals) c.self.view_is) at c.in-Some.ensures.next in
     λ none. absurd (none c.in-Some.end (omega (arith, next.after, before.ahead)) next.here)
 
 pub returns-clause-ok : goal.returns-clause-ok
@@ -76,11 +83,11 @@ returns-clause-ok c =
     let all = c.loop-end.invariant in
     let l : Literals = c.args.self.now.literals in
     let text = c.args.text.now in
-    let none : NoEndAfter l text c.loop-end.place = rw (c.list-list.ensures ∙ ap (λ (p : Plan). p.literals) c.self.view_is) at c.in_default.ensures.next in
+    let none : NoEndAfter l text c.loop-end.claims.seen = rw (c.list-list.ensures ∙ ap (λ (p : Plan). p.literals) c.self.view_is) at c.in_default.ensures.next in
     record {
       after = c.requires.inside;
       within = omega arith;
-      gained = rw (take-length text) (gained_ended l text c.args.from c.loop-end.place c.args.at c.args.out.now.items c.loop-end.out.items all.ahead all.within none all.gained);
+      gained = rw (take-length text) (gained_ended l text c.args.from c.loop-end.claims.seen c.args.at c.args.out.now.items c.loop-end.out.items all.ahead all.within none all.gained);
       enough = λ more. absurd (omega (arith, more));
       few = omega (arith, all.few);
     }

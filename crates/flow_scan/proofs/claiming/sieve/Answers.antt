@@ -1,0 +1,35 @@
+-- The places that pass are looked at one after the other, the lowest first.
+use Rattle.std.proofs.Common.{◌≡◌, ℕ, ◌<◌, ap, ◌∙◌, inr, sym, arith}
+use Rattle.std.specs.Int.{bit_at}
+use Rattle.std.proofs.lemmas.Nat.Bits.{bit_at-zero}
+use Rattle.flow_scan.proofs.ClaimSteps.{left_further, sieve_claims}
+use Rattle.flow_scan.proofs.MarkSteps.{marked_below}
+use Rattle.flow_scan.proofs.claiming.sieve.Goals as goal
+
+pub places-init : goal.places-init
+places-init c = record {
+  left = λ place end before occurs behind inside. inr (c.requires.passing place end before occurs behind inside);
+  kept = λ back near set. set;
+}
+
+pub returns-then-back-ge-BLOCK-clause-claimed : goal.returns-then-back-ge-BLOCK-clause-claimed
+returns-then-back-ge-BLOCK-clause-claimed c = λ from.
+    let before = c.places.invariant in
+    sieve_claims c.args.windows.now c.args.text.now c.args.seen c.split-split.ensures.within from c.args.marks c.places.found c.places.rest
+    (λ k near. c.split_lowest-back.ensures.lowest k (omega (arith, near, c.if-back-ge-BLOCK.true))) before.left before.kept
+
+pub places-preserved : goal.places-preserved
+places-preserved c =
+    let before = c.places.invariant in
+    let back : ℕ = c.split_lowest-back.result.0 in
+    record {
+      left = left_further c.args.windows.now c.args.text.now c.args.seen c.split-split.ensures.within c.places.found c.places.rest back c.split_lowest-back.result.1 c.sieved_marks_behind_front-look.result
+          c.split_lowest-back.ensures c.sieved_marks_behind_front-look.ensures before.left;
+      kept = λ other near set. marked_below c.places.found c.sieved_marks_behind_front-look.result back other near (before.kept other near set);
+    }
+
+pub returns-clause-claimed : goal.returns-clause-claimed
+returns-clause-claimed c = λ from.
+    let before = c.places.invariant in
+    sieve_claims c.args.windows.now c.args.text.now c.args.seen c.split-split.ensures.within from c.args.marks c.places.found c.places.rest
+    (λ k near. ap (λ m. bit_at m k) c.places-test.false ∙ bit_at-zero k) before.left before.kept

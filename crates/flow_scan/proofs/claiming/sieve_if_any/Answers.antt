@@ -1,0 +1,10 @@
+-- Where a sieved literal ends, the masks let a place pass.
+use Rattle.std.proofs.Common.{arith}
+use Rattle.flow_scan.proofs.ClaimSteps.{passes}
+use Rattle.flow_scan.proofs.Steps.{all_bytes}
+use Rattle.flow_scan.proofs.claiming.sieve_if_any.Goals as goal
+
+pub sieve-requires-clause-passing : goal.sieve-requires-clause-passing
+sieve-requires-clause-passing c = λ place end before occurs behind inside.
+    passes c.args.windows.now c.masks.result.now c.args.text.now c.args.seen c.passing-passing.result c.masks.ensures c.split.ensures.within (all_bytes c.args.text.now c.type_inv.text)
+    (rw c.new.ensures at c.passing-passing.ensures) place end before occurs behind (omega (arith, inside))

@@ -1,0 +1,6 @@
+-- The bits above are those of the ends behind.
+use Rattle.std.proofs.Common.{ap, ◌%◌, shr-shr}
+use Rattle.flow_scan.proofs.windowed.Claims.but_first.Goals as goal
+
+pub returns-clause-marks : goal.returns-clause-marks
+returns-clause-marks c = λ back. ap (λ x. x % 2) (shr-shr c.args.self.marks c.args.count back)

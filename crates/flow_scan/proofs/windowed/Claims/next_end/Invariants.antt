@@ -1,0 +1,15 @@
+use Rattle.std.proofs.Common.{ℕ, ◌+◌, ◌-◌, ◌<◌, ◌≤◌, length}
+use Rattle.flow_scan.specs.NextEnds.{NoEndUpTo}
+use Rattle.flow_scan.specs.Windowed.{AreClaims}
+use Rattle.flow_scan.proofs.windowed.Claims.next_end.Given as goal
+
+-- nothing ends before the block that is reached
+abbrev pub invariant-blocks-2 : goal.invariant-blocks-2
+invariant-blocks-2 l = record {
+  claims : AreClaims l.windows l.text l.claims;
+  ahead : l.fn.self.seen ≤ l.claims.seen;
+  none : NoEndUpTo l.list l.text l.fn.self.seen l.claims.seen;
+}
+
+abbrev pub decreases-blocks-2 : goal.decreases-blocks-2
+decreases-blocks-2 l = length l.text - (l.claims.seen + l.claims.count)

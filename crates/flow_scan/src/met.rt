@@ -1,0 +1,36 @@
+//! What a search by windows met at which nothing ended.
+
+/// Places that passed the sieve, and ends that marks claimed, at which nothing ended.
+#[derive(Clone, Copy, Debug)]
+pub(crate) struct Met {
+    pub passed: usize,
+    pub marked: usize,
+}
+
+impl Met {
+    /// Nothing yet.
+    pub fn nothing() -> Met {
+        Met {
+            passed: 0,
+            marked: 0,
+        }
+    }
+
+    /// It met so many places more that passed the sieve.
+    #[inline(always)]
+    pub fn pass(&mut self, mask: u64) {
+        self.passed = self.passed.saturating_add(mask.count_ones() as usize);
+    }
+
+    /// It met an end for each bit that is claimed.
+    #[inline(always)]
+    pub fn claim(&mut self, marks: u64) {
+        self.marked = self.marked.saturating_add(marks.count_ones() as usize);
+    }
+
+    /// A literal did end at one of them.
+    #[inline(always)]
+    pub fn hit(&mut self) {
+        self.marked = self.marked.saturating_sub(1);
+    }
+}

@@ -1,0 +1,19 @@
+-- What is looked at has the marks of the bytes before the place.
+use Rattle.std.proofs.Common.{sym, subst}
+use Rattle.lit_base.specs.Marks.{IsMarked}
+use Rattle.lit_base.specs.Suffixes.{hash_of, suffix_key}
+use Rattle.lit_base.specs.declared.fold.Fold.{Fold}
+use Rattle.lit_base.specs.declared.suffixes.marks.TheConstants.{HASH_BITS}
+use Rattle.lit_base.proofs.SuffixLemmas.{are_bytes}
+use Rattle.text_windows.specs.Windows.{AreSievedMarks, Windowing}
+use Rattle.text_windows.proofs.WindowLemmas.{sieved_are}
+use Rattle.text_windows.proofs.windows.Windows.sieved_marks_behind_front.Goals as goal
+
+pub returns : goal.returns
+returns c =
+    let w : Windowing = record { literals = c.self.inside.list.now; split = c.self.inside.split; stride = c.self.inside.stride; offsets = c.self.inside.offsets.items } in
+    let marks = c.self.inside.marks.items in
+    subst (λ (v : Windowing). AreSievedMarks v c.args.text.now c.args.at c.marks_of_widths.result) c.self.view_is
+    (sieved_are w c.self.inside.whole marks c.args.text.now c.args.at c.marks_of_widths.result c.self.invariant.0 c.self.invariant.5 (are_bytes c.args.text.now c.type_inv.text)
+    (λ width back enough most begins marked. c.marks_of_widths.ensures width back enough most
+    (subst (λ (f : Fold). IsMarked marks (hash_of HASH_BITS (suffix_key f c.args.text.now c.args.at width)) back) (sym c.fold.ensures) marked)))
