@@ -1,4 +1,4 @@
--- A pair of bytes: its marks, and that it stands before each end of its literal.
+-- Bytes of a literal, one or a pair: their marks, and that they stand before each end of it.
 use Rattle.std.proofs.Common.{◌≡◌, ℕ, ◌+◌, ◌-◌, ◌*◌, ◌<◌, ◌≤◌, ◌&&◌, leb, List, [], length, get_or, slice_range, bit_and, bit_or, ◌⊎◌, inl, inr, sym, ap, subst, ◌∙◌, ◌≢◌, cond, eqb, arith}
 use Rattle.std.specs.Int.{bit_at}
 use Rattle.std.specs.Int.Bits.{or_zero_r}
@@ -17,6 +17,7 @@ use Rattle.nib_mask.proofs.LawLemmas.{cases_folded}
 use Rattle.nib_mask.proofs.Ranges.{get_or-range}
 use Rattle.lane_filter.proofs.LaneLemmas.{lanes_named}
 use Rattle.lane_filter.specs.Lanes.{HasLanes, SeesLanes, TellsBits, TellsLanes}
+use Rattle.lane_filter.specs.OneBytes.{IsByteOf, IsEndOfByte}
 use Rattle.lane_filter.specs.Pairs.{IsPairEnd, IsPairOf, IsRareByteOf, StandsBefore, case_bit}
 use Rattle.lane_filter.specs.declared.pair.RareByte.{RareByte}
 use Rattle.lane_filter.specs.declared.pair.BytePair.{BytePair}
@@ -152,6 +153,24 @@ rare_stands l text place end at rare occurs is =
     let folds : folded l.folding (get_or slice at 0) ≡ get_or literal at 0 =
     sym (get_or-map (folded l.folding) slice at 0 0 (omega (arith, size))) ∙ ap (λ t. get_or t at 0) occurs.bytes in
     (omega arith, (λ i. bit_or (here i) (is.case_bit i)) ∙ case_told l.folding _ _ folds ∙ sym is.byte)
+
+-- the only byte of a literal is the last before each place where it ends
+pub byte_stands : (l : Literals) (place byte bit : ℕ) → IsByteOf l place byte bit → (text : List ℕ) (end : ℕ) → Occurs l text place end → IsEndOfByte byte bit text end
+byte_stands l place byte bit of text end occurs =
+    let same : of.literal ≡ occurs.literal =
+    sym (get_or_from_slice_get l.texts place of.literal [] of.stands) ∙ get_or_from_slice_get l.texts place occurs.literal [] occurs.stands in
+    let rare : RareByte = record { byte = byte; case_bit = bit; behind = 0 } in
+    let alone = of.alone in
+    let is : IsRareByteOf l.folding of.literal 0 rare = record {
+      within = omega arith;
+      behind = omega arith;
+      byte = of.same;
+      case_bit = of.folds ∙ ap (case_bit l.folding) of.same;
+    } in
+    let stands = rare_stands l text place end 0 rare occurs (subst (λ t. IsRareByteOf l.folding t 0 rare) same is) in
+    let after = stands.0 in
+    let last : end - 1 ≡ end - 1 - 0 = omega arith in
+    record { after = omega arith; within = occurs.ends; last = ap (λ k. bit_or (get_or text k 0) bit) last ∙ stands.1 }
 
 -- both bytes of a literal's pair stand before each place where it ends
 pub pair_stands : (l : Literals) (place : ℕ) (pair : BytePair) → IsPairOf l place pair → (text : List ℕ) (end : ℕ) → Occurs l text place end → IsPairEnd pair text end

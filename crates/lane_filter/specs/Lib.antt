@@ -6,6 +6,7 @@ pub mod Entries
 pub mod Filtered
 pub mod Fours
 pub mod Lanes
+pub mod OneBytes
 pub mod Pairs
 pub mod Sieves
 pub mod WideTables

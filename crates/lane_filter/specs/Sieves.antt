@@ -2,10 +2,11 @@
 use Rattle.std.specs.Prelude.{◌≡◌, ℕ, List, length, ◌⊎◌}
 use Rattle.lit_base.specs.Literals.{Literals}
 use Rattle.nib_mask.specs.Candidates.{GivesFilterSets, IsCandidate}
+use Rattle.lane_filter.specs.OneBytes.{IsByteOf, IsEndOfByte}
 use Rattle.lane_filter.specs.Pairs.{IsPairEnd, IsPairOf}
 use Rattle.lane_filter.specs.declared.pair.BytePair.{BytePair}
 use Rattle.lane_filter.specs.declared.sieve.Sieve.{Sieve}
-use Rattle.lane_filter.specs.declared.sieve.Sieve.TheVariants.{Nibbles, OnePair, OneExactPair, TwoPairs, TwoExactPairs, ThreePairs, ThreeExactPairs}
+use Rattle.lane_filter.specs.declared.sieve.Sieve.TheVariants.{Nibbles, OneByte, OneExactByte, OnePair, OneExactPair, TwoPairs, TwoExactPairs, ThreePairs, ThreeExactPairs}
 
 -- one of two pairs of bytes, or of three, stands before this place of the text
 abbrev pub IsEndOfTwo : BytePair → BytePair → List ℕ → ℕ → Type 0
@@ -17,12 +18,18 @@ IsEndOfThree one two three = λ text end. IsPairEnd one text end ⊎ IsEndOfTwo 
 -- an occurrence may end at this place of the text
 abbrev pub Passes : Sieve → List ℕ → ℕ → Type 0
 Passes (Nibbles masks) = IsCandidate masks
+Passes (OneByte one) = IsEndOfByte one.byte one.case_bit
+Passes (OneExactByte exact) = IsEndOfByte exact.byte 0
 Passes (OnePair pair) = IsPairEnd pair
 Passes (OneExactPair exact) = IsPairEnd exact.pair
 Passes (TwoPairs any) = IsEndOfTwo any.one any.other
 Passes (TwoExactPairs any) = IsEndOfTwo any.one.pair any.other.pair
 Passes (ThreePairs any) = IsEndOfThree any.one any.other.one any.other.other
 Passes (ThreeExactPairs any) = IsEndOfThree any.one.pair any.other.one.pair any.other.other.pair
+
+-- the byte, with its bit of case, of the only literal
+abbrev pub IsOnlyByte : Literals → ℕ → ℕ → Type 0
+IsOnlyByte l byte bit = (length l.texts ≡ 1) × IsByteOf l 0 byte bit
 
 -- one pair of bytes, two, or three, of each of as many literals
 abbrev pub IsOnePair : Literals → BytePair → Type 0
@@ -34,9 +41,12 @@ AreTwoPairs l one two = (length l.texts ≡ 2) × IsPairOf l 0 one × IsPairOf l
 abbrev pub AreThreePairs : Literals → BytePair → BytePair → BytePair → Type 0
 AreThreePairs l one two three = (length l.texts ≡ 3) × IsPairOf l 0 one × IsPairOf l 1 two × IsPairOf l 2 three
 
--- the sieve of literals and a cut of them: tables that give their filter sets, or two bytes of each of at most three literals
+-- the sieve of literals and a cut of them: tables that give their filter sets, or the byte of the only one, or two bytes
+-- of each of at most three literals
 abbrev pub IsSieveOf : Literals → List ℕ → Sieve → Type 0
 IsSieveOf l ends (Nibbles masks) = GivesFilterSets l ends masks
+IsSieveOf l ends (OneByte one) = IsOnlyByte l one.byte one.case_bit
+IsSieveOf l ends (OneExactByte exact) = IsOnlyByte l exact.byte 0
 IsSieveOf l ends (OnePair pair) = IsOnePair l pair
 IsSieveOf l ends (OneExactPair exact) = IsOnePair l exact.pair
 IsSieveOf l ends (TwoPairs any) = AreTwoPairs l any.one any.other

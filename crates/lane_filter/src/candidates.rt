@@ -139,6 +139,8 @@ fn sieved_bits(sieve: &Sieve, text: &[u8], from: usize) -> EndBits
 {
     match sieve {
         Sieve::Nibbles(masks) => next_bits(&Nibbles::new(masks), text, from),
+        Sieve::OneByte(byte) => next_bits(byte, text, from),
+        Sieve::OneExactByte(byte) => next_bits(byte, text, from),
         Sieve::OnePair(pair) => next_bits(pair, text, from),
         Sieve::OneExactPair(pair) => next_bits(pair, text, from),
         Sieve::TwoPairs(two) => next_bits(two, text, from),

@@ -1,5 +1,5 @@
 //! The filter of a packed search over many places at once, by vectors of 32 bytes, and the search
-//! for two bytes of each of a few literals.
+//! for one byte, or for two bytes of each of a few literals.
 //!
 //! Theorems: `filter` and `filter_wide` write the plain filter byte at each place, for every length;
 //! no occurrence goes past the `Sieve` of its literals; `Candidates` hands out exactly the places of a
@@ -17,6 +17,7 @@ mod four;
 mod kernels;
 mod lanes;
 mod nibbles;
+mod one_byte;
 mod pair;
 mod plain;
 mod sieve;
@@ -28,6 +29,7 @@ pub use block_filter::BlockFilter;
 pub use candidates::Candidates;
 pub use exact_pair::ExactPair;
 pub use kernels::{any_set, filter, filter_wide};
+pub use one_byte::{ExactByte, OneByte};
 pub use pair::BytePair;
 pub use sieve::Sieve;
 

@@ -192,7 +192,7 @@ impl EndTest for BytePair {
 }
 
 /// The bit that the case of a folded byte is told by.
-fn case_bit(fold: Fold, byte: u8) -> u8
+pub(crate) fn case_bit(fold: Fold, byte: u8) -> u8
     ensures { result ≡ case_bit fold byte }
 {
     match fold {

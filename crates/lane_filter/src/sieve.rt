@@ -3,11 +3,13 @@ ghost use Rattle.std.specs.Prelude.{ℕ, List, length};
 ghost use Rattle.lit_base.specs.Cuts.{IsCut};
 ghost use Rattle.lit_base.specs.Literals.{Literals};
 ghost use Rattle.nib_mask.specs.Candidates.{CoversBy};
+ghost use Rattle.lane_filter.specs.OneBytes.{IsEndOfByte};
 ghost use Rattle.lane_filter.specs.Pairs.{IsPairEnd};
-ghost use Rattle.lane_filter.specs.Sieves.{AreThreePairs, AreTwoPairs, IsEndOfThree, IsEndOfTwo, IsOnePair, IsSieveOf, Passes};
+ghost use Rattle.lane_filter.specs.Sieves.{AreThreePairs, AreTwoPairs, IsEndOfThree, IsEndOfTwo, IsOnePair, IsOnlyByte, IsSieveOf, Passes};
 
 use crate::any_of::AnyOf;
 use crate::exact_pair::ExactPair;
+use crate::one_byte::{ExactByte, OneByte};
 use crate::pair::BytePair;
 use lit_base::{Ends, LitList};
 use nib_mask::Masks;
@@ -18,6 +20,10 @@ use nib_mask::Masks;
 pub enum Sieve {
     /// The tables of a filter, for any number of literals.
     Nibbles(Masks),
+    /// The only byte of the only literal.
+    OneByte(OneByte),
+    /// The only byte of the only literal, of which the case counts.
+    OneExactByte(ExactByte),
     /// Two bytes of the only literal.
     OnePair(BytePair),
     /// Two bytes of the only literal, of which the case counts.
@@ -40,7 +46,10 @@ impl Sieve {
         ensures covers { CoversBy list.now (Passes result) }
     {
         match list.len() {
-            1 => Sieve::of_one(BytePair::of(list, 0)),
+            1 => match OneByte::of(list, 0) {
+                Some(byte) => Sieve::of_byte(byte),
+                None => Sieve::of_one(BytePair::of(list, 0)),
+            },
             2 => Sieve::of_two(BytePair::of(list, 0), BytePair::of(list, 1)),
             3 => Sieve::of_three(
                 BytePair::of(list, 0),
@@ -48,6 +57,18 @@ impl Sieve {
                 BytePair::of(list, 2),
             ),
             _ => Sieve::Nibbles(Masks::of(list, ends)),
+        }
+    }
+
+    /// By the only byte of the only literal.
+    fn of_byte(one: OneByte) -> Sieve
+        ensures sieve { (l : Literals) (ends : List ℕ) → IsOnlyByte l one.byte one.case_bit → IsSieveOf l ends result }
+        ensures passes { (text : List ℕ) (end : ℕ) → IsEndOfByte one.byte one.case_bit text end
+            → Passes result text end }
+    {
+        match ExactByte::of(one) {
+            Some(exact) => Sieve::OneExactByte(exact),
+            None => Sieve::OneByte(one),
         }
     }
 

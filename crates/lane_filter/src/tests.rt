@@ -49,8 +49,8 @@ fn words(alloc: Global, fold: Fold, count: usize) -> Result<LitList, Fault> {
     Ok(list)
 }
 
-/// The tables of a list, cut into runs of nearly equal numbers.
-fn masks_of(list: &LitList) -> Masks {
+/// Runs of nearly equal numbers of the literals of a list.
+fn runs_of(list: &LitList) -> Ends {
     let mut ends = Ends::new();
     for run in 1..=8 {
         if let Ok(end) = u16::try_from(list.len().saturating_mul(run) / 8) {
@@ -59,6 +59,12 @@ fn masks_of(list: &LitList) -> Masks {
             }
         }
     }
+    ends
+}
+
+/// The tables of a list, cut into runs of nearly equal numbers.
+fn masks_of(list: &LitList) -> Masks {
+    let ends = runs_of(list);
     if is_cut(list, &ends) {
         Masks::of(list, &ends)
     } else {
@@ -77,6 +83,70 @@ fn all_masks(alloc: Global) -> Result<Vec<Masks>, Fault> {
     Ok(all)
 }
 
+/// The sieve of a list, cut into runs of nearly equal numbers.
+fn sieve_of(list: &LitList) -> Sieve {
+    let ends = runs_of(list);
+    if is_cut(list, &ends) {
+        Sieve::of(list, &ends)
+    } else {
+        Sieve::Nibbles(EMPTY)
+    }
+}
+
+/// What tells an end by itself: the filter byte of the three bytes before it, or that the last of
+/// them is one of two.
+#[derive(Clone, Copy)]
+enum PlainTest {
+    Filter(Masks),
+    LastOf([u8; 2]),
+}
+
+impl PlainTest {
+    fn passes(&self, text: &[u8], end: usize) -> bool {
+        let last = before(text, end, 1);
+        match self {
+            PlainTest::Filter(masks) => {
+                plain_byte(masks, before(text, end, 3), before(text, end, 2), last) != 0
+            }
+            PlainTest::LastOf(bytes) => last == bytes[0] || last == bytes[1],
+        }
+    }
+}
+
+/// A sieve, and what tells plainly which ends it lets pass.
+#[derive(Clone, Copy)]
+struct Case {
+    sieve: Sieve,
+    plain: PlainTest,
+}
+
+/// By all tables, and by the byte of lists of one byte, of which the case counts or does not.
+fn all_cases(alloc: Global) -> Result<Vec<Case>, Fault> {
+    let mut all = Vec::new(alloc);
+    for masks in &all_masks(alloc)? {
+        all.push(Case {
+            sieve: Sieve::Nibbles(*masks),
+            plain: PlainTest::Filter(*masks),
+        })?;
+    }
+    for (fold, bytes) in [
+        (Fold::No, *b"aa"),
+        (Fold::No, *b"AA"),
+        (Fold::Ascii, *b"aA"),
+        (Fold::Ascii, *b".."),
+        (Fold::Ascii, *b"\xff\xff"),
+    ] {
+        let mut raw = RawList::new(alloc);
+        raw.push(&bytes[..1])?;
+        let (list, _) = LitList::normal(alloc, &raw, fold)?;
+        all.push(Case {
+            sieve: sieve_of(&list),
+            plain: PlainTest::LastOf(bytes),
+        })?;
+    }
+    Ok(all)
+}
+
 /// The byte so many places before an end, zero before the text.
 fn before(text: &[u8], end: usize, back: usize) -> u8 {
     end.checked_sub(back)
@@ -84,17 +154,11 @@ fn before(text: &[u8], end: usize, back: usize) -> u8 {
         .unwrap_or(0)
 }
 
-/// The first end after a place whose filter byte is not zero.
-fn plain_next(masks: &Masks, text: &[u8], from: usize) -> Option<usize> {
-    (from..text.len()).map(|end| end + 1).find(|end| {
-        let end = *end;
-        plain_byte(
-            masks,
-            before(text, end, 3),
-            before(text, end, 2),
-            before(text, end, 1),
-        ) != 0
-    })
+/// The first end after a place that passes the plain test.
+fn plain_next(plain: &PlainTest, text: &[u8], from: usize) -> Option<usize> {
+    (from..text.len())
+        .map(|end| end + 1)
+        .find(|end| plain.passes(text, *end))
 }
 
 /// Whether both kernels give the plain filter bytes at so many places from an offset on.
@@ -120,14 +184,13 @@ fn kernels_agree(masks: &Masks, bytes: &[u8], offset: usize, len: usize) -> bool
 }
 
 /// Whether a cursor gives the candidates after a place, in order, and then none.
-fn cursor_agrees(masks: &Masks, text: &[u8], from: usize) -> bool
+fn cursor_agrees(case: &Case, text: &[u8], from: usize) -> bool
     requires { from ≤ length text.now }
 {
-    let sieve = Sieve::Nibbles(*masks);
-    let mut cursor = Candidates::new(&sieve, text, from);
+    let mut cursor = Candidates::new(&case.sieve, text, from);
     let mut last = from;
     for _ in 0..=text.len() {
-        let wanted = plain_next(masks, text, last);
+        let wanted = plain_next(&case.plain, text, last);
         if cursor.next() != wanted {
             return false;
         }
@@ -140,15 +203,14 @@ fn cursor_agrees(masks: &Masks, text: &[u8], from: usize) -> bool
 }
 
 /// Whether a cursor that has given the first candidate behind a place gives the first one behind another.
-fn skip_agrees(masks: &Masks, text: &[u8], from: usize, place: usize) -> bool
+fn skip_agrees(case: &Case, text: &[u8], from: usize, place: usize) -> bool
     requires from { from ≤ length text.now }
     requires place { place ≤ length text.now }
 {
-    let sieve = Sieve::Nibbles(*masks);
-    let mut cursor = Candidates::new(&sieve, text, from);
+    let mut cursor = Candidates::new(&case.sieve, text, from);
     let _first = cursor.next();
     cursor.skip_to(place);
-    cursor.next() == plain_next(masks, text, place)
+    cursor.next() == plain_next(&case.plain, text, place)
 }
 
 #[test]
@@ -205,12 +267,12 @@ fn kernels_give_the_plain_filter_byte(rt: HostRuntime) -> Result<(), Fail> {
 #[test]
 fn cursor_gives_each_candidate_once(rt: HostRuntime) -> Result<(), Fail> {
     let bytes = bytes(rt.alloc(), 270)?;
-    for masks in &all_masks(rt.alloc())? {
+    for case in &all_cases(rt.alloc())? {
         for len in 0..=200usize {
             let offset = len % 65;
             let text = bytes.get(offset..offset + len).unwrap_or_default();
             for from in [0, 1, 2, 3, 63, 64, 65, 66, 67, 130, len] {
-                let agree = from > text.len() || cursor_agrees(masks, text, from);
+                let agree = from > text.len() || cursor_agrees(case, text, from);
                 assert!(rt; agree, "{len} bytes from {from}");
             }
         }
@@ -221,14 +283,29 @@ fn cursor_gives_each_candidate_once(rt: HostRuntime) -> Result<(), Fail> {
 #[test]
 fn cursor_goes_on_behind_any_place(rt: HostRuntime) -> Result<(), Fail> {
     let bytes = bytes(rt.alloc(), 270)?;
-    for masks in &all_masks(rt.alloc())? {
+    for case in &all_cases(rt.alloc())? {
         for from in [0, 1, 62, 63, 64, 65, 130, 205] {
             for place in 0..=270 {
                 let agree = place > bytes.len()
                     || from > bytes.len()
-                    || skip_agrees(masks, &bytes, from, place);
+                    || skip_agrees(case, &bytes, from, place);
                 assert!(rt; agree, "behind {place}, from {from}");
             }
+        }
+    }
+    Ok(())
+}
+
+#[test]
+fn cursor_finds_a_letter_at_any_place(rt: HostRuntime) -> Result<(), Fail> {
+    for case in &all_cases(rt.alloc())? {
+        let mut text = [b'-'; 400];
+        for place in 0..400 {
+            text[place] = b'a';
+            text[399 - place] = b'A';
+            assert!(rt; cursor_agrees(case, &text, 0), "at {place}");
+            text[place] = b'-';
+            text[399 - place] = b'-';
         }
     }
     Ok(())

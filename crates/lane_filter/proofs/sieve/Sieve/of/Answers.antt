@@ -1,4 +1,4 @@
--- Each literal has its pair.
+-- Each literal has its byte, or its pair.
 use Rattle.std.proofs.Common.{◌≡◌, ℕ, ◌<◌, List, length, inl, inr, subst, arith}
 use Rattle.std.proofs.lemmas.Bool.{cases_eq}
 use Rattle.std.proofs.lemmas.Option.{slice_get_within}
@@ -14,9 +14,13 @@ inside l text place end occurs = slice_get_within l.texts place occurs.literal o
 occurs_at : (l : Literals) (text : List ℕ) (place other end : ℕ) → place ≡ other → Occurs l text place end → Occurs l text other end
 occurs_at l text place other end same occurs = subst (λ p. Occurs l text p end) same occurs
 
-pub returns-in-1-clause-sieve : goal.returns-in-1-clause-sieve
-returns-in-1-clause-sieve c =
-    c.of_one.ensures.sieve c.args.list.now c.args.ends.now.items (omega (arith, c.in-1.is, c.len.ensures.value), c.of.ensures.pair)
+pub returns-in-Some-clause-sieve : goal.returns-in-Some-clause-sieve
+returns-in-Some-clause-sieve c =
+    c.of_byte.ensures.sieve c.args.list.now c.args.ends.now.items (omega (arith, c.in-1.is, c.len.ensures.value), c.in-Some.ensures.byte)
+
+pub returns-in-None-clause-sieve : goal.returns-in-None-clause-sieve
+returns-in-None-clause-sieve c =
+    c.of_one.ensures.sieve c.args.list.now c.args.ends.now.items (omega (arith, c.in-1.is, c.len.ensures.value), c.of-in-None.ensures.pair)
 
 pub returns-in-2-clause-sieve : goal.returns-in-2-clause-sieve
 returns-in-2-clause-sieve c =
@@ -28,12 +32,19 @@ returns-in-3-clause-sieve c =
     c.of_three.ensures.sieve c.args.list.now c.args.ends.now.items
     (omega (arith, c.in-3.is, c.len.ensures.value), c.of-in-3.ensures.pair, c.of-in-3-2.ensures.pair, c.of-in-3-3.ensures.pair)
 
-pub returns-in-1-clause-covers : goal.returns-in-1-clause-covers
-returns-in-1-clause-covers c text place end _ occurs =
+pub returns-in-Some-clause-covers : goal.returns-in-Some-clause-covers
+returns-in-Some-clause-covers c text place end _ occurs =
+    let l = c.args.list.now in
+    let within = inside l text place end occurs in
+    c.of_byte.ensures.passes text end
+    (c.in-Some.ensures.stands text end (occurs_at l text place 0 end (omega (arith, within, c.in-1.is, c.len.ensures.value)) occurs))
+
+pub returns-in-None-clause-covers : goal.returns-in-None-clause-covers
+returns-in-None-clause-covers c text place end _ occurs =
     let l = c.args.list.now in
     let within = inside l text place end occurs in
     c.of_one.ensures.passes text end
-    (c.of.ensures.stands text end (occurs_at l text place 0 end (omega (arith, within, c.in-1.is, c.len.ensures.value)) occurs))
+    (c.of-in-None.ensures.stands text end (occurs_at l text place 0 end (omega (arith, within, c.in-1.is, c.len.ensures.value)) occurs))
 
 pub returns-in-2-clause-covers : goal.returns-in-2-clause-covers
 returns-in-2-clause-covers c text place end _ occurs =
