@@ -1,12 +1,14 @@
 -- Checks: a text has the bit of each literal that ends in it.
-use Rattle.std.proofs.Common.{◌≡◌, ℕ, ◌-◌, ◌*◌, ◌%◌, ◌^◌, ◌++◌, replicate, ◌<◌, ◌≤◌, List, length, refl, sym, ◌∙◌, subst, arith}
-use Rattle.std.specs.Int.{bit_at, w8}
+use Rattle.std.proofs.Common.{◌≡◌, ◌≢◌, ℕ, ◌+◌, ◌-◌, ◌*◌, ◌%◌, ◌^◌, ◌++◌, replicate, ◌<◌, ◌≤◌, List, length, inl, inr, refl, sym, ap, ◌∙◌, subst, arith}
+use Rattle.std.specs.Int.{bit_at, bit_not, w8}
 use Rattle.std.specs.Int.RustNames.{bit_and, bit_or}
 use Rattle.std.specs.List.{slice_range}
-use Rattle.std.proofs.lemmas.Nat.Bits.{bit_at-lt, bit_at-zero, bit_at_and, bit_at_or, bit_at_set_same}
+use Rattle.std.proofs.lemmas.Bool.{cases_eq}
+use Rattle.std.proofs.lemmas.Nat.{and_le_l}
+use Rattle.std.proofs.lemmas.Nat.Bits.{bit_at-lt, bit_at-zero, bit_at_and, bit_at_clear_other, bit_at_clear_same, bit_at_or, bit_at_set_same}
 use Rattle.std.proofs.lemmas.Option.{slice_get_within}
 use Rattle.lit_base.specs.declared.suffixes.checks.SuffixChecks.{SuffixChecks}
-use Rattle.lit_base.specs.Chains.{told_at}
+use Rattle.lit_base.specs.Chains.{HaveWidths, NoneToldEnds, told_at}
 use Rattle.lit_base.specs.Checks.{AreChecksOf, IsChecked}
 use Rattle.lit_base.specs.Literals.{Literals}
 use Rattle.lit_base.specs.Occurrences.{Occurs}
@@ -40,3 +42,35 @@ width_added widths byte back bit has =
     let alone = bit_at_or 0 (1 * 2 ^ back % 256) back in
     let both = bit_at_and byte (1 * 2 ^ back % 256) back in
     omega (arith, has, one, alone, both, bit_at-zero back, bit_at_or widths (bit_and byte (1 * 2 ^ back % 256)) back, bit_at-lt (bit_or widths (bit_and byte (1 * 2 ^ back % 256))) back)
+
+-- a literal that ends somewhere is told by some byte
+told_some : (l : Literals) (checks : SuffixChecks) (text : List ℕ) (place end : ℕ) → AreChecksOf l checks → Occurs l text place end → 0 < told_at l place
+told_some l checks text place end is occurs =
+    let there = slice_get_within l.texts place occurs.literal occurs.stands in
+    omega (arith, is.some, is.wide place there)
+
+-- some widths, of which the lowest that has its bit is one more than a number
+module _ (l : Literals) (checks : SuffixChecks) (is : AreChecksOf l checks) (text : List ℕ) (from end widths low : ℕ) (have : HaveWidths l text from end widths) where
+  -- no literal that is told by fewer bytes ends there
+  pub narrower_none : ((i : ℕ) → i < low → bit_at widths i ≡ 0) → (place : ℕ) → from ≤ place → told_at l place < low + 1 → ¬ Occurs l text place end
+  narrower_none none place counted narrow occurs =
+      let some = told_some l checks text place end is occurs in
+      absurd (omega (arith, have place counted occurs, none (told_at l place - 1) (omega arith)))
+
+  -- where none that is told by so many does, the others have their bits without that one
+  pub widths_left : low < 8 → NoneToldEnds l text from end (low + 1) → HaveWidths l text from end (bit_and widths (bit_not w8 (1 * 2 ^ low % 256)))
+  widths_left small none place counted occurs =
+      let some = told_some l checks text place end is occurs in
+      let other : told_at l place - 1 ≢ low = λ e. none place counted (omega arith) occurs in
+      bit_at_clear_other w8 widths low small (told_at l place - 1) (omega arith) other ∙ have place counted occurs
+
+-- without a bit that it has a number is less
+pub fewer_widths : (widths low : ℕ) → low < 8 → bit_at widths low ≡ 1 → bit_and widths (bit_not w8 (1 * 2 ^ low % 256)) < widths
+fewer_widths widths low small has =
+    let left : ℕ = bit_and widths (bit_not w8 (1 * 2 ^ low % 256)) in
+    let none : bit_at left low ≡ 0 = bit_at_clear_same w8 widths low small in
+    let below : left ≤ widths = and_le_l widths (bit_not w8 (1 * 2 ^ low % 256)) in
+    elim (cases_eq left widths) [
+      | inl same ↦ absurd (omega (arith, none, has, ap (λ n. bit_at n low) same))
+      | inr other ↦ omega arith
+    ]

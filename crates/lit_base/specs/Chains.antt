@@ -1,5 +1,6 @@
 -- Literals chained by the hash of the last bytes that each is told by, in their order.
-use Rattle.std.specs.Prelude.{◌≡◌, ◌≢◌, ℕ, ◌+◌, ◌^◌, ◌<◌, ◌≤◌, List, [], length, slice_index, slice_index_or}
+use Rattle.std.specs.Prelude.{◌≡◌, ◌≢◌, ℕ, ◌+◌, ◌-◌, ◌^◌, ◌<◌, ◌≤◌, List, [], length, slice_index, slice_index_or}
+use Rattle.std.specs.Int.{bit_at}
 use Rattle.lit_base.specs.declared.suffixes.chains.SuffixChains.{SuffixChains}
 use Rattle.lit_base.specs.Literals.{Literals}
 use Rattle.lit_base.specs.Occurrences.{Occurs}
@@ -58,3 +59,7 @@ pub record Reaches (l : Literals) (text : List ℕ) (end width : ℕ) (chains : 
   pub within : next ≤ length l.texts
   pub passed : (place : ℕ) → from ≤ place → place < next → told_at l place ≡ width → ¬ Occurs l text place end
   pub has : next < length l.texts → hash_at chains.bits chains.keys.items next ≡ hash_of chains.bits (suffix_key l.folding text end width)
+
+-- of the literals from a place of the list on, each that ends at a place of the text has the bit of the bytes that it is told by
+abbrev pub HaveWidths : Literals → List ℕ → ℕ → ℕ → ℕ → Type 0
+HaveWidths l text from end widths = (place : ℕ) → from ≤ place → Occurs l text place end → bit_at widths (told_at l place - 1) ≡ 1

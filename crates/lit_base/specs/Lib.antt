@@ -3,6 +3,8 @@ pub mod Chains
 pub mod Checks
 pub mod Costs
 pub mod Cuts
+pub mod EndingCursors
+pub mod EndingViews
 pub mod Faults
 pub mod Folding
 pub mod Limits

@@ -28,7 +28,7 @@ pub use limits::{
     BUCKETS, MAX_LIST_LEN, MAX_LITERAL_LEN, MAX_LITERALS, MAX_PATTERNS, MAX_TEXT_LEN,
 };
 pub use lines::{Lines, ended_law, lines_law, matching_law};
-pub use lit_list::{LitList, Normal};
+pub use lit_list::{Endings, LitList, Normal};
 pub use normal_form::normal_form_law;
 pub use occurrences::hits_law;
 pub use raw_list::RawList;

@@ -1,4 +1,6 @@
 //! Lists of literals in normal form.
+mod endings;
+
 ghost use Rattle.std.specs.Prelude.{◌≡◌, ℕ, ◌+◌, ◌<◌, ◌≤◌, ◌-◌, ◌↔◌, ◌⊎◌, [], All, Contains, IfErr, IfOk, IfSome, IsTrue, MatchOption, length, slice_index_or, slice_index};
 ghost use Rattle.std.specs.Int.{bit_at};
 ghost use Rattle.std.specs.List.{AllZip};
@@ -13,6 +15,7 @@ ghost use Rattle.lit_base.specs.declared.limits.TheConstants.{MAX_LITERALS};
 use crate::fault::Fault;
 use crate::fold::Fold;
 use crate::folded_list::FoldedList;
+pub use crate::lit_list::endings::Endings;
 use crate::normal_form::{distinct, has_null, in_order, places};
 use crate::raw_list::RawList;
 use crate::suffixes::Suffixes;
@@ -146,6 +149,19 @@ impl LitList {
             return self.only_ending(text, end, from);
         }
         self.suffixes.next_ending(&self.literals, text, end, from)
+    }
+
+    /// The literals from place `from` on that end at `end` in the text, in order. Whoever wants all of them goes over these in
+    /// place of one call of `next_ending` for each: what stands before `end` is looked up but once.
+    #[inline]
+    pub fn endings<'a>(&'a self, text: &'a [u8], end: usize, from: usize) -> Endings<'a>
+        requires { end ≤ length text.now }
+        ensures literals { result.literals ≡ self.now }
+        ensures text { result.text ≡ text.now }
+        ensures end { result.end ≡ end }
+        ensures from { result.from ≡ from }
+    {
+        Endings::new(self, text, end, from)
     }
 
     /// The first of the literals that ends at `end` in the text, if there is one. It answers as `next_ending` from the first

@@ -4,13 +4,14 @@ mod checks;
 mod key;
 mod marks;
 
-ghost use Rattle.std.specs.Prelude.{◌≡◌, ℕ, ◌-◌, ◌<◌, ◌≤◌, All, IfOk, MatchOption, length, map};
-ghost use Rattle.std.specs.Int.{bit_at};
+ghost use Rattle.std.specs.Prelude.{◌≡◌, ◌^◌, ◌<◌, ◌≤◌, All, IfOk, MatchOption, length, map};
 ghost use Rattle.std.specs.List.Sorted.{IsNonDecreasing};
-ghost use Rattle.lit_base.specs.Chains.{told_at};
+ghost use Rattle.lit_base.specs.Chains.{HaveWidths};
 ghost use Rattle.lit_base.specs.Checks.{AreSuffixesOf};
-ghost use Rattle.lit_base.specs.Occurrences.{IsFirstEnding, NoneEnds, Occurs};
+ghost use Rattle.lit_base.specs.Literals.{Literals};
+ghost use Rattle.lit_base.specs.Occurrences.{IsFirstEnding, NoneEnds};
 ghost use Rattle.lit_base.specs.declared.limits.TheConstants.{MAX_LITERALS};
+ghost use Rattle.lit_base.specs.declared.suffixes.checks.TheConstants.{CHECK_BITS};
 
 use crate::fold::Fold;
 use crate::folded_list::FoldedList;
@@ -19,7 +20,7 @@ use crate::suffixes::chains::SuffixChains;
 use crate::suffixes::checks::SuffixChecks;
 pub(crate) use crate::suffixes::key::told_width;
 pub use crate::suffixes::key::{case_bits, hash_of, last_bits, last_word, suffix_key};
-use crate::suffixes::marks::{SuffixMarks, is_marked};
+use crate::suffixes::marks::SuffixMarks;
 pub use crate::suffixes::marks::{HASH_BITS, mark_literal};
 use std::alloc::{AllocError, Global};
 
@@ -82,43 +83,62 @@ impl Suffixes {
             (NoneEnds literals.now text.now from end)
             (λ place. IsFirstEnding literals.now text.now from end place) }
     {
-        if end < 8 {
-            return self.next_by_widths(literals, text, end, from, u8::MAX);
-        }
-        let widths = self.checks.widths_at(text, end);
+        let mut widths = self.widths_at(text, end);
         if widths == 0 {
             return None;
         }
-        self.next_by_widths(literals, text, end, from, widths)
+        self.next_by_widths(literals, text, end, from, &mut widths)
+    }
+
+    /// The widths of the literals that may end at `end`: bit `width - 1` stands for those that are told by so many bytes.
+    /// Where there are no eight bytes before `end` these are all widths.
+    #[inline(always)]
+    pub fn widths_at(&self, text: &[u8], end: usize) -> u8
+        requires some { 0 < self.now.checks.least }
+        requires room { length self.now.checks.widths.items ≡ 2 ^ CHECK_BITS }
+        requires inside { end ≤ length text.now }
+        ensures { (l : Literals) → AreSuffixesOf l self.now → HaveWidths l text.now 0 end result }
+    {
+        if end < 8 {
+            return u8::MAX;
+        }
+        self.checks.widths_at(text, end)
     }
 
     /// The search of `next_ending` among the literals that are told by some widths: bit `width - 1` stands for those that
-    /// are told by so many bytes. A wider literal comes later in the list.
+    /// are told by so many bytes. A wider literal comes later in the list. A width that no literal from `from` on that ends
+    /// there is told by may lose its bit.
     #[inline(never)]
-    fn next_by_widths(
+    pub fn next_by_widths(
         &self,
         literals: &FoldedList,
         text: &[u8],
         end: usize,
         from: usize,
-        widths: u8,
+        widths: &mut u8,
     ) -> Option<usize>
         requires of { AreSuffixesOf literals.now self.now }
         requires few { length literals.now.texts ≤ MAX_LITERALS }
         requires rising { IsNonDecreasing (map length literals.now.texts) }
         requires inside { end ≤ length text.now }
-        requires told { (place : ℕ) → Occurs literals.now text.now place end → bit_at widths (told_at literals.now place - 1) ≡ 1 }
-        ensures { MatchOption result
+        requires told { HaveWidths literals.now text.now from end widths.old }
+        ensures first { MatchOption result
             (NoneEnds literals.now text.now from end)
             (λ place. IsFirstEnding literals.now text.now from end place) }
+        ensures told { HaveWidths literals.now text.now from end widths.new }
     {
-        for width in 1..9 {
-            if width <= end && is_marked(widths, width - 1) {
-                let found = self.chains.next_told(literals, text, end, from, width);
-                if found.is_some() {
-                    return found;
-                }
+        let mut left = *widths;
+        while left != 0 {
+            let width = left.trailing_zeros() as usize + 1;
+            if end < width {
+                return None;
             }
+            let found = self.chains.next_told(literals, text, end, from, width);
+            if found.is_some() {
+                *widths = left;
+                return found;
+            }
+            left &= !(1 << (width - 1));
         }
         None
     }

@@ -1,33 +1,55 @@
--- A literal that ends there is told by one of the widths, and those of smaller widths come before it.
-use Rattle.std.proofs.Common.{◌≡◌, ◌-◌, inl, inr, subst, arith}
-use Rattle.std.specs.Int.{bit_at}
-use Rattle.std.proofs.lemmas.Bool.{cases_lt}
-use Rattle.lit_base.specs.Chains.{told_at}
+-- The lowest width is gone over first, as literals of fewer bytes come before, and it is dropped where none of its literals is left.
+use Rattle.std.proofs.Common.{◌≡◌, ◌+◌, ◌-◌, ◌<◌, w8, ap, arith}
+use Rattle.std.specs.Int.{bit_at, trailing_zeros}
+use Rattle.std.proofs.Math.Facts.{Fits-lt-pow}
+use Rattle.std.proofs.lemmas.Nat.Bits.{bit_at-trailing_zeros, bit_at-zero}
+use Rattle.lit_base.specs.Chains.{NoneToldEnds, told_at}
 use Rattle.lit_base.proofs.ChainLemmas.{fits_before, first_by_width, none_told}
+use Rattle.lit_base.proofs.CheckLemmas.{fewer_widths, narrower_none, widths_left}
 use Rattle.lit_base.proofs.suffixes.Suffixes.next_by_widths.Goals as goal
-use Rattle.lit_base.proofs.suffixes.Suffixes.next_by_widths.Goals.{then-width-end+then-is_marked+else-is_some, else-width-end, else-width-end-via-then-width-end+else-is_marked, else-width-end-via-else-width-end}
 
-pub returns-then-is_some : goal.returns-then-is_some
-returns-then-is_some c =
-    first_by_width c.args.literals.now c.args.text.now c.args.from c.args.end c.loop-width.width c.next_told-found.result c.requires.rising c.loop-width.invariant (c.if-is_some.ensures) c.next_told-found.ensures
+pub returns-then-end-width-clause-first : goal.returns-then-end-width-clause-first
+returns-then-end-width-clause-first c = λ place counted occurs.
+    let left = c.loop-left.left in
+    let some : 0 < left = omega (arith, c.loop-left-test.true) in
+    let lowest = bit_at-trailing_zeros w8 left some (Fits-lt-pow c.loop-left.auto.left-fits) in
+    let fits = fits_before c.args.literals.now c.args.text.now place c.args.end occurs in
+    narrower_none c.args.literals.now c.args.self.now.checks c.requires.of.checks c.args.text.now c.args.from c.args.end left (trailing_zeros w8 left) c.loop-left.invariant lowest.2 place counted
+    (omega (arith, fits, c.if-end-width.true)) occurs
 
-pub loop-width-preserved : goal.loop-width-preserved
-loop-width-preserved c = λ place low narrow occurs. elim (cases_lt (told_at c.args.literals.now place) c.loop-width.width) [
-  | inl before ↦ c.loop-width.invariant place low before occurs
-  | inr behind ↦
-      let here : told_at c.args.literals.now place ≡ c.loop-width.width = omega (arith, narrow, behind) in
-      elim c.if-width-end.branch [
-        | then-width-end+then-is_marked+else-is_some w ↦ none_told c.args.literals.now c.args.text.now c.args.from c.args.end c.loop-width.width w.next_told-found.result (w.if-is_some.ensures) w.next_told-found.ensures place low here occurs
-        | else-width-end w ↦ elim w.else-width-end.branch [
-          | else-width-end-via-then-width-end+else-is_marked v ↦
-              let no = v.if-is_marked.false in
-              let yes = v.is_marked.ensures.1 (subst (λ width. bit_at c.args.widths (width - 1) ≡ 1) here (c.requires.told place occurs)) in
-              (cc)
-          | else-width-end-via-else-width-end v ↦
-              absurd (omega (arith, v.if-width-end.false, here, fits_before c.args.literals.now c.args.text.now place c.args.end occurs))
-        ]
-      ]
-]
+pub returns-then-end-width-clause-told : goal.returns-then-end-width-clause-told
+returns-then-end-width-clause-told c = λ place counted occurs. absurd (returns-then-end-width-clause-first c place counted occurs)
 
-pub returns : goal.returns
-returns c = λ place low occurs. c.loop-width.invariant place low (omega (arith, c.loop-width-test.false)) occurs
+pub returns-then-is_some-clause-first : goal.returns-then-is_some-clause-first
+returns-then-is_some-clause-first c =
+    let left = c.loop-left.left in
+    let some : 0 < left = omega (arith, c.loop-left-test.true) in
+    let lowest = bit_at-trailing_zeros w8 left some (Fits-lt-pow c.loop-left.auto.left-fits) in
+    let narrower = narrower_none c.args.literals.now c.args.self.now.checks c.requires.of.checks c.args.text.now c.args.from c.args.end left (trailing_zeros w8 left) c.loop-left.invariant lowest.2 in
+    first_by_width c.args.literals.now c.args.text.now c.args.from c.args.end (trailing_zeros w8 left + 1) c.next_told-found.result c.requires.rising narrower c.if-is_some.ensures c.next_told-found.ensures
+
+pub loop-left-smaller : goal.loop-left-smaller
+loop-left-smaller c =
+    let left = c.loop-left.left in
+    let some : 0 < left = omega (arith, c.loop-left-test.true) in
+    let lowest = bit_at-trailing_zeros w8 left some (Fits-lt-pow c.loop-left.auto.left-fits) in
+    let place : trailing_zeros w8 left + 1 - 1 ≡ trailing_zeros w8 left = omega arith in
+    rw place (fewer_widths left (trailing_zeros w8 left) lowest.0 lowest.1)
+
+pub loop-left-preserved : goal.loop-left-preserved
+loop-left-preserved c =
+    let left = c.loop-left.left in
+    let some : 0 < left = omega (arith, c.loop-left-test.true) in
+    let lowest = bit_at-trailing_zeros w8 left some (Fits-lt-pow c.loop-left.auto.left-fits) in
+    let place : trailing_zeros w8 left + 1 - 1 ≡ trailing_zeros w8 left = omega arith in
+    let none : NoneToldEnds c.args.literals.now c.args.text.now c.args.from c.args.end (trailing_zeros w8 left + 1) =
+    none_told c.args.literals.now c.args.text.now c.args.from c.args.end (trailing_zeros w8 left + 1) c.next_told-found.result c.if-is_some.ensures c.next_told-found.ensures in
+    rw place (widths_left c.args.literals.now c.args.self.now.checks c.requires.of.checks c.args.text.now c.args.from c.args.end left (trailing_zeros w8 left) c.loop-left.invariant lowest.0 none)
+
+pub returns-clause-first : goal.returns-clause-first
+returns-clause-first c = λ place counted occurs.
+    let none : c.loop-left.left ≡ 0 = omega (arith, c.loop-left-test.false) in
+    absurd (omega (arith, c.loop-left.invariant place counted occurs, ap (λ w. bit_at w (told_at c.args.literals.now place - 1)) none, bit_at-zero (told_at c.args.literals.now place - 1)))
+
+pub returns-clause-told : goal.returns-clause-told
+returns-clause-told c = λ place counted occurs. absurd (returns-clause-first c place counted occurs)

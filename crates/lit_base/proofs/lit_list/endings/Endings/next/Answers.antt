@@ -1,0 +1,24 @@
+-- What the suffixes answer is what the cursor tells, and each literal that is left has the bit of its width yet.
+use Rattle.std.proofs.Common.{◌<◌, length, arith}
+use Rattle.std.proofs.lemmas.Option.{slice_get_within}
+use Rattle.lit_base.proofs.LengthLemmas.{lengths_rise}
+use Rattle.lit_base.proofs.lit_list.endings.Endings.next.Goals as goal
+use Rattle.lit_base.proofs.lit_list.endings.Endings.next.Goals.{In_ok-place}
+
+pub next_by_widths-requires-clause-rising : goal.next_by_widths-requires-clause-rising
+next_by_widths-requires-clause-rising c = lengths_rise _ c.list.invariant.0
+
+pub returns-in_err-place-clause-first : goal.returns-in_err-place-clause-first
+returns-in_err-place-clause-first c = rw (c.from_residual.ensures, ← c.self.view_is, ← c.list.view_is) c.in_err-place.ensures.first
+
+-- what is found is one of the literals
+within : (c : In_ok-place) → c.in_ok-place.place < length c.list.inside.literals.texts
+within c =
+    let occurs = c.in_ok-place.ensures.first.occurs in
+    slice_get_within c.list.inside.literals.texts c.in_ok-place.place occurs.literal occurs.stands
+
+pub overflow_add-self : goal.overflow_add-self
+overflow_add-self c = omega (arith, within (goal.at.overflow_add-self c).In_ok-place, c.list.invariant.0.few)
+
+pub returns-clause-within : goal.returns-clause-within
+returns-clause-within c = rw (← c.self.view_is, ← c.list.view_is) (within (goal.at.returns-clause-within c).In_ok-place)

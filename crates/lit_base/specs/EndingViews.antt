@@ -1,0 +1,14 @@
+-- The fields of a cursor over the literals that end at one place of a text.
+use Rattle.std.specs.Prelude.{◌≤◌, length}
+use Rattle.lit_base.specs.Chains.{HaveWidths}
+use Rattle.lit_base.specs.EndingCursors.{EndingCursor}
+use Rattle.lit_base.specs.declared.lit_list.endings.Endings.TheInside.{Inside}
+
+-- what contracts see of the fields
+abbrev pub cursor_of : Inside → EndingCursor
+cursor_of fields = record { literals = fields.list.now; text = fields.text.now; end = fields.end; from = fields.from }
+
+-- the place stands in the text, and each literal that is left has the bit of its width
+pub record IsReady (fields : Inside) : Type 0 where
+  pub inside : fields.end ≤ length fields.text.now
+  pub told : HaveWidths fields.list.now fields.text.now fields.from fields.end fields.widths

@@ -1,0 +1,83 @@
+//! The literals that end at one place of a text, one after another.
+ghost use Rattle.std.specs.Prelude.{◌≡◌, ◌+◌, ◌<◌, ◌≤◌, IfSome, MatchOption, length};
+ghost use Rattle.std.specs.Option.{IfNone};
+ghost use Rattle.lit_base.specs.Occurrences.{IsFirstEnding, NoneEnds};
+
+use crate::lit_list::LitList;
+use std::marker::Model;
+
+/// The literals that end at one place of a text, in order, from one of the list on. A contract sees the literals, the text,
+/// that place, and the place of the list from which on the next one is looked for.
+///
+/// What the text's last bytes tell there is looked up once for all of them.
+#[derive(Drop)]
+pub struct Endings<'a> {
+    list: &'a LitList,
+    text: &'a [u8],
+    end: usize,
+    from: usize,
+    /// Bit `width - 1` is set where a literal from `from` on that is told by so many bytes may end there.
+    widths: u8,
+}
+
+impl<'a> Model for Endings<'a> {
+    ghost use Rattle.lit_base.specs.EndingCursors.{EndingCursor};
+
+    ghost Value = { EndingCursor };
+
+    ghost use Rattle.lit_base.specs.EndingViews.{cursor_of, IsReady};
+
+    ghost view = { cursor_of };
+
+    ghost invariant = { IsReady };
+}
+
+impl<'a> Endings<'a> {
+    /// The literals from place `from` on that end at `end`.
+    #[inline]
+    pub(super) fn new(list: &'a LitList, text: &'a [u8], end: usize, from: usize) -> Endings<'a>
+        requires { end ≤ length text.now }
+        ensures literals { result.literals ≡ list.now }
+        ensures text { result.text ≡ text.now }
+        ensures end { result.end ≡ end }
+        ensures from { result.from ≡ from }
+    {
+        Endings {
+            list,
+            text,
+            end,
+            from,
+            widths: list.suffixes.widths_at(text, end),
+        }
+    }
+
+    /// The next literal that ends there, if one is left.
+    #[inline]
+    pub fn next(&mut self) -> Option<usize>
+        ensures literals { self.new.literals ≡ self.old.literals }
+        ensures text { self.new.text ≡ self.old.text }
+        ensures end { self.new.end ≡ self.old.end }
+        ensures first { MatchOption result
+            (NoneEnds self.old.literals self.old.text self.old.from self.old.end)
+            (λ place. IsFirstEnding self.old.literals self.old.text self.old.from self.old.end place) }
+        ensures within { IfSome result (λ place. place < length self.old.literals.texts) }
+        ensures moved { IfSome result (λ place. self.new.from ≡ place + 1) }
+        ensures stays { IfNone result (self.new.from ≡ self.old.from) }
+    {
+        if self.widths == 0 {
+            return None;
+        }
+        let list = self.list;
+        let mut widths = self.widths;
+        let place = list.suffixes.next_by_widths(
+            &list.literals,
+            self.text,
+            self.end,
+            self.from,
+            &mut widths,
+        )?;
+        self.widths = widths;
+        self.from = place + 1;
+        Some(place)
+    }
+}
