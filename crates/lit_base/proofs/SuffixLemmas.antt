@@ -5,16 +5,17 @@ use Rattle.std.proofs.Math.Facts.{Fits-lt-pow}
 use borrow.Rule.Slice.PartMut.{put_mid}
 use Rattle.std.specs.Int.{w64, from_le_bytes}
 use Rattle.std.specs.Int.RustNames.{bit_and, bit_or}
+use Rattle.std.specs.Int.Bits.{or_zero_r}
 use Rattle.std.specs.List.{slice_range}
 use Rattle.std.specs.Option.{unwrap_or}
 use Rattle.std.proofs.lemmas.Bool.{agree_below_at, cases_lt}
 use Rattle.std.proofs.lemmas.Bool.Decides.{nat_tests, Decides-eqb}
-use Rattle.std.proofs.lemmas.List.{append-nil, drop-drop, drop-map, drop_all, take-replicate, take-take, take-map, get_or_past, length-append, length-replicate, length-take}
+use Rattle.std.proofs.lemmas.List.{append-nil, append_cancel_left, drop-drop, drop-map, drop_all, take-replicate, take-take, take-map, get_or_past, length-append, length-replicate, length-take}
 use Rattle.std.proofs.lemmas.List.Edits.{length-between, get_or-between}
 use Rattle.std.proofs.lemmas.Nat.{pow-add, shr-shr, shr_high, or_block}
 use Rattle.std.proofs.lemmas.Nat.Bits.{and_high_mask}
 use Rattle.std.proofs.Math.Nat.{mul_assoc}
-use Rattle.std.proofs.lemmas.Option.{unwrap_or-slice_get}
+use Rattle.std.proofs.lemmas.Option.{slice_get-get_or, unwrap_or-slice_get}
 use Rattle.std.proofs.lemmas.Slice.{between_is, between_to_end}
 use Rattle.lit_base.specs.declared.fold.Fold.{Fold}
 use Rattle.lit_base.specs.declared.fold.Fold.TheVariants.{No, Ascii}
@@ -259,3 +260,54 @@ key-occurs_inside l text place end width back bytes narrow wide occurs =
     let is : t ≡ literal_at l place = sym (ap (λ o. unwrap_or o []) occurs.stands) ∙ unwrap_or-slice_get l.texts place [] in
     subst (λ u. width + back ≤ length u → suffix_key l.folding text (end - back) width ≡ suffix_key l.folding u (length u - back) width) is
     (λ w. same_key_inside l.folding text t end width back bytes narrow w occurs.begins occurs.ends occurs.bytes) wide
+
+-- equally many bytes that spell one number are one text
+spelled_once : (xs ys : List ℕ) → AreBytes xs → AreBytes ys → length xs ≡ length ys → spelled xs ≡ spelled ys → xs ≡ ys
+spelled_once [] [] h g len same = refl
+spelled_once [] (y ∷ ys) h g len same = absurd (omega arith)
+spelled_once (x ∷ xs) [] h g len same = absurd (omega arith)
+spelled_once (x ∷ xs) (y ∷ ys) h g len same =
+    let one : x < 256 = h.small 0 in
+    let other : y < 256 = g.small 0 in
+    let first : x ≡ y = omega arith in
+    let rest : spelled xs ≡ spelled ys = omega arith in
+    let tails : xs ≡ ys = spelled_once xs ys (rest_bytes x xs h) (rest_bytes y ys g) (omega arith) rest in
+    λ i. first i ∷ tails i
+
+-- where nothing is folded, a text is its own folded text
+pub unfolded : (text : List ℕ) → folded_text No text ≡ text
+unfolded [] = refl
+unfolded (b ∷ bs) = ap (λ s. b ∷ s) (unfolded bs)
+
+-- where case counts, the key of all of a text's bytes tells them
+key_tells : (xs ys : List ℕ) (end : ℕ) → AreBytes xs → AreBytes ys → length xs ≤ 8 → length xs ≤ end → end ≤ length ys → suffix_key No ys end (length xs) ≡ suffix_key No xs (length xs) (length xs)
+    → slice_range ys (end - length xs) end ≡ xs
+unfolding suffix_key
+key_tells xs ys end bytes others narrow room inside same =
+    let width : ℕ = length xs in
+    let zeros : List ℕ = replicate (8 - width) 0 in
+    let part : List ℕ = slice_range ys (end - width) end in
+    let start : width - width ≡ 0 = omega arith in
+    let all : slice_range xs (width - width) width ≡ xs = between_to_end xs (width - width) width (omega arith) ∙ ap (λ n. drop n xs) start in
+    let len : length part ≡ width = length-between ys (end - width) end inside ∙ omega arith in
+    let spell : spelled (zeros ++ part) ≡ spelled (zeros ++ xs) =
+    sym (or_zero_r (spelled (zeros ++ part))) ∙ same ∙ or_zero_r (spelled (zeros ++ slice_range xs (width - width) width)) ∙ ap (λ s. spelled (zeros ++ s)) all in
+    append_cancel_left zeros part xs
+    (spelled_once (zeros ++ part) (zeros ++ xs) (zeros_bytes (8 - width) part (range_bytes ys (end - width) end inside others)) (zeros_bytes (8 - width) xs bytes)
+    (omega (arith, length-append zeros part, length-append zeros xs, len)) spell)
+
+-- and so a literal of a few bytes ends where the text has its key
+pub occurs-key : (l : Literals) (text : List ℕ) (place end width : ℕ) → AreBytes text → AreBytes (literal_at l place) → l.folding ≡ No → place < length l.texts → length (literal_at l place) ≡ width → width ≤ 8 → width ≤ end → end ≤ length text
+    → suffix_key l.folding text end width ≡ suffix_key l.folding (literal_at l place) (length (literal_at l place)) width → Occurs l text place end
+occurs-key l text place end width bytes others case inside len narrow room within same =
+    let t : List ℕ = literal_at l place in
+    let whole : suffix_key No text end (length t) ≡ suffix_key No t (length t) (length t) =
+    subst (λ n. suffix_key No text end n ≡ suffix_key No t (length t) n) (sym len) (subst (λ f. suffix_key f text end width ≡ suffix_key f t (length t) width) case same) in
+    let part : List ℕ = slice_range text (end - length t) end in
+    record {
+      literal = t;
+      stands = slice_get-get_or l.texts place [] inside;
+      begins = omega (arith, len, room);
+      ends = within;
+      bytes = ap (λ f. folded_text f part) case ∙ unfolded part ∙ key_tells t text end others bytes (omega (arith, len, narrow)) (omega (arith, len, room)) within whole;
+    }

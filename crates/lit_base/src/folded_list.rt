@@ -1,12 +1,10 @@
 //! Folded literals, and whether one of them ends at a place of a text.
 ghost use Rattle.std.specs.Prelude.{◌≡◌, ◌<◌, ◌≤◌, ◌↔◌, IsTrue, length, slice_index_or};
-ghost use Rattle.lit_base.specs.Chains.{told_at};
 ghost use Rattle.lit_base.specs.Folding.{folded_text};
 ghost use Rattle.lit_base.specs.Occurrences.{Occurs};
 
 use crate::fold::{Fold, fold_byte};
 use crate::literal::Literal;
-use crate::suffixes::told_width;
 use std::marker::Model;
 
 /// Literals, with the fold that they are compared under.
@@ -55,15 +53,6 @@ impl FoldedList {
         ensures { result.now ≡ slice_index_or self.now.texts place result.now }
     {
         self.literals[place].as_slice()
-    }
-
-    /// By how many of its last bytes the literal at a place is told.
-    #[inline]
-    pub fn told_len(&self, place: usize) -> usize
-        requires { place < length self.now.texts }
-        ensures { result ≡ told_at self.now place }
-    {
-        told_width(self.get(place).len())
     }
 
     /// Whether the literal at a place ends at `end` in the text.

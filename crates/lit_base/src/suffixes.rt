@@ -18,7 +18,6 @@ use crate::folded_list::FoldedList;
 use crate::literal::Literal;
 use crate::suffixes::chains::SuffixChains;
 use crate::suffixes::checks::SuffixChecks;
-pub(crate) use crate::suffixes::key::told_width;
 pub use crate::suffixes::key::{case_bits, hash_of, last_bits, last_word, suffix_key};
 use crate::suffixes::marks::SuffixMarks;
 pub use crate::suffixes::marks::{HASH_BITS, mark_literal};

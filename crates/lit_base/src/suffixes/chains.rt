@@ -78,7 +78,8 @@ impl SuffixChains {
         None
     }
 
-    /// Whether a literal is told by `width` bytes and ends at `end`, before which the text has the key of so many bytes.
+    /// Whether a literal is told by `width` bytes and ends at `end`, before which the text has the key of so many bytes. Where
+    /// case counts, the key spells all bytes of a short literal, which are not compared again.
     fn ends_with_key(
         &self,
         literals: &FoldedList,
@@ -90,6 +91,7 @@ impl SuffixChains {
     ) -> bool
         requires of { AreChainsOf literals.now self.now }
         requires narrow { width ≤ 8 }
+        requires room { width ≤ end }
         requires inside { end ≤ length text.now }
         requires key { key ≡ suffix_key literals.now.folding text.now end width }
         requires within { place < length literals.now.texts }
@@ -98,7 +100,14 @@ impl SuffixChains {
         if self.keys[place] != key {
             return false;
         }
-        literals.told_len(place) == width && literals.ends_at(place, text, end)
+        let literal = literals.get(place);
+        if told_width(literal.len()) != width {
+            return false;
+        }
+        if literal.len() == width && literals.folding() == Fold::No {
+            return true;
+        }
+        literals.ends_at(place, text, end)
     }
 
     /// The first literal from `from` on whose hash is the key's, and perhaps one before: it goes on from the literal before

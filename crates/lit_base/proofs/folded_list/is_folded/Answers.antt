@@ -1,13 +1,9 @@
 -- Where nothing is folded, the text is its own folded text.
-use Rattle.std.proofs.Common.{◌≡◌, ℕ, List, [], ◌∷◌, refl, sym, ap, ◌∙◌}
+use Rattle.std.proofs.Common.{◌≡◌, sym, ap, ◌∙◌}
 use Rattle.std.proofs.lemmas.Slice.Eq.{bytes_eq-Decides}
 use Rattle.lit_base.specs.Folding.{folded_text}
-use Rattle.lit_base.specs.declared.fold.Fold.TheVariants.{No}
+use Rattle.lit_base.proofs.SuffixLemmas.{unfolded}
 use Rattle.lit_base.proofs.folded_list.is_folded.Goals as goal
-
-unfolded : (text : List ℕ) → folded_text No text ≡ text
-unfolded [] = refl
-unfolded (b ∷ bs) = ap (λ s. b ∷ s) (unfolded bs)
 
 pub returns-in-No : goal.returns-in-No
 returns-in-No c =
