@@ -134,10 +134,9 @@ fn add_all_at(
     ensures kept { Extends out.old.items out.new.items }
 {
     out.push(hit_of(list, first, at))?;
-    let mut from = first + 1;
-    while let Some(place) = list.next_ending(text, end, from) {
+    let mut endings = list.endings(text, end, first + 1);
+    while let Some(place) = endings.next() {
         out.push(hit_of(list, place, at))?;
-        from = place + 1;
     }
     Ok(())
 }

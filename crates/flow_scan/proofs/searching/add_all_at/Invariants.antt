@@ -5,12 +5,15 @@ use Rattle.flow_scan.proofs.searching.add_all_at.Given as goal
 -- the hits added are those of the literals passed
 abbrev pub invariant-loop-place : goal.invariant-loop-place
 invariant-loop-place l = record {
+  literals : l.endings.literals ≡ l.list;
+  text : l.endings.text ≡ l.text;
+  end : l.endings.end ≡ l.end;
   found : List (ℕ × ℕ);
   grown : l.out.items ≡ l.fn.out.items ++ found;
-  added : AreHitsAtBefore l.list l.text l.end l.at l.from found;
-  counted : l.from ≤ length l.list.texts;
-  few : length found ≤ l.from;
+  added : AreHitsAtBefore l.list l.text l.end l.at l.endings.from found;
+  counted : l.endings.from ≤ length l.list.texts;
+  few : length found ≤ l.endings.from;
 }
 
 abbrev pub decreases-loop-place : goal.decreases-loop-place
-decreases-loop-place l = length l.list.texts - l.from
+decreases-loop-place l = length l.list.texts - l.endings.from
