@@ -1,4 +1,5 @@
 //! Worked lists, the limits by their numbers, and literals found by where they end.
+mod nested;
 mod spoilt;
 
 use super::*;

@@ -54,7 +54,7 @@ fn spoilt_words(alloc: Global, shortest: u8, spoilt: u8) -> Option<Vec<u8>> {
 }
 
 /// Whether a literal ends at a place of the text.
-fn stands_before(fold: Fold, literal: &[u8], text: &[u8], end: usize) -> bool {
+pub(super) fn stands_before(fold: Fold, literal: &[u8], text: &[u8], end: usize) -> bool {
     let Some(start) = end.checked_sub(literal.len()) else {
         return false;
     };

@@ -1,0 +1,103 @@
+//! Literals that end in one another, all of them at each place, beside a search that compares each.
+use crate::fold::Fold;
+use crate::lit_list::LitList;
+use crate::lit_list::tests::spoilt::stands_before;
+use crate::lit_list::tests::{normal_of, raw_of};
+use std::alloc::Global;
+use std::process::Abort;
+
+/// Literals of a few bytes. In order they are `a`, `aa`, `ba`, `aaa` and `cba`.
+const SHORT: [&[u8]; 5] = [b"a", b"aa", b"aaa", b"ba", b"cba"];
+
+/// Literals with the same last eight bytes, and one of fewer.
+const LONG: [&[u8]; 5] = [
+    b"ha",
+    b"bcdefgha",
+    b"abcdefgha",
+    b"cbcdefgha",
+    b"aabcdefgha",
+];
+
+/// The literals from one on that end at a place, as the list gives them.
+fn given(
+    alloc: Global,
+    list: &LitList,
+    text: &[u8],
+    end: usize,
+    from: usize,
+) -> Option<Vec<usize>> {
+    if end > text.len() {
+        return None;
+    }
+    let mut places = Vec::new(alloc);
+    let mut endings = list.endings(text, end, from);
+    for _ in 0..list.len() {
+        let Some(place) = endings.next() else {
+            return Some(places);
+        };
+        places.push(place).ok()?;
+    }
+    Some(places)
+}
+
+/// The same, by comparing each.
+fn compared(
+    alloc: Global,
+    list: &LitList,
+    text: &[u8],
+    end: usize,
+    from: usize,
+) -> Option<Vec<usize>> {
+    let mut places = Vec::new(alloc);
+    for place in from..list.len() {
+        if place < list.len() && stands_before(list.fold(), list.get(place), text, end) {
+            places.push(place).ok()?;
+        }
+    }
+    Some(places)
+}
+
+/// At how many places of the text, from how many literals on, the list gives others.
+fn differences(alloc: Global, fold: Fold, patterns: &[&[u8]], text: &[u8]) -> Option<usize> {
+    let list = normal_of(alloc, &raw_of(alloc, patterns)?, fold)?;
+    let mut count = 0usize;
+    for end in 0..=text.len() {
+        for from in 0..=list.len() {
+            let wanted = compared(alloc, &list, text, end, from)?;
+            if given(alloc, &list, text, end, from)?.as_slice() != wanted.as_slice() {
+                count = count.wrapping_add(1);
+            }
+        }
+    }
+    Some(count)
+}
+
+/// Asserts that there are none, whether case counts or not.
+fn assert_none_differ<R: Abort + AllocGlobal>(rt: &R, patterns: &[&[u8]], text: &[u8]) {
+    for fold in [Fold::No, Fold::Ascii] {
+        assert_eq!(*rt;
+            differences(rt.alloc(), fold, patterns, text),
+            Some(0),
+            "{text:?}"
+        );
+    }
+}
+
+#[test]
+fn gives_all_that_end_at_each_place(rt: HostRuntime) {
+    assert_none_differ(&rt, &SHORT, b"aaa.cbaaa.cBAaA");
+    assert_none_differ(&rt, &LONG, b"ha.aabcdefgha.cbcdefghA.ccbcdefgha");
+    assert_none_differ(&rt, &[b"ba"], b"cba.Ba");
+}
+
+/// Whether the literals that end with a text of three bytes stand at these places.
+fn are_given(alloc: Global, text: &[u8; 3], places: &[usize]) -> Option<bool> {
+    let list = normal_of(alloc, &raw_of(alloc, &SHORT)?, Fold::No)?;
+    Some(given(alloc, &list, text, 3, 0)?.as_slice() == places)
+}
+
+#[test]
+fn gives_them_in_order(rt: HostRuntime) {
+    assert_eq!(rt; are_given(rt.alloc(), b"aaa", &[0, 1, 3]), Some(true));
+    assert_eq!(rt; are_given(rt.alloc(), b"cba", &[0, 2, 4]), Some(true));
+}
