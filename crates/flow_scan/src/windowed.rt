@@ -164,13 +164,15 @@ pub(crate) fn next_end_by_windows(
     from: usize,
     met: &mut Met,
 ) -> Option<(usize, usize)>
-    requires list { windows.now.literals ≡ list.now }
-    requires inside { from ≤ length text.now }
+    requires { windows.now.literals ≡ list.now }
     ensures next { MatchOption result
         (NoEndAfter list.now text.now from)
         (λ found. IsNextEnd list.now text.now from found.0) }
     ensures first { IfSome result (λ found. IsFirstEnding list.now text.now 0 found.0 found.1) }
 {
+    if from >= text.len() {
+        return None;
+    }
     let mut claims = Claims::behind(windows, list, text, from, met);
     claims.next_end(windows, list, text, met)
 }
