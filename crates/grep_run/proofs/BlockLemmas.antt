@@ -1,8 +1,9 @@
 -- A block as its lines come.
-use Rattle.std.proofs.Common.{◌≡◌, ℕ, ◌+◌, ◌-◌, ◌^◌, ◌<◌, Bool, true, false, ◌||◌, cond, List, [], ◌∷◌, ◌++◌, flat_map, length, min, Ok, refl, sym, ap, ◌∙◌, append_assoc, append-nil, length-append, arith, codes}
+use Rattle.std.proofs.Common.{◌≡◌, ℕ, ◌+◌, ◌-◌, ◌^◌, ◌<◌, Bool, true, false, ◌||◌, cond, List, [], ◌∷◌, ◌++◌, flat_map, length, min, Result, Ok, Err, refl, sym, ap, ◌∙◌, append_assoc, append-nil, length-append, arith, codes}
 use Rattle.std.proofs.lemmas.Bool.{lt-ltb}
 use Rattle.std.specs.Prelude.{decimal, nat_lt}
-use Rattle.line_pick.specs.Lending.{Lent, NoneLeft, OneMore, LastOne}
+use Rattle.line_pick.specs.Lending.{Lent, NoneLeft, OneMore, LastOne, as_numbered}
+use Rattle.line_pick.specs.declared.fault.Fault.{Fault}
 use Rattle.line_pick.specs.declared.sink.Next.{Next}
 use Rattle.line_pick.specs.declared.sink.Next.TheVariants.{More, Stop}
 use Rattle.grep_run.specs.declared.block.Block.{Block}
@@ -69,6 +70,19 @@ pub wants-none : (quiet list : Bool) → cond (quiet || list) Stop More ≡ Stop
 wants-none true list e = refl
 wants-none false true e = refl
 wants-none false false e = (cc)
+
+-- where no numbers are written, a line adds the same under each
+added-bare : (o : GrepOptions) (name : List ℕ) (n m : ℕ) (line : List ℕ) → o.number ≡ false → added_line o name (n, line) ≡ added_line o name (m, line)
+added-bare o name n m line none =
+    let shown : Bool → ℕ → List ℕ = λ k number. cond (o.quiet || (o.list || o.count)) [] (prefix_of o name ++ (cond k (decimal number ++ codes ":") [] ++ (line ++ codes "\n"))) in
+    ap (λ k. shown k n) none ∙ sym (ap (λ k. shown k m) none)
+
+-- and is taken alike
+pub takes-bare : (old new : Block) (n m : ℕ) (line : List ℕ) (answer : Result Next Fault) → old.options.now.number ≡ false → as_numbered false TakesLine old n line answer new → TakesLine old m line answer new × (new.options.now.number ≡ false)
+takes-bare old new n m line (Ok next) none w =
+    let h : AddsLine old w.0 line next new = w.1 in
+    (record { text = h.text ∙ ap (λ added. old.text.items ++ added) (added-bare old.options.now old.name.now w.0 m line none); count = h.count; next = h.next; options = h.options; name = h.name }, ap (λ o. o.number) h.options ∙ none)
+takes-bare old new n m line (Err fault) none w = (w.1, ap (λ o. o.number) w.1.1.0 ∙ none)
 
 -- a block that has taken lines and wants more
 pub record HasMore (o : GrepOptions) (name : List ℕ) (lines : List (ℕ × List ℕ)) (old new : Block) : Type 0 where

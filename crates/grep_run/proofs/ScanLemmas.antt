@@ -1,5 +1,5 @@
 -- One input, piece by piece: where picker and block stand, and what they come to.
-use Rattle.std.proofs.Common.{◌≡◌, ◌≢◌, ℕ, ◌+◌, ◌-◌, ◌^◌, ◌≤◌, ◌<◌, Bool, true, false, ◌||◌, ◌&&◌, not, cond, List, [], ◌∷◌, ◌++◌, eqb, flat_map, length, min, Option, None, Some, Ok, Err, refl, sym, ap, ◌∙◌, subst, append_assoc, append-nil, length-append, length-take-le, take, arith}
+use Rattle.std.proofs.Common.{◌≡◌, ◌≢◌, ℕ, ◌+◌, ◌-◌, ◌^◌, ◌≤◌, ◌<◌, Bool, true, false, ◌||◌, ◌&&◌, not, cond, List, [], ◌∷◌, ◌++◌, eqb, flat_map, length, min, Option, None, Some, Result, Ok, Err, refl, sym, ap, ◌∙◌, subst, append_assoc, append-nil, length-append, length-take-le, take, arith}
 use Rattle.byte_io.specs.Sources.{Content, IsShort, coming_of}
 use Rattle.std.proofs.Math.Bool.{and-false}
 use Rattle.std.proofs.lemmas.Bool.{lt-ltb}
@@ -18,9 +18,11 @@ use Rattle.line_pick.proofs.Newlines.{open_rest-nil}
 use Rattle.std.proofs.lemmas.List.Elements.{All-nil}
 use Rattle.line_pick.specs.declared.state.State.TheVariants.{Running}
 use Rattle.line_pick.proofs.LentLemmas.{Lent-from_Lends, numbered-append}
+use Rattle.line_pick.proofs.NumberLemmas.{Lent-renumbered, bare, bare-numbered}
 use Rattle.line_pick.specs.Feeding.{Feeds, Finishes, fed, picked}
-use Rattle.line_pick.specs.Lending.{Lends, Lent, Whole, numbered}
+use Rattle.line_pick.specs.Lending.{Lends, Lent, Whole, as_numbered, numbered}
 use Rattle.line_pick.specs.Picking.{Picking}
+use Rattle.line_pick.specs.declared.fault.Fault.{Fault as Failure}
 use Rattle.line_pick.specs.declared.fault.Fault.TheVariants.{StreamTooLong}
 use Rattle.line_pick.specs.declared.sink.Next.{Next}
 use Rattle.line_pick.specs.declared.sink.Next.TheVariants.{More, Stop}
@@ -34,34 +36,46 @@ use Rattle.grep_run.specs.Scanning.{FeedsPiece, picked_by, HasFed, HasRead, HasT
 use Rattle.grep_run.specs.declared.request.End.{End}
 use Rattle.grep_run.specs.Searching.{IsCut, IsSearched}
 use Rattle.grep_run.specs.Writers.{Writer, Writes, WritesFront}
-use Rattle.grep_run.proofs.BlockLemmas.{HasMore, any-behind, block-parts, ending-any, lent-more, lent-stop, lent-stop-text, wants-none}
+use Rattle.grep_run.proofs.BlockLemmas.{HasMore, any-behind, block-parts, ending-any, lent-more, lent-stop, lent-stop-text, takes-bare, wants-none}
 use Rattle.grep_run.proofs.WriterLemmas.{Writes-nil, Writes-trans, WritesFront-all, WritesFront-behind, WritesFront-more, WritesFront-none}
+
+-- the selected ones of lines that follow a text
+abbrev pub picked_behind : (List ℕ → Bool) → List ℕ → List (List ℕ) → List (ℕ × List ℕ)
+picked_behind test text lines = numbered test (length (ended_lines text)) lines
 
 -- the selected lines of a text and of what follows it
 module _ (test : List ℕ → Bool) (text more : List ℕ) (p : Picking) (f : HasFed test text p) where
-  same-picked : (lines : List (List ℕ)) → numbered test (length (ended_lines text)) lines ≡ picked p lines
-  same-picked lines = ap (λ n. numbered test n lines) (sym f.lines) ∙ ap (λ t. numbered t p.lines lines) (sym f.tests)
-
-  pub ended-more : ended_in test (text ++ more) ≡ ended_in test text ++ picked p (ended_lines (p.held ++ more))
+  pub ended-more : ended_in test (text ++ more) ≡ ended_in test text ++ picked_behind test text (ended_lines (p.held ++ more))
   ended-more =
       ap (numbered test 0) (ended_lines-append text more) ∙ numbered-append test 0 (ended_lines text) (ended_lines (open_rest text ++ more))
       ∙ ap (λ n. ended_in test text ++ numbered test n (ended_lines (open_rest text ++ more))) (omega arith)
-      ∙ ap (λ ls. ended_in test text ++ ls) (same-picked (ended_lines (open_rest text ++ more)))
-      ∙ ap (λ held. ended_in test text ++ picked p (ended_lines (held ++ more))) (sym f.held)
+      ∙ ap (λ held. ended_in test text ++ picked_behind test text (ended_lines (held ++ more))) (sym f.held)
 
-  pub all-lines : numbered test 0 (lines text) ≡ ended_in test text ++ picked p (last_line p.held)
+  pub all-lines : numbered test 0 (lines text) ≡ ended_in test text ++ picked_behind test text (last_line p.held)
   all-lines =
       ap (numbered test 0) (lines-ended_open text) ∙ numbered-append test 0 (ended_lines text) (last_line (open_rest text))
       ∙ ap (λ n. ended_in test text ++ numbered test n (last_line (open_rest text))) (omega arith)
-      ∙ ap (λ ls. ended_in test text ++ ls) (same-picked (last_line (open_rest text)))
-      ∙ ap (λ held. ended_in test text ++ picked p (last_line held)) (sym f.held)
+      ∙ ap (λ held. ended_in test text ++ picked_behind test text (last_line held)) (sym f.held)
+
+-- lines that follow a text are lent to a block under their numbers, or it writes none
+module _ {o : GrepOptions} {test : List ℕ → Bool} {name text : List ℕ} {p : Picking} {b : Block} {before now : Writer} (s : StandsBehind o test name text p b before now) (lines : List (List ℕ)) where
+  lent-by : (is_numbered : Bool) → p.is_numbered ≡ is_numbered → {t : Block} {answer : Result Next Failure} → Lent (as_numbered is_numbered TakesLine) b (picked p lines) answer t → Lent TakesLine b (picked_behind test text lines) answer t
+  lent-by true e {t} {answer} h =
+      subst (λ ls. Lent TakesLine b ls answer t) (ap (λ pass. numbered pass p.lines lines) s.fed.tests ∙ ap (λ n. numbered test n lines) (s.fed.lines e)) h
+  lent-by false e h =
+      Lent-renumbered (λ block. block.options.now.number ≡ false) takes-bare (picked_behind test text lines)
+      (ap (λ pass. bare (numbered pass p.lines lines)) s.fed.tests ∙ bare-numbered test p.lines (length (ended_lines text)) lines)
+      (ap (λ options. options.number) s.taken.options ∙ sym s.numbers ∙ e) h
+
+  pub lent-behind : {t : Block} {answer : Result Next Failure} → Lent (as_numbered p.is_numbered TakesLine) b (picked p lines) answer t → Lent TakesLine b (picked_behind test text lines) answer t
+  lent-behind h = lent-by p.is_numbered refl h
 
 -- the picker behind one more piece
 fed-more : (test : List ℕ → Bool) (text piece : List ℕ) (p new : Picking) → HasFed test text p → new ≡ fed p piece → HasFed test (text ++ piece) new
 fed-more test text piece p new f e = subst (HasFed test (text ++ piece)) (sym e) (record {
   tests = f.tests;
   held = ap (λ h. open_rest (h ++ piece)) f.held ∙ sym (open_rest-append text piece);
-  lines = ap (λ n. n + length (ended_lines (p.held ++ piece))) f.lines ∙ ap (λ h. length (ended_lines text) + length (ended_lines (h ++ piece))) f.held
+  lines = λ e. ap (λ k. cond k (p.lines + length (ended_lines (p.held ++ piece))) 0) e ∙ ap (λ n. n + length (ended_lines (p.held ++ piece))) (f.lines e) ∙ ap (λ h. length (ended_lines text) + length (ended_lines (h ++ piece))) f.held
       ∙ sym (length-append (ended_lines text) (ended_lines (open_rest text ++ piece))) ∙ ap length (sym (ended_lines-append text piece));
   bytes = ap (λ n. n + length piece) f.bytes ∙ sym (length-append text piece);
   state = f.state;
@@ -91,44 +105,49 @@ taken-more o name before_lines more all old mid new before now after t m e passe
 }
 
 -- a lending that stopped lent its lines
-lent-stopped : {s t : Block} {lines : List (ℕ × List ℕ)} → Lends TakesLine s lines (Ok Stop) t → Lent TakesLine s lines (Ok Stop) t
+lent-stopped : {takes : Block → ℕ → List ℕ → Result Next Failure → Block → Type 0} {s t : Block} {lines : List (ℕ × List ℕ)} → Lends takes s lines (Ok Stop) t → Lent takes s lines (Ok Stop) t
 lent-stopped (Whole h) = h
 
 module _ {o : GrepOptions} {test : List ℕ → Bool} {name text : List ℕ} (piece : List ℕ) {p : Picking} (new_p : Picking) {b : Block} (mid : Block) {before : Writer} (now : Writer)
     (s : StandsBehind o test name text p b before now) where
   -- those of a piece stand behind those before
-  piece-lines : ended_in test (text ++ piece) ≡ ended_in test text ++ picked p (ended_lines (p.held ++ piece))
+  piece-lines : ended_in test (text ++ piece) ≡ ended_in test text ++ picked_behind test text (ended_lines (p.held ++ piece))
   piece-lines = ended-more test text piece p s.fed
+
+  -- they are taken
+  more-lines : Feeds TakesLine p piece b (Ok More) new_p mid → Lent TakesLine b (picked_behind test text (ended_lines (p.held ++ piece))) (Ok More) mid
+  more-lines f = lent-behind s (ended_lines (p.held ++ piece)) (Lent-from_Lends f.lent)
 
   -- a piece whose lines are all taken and written
   pub fed-on : (new : Block) (after : Writer) → Feeds TakesLine p piece b (Ok More) new_p mid → Writes now after mid.text.items → new.text.items ≡ [] → IsSameBlock mid new
       → StandsBehind o test name (text ++ piece) new_p new before after
   fed-on new after f passed none same = record {
     fed = fed-more test text piece p new_p s.fed (f.more refl);
-    taken = taken-more o name (ended_in test text) (picked p (ended_lines (p.held ++ piece))) (ended_in test (text ++ piece)) b mid new before now after s.taken
-        (lent-more o name (Lent-from_Lends f.lent) s.taken.options s.taken.called) piece-lines passed none same;
+    numbers = ap (λ q. q.is_numbered) (f.more refl) ∙ s.numbers;
+    taken = taken-more o name (ended_in test text) (picked_behind test text (ended_lines (p.held ++ piece))) (ended_in test (text ++ piece)) b mid new before now after s.taken
+        (lent-more o name (more-lines f) s.taken.options s.taken.called) piece-lines passed none same;
   }
 
   -- all that lines of both add
-  all-added : flat_map (added_line o name) (ended_in test (text ++ piece)) ≡ flat_map (added_line o name) (ended_in test text) ++ flat_map (added_line o name) (picked p (ended_lines (p.held ++ piece)))
-  all-added = added-all o name (ended_in test text) (picked p (ended_lines (p.held ++ piece))) (ended_in test (text ++ piece)) piece-lines
+  all-added : flat_map (added_line o name) (ended_in test (text ++ piece)) ≡ flat_map (added_line o name) (ended_in test text) ++ flat_map (added_line o name) (picked_behind test text (ended_lines (p.held ++ piece)))
+  all-added = added-all o name (ended_in test text) (picked_behind test text (ended_lines (p.held ++ piece))) (ended_in test (text ++ piece)) piece-lines
 
   -- where their writing is cut, a front of all is written
   pub fed-cut : (after : Writer) → Feeds TakesLine p piece b (Ok More) new_p mid → WritesFront now after mid.text.items
       → WritesFront before after (flat_map (added_line o name) (ended_in test (text ++ piece)))
   fed-cut after f cut =
-      let m = lent-more o name (Lent-from_Lends f.lent) s.taken.options s.taken.called in
+      let m = lent-more o name (more-lines f) s.taken.options s.taken.called in
       subst (WritesFront before after) (sym all-added)
-      (WritesFront-behind before now after _ _ s.taken.written (subst (WritesFront now after) (held-lines o name (ended_in test text) (picked p (ended_lines (p.held ++ piece))) b mid before now s.taken m) cut))
+      (WritesFront-behind before now after _ _ s.taken.written (subst (WritesFront now after) (held-lines o name (ended_in test text) (picked_behind test text (ended_lines (p.held ++ piece))) b mid before now s.taken m) cut))
 
   -- where memory runs out, what was written is a front of all
   pub fed-starved : WritesFront before now (flat_map (added_line o name) (ended_in test (text ++ piece)))
   fed-starved = subst (WritesFront before now) (sym all-added)
-      (WritesFront-more before now (flat_map (added_line o name) (ended_in test text)) (flat_map (added_line o name) (picked p (ended_lines (p.held ++ piece)))) (WritesFront-all before now _ s.taken.written))
+      (WritesFront-more before now (flat_map (added_line o name) (ended_in test text)) (flat_map (added_line o name) (picked_behind test text (ended_lines (p.held ++ piece)))) (WritesFront-all before now _ s.taken.written))
 
   -- where no line is wanted any more, one was taken
-  stopped-lines : Feeds TakesLine p piece b (Ok Stop) new_p mid → Lent TakesLine b (picked p (ended_lines (p.held ++ piece))) (Ok Stop) mid
-  stopped-lines f = lent-stopped f.lent
+  stopped-lines : Feeds TakesLine p piece b (Ok Stop) new_p mid → Lent TakesLine b (picked_behind test text (ended_lines (p.held ++ piece))) (Ok Stop) mid
+  stopped-lines f = lent-behind s (ended_lines (p.held ++ piece)) (lent-stopped f.lent)
 
   -- which adds nothing
   pub fed-halted : Feeds TakesLine p piece b (Ok Stop) new_p mid → IsHalted o name (ended_in test (text ++ piece)) mid before now
@@ -139,7 +158,7 @@ module _ {o : GrepOptions} {test : List ℕ → Bool} {name text : List ℕ} (pi
         options = h.options;
         called = h.called;
         stop = h.stop;
-        some = subst (λ ls. 0 < length ls) (sym piece-lines) (omega (arith, h.some, length-append (ended_in test text) (picked p (ended_lines (p.held ++ piece)))));
+        some = subst (λ ls. 0 < length ls) (sym piece-lines) (omega (arith, h.some, length-append (ended_in test text) (picked_behind test text (ended_lines (p.held ++ piece)))));
         count = h.count;
         written = subst (Writes before now) (ap (flat_map (added_line o name)) none) s.taken.written;
         empty = lent-stop-text o name (stopped-lines f) s.taken.options s.taken.called ∙ ap (λ (held : List ℕ). held ++ []) s.taken.empty;
@@ -223,7 +242,7 @@ module _ {o : GrepOptions} {test : List ℕ → Bool} {name : List ℕ} (c : Con
   clean-lines : lines_of c ≡ lines c.text
   clean-lines = ap (λ f. cond f (ended_lines c.text) (lines c.text)) clean
 
-  clean-numbered : numbered test 0 (lines_of c) ≡ ended_in test c.text ++ picked p (last_line p.held)
+  clean-numbered : numbered test 0 (lines_of c) ≡ ended_in test c.text ++ picked_behind test c.text (last_line p.held)
   clean-numbered = ap (numbered test 0) clean-lines ∙ all-lines test c.text [] p s.fed
 
   -- it is no error
@@ -232,28 +251,28 @@ module _ {o : GrepOptions} {test : List ℕ → Bool} {name : List ℕ} (c : Con
 
   pub ended-whole : Finishes TakesLine p b (Ok More) new_p new → HasRead o test name c Clean new before now
   ended-whole f =
-      let m = lent-more o name f.lent s.taken.options s.taken.called in
-      let all : numbered test 0 (lines c.text) ≡ ended_in test c.text ++ picked p (last_line p.held) = all-lines test c.text [] p s.fed in
-      read-whole o test name c new before now (lines c.text) (ended_in test c.text) (picked p (last_line p.held)) clean-lines (omega (arith, few-lines c.text)) all m.options m.called
-      (m.count (length (ended_in test c.text)) s.taken.count ∙ ap (λ n. min n (2 ^ 64 - 1)) (sym (length-append (ended_in test c.text) (picked p (last_line p.held)))) ∙ ap (λ ls. min (length ls) (2 ^ 64 - 1)) (sym all))
-      s.taken.written (held-lines o name (ended_in test c.text) (picked p (last_line p.held)) b new before now s.taken m) Clean clean-error
+      let m = lent-more o name (lent-behind s (last_line p.held) f.lent) s.taken.options s.taken.called in
+      let all : numbered test 0 (lines c.text) ≡ ended_in test c.text ++ picked_behind test c.text (last_line p.held) = all-lines test c.text [] p s.fed in
+      read-whole o test name c new before now (lines c.text) (ended_in test c.text) (picked_behind test c.text (last_line p.held)) clean-lines (omega (arith, few-lines c.text)) all m.options m.called
+      (m.count (length (ended_in test c.text)) s.taken.count ∙ ap (λ n. min n (2 ^ 64 - 1)) (sym (length-append (ended_in test c.text) (picked_behind test c.text (last_line p.held)))) ∙ ap (λ ls. min (length ls) (2 ^ 64 - 1)) (sym all))
+      s.taken.written (held-lines o name (ended_in test c.text) (picked_behind test c.text (last_line p.held)) b new before now s.taken m) Clean clean-error
 
   pub ended-halted : Finishes TakesLine p b (Ok Stop) new_p new → HasRead o test name c Clean new before now
   ended-halted f =
-      let h = lent-stop o name f.lent s.taken.options s.taken.called in
+      let h = lent-stop o name (lent-behind s (last_line p.held) f.lent) s.taken.options s.taken.called in
       let none : ended_in test c.text ≡ [] = s.taken.unwanted h.stop in
-      read-halted o test name c new before now (ended_in test c.text ++ picked p (last_line p.held)) [] (clean-numbered ∙ sym (append-nil (ended_in test c.text ++ picked p (last_line p.held)))) (record {
+      read-halted o test name c new before now (ended_in test c.text ++ picked_behind test c.text (last_line p.held)) [] (clean-numbered ∙ sym (append-nil (ended_in test c.text ++ picked_behind test c.text (last_line p.held)))) (record {
         options = h.options;
         called = h.called;
         stop = h.stop;
-        some = omega (arith, h.some, length-append (ended_in test c.text) (picked p (last_line p.held)));
+        some = omega (arith, h.some, length-append (ended_in test c.text) (picked_behind test c.text (last_line p.held)));
         count = h.count;
         written = subst (Writes before now) (ap (flat_map (added_line o name)) none) s.taken.written;
-        empty = lent-stop-text o name f.lent s.taken.options s.taken.called ∙ ap (λ (held : List ℕ). held ++ []) s.taken.empty;
+        empty = lent-stop-text o name (lent-behind s (last_line p.held) f.lent) s.taken.options s.taken.called ∙ ap (λ (held : List ℕ). held ++ []) s.taken.empty;
       })
 
   pub ended-starved : WritesFront before now (block_in o test name (Some c))
-  ended-starved = read-front o test name c before now (ended_in test c.text) (picked p (last_line p.held)) clean-numbered (WritesFront-all before now _ s.taken.written)
+  ended-starved = read-front o test name c before now (ended_in test c.text) (picked_behind test c.text (last_line p.held)) clean-numbered (WritesFront-all before now _ s.taken.written)
 
 -- whether lines come to an end at the last one
 pub ended-any : {o : GrepOptions} {test : List ℕ → Bool} {name : List ℕ} (c : Content) {p : Picking} (new_p : Picking) {b : Block} (new : Block) {before now : Writer} (answer : Next)
@@ -402,18 +421,23 @@ pub fed-none : (test : List ℕ → Bool) (p : Picking) → picked_by p ≡ test
 fed-none test p tests held none_lines none_bytes state = record {
   tests = tests;
   held = held ∙ sym open_rest-nil;
-  lines = none_lines ∙ sym (ap length (ended_lines-none [] (All-nil (λ b. b ≢ 10))));
+  lines = λ _. none_lines ∙ sym (ap length (ended_lines-none [] (All-nil (λ b. b ≢ 10))));
   bytes = none_bytes;
   state = state;
 }
 
+-- one without numbers has been fed the same
+pub fed-bare : (test : List ℕ → Bool) (text : List ℕ) (p : Picking) → HasFed test text p → HasFed test text (record p { is_numbered = false; lines = 0 })
+fed-bare test text p f = record { tests = f.tests; held = f.held; lines = λ e. (cc); bytes = f.bytes; state = f.state }
+
 -- at first picker and block stand before the content
-pub begin-stands : {o : GrepOptions} {test : List ℕ → Bool} {name : List ℕ} {p : Picking} {b : Block} (out : Writer) → HasFed test [] p
+pub begin-stands : {o : GrepOptions} {test : List ℕ → Bool} {name : List ℕ} {p : Picking} {b : Block} (out : Writer) → HasFed test [] p → p.is_numbered ≡ o.number
     → b.options.now ≡ o → b.name.now ≡ name → b.count ≡ 0 → b.text.items ≡ [] → StandsBehind o test name [] p b out out
-begin-stands {o} {test} {name} {p} {b} out f options called count empty =
+begin-stands {o} {test} {name} {p} {b} out f numbers options called count empty =
     let none : ended_in test [] ≡ [] = ap (numbered test 0) (ended_lines-none [] (All-nil (λ b. b ≢ 10))) in
     record {
       fed = f;
+      numbers = numbers;
       taken = record {
         options = options;
         called = called;

@@ -28,7 +28,7 @@ ended_in test text = numbered test 0 (ended_lines text)
 pub record HasFed (test : List ℕ → Bool) (text : List ℕ) (p : Picking) : Type 0 where
   pub tests : picked_by p ≡ test
   pub held : p.held ≡ open_rest text
-  pub lines : p.lines ≡ length (ended_lines text)
+  pub lines : p.is_numbered ≡ true → p.lines ≡ length (ended_lines text)
   pub bytes : p.bytes ≡ length text
   pub state : p.state ≡ Running
 
@@ -51,9 +51,10 @@ pub record IsHalted (o : GrepOptions) (name : List ℕ) (selected : List (ℕ ×
   pub written : Writes before out []
   pub empty : b.text.items ≡ []
 
--- picker and block stand behind the text
+-- picker and block stand behind the text, and lines are numbered if numbers are written
 pub record StandsBehind (o : GrepOptions) (test : List ℕ → Bool) (name text : List ℕ) (p : Picking) (b : Block) (before out : Writer) : Type 0 where
   pub fed : HasFed test text p
+  pub numbers : p.is_numbered ≡ o.number
   pub taken : HasTaken o name (ended_in test text) b before out
 
 -- a piece was fed behind a text: picker and block stand behind both; no line is wanted any more; there are too many bytes; or it was cut

@@ -1,5 +1,5 @@
 //! The lines of one input, from its first byte to its end, its fault, or the last line that is wanted.
-ghost use Rattle.std.specs.Prelude.{◌≡◌, ℕ, ◌<◌, ◌||◌, Bool, List, [], IfOk, IfSome, Some, false, length};
+ghost use Rattle.std.specs.Prelude.{◌≡◌, ℕ, ◌<◌, ◌||◌, Bool, List, [], IfOk, IfSome, Some, false, length, true};
 ghost use Rattle.byte_io.specs.Sources.{Content, IsShort, coming_of};
 ghost use Rattle.grep_run.specs.Requests.{test_of};
 ghost use Rattle.grep_run.specs.Scanning.{FeedsPiece, HasFed, ReadsLines, StandsBehind};
@@ -25,10 +25,27 @@ pub fn finder_for<'a>(request: &Request<'a>) -> Result<Option<EndFinder<'a>>, Al
     }
 }
 
-/// A picker of the lines that a request selects, before any text, with what learned from the inputs before.
+/// A picker of the lines that a request selects, before any text, with what learned from the inputs before. It counts lines
+/// only where their numbers are written.
 pub fn picker_for<'a>(request: &Request<'a>, finder: Option<EndFinder<'a>>) -> Picker<'a>
     requires { IfSome finder (λ plan. request.now.patterns.now.plan ≡ Some plan) }
     ensures fed { HasFed (test_of request.now) [] result }
+    ensures numbers { result.is_numbered ≡ request.now.options.now.number }
+    ensures plan { result.plan ≡ request.now.patterns.now.plan }
+{
+    let picker = numbered_picker_for(request, finder);
+    if request.options.number {
+        picker
+    } else {
+        picker.without_numbers()
+    }
+}
+
+/// One that counts lines.
+fn numbered_picker_for<'a>(request: &Request<'a>, finder: Option<EndFinder<'a>>) -> Picker<'a>
+    requires { IfSome finder (λ plan. request.now.patterns.now.plan ≡ Some plan) }
+    ensures fed { HasFed (test_of request.now) [] result }
+    ensures numbers { result.is_numbered ≡ true }
     ensures plan { result.plan ≡ request.now.patterns.now.plan }
 {
     let rule = LineRule {

@@ -7,5 +7,6 @@ pub mod LastNewline
 pub mod LentLemmas
 pub mod Literals
 pub mod Newlines
+pub mod NumberLemmas
 pub mod Patterns
 pub mod Standing

@@ -1,11 +1,11 @@
 -- What a picker does with a piece of a stream, and at its end.
-use Rattle.std.specs.Prelude.{◌≡◌, ◌≢◌, ◌≤◌, ◌↔◌, ℕ, ◌+◌, ◌^◌, List, ◌++◌, length, Result, Ok, Err, IfSome}
+use Rattle.std.specs.Prelude.{◌≡◌, ◌≢◌, ◌≤◌, ◌↔◌, ℕ, ◌+◌, ◌^◌, List, ◌++◌, length, if◌then◌else◌, Result, Ok, Err, IfSome}
 use Rattle.lit_base.specs.Lines.{ended_lines, last_line, open_rest}
 use Rattle.line_pick.specs.declared.fault.Fault.{Fault}
 use Rattle.line_pick.specs.declared.fault.Fault.TheVariants.{StreamTooLong}
 use Rattle.line_pick.specs.declared.sink.Next.{Next}
 use Rattle.line_pick.specs.declared.sink.Next.TheVariants.{More}
-use Rattle.line_pick.specs.Lending.{Lends, Lent, numbered}
+use Rattle.line_pick.specs.Lending.{Lends, Lent, as_numbered, numbered}
 use Rattle.line_pick.specs.Matching.{selects}
 use Rattle.line_pick.specs.Picking.{Picking, answer_in, fed_state, finished_state}
 
@@ -17,20 +17,20 @@ picked p lines = numbered (selects p.plan p.has_empty p.rule) p.lines lines
 abbrev pub fed : Picking → List ℕ → Picking
 fed p piece = record p {
   held = open_rest (p.held ++ piece);
-  lines = p.lines + length (ended_lines (p.held ++ piece));
+  lines = if p.is_numbered then p.lines + length (ended_lines (p.held ++ piece)) else 0;
   bytes = p.bytes + length piece;
 }
 
 -- a running picker is fed: the selected lines that the piece ends are lent, and it is refused exactly where the bytes fed would pass 2^64 - 1
 pub record Feeds {S : Type 0} (takes : S → ℕ → List ℕ → Result Next Fault → S → Type 0) (old : Picking) (piece : List ℕ) (sink : S) (answer : Result Next Fault) (new : Picking) (left : S) : Type 0 where
-  pub lent : Lends takes sink (picked old (ended_lines (old.held ++ piece))) answer left
+  pub lent : Lends (as_numbered old.is_numbered takes) sink (picked old (ended_lines (old.held ++ piece))) answer left
   pub more : answer ≡ Ok More → new ≡ fed old piece
   pub state : new.state ≡ fed_state answer
   pub too_long : (answer ≡ Err StreamTooLong) ↔ (2 ^ 64 ≤ old.bytes + length piece)
 
 -- a running picker is finished: the open line, if it is a line and selected, is lent
 pub record Finishes {S : Type 0} (takes : S → ℕ → List ℕ → Result Next Fault → S → Type 0) (old : Picking) (sink : S) (answer : Result Next Fault) (new : Picking) (left : S) : Type 0 where
-  pub lent : Lent takes sink (picked old (last_line old.held)) answer left
+  pub lent : Lent (as_numbered old.is_numbered takes) sink (picked old (last_line old.held)) answer left
   pub state : new.state ≡ finished_state answer
   pub fault : answer ≢ Err StreamTooLong
 

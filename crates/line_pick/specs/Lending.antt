@@ -1,5 +1,5 @@
 -- How a sink is lent numbered lines, one after another.
-use Rattle.std.specs.Prelude.{◌≡◌, ◌≢◌, ℕ, ◌+◌, Bool, List, [], ◌∷◌, ◌++◌, filter, Result, Ok, Err}
+use Rattle.std.specs.Prelude.{◌≡◌, ◌≢◌, ℕ, ◌+◌, Bool, true, false, List, [], ◌∷◌, ◌++◌, filter, Result, Ok, Err}
 use Rattle.std.specs.List.{enumerate_from}
 use Rattle.line_pick.specs.declared.fault.Fault.{Fault}
 use Rattle.line_pick.specs.declared.fault.Fault.TheVariants.{OutOfMemory, StreamTooLong}
@@ -11,6 +11,11 @@ use Rattle.line_pick.specs.declared.sink.Next.TheVariants.{More, Stop}
 -- those of some lines that pass a test, with their numbers, after so many lines
 abbrev pub numbered : (List ℕ → Bool) → ℕ → List (List ℕ) → List (ℕ × List ℕ)
 numbered test before lines = filter (λ l. test l.1) (enumerate_from (before + 1) lines)
+
+-- how a line is taken: under its number, or where lines are not numbered, under some number
+abbrev pub as_numbered : {S : Type 0} → Bool → (S → ℕ → List ℕ → Result Next Fault → S → Type 0) → S → ℕ → List ℕ → Result Next Fault → S → Type 0
+as_numbered true takes = takes
+as_numbered false takes = λ s number line answer t. (some : ℕ) × takes s some line answer t
 
 -- lines are lent in order: each is taken with More, until none is left, or one is answered otherwise and is the last one lent
 pub data Lent {S : Type 0} (takes : S → ℕ → List ℕ → Result Next Fault → S → Type 0) : S → List (ℕ × List ℕ) → Result Next Fault → S → Type 0 where

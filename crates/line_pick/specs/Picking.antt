@@ -8,11 +8,12 @@ use Rattle.line_pick.specs.declared.sink.Next.TheVariants.{More, Stop}
 use Rattle.line_pick.specs.declared.state.State.{State}
 use Rattle.line_pick.specs.declared.state.State.TheVariants.{Running, Stopped, Finished, Failed}
 
--- patterns, a rule, the bytes since the last newline, and the numbers of ended lines and of bytes so far
+-- patterns, a rule, the bytes since the last newline, the numbers of ended lines, if lines are numbered, and of bytes so far
 pub record Picking : Type 0 where
   pub plan : Option Plan
   pub has_empty : Bool
   pub rule : LineRule
+  pub is_numbered : Bool
   pub held : List ℕ
   pub lines : ℕ
   pub bytes : ℕ

@@ -1,5 +1,5 @@
 //! The selected lines of a text that comes in pieces.
-ghost use Rattle.std.specs.Prelude.{◌≡◌, ◌≢◌, [], Ok, Err, IfSome, Some};
+ghost use Rattle.std.specs.Prelude.{◌≡◌, ◌≢◌, [], Ok, Err, IfSome, Some, false, true};
 ghost use Rattle.std.specs.Option.{option_copied};
 ghost use Rattle.line_pick.specs.Feeding.{Feeds, Finishes, Stays};
 ghost use Rattle.line_pick.specs.Lending.{answer_of};
@@ -33,7 +33,7 @@ impl<'p> Model for Picker<'p> {
 
     ghost Value = { Picking };
 
-    ghost use Rattle.std.specs.Prelude.{◌≡◌, IfSome, Some};
+    ghost use Rattle.std.specs.Prelude.{◌≡◌, IfSome, Some, if◌then◌else◌};
     ghost use Rattle.line_pick.specs.Matching.{AreInLines};
     ghost use Rattle.line_pick.specs.Progresses.{IsSound};
 
@@ -42,7 +42,8 @@ impl<'p> Model for Picker<'p> {
       has_empty = p.matcher.has_empty;
       rule = p.matcher.rule;
       held = p.progress.held.items;
-      lines = p.progress.lines;
+      is_numbered = p.progress.is_numbered;
+      lines = if p.progress.is_numbered then p.progress.lines else 0;
       bytes = p.progress.bytes;
       state = p.state;
     } };
@@ -65,6 +66,7 @@ impl<'p> Picker<'p> {
           plan = option_copied plan.entry;
           has_empty = has_empty;
           rule = rule;
+          is_numbered = true;
           held = [];
           lines = 0;
           bytes = 0;
@@ -91,6 +93,7 @@ impl<'p> Picker<'p> {
           plan = Some finder.entry;
           has_empty = has_empty;
           rule = rule;
+          is_numbered = true;
           held = [];
           lines = 0;
           bytes = 0;
@@ -113,6 +116,7 @@ impl<'p> Picker<'p> {
           plan = option_copied matcher.entry.plan;
           has_empty = matcher.entry.has_empty;
           rule = matcher.entry.rule;
+          is_numbered = true;
           held = [];
           lines = 0;
           bytes = 0;
@@ -127,6 +131,15 @@ impl<'p> Picker<'p> {
         }
     }
 
+    /// The same picker, but that it counts no lines, for a sink that asks for no numbers: each line is
+    /// lent under some number.
+    pub fn without_numbers(mut self) -> Picker<'p>
+        ensures { result ≡ record self.entry { is_numbered = false; lines = 0 } }
+    {
+        self.progress.is_numbered = false;
+        self
+    }
+
     /// What learned from the text, if the picker was made with it, for the next text.
     pub fn into_finder(self) -> Option<EndFinder<'p>>
         ensures { IfSome result (λ plan. self.entry.plan ≡ Some plan) }
@@ -135,7 +148,7 @@ impl<'p> Picker<'p> {
     }
 
     /// Takes the next piece of the text, and lends to the sink each selected line that a newline ends
-    /// in it, in order, with its number and without its newline.
+    /// in it, in order, with its number, unless the picker is one without numbers, and without its newline.
     ///
     /// The line to which the sink answers `Stop` or a fault is the last one lent, and the answer is
     /// the same. `StreamTooLong` comes where the bytes fed would pass 2^64 - 1, before any line is

@@ -1,8 +1,8 @@
 //! The line that no newline has ended yet, and how far a text has come.
-ghost use Rattle.std.specs.Prelude.{◌≡◌, ◌≢◌, ◌↔◌, ◌≤◌, ◌+◌, ◌^◌, ◌++◌, ◌∷◌, [], Err, IfOk, IfSome, OnOk, OnErr, Some, length, vec_len};
+ghost use Rattle.std.specs.Prelude.{◌≡◌, ◌≢◌, ◌↔◌, ◌≤◌, ◌+◌, ◌^◌, ◌++◌, ◌∷◌, [], Err, IfOk, IfSome, OnOk, OnErr, Some, length, true, vec_len};
 ghost use Rattle.std.specs.Option.{option_copied};
 ghost use Rattle.lit_base.specs.Lines.{IsOnePiece, ended_lines, last_line, open_rest};
-ghost use Rattle.line_pick.specs.Lending.{Lends, Lent, answer_of, numbered};
+ghost use Rattle.line_pick.specs.Lending.{Lends, Lent, answer_of, as_numbered, numbered};
 ghost use Rattle.line_pick.specs.Matching.{AreInLines, picks};
 ghost use Rattle.line_pick.specs.Progresses.{IsSound};
 
@@ -21,7 +21,9 @@ use std::alloc::Global;
 pub(crate) struct Progress {
     /// The bytes since the last newline.
     pub held: Vec<u8>,
-    /// How many lines were ended.
+    /// Whether lines are numbered. Where they are not, those that are passed over are not counted.
+    pub is_numbered: bool,
+    /// How many lines were ended, if they are numbered, and else no more than that.
     pub lines: u64,
     /// How many bytes there were.
     pub bytes: u64,
@@ -31,11 +33,13 @@ impl Progress {
     /// That before any text. It takes no memory.
     pub fn new(alloc: Global) -> Progress
         ensures held { result.held.items ≡ [] }
+        ensures numbered { result.is_numbered ≡ true }
         ensures lines { result.lines ≡ 0 }
         ensures bytes { result.bytes ≡ 0 }
     {
         Progress {
             held: Vec::new(alloc),
+            is_numbered: true,
             lines: 0,
             bytes: 0,
         }
@@ -54,12 +58,13 @@ impl Progress {
         requires apart { AreInLines (option_copied matcher.plan) }
         ensures same { finder.new ≡ finder.old }
         ensures sound { IsSound self.new }
-        ensures lent { Lends S.takes sink.old
+        ensures numbered { self.new.is_numbered ≡ self.old.is_numbered }
+        ensures lent { Lends (as_numbered self.old.is_numbered S.takes) sink.old
             (numbered (picks matcher.entry) self.old.lines (ended_lines (self.old.held.items ++ piece.now)))
             (answer_of result) sink.new }
         ensures held { OnOk result
             (self.new.held.items ≡ open_rest (self.old.held.items ++ piece.now)) }
-        ensures lines { OnOk result (self.new.lines
+        ensures lines { OnOk result (self.old.is_numbered ≡ true → self.new.lines
             ≡ self.old.lines + length (ended_lines (self.old.held.items ++ piece.now))) }
         ensures bytes { OnOk result (self.new.bytes ≡ self.old.bytes + length piece.now) }
         ensures too_long { (result ≡ Err (Halt.Failed Fault.StreamTooLong))
@@ -84,6 +89,7 @@ impl Progress {
         ensures ok { OnOk result (self.new.held.items ≡ self.old.held.items ++ bytes.now) }
         ensures err { OnErr result (self.new.held.items ≡ self.old.held.items) }
         ensures starved { OnErr result (result ≡ Err (Halt.Failed Fault.OutOfMemory)) }
+        ensures numbered { self.new.is_numbered ≡ self.old.is_numbered }
         ensures lines { self.new.lines ≡ self.old.lines }
         ensures bytes { self.new.bytes ≡ self.old.bytes }
     {
@@ -103,6 +109,7 @@ impl Progress {
         requires counted { self.old.lines + vec_len self.old.held + length front.now + 1
             ≤ self.old.bytes }
         ensures sound { IsSound self.new }
+        ensures numbered { self.new.is_numbered ≡ self.old.is_numbered }
         ensures lent { Lends S.takes sink.old
             (numbered (picks matcher.entry) self.old.lines ((self.old.held.items ++ front.now) ∷ []))
             (answer_of result) sink.new }
@@ -133,19 +140,20 @@ impl Progress {
         requires counted { self.old.lines + length text.now ≤ self.old.bytes }
         ensures same { finder.new ≡ finder.old }
         ensures sound { IsSound self.new }
-        ensures lent { Lends S.takes sink.old
+        ensures numbered { self.new.is_numbered ≡ self.old.is_numbered }
+        ensures lent { Lends (as_numbered self.old.is_numbered S.takes) sink.old
             (numbered (picks matcher.entry) self.old.lines (ended_lines text.now))
             (answer_of result) sink.new }
         ensures held { OnOk result (self.new.held.items ≡ open_rest text.now) }
-        ensures lines { OnOk result
-            (self.new.lines ≡ self.old.lines + length (ended_lines text.now)) }
+        ensures lines { OnOk result (self.old.is_numbered ≡ true
+            → self.new.lines ≡ self.old.lines + length (ended_lines text.now)) }
         ensures bytes { self.new.bytes ≡ self.old.bytes }
         ensures faults { result ≢ Err (Halt.Failed Fault.StreamTooLong) }
     {
         // Read here, it is known to fit, and so is the number of lines.
         let _bytes = self.bytes;
         let (ended, open) = split_ended(text);
-        self.lines = lend_text(matcher, finder, ended, self.lines, sink)?;
+        self.lines = lend_text(matcher, finder, ended, self.lines, self.is_numbered, sink)?;
         self.hold(open)
     }
 

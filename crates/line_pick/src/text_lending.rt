@@ -3,7 +3,7 @@ ghost use Rattle.std.specs.Prelude.{◌≡◌, ◌≢◌, ◌≤◌, ◌<◌, �
 ghost use Rattle.std.specs.Option.{option_copied};
 ghost use Rattle.lit_base.specs.Lines.{IsOnePiece, ended_lines, open_rest};
 ghost use Rattle.lit_base.specs.Selected.{is_selected, matches};
-ghost use Rattle.line_pick.specs.Lending.{Lent, answer_of, numbered};
+ghost use Rattle.line_pick.specs.Lending.{Lent, answer_of, as_numbered, numbered};
 ghost use Rattle.line_pick.specs.Matching.{AreInLines, picks};
 
 use crate::counting::count_newlines;
@@ -36,12 +36,13 @@ const SHORT_LINE: usize = 16;
 const SAMPLE: usize = 1024;
 
 /// Lends the selected ones of the lines of a text that a newline ends, and answers how many lines
-/// there are by then. So many stand before the text.
+/// there are by then, if they are numbered. So many stand before the text.
 pub(crate) fn lend_text<S: Sink>(
     matcher: Matcher<'_>,
     finder: &mut Option<EndFinder<'_>>,
     text: &[u8],
     before: u64,
+    is_numbered: bool,
     sink: &mut S,
 ) -> Result<u64, Halt>
     requires finder { IfSome finder.old (λ plan. option_copied matcher.plan ≡ Some plan) }
@@ -49,9 +50,9 @@ pub(crate) fn lend_text<S: Sink>(
     requires closed { open_rest text.now ≡ [] }
     requires apart { AreInLines (option_copied matcher.plan) }
     ensures same { finder.new ≡ finder.old }
-    ensures lent { Lent S.takes sink.old
+    ensures lent { Lent (as_numbered is_numbered S.takes) sink.old
         (numbered (picks matcher.entry) before (ended_lines text.now)) (answer_of result) sink.new }
-    ensures count { IfOk result (λ lines. lines ≡ before + length (ended_lines text.now)) }
+    ensures count { IfOk result (λ lines. is_numbered ≡ true → lines ≡ before + length (ended_lines text.now)) }
     ensures bound { IfOk result (λ lines. lines ≤ before + length text.now) }
     ensures faults { result ≢ Err (Halt.Failed Fault.StreamTooLong) }
 {
@@ -59,11 +60,19 @@ pub(crate) fn lend_text<S: Sink>(
         if matcher.rule.whole {
             return lend_lines(matcher, text, before, sink);
         }
-        return lend_all(!matcher.rule.invert, text, before, sink);
+        return lend_all(!matcher.rule.invert, text, before, is_numbered, sink);
     }
     match matcher.plan {
-        Some(compiled) => lend_listed(compiled, matcher.rule, finder, text, before, sink),
-        None => lend_all(matcher.rule.invert, text, before, sink),
+        Some(compiled) => lend_listed(
+            compiled,
+            matcher.rule,
+            finder,
+            text,
+            before,
+            is_numbered,
+            sink,
+        ),
+        None => lend_all(matcher.rule.invert, text, before, is_numbered, sink),
     }
 }
 
@@ -75,6 +84,7 @@ fn lend_listed<S: Sink>(
     finder: &mut Option<EndFinder<'_>>,
     text: &[u8],
     before: u64,
+    is_numbered: bool,
     sink: &mut S,
 ) -> Result<u64, Halt>
     requires finder { IfSome finder.old (λ plan. plan ≡ compiled.now) }
@@ -82,17 +92,17 @@ fn lend_listed<S: Sink>(
     requires closed { open_rest text.now ≡ [] }
     requires apart { All IsOnePiece compiled.now.literals.texts }
     ensures same { finder.new ≡ finder.old }
-    ensures lent { let list = compiled.now.literals in Lent S.takes sink.old
+    ensures lent { let list = compiled.now.literals in Lent (as_numbered is_numbered S.takes) sink.old
         (numbered (is_selected list.folding rule.whole rule.invert list.texts) before (ended_lines text.now))
         (answer_of result) sink.new }
-    ensures count { IfOk result (λ lines. lines ≡ before + length (ended_lines text.now)) }
+    ensures count { IfOk result (λ lines. is_numbered ≡ true → lines ≡ before + length (ended_lines text.now)) }
     ensures bound { IfOk result (λ lines. lines ≤ before + length text.now) }
     ensures faults { result ≢ Err (Halt.Failed Fault.StreamTooLong) }
 {
     if rule.whole && compiled.list().len() > FEW_LITERALS && !has_short_lines(text) {
         return lend_each_line(compiled, rule, text, before, sink);
     }
-    lend_hit_lines(compiled, rule, finder, text, before, sink)
+    lend_hit_lines(compiled, rule, finder, text, before, is_numbered, sink)
 }
 
 /// Whether the first lines of a text are short.
@@ -108,6 +118,7 @@ fn lend_hit_lines<S: Sink>(
     finder: &mut Option<EndFinder<'_>>,
     text: &[u8],
     before: u64,
+    is_numbered: bool,
     sink: &mut S,
 ) -> Result<u64, Halt>
     requires finder { IfSome finder.old (λ plan. plan ≡ compiled.now) }
@@ -115,10 +126,10 @@ fn lend_hit_lines<S: Sink>(
     requires closed { open_rest text.now ≡ [] }
     requires apart { All IsOnePiece compiled.now.literals.texts }
     ensures same { finder.new ≡ finder.old }
-    ensures lent { let list = compiled.now.literals in Lent S.takes sink.old
+    ensures lent { let list = compiled.now.literals in Lent (as_numbered is_numbered S.takes) sink.old
         (numbered (is_selected list.folding rule.whole rule.invert list.texts) before (ended_lines text.now))
         (answer_of result) sink.new }
-    ensures count { IfOk result (λ lines. lines ≡ before + length (ended_lines text.now)) }
+    ensures count { IfOk result (λ lines. is_numbered ≡ true → lines ≡ before + length (ended_lines text.now)) }
     ensures bound { IfOk result (λ lines. lines ≤ before + length text.now) }
     ensures faults { result ≢ Err (Halt.Failed Fault.StreamTooLong) }
 {
@@ -127,7 +138,7 @@ fn lend_hit_lines<S: Sink>(
     let mut lines = before;
     let mut credit = CREDIT;
     while let Some(hit) = first_hit_line(compiled, finder, &mut search, text, rest) {
-        lines = lend_all(rule.invert, hit.missed, lines, sink)?;
+        lines = lend_all(rule.invert, hit.missed, lines, is_numbered, sink)?;
         let selected = selects_at_hit(compiled, rule, hit.line);
         lend_if(selected, hit.line, lines, sink)?;
         lines += 1;
@@ -137,7 +148,7 @@ fn lend_hit_lines<S: Sink>(
             return lend_each_line(compiled, rule, rest, lines, sink);
         }
     }
-    lend_all(rule.invert, rest, lines, sink)
+    lend_all(rule.invert, rest, lines, is_numbered, sink)
 }
 
 /// What is left under -x of a credit behind a hit, with the text that the search for it passed over.
@@ -198,19 +209,27 @@ fn matches_at_hit(compiled: &Compiled, whole: bool, line: &[u8]) -> bool
     }
 }
 
-/// Lends all lines of the text if they are selected, and else counts them.
+/// Lends all lines of the text if they are selected, and else counts them, if they are numbered.
 #[inline(always)]
-fn lend_all<S: Sink>(selected: bool, text: &[u8], before: u64, sink: &mut S) -> Result<u64, Halt>
+fn lend_all<S: Sink>(
+    selected: bool,
+    text: &[u8],
+    before: u64,
+    is_numbered: bool,
+    sink: &mut S,
+) -> Result<u64, Halt>
     requires { before + length text.now < 2 ^ 64 }
-    ensures lent { Lent S.takes sink.old
+    ensures lent { Lent (as_numbered is_numbered S.takes) sink.old
         (numbered (λ _. selected) before (ended_lines text.now)) (answer_of result) sink.new }
-    ensures count { IfOk result (λ lines. lines ≡ before + length (ended_lines text.now)) }
+    ensures count { IfOk result (λ lines. is_numbered ≡ true → lines ≡ before + length (ended_lines text.now)) }
     ensures bound { IfOk result (λ lines. lines ≤ before + length text.now) }
     ensures faults { result ≢ Err (Halt.Failed Fault.StreamTooLong) }
 {
     if selected {
         lend_lines(Matcher::each_line(), text, before, sink)
-    } else {
+    } else if is_numbered {
         Ok(before + count_newlines(text) as u64)
+    } else {
+        Ok(before)
     }
 }

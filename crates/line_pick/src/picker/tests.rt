@@ -1,5 +1,6 @@
 //! What no clause says: worked rows, and the texts of faults.
 mod finding;
+mod numbers;
 mod whole_lines;
 
 use super::*;

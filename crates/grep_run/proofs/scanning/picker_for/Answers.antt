@@ -1,17 +1,6 @@
--- A new picker has been fed nothing.
-use Rattle.std.proofs.Common.{◌≡◌, Option, Some, IfSome, refl, ap, sym, subst}
-use Rattle.flow_scan.specs.Plans.{Plan}
-use Rattle.line_pick.specs.Matching.{selects}
-use Rattle.grep_run.proofs.ScanLemmas.{fed-none}
+-- A picker without numbers has been fed nothing either.
+use Rattle.grep_run.proofs.ScanLemmas.{fed-bare}
 use Rattle.grep_run.proofs.scanning.picker_for.Goals as goal
 
-pub returns-in-None-clause-fed : goal.returns-in-None-clause-fed
-returns-in-None-clause-fed c =
-    let request = c.args.request.now in
-    rw c.«new».ensures (fed-none _ _ (ap (λ plan. selects plan request.patterns.now.has_empty (record { invert = request.options.now.invert; whole = request.options.now.whole })) c.as_ref.ensures.value) refl refl refl refl)
-
-pub returns-in-Some-clause-fed : goal.returns-in-Some-clause-fed
-returns-in-Some-clause-fed c =
-    let request = c.args.request.now in
-    let same : request.patterns.now.plan ≡ Some c.in-Some.finder = subst (λ (o : Option Plan). IfSome o (λ plan. request.patterns.now.plan ≡ Some plan)) c.in-Some.is c.requires in
-    rw c.by_finder.ensures (fed-none _ _ (ap (λ plan. selects plan request.patterns.now.has_empty (record { invert = request.options.now.invert; whole = request.options.now.whole })) (sym same)) refl refl refl refl)
+pub returns-else-request-clause-fed : goal.returns-else-request-clause-fed
+returns-else-request-clause-fed c = rw c.without_numbers.ensures (fed-bare _ _ _ c.numbered_picker_for-picker.ensures.fed)

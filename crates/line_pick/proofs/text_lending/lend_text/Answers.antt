@@ -6,7 +6,11 @@ use Rattle.lit_base.specs.Selected.{is_selected}
 use Rattle.line_pick.specs.Matching.{picks}
 use Rattle.line_pick.proofs.AroundHitLines.{picks-literals, picks-none, picks-null}
 use Rattle.line_pick.proofs.LentLemmas.{Lent-lines, numbered-same}
+use Rattle.line_pick.proofs.NumberLemmas.{Lent-taken}
 use Rattle.line_pick.proofs.text_lending.lend_text.Goals as goal
+
+pub returns-then-matcher-2-clause-lent : goal.returns-then-matcher-2-clause-lent
+returns-then-matcher-2-clause-lent g c = Lent-taken g.S.Sink.takes c.args.is_numbered c.lend_lines.ensures.lent
 
 pub returns-then-matcher-clause-lent : goal.returns-then-matcher-clause-lent
 returns-then-matcher-clause-lent g c =

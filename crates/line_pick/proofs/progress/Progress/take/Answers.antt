@@ -7,6 +7,7 @@ use Rattle.line_pick.specs.declared.halt.Halt.{Halt}
 use Rattle.line_pick.specs.Lending.{NoneLeft, numbered}
 use Rattle.line_pick.specs.Matching.{picks}
 use Rattle.line_pick.proofs.LentLemmas.{Lends-halted, Lends-held, Lends-join, Lends-lines, Lends-refused, Lent-from_Lends, Lent-lines, OnOk-any, answer_of-StreamTooLong, answer_to-More, count-first, count-none, numbered-first}
+use Rattle.line_pick.proofs.NumberLemmas.{Lends-same, Lends-taken, Lent-taken}
 use Rattle.line_pick.proofs.Newlines.{first-held, one-append, open_rest-first}
 use Rattle.line_pick.proofs.progress.Progress.take.Goals as goal
 
@@ -28,7 +29,7 @@ returns-in_err-end_line-in-Some-clause-lent g c =
     let held = c.args.self.now.held.items in
     let cut = first-held held c.requires.sound.one c.in-Some.ensures in
     rw (p.1, p.2) (Lends-lines (sym (numbered-first test lines (held ++ c.args.piece.now) (held ++ c.in-Some.front.now) c.in-Some.behind.now cut))
-    (Lends-halted (numbered test (lines + 1) (ended_lines c.in-Some.behind.now)) c.in_err-end_line-in-Some.ensures.lent (answer_to-More c.in_err-end_line-in-Some.field-0.0)))
+    (Lends-halted (numbered test (lines + 1) (ended_lines c.in-Some.behind.now)) (Lends-taken g.S.Sink.takes c.args.self.now.is_numbered c.in_err-end_line-in-Some.ensures.lent) (answer_to-More c.in_err-end_line-in-Some.field-0.0)))
 
 pub returns-in-None-clause-lent : goal.returns-in-None-clause-lent
 returns-in-None-clause-lent g c =
@@ -46,7 +47,7 @@ pub returns-in-None-clause-lines : goal.returns-in-None-clause-lines
 returns-in-None-clause-lines g c =
     let held = c.args.self.now.held.items in
     let none = count-none (held ++ c.args.piece.now) (one-append held c.args.piece.now c.requires.sound.one c.in-None.ensures) in
-    OnOk-any c.hold.result (omega (arith, none, c.hold.ensures.lines))
+    OnOk-any c.hold.result (λ _. omega (arith, none, c.hold.ensures.lines))
 
 pub returns-in_ok-end_line-in-Some-clause-lent : goal.returns-in_ok-end_line-in-Some-clause-lent
 returns-in_ok-end_line-in-Some-clause-lent g c =
@@ -55,8 +56,8 @@ returns-in_ok-end_line-in-Some-clause-lent g c =
     let held = c.args.self.now.held.items in
     let cut = first-held held c.requires.sound.one c.in-Some.ensures in
     Lends-lines (sym (numbered-first test lines (held ++ c.args.piece.now) (held ++ c.in-Some.front.now) c.in-Some.behind.now cut))
-    (Lends-join (Lent-from_Lends c.in_ok-end_line-in-Some.ensures.lent)
-    (Lends-lines (ap (λ n. numbered test n (ended_lines c.in-Some.behind.now)) c.in_ok-end_line-in-Some.ensures.lines) c.take_lines-in-Some.ensures.lent)
+    (Lends-join (Lent-taken g.S.Sink.takes c.args.self.now.is_numbered (Lent-from_Lends c.in_ok-end_line-in-Some.ensures.lent))
+    (Lends-lines (ap (λ n. numbered test n (ended_lines c.in-Some.behind.now)) c.in_ok-end_line-in-Some.ensures.lines) (Lends-same g.S.Sink.takes c.in_ok-end_line-in-Some.ensures.numbered c.take_lines-in-Some.ensures.lent))
     (answer_of-StreamTooLong c.take_lines-in-Some.result c.take_lines-in-Some.ensures.faults))
 
 pub returns-in_ok-end_line-in-Some-clause-held : goal.returns-in_ok-end_line-in-Some-clause-held
@@ -70,4 +71,4 @@ returns-in_ok-end_line-in-Some-clause-lines g c =
     let held = c.args.self.now.held.items in
     let cut = first-held held c.requires.sound.one c.in-Some.ensures in
     let count = count-first test 0 (held ++ c.args.piece.now) (held ++ c.in-Some.front.now) c.in-Some.behind.now cut in
-    on_ok_weaker c.take_lines-in-Some.result (λ e. omega (arith, e, count, c.in_ok-end_line-in-Some.ensures.lines)) c.take_lines-in-Some.ensures.lines
+    on_ok_weaker c.take_lines-in-Some.result (λ e is. omega (arith, e (c.in_ok-end_line-in-Some.ensures.numbered ∙ is), count, c.in_ok-end_line-in-Some.ensures.lines)) c.take_lines-in-Some.ensures.lines

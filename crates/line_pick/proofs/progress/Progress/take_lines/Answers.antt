@@ -38,4 +38,4 @@ pub returns-clause-held : goal.returns-clause-held
 returns-clause-held g c = on_ok_weaker c.hold.result (λ e. e ∙ ap (λ h. h ++ c.split_ended.result.1.now) c.requires.fresh ∙ sym (open_rest-cut c.split_ended.ensures)) c.hold.ensures.ok
 
 pub returns-clause-lines : goal.returns-clause-lines
-returns-clause-lines g c = OnOk-any c.hold.result (c.hold.ensures.lines ∙ c.in_ok-self.ensures.count ∙ ap (λ ls. c.args.self.now.lines + length ls) (sym (ended_lines-cut c.split_ended.ensures)))
+returns-clause-lines g c = OnOk-any c.hold.result (λ e. c.hold.ensures.lines ∙ c.in_ok-self.ensures.count e ∙ ap (λ ls. c.args.self.now.lines + length ls) (sym (ended_lines-cut c.split_ended.ensures)))

@@ -1,0 +1,49 @@
+-- What is shown of the picker, by what its progress took.
+use Rattle.std.proofs.Common.{rules, ◌≡◌, ℕ, Bool, List, ◌++◌, Option, cond, length, Result, Ok, Err, OnOk, ap, sym, ◌∙◌}
+use Rattle.std.specs.Option.{option_copied}
+use Rattle.lit_base.specs.Lines.{ended_lines}
+use Rattle.flow_scan.specs.Plans.{Plan}
+use Rattle.line_pick.specs.declared.halt.Halt.{Halt}
+use Rattle.line_pick.specs.declared.line_rule.LineRule.{LineRule}
+use Rattle.line_pick.specs.declared.sink.Next.TheVariants.{More}
+use Rattle.line_pick.specs.declared.state.State.{State}
+use Rattle.line_pick.specs.Lending.{answer_of}
+use Rattle.line_pick.specs.Matching.{picks}
+use Rattle.line_pick.specs.Picking.{Picking, fed_state}
+use Rattle.line_pick.proofs.LentLemmas.{answer_to-More}
+use Rattle.line_pick.proofs.NumberLemmas.{Lends-moved, shown-more, shown-same}
+use Rattle.line_pick.proofs.picker.Picker.feed.Goals as goal
+
+-- where the sink wants more, all was taken
+on_more : {T P : Type 0} (r : Result T Halt) → answer_of r ≡ Ok More → OnOk r P → P
+on_more (Ok x) e p = p
+on_more (Err halt) e p = absurd (answer_to-More halt e)
+
+-- what is shown of a picker
+abbrev shown : Option Plan → Bool → LineRule → Bool → List ℕ → ℕ → ℕ → State → Picking
+shown plan has_empty rule is_numbered held lines bytes state = record { plan = plan; has_empty = has_empty; rule = rule; is_numbered = is_numbered; held = held; lines = lines; bytes = bytes; state = state }
+
+same-picking : (plan : Option Plan) (has_empty : Bool) (rule : LineRule) {k k' : Bool} {h h' : List ℕ} {l l' b b' : ℕ} {s s' : State} → k ≡ k' → h ≡ h' → l ≡ l' → b ≡ b' → s ≡ s' → shown plan has_empty rule k h l b s ≡ shown plan has_empty rule k' h' l' b' s'
+same-picking plan has_empty rule {k' = k'} {h = h} {h' = h'} {l = l} {l' = l'} {b = b} {b' = b'} {s = s} numbered held lines bytes state =
+    ap (λ x. shown plan has_empty rule x h l b s) numbered
+    ∙ ap (λ x. shown plan has_empty rule k' x l b s) held
+    ∙ ap (λ x. shown plan has_empty rule k' h' x b s) lines
+    ∙ ap (λ x. shown plan has_empty rule k' h' l' x s) bytes
+    ∙ ap (λ x. shown plan has_empty rule k' h' l' b' x) state
+
+pub returns-clause-running : goal.returns-clause-running
+returns-clause-running g c = rw (← c.self.view_is) (λ running.
+    let m = c.self.inside.matcher in
+    let old = c.self.inside.progress in
+    let new = c.take.new.self in
+    let count = length (ended_lines (old.held.items ++ c.args.piece.now)) in
+    record {
+      lent = rw c.answered-answer.ensures (Lends-moved g.S.Sink.takes (picks m) old.lines (cond old.is_numbered old.lines 0) (ended_lines (old.held.items ++ c.args.piece.now)) old.is_numbered (shown-same old.is_numbered old.lines) c.take.ensures.lent);
+      more = λ e.
+          let all : answer_of c.take.result ≡ Ok More = sym c.answered-answer.ensures ∙ e in
+          same-picking (option_copied m.plan) m.has_empty m.rule c.take.ensures.numbered (on_more c.take.result all c.take.ensures.held)
+          (ap (λ is_numbered. cond is_numbered new.lines 0) c.take.ensures.numbered ∙ shown-more old.is_numbered old.lines new.lines count (on_more c.take.result all c.take.ensures.lines))
+          (on_more c.take.result all c.take.ensures.bytes) (c.after_feed-self-inside.ensures ∙ ap fed_state e ∙ sym running);
+      state = c.after_feed-self-inside.ensures;
+      too_long = search rules;
+    })

@@ -1,0 +1,70 @@
+//! Pickers without numbers, beside those with them.
+use super::*;
+
+/// A sink that keeps lines without their numbers.
+#[derive(Drop)]
+struct Bare {
+    text: Vec<u8>,
+}
+
+impl Bare {
+    fn keep(&mut self, bytes: &[u8]) -> Result<(), AllocError> {
+        self.text.extend_from_slice(bytes)?;
+        self.text.push(b'\n')?;
+        Ok(())
+    }
+}
+
+impl Sink for Bare {
+    ghost takes = { λ _ _ _ _ _. Unit {0} };
+
+    fn line(&mut self, _number: u64, bytes: &[u8]) -> Result<Next, Fault> {
+        self.keep(bytes)?;
+        Ok(Next::More)
+    }
+}
+
+/// The pieces of a text of six lines.
+const PIECES: [&[u8]; 3] = [b"dog\nconc", b"at\ncow\ncat\nbe", b"e\ncatfish"];
+
+/// What a picker lends of them.
+fn lent_by(alloc: Global, mut picker: Picker<'_>) -> Option<Vec<u8>> {
+    let mut sink = Bare {
+        text: Vec::new(alloc),
+    };
+    for piece in PIECES {
+        picker.feed(piece, &mut sink).ok()?;
+    }
+    picker.finish(&mut sink).ok()?;
+    Some(sink.text)
+}
+
+/// Whether pickers with and without numbers lend these lines.
+fn lend(alloc: Global, rule: LineRule, wanted: &[u8]) -> Option<bool> {
+    let compiled = plan_of_one(alloc, b"cat")?;
+    if !is_in_lines(&compiled) {
+        return None;
+    }
+    let picker = Picker::new(alloc, Some(&compiled), false, rule);
+    let numbered = lent_by(alloc, picker)?;
+    let picker = Picker::new(alloc, Some(&compiled), false, rule);
+    let bare = lent_by(alloc, picker.without_numbers())?;
+    Some(numbered.as_slice() == wanted && bare.as_slice() == wanted)
+}
+
+#[test]
+fn lends_the_same_lines_without_numbers(rt: HostRuntime) {
+    let parts = lend(rt.alloc(), PARTS, b"concat\ncat\ncatfish\n");
+    assert_eq!(rt; parts, Some(true));
+    assert_eq!(rt; lend(rt.alloc(), WHOLE, b"cat\n"), Some(true));
+}
+
+#[test]
+fn lends_the_same_other_lines_without_numbers(rt: HostRuntime) {
+    let inverted = LineRule {
+        invert: true,
+        ..PARTS
+    };
+    let others = lend(rt.alloc(), inverted, b"dog\ncow\nbee\n");
+    assert_eq!(rt; others, Some(true));
+}
