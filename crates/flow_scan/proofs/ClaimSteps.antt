@@ -43,17 +43,27 @@ none_claimed low high w text from within place end counted below occurs after be
     absurd (omega (arith, near, after, before))
 
 -- an end that is claimed by no bit is none
-pub unclaimed : (w : Windowing) (text : List ℕ) (seen last : ℕ) → AreClaimed 0 (length w.literals.texts) w text seen seen (last + 1) 0 → NoEndUpTo w.literals text seen last
-unclaimed w text seen last none end after within here =
-    let set = none here.0 end (omega arith) (listed w.literals text here.0 end here.1) here.1 after after (omega (arith, within)) in
+pub unclaimed : (w : Windowing) (text : List ℕ) (from seen last : ℕ) → from ≤ seen → AreClaimed 0 (length w.literals.texts) w text from seen (last + 1) 0 → NoEndUpTo w.literals text seen last
+unclaimed w text from seen last sooner none end after within here =
+    let set = none here.0 end (omega arith) (listed w.literals text here.0 end here.1) here.1 (omega (arith, after, sooner)) after (omega (arith, within)) in
     absurd (omega (arith, set, bit_at-zero (end - (seen + 1))))
 
 module _ (low high : ℕ) (w : Windowing) (text : List ℕ) where
   -- without a bit, nothing is claimed behind a place further on either
-  pub none_further : (seen later next : ℕ) → seen ≤ later → AreClaimed low high w text seen seen next 0 → AreClaimed low high w text seen later next 0
-  none_further seen later next ahead none place end counted below occurs after behind before =
-      let set = none place end counted below occurs after after before in
+  pub none_further : (from seen later next : ℕ) → seen ≤ later → AreClaimed low high w text from seen next 0 → AreClaimed low high w text from later next 0
+  none_further from seen later next ahead none place end counted below occurs after behind before =
+      let set = none place end counted below occurs after (omega (arith, behind, ahead)) before in
       absurd (omega (arith, set, bit_at-zero (end - (seen + 1))))
+
+  -- a look without a mark claims nothing
+  pub none_marked : (from seen at stride marks : ℕ) → marks ≡ 0 → AreMarksOf low high stride w text at marks → AreClaimed low high w text from seen at 0 → AreClaimed low high w text from seen (at + stride) 0
+  none_marked from seen at stride marks none are claimed place end counted below occurs after behind before = elim (cases_lt end (at + offset_at w place)) [
+    | inl sooner ↦ claimed place end counted below occurs after behind sooner
+    | inr later ↦
+        let there : end ≡ at + (end - at) = omega (arith, later) in
+        let set = are place (end - at) counted below (omega (arith, later)) (omega (arith, later, before)) (subst (Occurs w.literals text place) there occurs) in
+        absurd (omega (arith, ap (λ m. bit_at m (end - at)) none, set, bit_at-zero (end - at)))
+  ]
 
   -- the claims behind some of the ends are those of the bits above
   pub claims_above : (from seen count next marks above : ℕ) → ((back : ℕ) → bit_at above back ≡ bit_at marks (count + back)) → AreClaimed low high w text from seen next marks → AreClaimed low high w text from (seen + count) next above
@@ -110,8 +120,8 @@ module _ (w : Windowing) (masks : Masks) (text : List ℕ) (seen passing : ℕ) 
       (tells (end - offset_at w place - (seen + 1))).1 (omega (arith, behind, inside), subst (IsCandidate masks text) there (covers text place end bytes before (omega (arith, is.within)) occurs))
 
   -- where none passes, none of them claims an end
-  pub none_passes : (from : ℕ) → passing ≡ 0 → AreClaimed 0 w.split w text from from (seen + 1) 0 → AreClaimed 0 w.split w text from from (seen + 64 + 1) 0
-  none_passes from none claimed place end counted below occurs after behind before = elim (cases_lt end (seen + 1 + offset_at w place)) [
+  pub none_passes : (from base : ℕ) → passing ≡ 0 → AreClaimed 0 w.split w text from base (seen + 1) 0 → AreClaimed 0 w.split w text from base (seen + 64 + 1) 0
+  none_passes from base none claimed place end counted below occurs after behind before = elim (cases_lt end (seen + 1 + offset_at w place)) [
     | inl sooner ↦ claimed place end counted below occurs after behind sooner
     | inr later ↦
         let set = passes place end below occurs (omega (arith, later)) (omega (arith, before, later)) in

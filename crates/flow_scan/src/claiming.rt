@@ -16,6 +16,9 @@ use text_windows::Windows;
 /// So many places are looked at together: the marks of the last of them have room above it in a word.
 pub(crate) const BLOCK: usize = 56;
 
+/// The bits of as many places.
+const PLACES: u64 = 0x00ff_ffff_ffff_ffff;
+
 /// So many places are told by one step of the filter.
 const STEP: usize = 64;
 
@@ -133,12 +136,9 @@ fn sieve(windows: &Windows<'_>, text: &[u8], seen: usize, marks: u64, passing: u
 {
     let _split = windows.split();
     let mut found = marks;
-    let mut rest = passing;
+    let mut rest = passing & PLACES;
     'places: while rest != 0 {
         let (back, others) = split_lowest(rest);
-        if back >= BLOCK {
-            return found;
-        }
         let look = windows.sieved_marks_behind_front(text, seen + 1 + back);
         found |= (look as u64) << back;
         rest = others;
@@ -202,36 +202,92 @@ fn stride_over(
     found
 }
 
-/// A place from `seen` on up to which nothing ends: where all literals are sieved and no end is claimed, blocks of which no place
-/// passes are skipped.
+/// The next block from `seen` on that claims an end, or may, or the last one: how much of the text lies before it, where nothing
+/// ends, and its claims as `claims_behind` gives them.
 #[inline(always)]
-pub(crate) fn skip_quiet(
+pub(crate) fn next_claims(
     windows: &Windows<'_>,
     list: &LitList,
     text: &[u8],
     seen: usize,
     marks: u64,
-) -> usize
+    met: &mut Met,
+) -> (usize, u64)
     requires list { windows.now.literals ≡ list.now }
+    requires inside { seen ≤ length text.now }
+    ensures ahead { seen ≤ result.0 }
+    ensures inside { result.0 ≤ length text.now }
+    ensures none { let all = length windows.now.literals.texts in AreClaimed 0 all windows.now text.now seen seen (seen + 1) marks
+        → NoEndUpTo windows.now.literals text.now seen result.0 }
+    ensures claimed { let all = length windows.now.literals.texts in AreClaimed 0 all windows.now text.now seen seen (seen + 1) marks
+        → AreClaimed 0 all windows.now text.now seen result.0 (result.0 + min BLOCK (length text.now - result.0) + 1) result.1 }
+{
+    if seen >= FRONT && windows.split() == list.len() {
+        return sieve_ahead(windows, text, seen, marks, met);
+    }
+    let at = skip_quiet(windows, text, seen, marks);
+    (at, claims_behind(windows, list, text, at, marks, met))
+}
+
+/// The same where all literals are sieved: blocks of which no place passes are skipped, if no end is claimed in them.
+#[inline(always)]
+fn sieve_ahead(
+    windows: &Windows<'_>,
+    text: &[u8],
+    seen: usize,
+    marks: u64,
+    met: &mut Met,
+) -> (usize, u64)
+    requires sieved { windows.now.split ≡ length windows.now.literals.texts }
+    requires behind { 3 ≤ seen }
+    requires inside { seen ≤ length text.now }
+    ensures ahead { seen ≤ result.0 }
+    ensures inside { result.0 ≤ length text.now }
+    ensures none { let all = length windows.now.literals.texts in AreClaimed 0 all windows.now text.now seen seen (seen + 1) marks
+        → NoEndUpTo windows.now.literals text.now seen result.0 }
+    ensures claimed { let all = length windows.now.literals.texts in AreClaimed 0 all windows.now text.now seen seen (seen + 1) marks
+        → AreClaimed 0 all windows.now text.now seen result.0 (result.0 + min BLOCK (length text.now - result.0) + 1) result.1 }
+{
+    let _split = windows.split();
+    let filter = BlockFilter::new(windows.masks());
+    let mut at = seen;
+    'blocks: while text.len() - at >= STEP {
+        let passing = filter.passing(text, at + 1);
+        if passing | marks != 0 {
+            met.pass(passing);
+            return (at, sieve(windows, text, at, marks, passing));
+        }
+        at += STEP;
+    }
+    let count = BLOCK.min(text.len() - at);
+    (at, look_at_each(windows, text, at, count, marks))
+}
+
+/// A place from `seen` on up to which nothing ends: where all literals are strided and no end is claimed, strides whose looks have
+/// no mark are skipped.
+#[inline(always)]
+fn skip_quiet(windows: &Windows<'_>, text: &[u8], seen: usize, marks: u64) -> usize
     requires inside { seen ≤ length text.now }
     ensures ahead { seen ≤ result }
     ensures inside { result ≤ length text.now }
+    ensures none { let all = length windows.now.literals.texts in AreClaimed 0 all windows.now text.now seen seen (seen + 1) marks
+        → NoEndUpTo windows.now.literals text.now seen result }
     ensures claimed { let all = length windows.now.literals.texts in AreClaimed 0 all windows.now text.now seen seen (seen + 1) marks
         → AreClaimed 0 all windows.now text.now seen result (result + 1) marks }
-    ensures none { let all = length windows.now.literals.texts in AreClaimed 0 all windows.now text.now seen seen (seen + 1) marks
-        → NoEndUpTo list.now text.now seen result }
 {
-    if marks != 0 || seen < FRONT || windows.split() != list.len() {
+    if marks != 0 || seen < FRONT || windows.split() != 0 {
         return seen;
     }
-    skip_unpassed(windows, list, text, seen)
+    if windows.has_short() {
+        return skip_by_all_widths(windows, text, seen);
+    }
+    skip_unmarked(windows, text, seen, false)
 }
 
-/// The same where there are places enough before the first one.
-#[inline(always)]
-fn skip_unpassed(windows: &Windows<'_>, list: &LitList, text: &[u8], seen: usize) -> usize
-    requires list { windows.now.literals ≡ list.now }
-    requires sieved { windows.now.split ≡ length list.now.texts }
+/// The place of `skip_unmarked` for lists that have short literals.
+#[inline(never)]
+fn skip_by_all_widths(windows: &Windows<'_>, text: &[u8], seen: usize) -> usize
+    requires strided { windows.now.split ≡ 0 }
     requires behind { 3 ≤ seen }
     requires inside { seen ≤ length text.now }
     ensures ahead { seen ≤ result }
@@ -239,14 +295,29 @@ fn skip_unpassed(windows: &Windows<'_>, list: &LitList, text: &[u8], seen: usize
     ensures claimed { let all = length windows.now.literals.texts in AreClaimed 0 all windows.now text.now seen seen (seen + 1) 0
         → AreClaimed 0 all windows.now text.now seen seen (result + 1) 0 }
 {
-    let _split = windows.split();
-    let filter = BlockFilter::new(windows.masks());
+    skip_unmarked(windows, text, seen, true)
+}
+
+/// A place from `seen` on up to which no look has a mark, two of them at a time.
+#[inline(always)]
+fn skip_unmarked(windows: &Windows<'_>, text: &[u8], seen: usize, has_short: bool) -> usize
+    requires strided { windows.now.split ≡ 0 }
+    requires behind { 3 ≤ seen }
+    requires inside { seen ≤ length text.now }
+    ensures ahead { seen ≤ result }
+    ensures inside { result ≤ length text.now }
+    ensures claimed { let all = length windows.now.literals.texts in AreClaimed 0 all windows.now text.now seen seen (seen + 1) 0
+        → AreClaimed 0 all windows.now text.now seen seen (result + 1) 0 }
+{
+    let stride = windows.stride();
     let mut at = seen;
-    'blocks: while text.len() - at >= STEP {
-        if filter.passing(text, at + 1) != 0 {
+    'strides: while text.len() - at > 2 * stride {
+        let near = windows.marks_behind_front(text, at + 1, has_short);
+        let far = windows.marks_behind_front(text, at + 1 + stride, has_short);
+        if near | far != 0 {
             return at;
         }
-        at += STEP;
+        at += 2 * stride;
     }
     at
 }

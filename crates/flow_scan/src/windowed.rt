@@ -6,7 +6,7 @@ ghost use Rattle.flow_scan.specs.NextEnds.{IsNextEnd, NoEndAfter, NoEndUpTo};
 ghost use Rattle.flow_scan.specs.Windowed.{AreClaims};
 ghost use Rattle.flow_scan.specs.declared.claiming.TheConstants.{BLOCK};
 
-use crate::claiming::{BLOCK, claims_behind, skip_quiet};
+use crate::claiming::{BLOCK, claims_behind, next_claims};
 use crate::met::Met;
 use crate::strides::first_marked;
 use lit_base::LitList;
@@ -144,8 +144,7 @@ impl Claims {
         ensures none { NoEndUpTo list.now text.now (self.seen + self.count) result.seen }
     {
         let rest = self.but_first(self.count);
-        let seen = skip_quiet(windows, list, text, rest.seen, rest.marks);
-        let marks = claims_behind(windows, list, text, seen, rest.marks, met);
+        let (seen, marks) = next_claims(windows, list, text, rest.seen, rest.marks, met);
         met.claim(marks);
         Claims {
             seen,

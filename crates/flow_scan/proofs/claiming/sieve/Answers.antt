@@ -1,22 +1,25 @@
 -- The places that pass are looked at one after the other, the lowest first.
-use Rattle.std.proofs.Common.{◌≡◌, ℕ, ◌<◌, ap, ◌∙◌, inr, sym, arith}
+use Rattle.std.proofs.Common.{◌≡◌, ℕ, ◌-◌, ◌+◌, ◌<◌, ◌≤◌, ap, ◌∙◌, inl, inr, arith}
 use Rattle.std.specs.Int.{bit_at}
-use Rattle.std.proofs.lemmas.Nat.Bits.{bit_at-zero}
+use Rattle.std.proofs.lemmas.Bool.{cases_lt}
+use Rattle.std.proofs.lemmas.Nat.Bits.{bit_at-zero, bit_at_above, bit_at_and, bit_at_ones}
+use Rattle.text_windows.specs.Windows.{offset_at}
 use Rattle.flow_scan.proofs.ClaimSteps.{left_further, sieve_claims}
 use Rattle.flow_scan.proofs.MarkSteps.{marked_below}
 use Rattle.flow_scan.proofs.claiming.sieve.Goals as goal
 
 pub places-init : goal.places-init
 places-init c = record {
-  left = λ place end before occurs behind inside. inr (c.requires.passing place end before occurs behind inside);
+  left = λ place end before occurs behind inside.
+      let at : ℕ = end - offset_at c.args.windows.now place - (c.args.seen + 1) in
+      let one = bit_at_ones 56 at (omega (arith, behind, inside)) in
+      inr (omega (arith, bit_at_and c.args.passing 72057594037927935 at, one, c.requires.passing place end before occurs behind inside));
   kept = λ back near set. set;
+  low = λ back set. elim (cases_lt back 56) [
+    | inl near ↦ near
+    | inr far ↦ absurd (omega (arith, set, bit_at_and c.args.passing 72057594037927935 back, bit_at_above 72057594037927935 56 back (omega arith) far))
+  ];
 }
-
-pub returns-then-back-ge-BLOCK-clause-claimed : goal.returns-then-back-ge-BLOCK-clause-claimed
-returns-then-back-ge-BLOCK-clause-claimed c = λ from.
-    let before = c.places.invariant in
-    sieve_claims c.args.windows.now c.args.text.now c.args.seen c.split-split.ensures.within from c.args.marks c.places.found c.places.rest
-    (λ k near. c.split_lowest-back.ensures.lowest k (omega (arith, near, c.if-back-ge-BLOCK.true))) before.left before.kept
 
 pub places-preserved : goal.places-preserved
 places-preserved c =
@@ -26,6 +29,7 @@ places-preserved c =
       left = left_further c.args.windows.now c.args.text.now c.args.seen c.split-split.ensures.within c.places.found c.places.rest back c.split_lowest-back.result.1 c.sieved_marks_behind_front-look.result
           c.split_lowest-back.ensures c.sieved_marks_behind_front-look.ensures before.left;
       kept = λ other near set. marked_below c.places.found c.sieved_marks_behind_front-look.result back other near (before.kept other near set);
+      low = λ other set. before.low other ((c.split_lowest-back.ensures.others other).0 set).1;
     }
 
 pub returns-clause-claimed : goal.returns-clause-claimed

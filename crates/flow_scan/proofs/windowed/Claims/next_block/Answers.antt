@@ -1,5 +1,6 @@
--- The next block begins where this one ends, or behind places of which none passes.
+-- The next block begins where this one ends, or further on.
 use Rattle.std.proofs.Common.{ℕ, ◌+◌, length, subst, arith}
+use Rattle.lit_base.specs.Literals.{Literals}
 use Rattle.flow_scan.specs.NextEnds.{NoEndUpTo}
 use Rattle.flow_scan.specs.Windowed.{AreClaimed, AreClaims}
 use Rattle.flow_scan.proofs.ClaimSteps.{claims_rest}
@@ -16,15 +17,17 @@ first c =
 pub returns-clause-claims : goal.returns-clause-claims
 returns-clause-claims c =
     let at = (goal.at.returns-clause-claims c).After-but_first-rest in
-    let skipped = c.skip_quiet-seen.ensures.claimed (first at) in
+    let ahead = c.next_claims-seen.ensures in
     record {
       claimed = λ place end low below occurs after behind before.
-          c.claims_behind-marks.ensures c.but_first-rest.result.seen skipped place end low below occurs (omega (arith, after, c.skip_quiet-seen.ensures.ahead)) behind (omega (arith, before, c.min.ensures));
-      inside = omega (arith, c.min.ensures, c.skip_quiet-seen.ensures.inside);
+          ahead.claimed (first at) place end low below occurs (omega (arith, after, ahead.ahead)) behind (omega (arith, before, c.min.ensures));
+      inside = omega (arith, c.min.ensures, ahead.inside);
       few = omega (arith, c.min.ensures);
     }
 
 pub returns-clause-none : goal.returns-clause-none
 returns-clause-none c =
     let at = (goal.at.returns-clause-none c).After-but_first-rest in
-    subst (λ (from : ℕ). NoEndUpTo c.args.list.now c.args.text.now from c.skip_quiet-seen.result) c.but_first-rest.ensures.seen (c.skip_quiet-seen.ensures.none (first at))
+    let none = c.next_claims-seen.ensures.none (first at) in
+    subst (λ (from : ℕ). NoEndUpTo c.args.list.now c.args.text.now from c.next_claims-seen.result.0) c.but_first-rest.ensures.seen
+    (subst (λ (l : Literals). NoEndUpTo l c.args.text.now c.but_first-rest.result.seen c.next_claims-seen.result.0) c.requires.list none)

@@ -1,0 +1,18 @@
+use Rattle.std.proofs.Common.{ℕ, ◌+◌, ◌-◌, ◌≤◌, length}
+use Rattle.flow_scan.specs.NextEnds.{NoEndUpTo}
+use Rattle.flow_scan.specs.Windowed.{AreClaimed}
+use Rattle.flow_scan.proofs.claiming.sieve_ahead.Given as goal
+
+-- nothing ends in the blocks passed
+abbrev pub invariant-blocks-2 : goal.invariant-blocks-2
+invariant-blocks-2 l = record {
+  front : 3 ≤ l.at;
+  ahead : l.seen ≤ l.at;
+  inside : l.at ≤ length l.text;
+  none : AreClaimed 0 (length l.windows.literals.texts) l.windows l.text l.seen l.seen (l.seen + 1) l.marks → NoEndUpTo l.windows.literals l.text l.seen l.at;
+  claimed : AreClaimed 0 (length l.windows.literals.texts) l.windows l.text l.seen l.seen (l.seen + 1) l.marks
+      → AreClaimed 0 (length l.windows.literals.texts) l.windows l.text l.seen l.at (l.at + 1) l.marks;
+}
+
+abbrev pub decreases-blocks-2 : goal.decreases-blocks-2
+decreases-blocks-2 l = length l.text - l.at

@@ -1,0 +1,32 @@
+-- Two looks without a mark claim nothing.
+use Rattle.std.proofs.Common.{◌≡◌, ℕ, ◌+◌, ◌*◌, length, sym, subst, arith}
+use Rattle.std.proofs.lemmas.Nat.{le_or_l, le_or_r}
+use Rattle.text_windows.specs.Windows.{AreMarksOf}
+use Rattle.flow_scan.specs.Windowed.{AreClaimed}
+use Rattle.flow_scan.proofs.ClaimSteps.{none_marked}
+use Rattle.flow_scan.proofs.claiming.skip_unmarked.Goals as goal
+
+pub strides-preserved : goal.strides-preserved
+strides-preserved c =
+    let w = c.args.windows.now in
+    let all : ℕ = length w.literals.texts in
+    let text = c.args.text.now in
+    let seen : ℕ = c.args.seen in
+    let at : ℕ = c.strides.at in
+    let stride : ℕ = c.stride-stride.result in
+    let before = c.strides.invariant in
+    let some = c.stride-stride.ensures.within.some in
+    let is = c.stride-stride.ensures.value in
+    let none = c.if-near-far-ne0.false in
+    let near : c.marks_behind_front-near.result ≡ 0 = omega (arith, le_or_l c.marks_behind_front-near.result c.marks_behind_front-far.result, none) in
+    let far : c.marks_behind_front-far.result ≡ 0 = omega (arith, le_or_r c.marks_behind_front-near.result c.marks_behind_front-far.result, none) in
+    let of_near : AreMarksOf 0 all stride w text (at + 1) c.marks_behind_front-near.result = λ place back counted below from before occurs. c.marks_behind_front-near.ensures place back (omega (arith, c.requires.strided)) below from (omega (arith, before, is)) occurs in
+    let of_far : AreMarksOf 0 all stride w text (at + 1 + stride) c.marks_behind_front-far.result = λ place back counted below from before occurs. c.marks_behind_front-far.ensures place back (omega (arith, c.requires.strided)) below from (omega (arith, before, is)) occurs in
+    record {
+      ahead = omega (arith, before.ahead);
+      inside = omega (arith, c.strides-test.true, before.inside);
+      claimed = λ first.
+          subst (λ (next : ℕ). AreClaimed 0 all w text seen seen next 0) (omega arith)
+          (none_marked 0 all w text seen seen (at + 1 + stride) stride c.marks_behind_front-far.result far of_far
+          (none_marked 0 all w text seen seen (at + 1) stride c.marks_behind_front-near.result near of_near (before.claimed first)));
+    }

@@ -1,0 +1,15 @@
+use Rattle.std.proofs.Common.{ℕ, ◌+◌, ◌-◌, ◌≤◌, length}
+use Rattle.flow_scan.specs.Windowed.{AreClaimed}
+use Rattle.flow_scan.proofs.claiming.skip_unmarked.Given as goal
+
+-- no end is claimed by the looks passed
+abbrev pub invariant-strides : goal.invariant-strides
+invariant-strides l = record {
+  ahead : l.seen ≤ l.at;
+  inside : l.at ≤ length l.text;
+  claimed : AreClaimed 0 (length l.windows.literals.texts) l.windows l.text l.seen l.seen (l.seen + 1) 0
+      → AreClaimed 0 (length l.windows.literals.texts) l.windows l.text l.seen l.seen (l.at + 1) 0;
+}
+
+abbrev pub decreases-strides : goal.decreases-strides
+decreases-strides l = length l.text - l.at
