@@ -5,7 +5,7 @@ use Rattle.std.specs.Option.{is_some}
 use Rattle.std.proofs.lemmas.Bool.{cases_eq, cases_lt}
 use Rattle.std.proofs.lemmas.List.{length-map}
 use Rattle.std.proofs.lemmas.Option.{get_or_from_slice_get, slice_get_within}
-use Rattle.lit_base.specs.Chains.{AreChainsOf, IsFirstTold, IsNextWith, NoneToldEnds, Reaches, hash_at, literal_at, told_at}
+use Rattle.lit_base.specs.Chains.{AreChainsOf, HaveWidths, IsFirstTold, IsNextWith, NoneToldEnds, Reaches, hash_at, literal_at, told_at}
 use Rattle.lit_base.specs.Literals.{Literals, lengths}
 use Rattle.lit_base.specs.Occurrences.{Occurs, NoneEnds, IsFirstEnding}
 use Rattle.lit_base.specs.Suffixes.{suffix_key, hash_of}
@@ -76,6 +76,13 @@ first_by_width l text from end width (Some p) rising before e found =
             | inr wide ↦ found.first other low high (omega (arith, wide, rises, found.told)) occurs
           ];
     }
+
+-- what they answer is some, and behind each that may be it the others have their bits
+pub behind_found : (l : Literals) (text : List ℕ) (from end width left : ℕ) (r : Option ℕ)
+    → MatchOption r (NoneToldEnds l text from end width) (λ place. IsFirstTold l text from end width place)
+    → ((place : ℕ) → IsFirstTold l text from end width place → HaveWidths l text (place + 1) end left) → IfSome r (λ place. HaveWidths l text (place + 1) end left)
+behind_found l text from end width left None found have = tt
+behind_found l text from end width left (Some p) found have = have p found
 
 -- what is found is one of the literals
 pub found_within : (l : Literals) (text : List ℕ) (from end : ℕ) (r : Option ℕ) → MatchOption r (NoneEnds l text from end) (λ place. IsFirstEnding l text from end place)

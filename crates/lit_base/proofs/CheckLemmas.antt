@@ -1,18 +1,22 @@
 -- Checks: a text has the bit of each literal that ends in it.
-use Rattle.std.proofs.Common.{◌≡◌, ◌≢◌, ℕ, ◌+◌, ◌-◌, ◌*◌, ◌%◌, ◌^◌, ◌++◌, replicate, ◌<◌, ◌≤◌, List, length, inl, inr, refl, sym, ap, ◌∙◌, subst, arith}
+use Rattle.std.proofs.Common.{◌≡◌, ◌≢◌, ℕ, ◌+◌, ◌-◌, ◌*◌, ◌%◌, ◌^◌, ◌++◌, replicate, ◌<◌, ◌≤◌, List, [], length, inl, inr, refl, sym, ap, ◌∙◌, subst, arith}
 use Rattle.std.specs.Int.{bit_at, bit_not, w8}
 use Rattle.std.specs.Int.RustNames.{bit_and, bit_or}
 use Rattle.std.specs.List.{slice_range}
-use Rattle.std.proofs.lemmas.Bool.{cases_eq}
+use Rattle.std.proofs.lemmas.Bool.{cases_eq, cases_lt}
 use Rattle.std.proofs.lemmas.Nat.{and_le_l}
 use Rattle.std.proofs.lemmas.Nat.Bits.{bit_at-lt, bit_at-zero, bit_at_and, bit_at_clear_other, bit_at_clear_same, bit_at_or, bit_at_set_same}
-use Rattle.std.proofs.lemmas.Option.{slice_get_within}
+use Rattle.std.proofs.lemmas.Map.Keys.{Less-from_sorted}
+use Rattle.std.proofs.lemmas.Option.{get_or_from_slice_get, slice_get_within}
 use Rattle.lit_base.specs.declared.suffixes.checks.SuffixChecks.{SuffixChecks}
-use Rattle.lit_base.specs.Chains.{HaveWidths, NoneToldEnds, told_at}
+use Rattle.lit_base.specs.Chains.{HaveWidths, NoneToldEnds, literal_at, told_at}
 use Rattle.lit_base.specs.Checks.{AreChecksOf, IsChecked}
-use Rattle.lit_base.specs.Literals.{Literals}
+use Rattle.lit_base.specs.Literals.{IsNormal, Literals, literal_cmp}
 use Rattle.lit_base.specs.Occurrences.{Occurs}
-use Rattle.lit_base.specs.Suffixes.{last_bits, spelled, suffix_key}
+use Rattle.lit_base.specs.Folding.{folded_text}
+use Rattle.lit_base.specs.Suffixes.{last_bits, spelled, suffix_key, told_width}
+use Rattle.lit_base.proofs.InsertLemmas.{literal_total}
+use Rattle.lit_base.proofs.SortedLists.{not_below}
 use Rattle.lit_base.proofs.SuffixLemmas.{AreBytes, key-occurs, masked, spelled_fits}
 
 -- where a literal ends, the hash of the bytes before that place that it is told by has the bit of their number
@@ -74,3 +78,25 @@ fewer_widths widths low small has =
       | inl same ↦ absurd (omega (arith, none, has, ap (λ n. bit_at n low) same))
       | inr other ↦ omega arith
     ]
+
+-- no two literals of one length end at one place
+ends_once : (l : Literals) → IsNormal l → (text : List ℕ) (place other end : ℕ) → Occurs l text place end → Occurs l text other end → length (literal_at l place) ≡ length (literal_at l other) → place < other → ⊥
+ends_once l normal text place other end one two len before =
+    let here : literal_at l place ≡ one.literal = get_or_from_slice_get l.texts place one.literal [] one.stands in
+    let there : literal_at l other ≡ two.literal = get_or_from_slice_get l.texts other two.literal [] two.stands in
+    let lens : length one.literal ≡ length two.literal = sym (ap length here) ∙ len ∙ ap length there in
+    let same : one.literal ≡ two.literal = sym one.bytes ∙ ap (λ n. folded_text l.folding (slice_range text (end - n) end)) lens ∙ two.bytes in
+    let inside = slice_get_within l.texts other two.literal two.stands in
+    not_below literal_cmp literal_total (literal_at l place) (literal_at l other) (Less-from_sorted literal_cmp l.texts place other [] normal.rising before inside) (here ∙ same ∙ sym there)
+
+-- behind a literal that ends there, the others have their bits without that of its length, unless that is of the widest
+pub others_left : (l : Literals) → IsNormal l → (checks : SuffixChecks) → AreChecksOf l checks → (text : List ℕ) (from end place len widths left : ℕ) → Occurs l text place end → from ≤ place + 1 → told_at l place ≡ told_width len
+    → HaveWidths l text from end widths → ((width : ℕ) → 0 < width → width ≤ 8 → (width ≡ len → width ≡ 8) → bit_at widths (width - 1) ≡ 1 → bit_at left (width - 1) ≡ 1)
+    → HaveWidths l text (place + 1) end left
+others_left l normal checks is text from end place len widths left one counted told have stays other later two =
+    let width : ℕ = told_at l other in
+    let widest : width ≡ len → width ≡ 8 = λ e. elim (cases_lt width 8) [
+      | inl narrow ↦ absurd (ends_once l normal text place other end one two (omega arith) (omega arith))
+      | inr wide ↦ omega arith
+    ] in
+    stays width (told_some l checks text other end is two) (omega arith) widest (have other (omega arith) two)

@@ -24,7 +24,7 @@ module _ {K : Type 0} (R : K → K → Ordering) (o : IsTotalOrder R) where
   ties_itself t = tie (R t t) (o.antisymm t t)
 
   -- no element is below itself
-  not_below : (t u : K) → R t u ≡ Less → t ≡ u → ⊥
+  pub not_below : (t u : K) → R t u ≡ Less → t ≡ u → ⊥
   not_below t u less e = let same : R t u ≡ Equal = ap (R t) (sym e) ∙ ties_itself t in (cc)
 
   -- no two are below each other

@@ -7,7 +7,7 @@ ghost use Rattle.std.specs.List.{AllZip};
 ghost use Rattle.std.specs.List.Sorted.{IsNonDecreasing};
 ghost use Rattle.lit_base.specs.Literals.{lengths, IsNormal};
 ghost use Rattle.lit_base.specs.NormalForm.{IsNormalForm, IsPlaceOf, normal_form};
-ghost use Rattle.lit_base.specs.Occurrences.{HasEnd, IsFirstEnding, NoneEnds};
+ghost use Rattle.lit_base.specs.Occurrences.{HasEnd, IsFirstEnding, NoneEnds, Occurs};
 ghost use Rattle.lit_base.specs.Strides.{stride_of};
 ghost use Rattle.lit_base.specs.declared.fault.Fault.TheVariants.{OutOfMemory, TooManyLiterals};
 ghost use Rattle.lit_base.specs.declared.limits.TheConstants.{MAX_LITERALS};
@@ -162,6 +162,19 @@ impl LitList {
         ensures from { result.from ≡ from }
     {
         Endings::new(self, text, end, from)
+    }
+
+    /// The literals that end at `end` in the text behind the one at a place, which does. It answers as `endings` from the next
+    /// place on does, and looks for no other literal as short: none ends there.
+    #[inline]
+    pub fn endings_behind<'a>(&'a self, text: &'a [u8], end: usize, place: usize) -> Endings<'a>
+        requires { Occurs self.now text.now place end }
+        ensures literals { result.literals ≡ self.now }
+        ensures text { result.text ≡ text.now }
+        ensures end { result.end ≡ end }
+        ensures from { result.from ≡ place + 1 }
+    {
+        Endings::behind(self, text, end, place)
     }
 
     /// The first of the literals that ends at `end` in the text, if there is one. It answers as `next_ending` from the first

@@ -4,11 +4,12 @@ mod checks;
 mod key;
 mod marks;
 
-ghost use Rattle.std.specs.Prelude.{◌≡◌, ◌^◌, ◌<◌, ◌≤◌, All, IfOk, MatchOption, length, map};
+ghost use Rattle.std.specs.Prelude.{◌≡◌, ℕ, ◌+◌, ◌-◌, ◌^◌, ◌<◌, ◌≤◌, All, IfOk, IfSome, MatchOption, length, map};
+ghost use Rattle.std.specs.Int.{bit_at};
 ghost use Rattle.std.specs.List.Sorted.{IsNonDecreasing};
 ghost use Rattle.lit_base.specs.Chains.{HaveWidths};
 ghost use Rattle.lit_base.specs.Checks.{AreSuffixesOf};
-ghost use Rattle.lit_base.specs.Literals.{Literals};
+ghost use Rattle.lit_base.specs.Literals.{IsNormal, Literals};
 ghost use Rattle.lit_base.specs.Occurrences.{IsFirstEnding, NoneEnds};
 ghost use Rattle.lit_base.specs.declared.limits.TheConstants.{MAX_LITERALS};
 ghost use Rattle.lit_base.specs.declared.suffixes.checks.TheConstants.{CHECK_BITS};
@@ -52,8 +53,7 @@ impl Suffixes {
     #[inline]
     pub fn first_ending(&self, literals: &FoldedList, text: &[u8], end: usize) -> Option<usize>
         requires of { AreSuffixesOf literals.now self.now }
-        requires few { length literals.now.texts ≤ MAX_LITERALS }
-        requires rising { IsNonDecreasing (map length literals.now.texts) }
+        requires normal { IsNormal literals.now }
         requires inside { end ≤ length text.now }
         ensures { MatchOption result
             (NoneEnds literals.now text.now 0 end)
@@ -75,8 +75,7 @@ impl Suffixes {
         from: usize,
     ) -> Option<usize>
         requires of { AreSuffixesOf literals.now self.now }
-        requires few { length literals.now.texts ≤ MAX_LITERALS }
-        requires rising { IsNonDecreasing (map length literals.now.texts) }
+        requires normal { IsNormal literals.now }
         requires inside { end ≤ length text.now }
         ensures { MatchOption result
             (NoneEnds literals.now text.now from end)
@@ -105,8 +104,8 @@ impl Suffixes {
     }
 
     /// The search of `next_ending` among the literals that are told by some widths: bit `width - 1` stands for those that
-    /// are told by so many bytes. A wider literal comes later in the list. A width that no literal from `from` on that ends
-    /// there is told by may lose its bit.
+    /// are told by so many bytes. A wider literal comes later in the list. Behind a literal that is found, the widths of others
+    /// are left.
     #[inline(never)]
     pub fn next_by_widths(
         &self,
@@ -117,14 +116,13 @@ impl Suffixes {
         widths: &mut u8,
     ) -> Option<usize>
         requires of { AreSuffixesOf literals.now self.now }
-        requires few { length literals.now.texts ≤ MAX_LITERALS }
-        requires rising { IsNonDecreasing (map length literals.now.texts) }
+        requires normal { IsNormal literals.now }
         requires inside { end ≤ length text.now }
         requires told { HaveWidths literals.now text.now from end widths.old }
         ensures first { MatchOption result
             (NoneEnds literals.now text.now from end)
             (λ place. IsFirstEnding literals.now text.now from end place) }
-        ensures told { HaveWidths literals.now text.now from end widths.new }
+        ensures told { IfSome result (λ place. HaveWidths literals.now text.now (place + 1) end widths.new) }
     {
         let mut left = *widths;
         while left != 0 {
@@ -134,11 +132,25 @@ impl Suffixes {
             }
             let found = self.chains.next_told(literals, text, end, from, width);
             if found.is_some() {
-                *widths = left;
+                *widths = widths_behind(left, width);
                 return found;
             }
             left &= !(1 << (width - 1));
         }
         None
+    }
+}
+
+/// Of some widths those of the literals that may end behind one of so many bytes that ends at the same place: a literal that
+/// is told by all its bytes is the only one of its length there.
+#[inline]
+pub(crate) fn widths_behind(widths: u8, len: usize) -> u8
+    requires { 0 < len }
+    ensures { (width : ℕ) → 0 < width → width ≤ 8 → (width ≡ len → width ≡ 8) → bit_at widths (width - 1) ≡ 1 → bit_at result (width - 1) ≡ 1 }
+{
+    if len < 8 {
+        widths & !(1 << (len - 1))
+    } else {
+        widths
     }
 }

@@ -1,9 +1,10 @@
 //! The literals that end at one place of a text, one after another.
 ghost use Rattle.std.specs.Prelude.{◌≡◌, ◌+◌, ◌<◌, ◌≤◌, IfSome, MatchOption, length};
 ghost use Rattle.std.specs.Option.{IfNone};
-ghost use Rattle.lit_base.specs.Occurrences.{IsFirstEnding, NoneEnds};
+ghost use Rattle.lit_base.specs.Occurrences.{IsFirstEnding, NoneEnds, Occurs};
 
 use crate::lit_list::LitList;
+use crate::suffixes::widths_behind;
 use std::marker::Model;
 
 /// The literals that end at one place of a text, in order, from one of the list on. A contract sees the literals, the text,
@@ -48,6 +49,25 @@ impl<'a> Endings<'a> {
             end,
             from,
             widths: list.suffixes.widths_at(text, end),
+        }
+    }
+
+    /// The literals that end at `end` behind one that does.
+    #[inline]
+    pub(super) fn behind(list: &'a LitList, text: &'a [u8], end: usize, place: usize) -> Endings<'a>
+        requires { Occurs list.now text.now place end }
+        ensures literals { result.literals ≡ list.now }
+        ensures text { result.text ≡ text.now }
+        ensures end { result.end ≡ end }
+        ensures from { result.from ≡ place + 1 }
+    {
+        let len = list.literals.get(place).len();
+        Endings {
+            list,
+            text,
+            end,
+            from: place + 1,
+            widths: widths_behind(list.suffixes.widths_at(text, end), len),
         }
     }
 

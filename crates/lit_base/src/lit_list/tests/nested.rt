@@ -1,8 +1,8 @@
 //! Literals that end in one another, all of them at each place, beside a search that compares each.
 use crate::fold::Fold;
-use crate::lit_list::LitList;
 use crate::lit_list::tests::spoilt::stands_before;
 use crate::lit_list::tests::{normal_of, raw_of};
+use crate::lit_list::{Endings, LitList};
 use std::alloc::Global;
 use std::process::Abort;
 
@@ -18,6 +18,18 @@ const LONG: [&[u8]; 5] = [
     b"aabcdefgha",
 ];
 
+/// The literals that are left, at most so many.
+fn rest_of(alloc: Global, endings: &mut Endings, most: usize) -> Option<Vec<usize>> {
+    let mut places = Vec::new(alloc);
+    for _ in 0..most {
+        let Some(place) = endings.next() else {
+            return Some(places);
+        };
+        places.push(place).ok()?;
+    }
+    Some(places)
+}
+
 /// The literals from one on that end at a place, as the list gives them.
 fn given(
     alloc: Global,
@@ -29,18 +41,25 @@ fn given(
     if end > text.len() {
         return None;
     }
-    let mut places = Vec::new(alloc);
-    let mut endings = list.endings(text, end, from);
-    for _ in 0..list.len() {
-        let Some(place) = endings.next() else {
-            return Some(places);
-        };
-        places.push(place).ok()?;
-    }
-    Some(places)
+    rest_of(alloc, &mut list.endings(text, end, from), list.len())
 }
 
-/// The same, by comparing each.
+/// Those behind the first, if one ends there.
+fn given_behind(alloc: Global, list: &LitList, text: &[u8], end: usize) -> Option<Vec<usize>> {
+    if end > text.len() {
+        return None;
+    }
+    match list.first_ending(text, end) {
+        Some(first) => rest_of(
+            alloc,
+            &mut list.endings_behind(text, end, first),
+            list.len(),
+        ),
+        None => Some(Vec::new(alloc)),
+    }
+}
+
+/// The literals from one on that end at a place, by comparing each.
 fn compared(
     alloc: Global,
     list: &LitList,
@@ -57,7 +76,7 @@ fn compared(
     Some(places)
 }
 
-/// At how many places of the text, from how many literals on, the list gives others.
+/// How often the list gives others, at each place of the text.
 fn differences(alloc: Global, fold: Fold, patterns: &[&[u8]], text: &[u8]) -> Option<usize> {
     let list = normal_of(alloc, &raw_of(alloc, patterns)?, fold)?;
     let mut count = 0usize;
@@ -67,6 +86,11 @@ fn differences(alloc: Global, fold: Fold, patterns: &[&[u8]], text: &[u8]) -> Op
             if given(alloc, &list, text, end, from)?.as_slice() != wanted.as_slice() {
                 count = count.wrapping_add(1);
             }
+        }
+        let all = compared(alloc, &list, text, end, 0)?;
+        let wanted = all.get(1..).unwrap_or_default();
+        if given_behind(alloc, &list, text, end)?.as_slice() != wanted {
+            count = count.wrapping_add(1);
         }
     }
     Some(count)

@@ -1,13 +1,9 @@
 -- The suffixes are those of the literals.
 use Rattle.lit_base.proofs.ChainLemmas.{found_within}
-use Rattle.lit_base.proofs.LengthLemmas.{lengths_rise}
 use Rattle.lit_base.proofs.lit_list.LitList.first_ending.Goals as goal
 
 pub first_ending-requires-clause-of : goal.first_ending-requires-clause-of
 first_ending-requires-clause-of c = c.self.invariant.1
-
-pub first_ending-requires-clause-rising : goal.first_ending-requires-clause-rising
-first_ending-requires-clause-rising c = lengths_rise _ c.self.invariant.0
 
 pub returns-clause-first : goal.returns-clause-first
 returns-clause-first c = rw c.self.view_is at c.first_ending.ensures

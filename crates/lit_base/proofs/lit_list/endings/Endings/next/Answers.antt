@@ -1,12 +1,8 @@
 -- What the suffixes answer is what the cursor tells, and each literal that is left has the bit of its width yet.
 use Rattle.std.proofs.Common.{◌<◌, length, arith}
 use Rattle.std.proofs.lemmas.Option.{slice_get_within}
-use Rattle.lit_base.proofs.LengthLemmas.{lengths_rise}
 use Rattle.lit_base.proofs.lit_list.endings.Endings.next.Goals as goal
 use Rattle.lit_base.proofs.lit_list.endings.Endings.next.Goals.{In_ok-place}
-
-pub next_by_widths-requires-clause-rising : goal.next_by_widths-requires-clause-rising
-next_by_widths-requires-clause-rising c = lengths_rise _ c.list.invariant.0
 
 pub returns-in_err-place-clause-first : goal.returns-in_err-place-clause-first
 returns-in_err-place-clause-first c = rw (c.from_residual.ensures, ← c.self.view_is, ← c.list.view_is) c.in_err-place.ensures.first
