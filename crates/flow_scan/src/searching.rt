@@ -134,7 +134,7 @@ fn add_all_at(
     ensures kept { Extends out.old.items out.new.items }
 {
     out.push(hit_of(list, first, at))?;
-    let mut endings = list.endings(text, end, first + 1);
+    let mut endings = list.endings_behind(text, end, first);
     while let Some(place) = endings.next() {
         out.push(hit_of(list, place, at))?;
     }
