@@ -131,8 +131,8 @@ impl<'p> Picker<'p> {
         }
     }
 
-    /// The same picker, but that it counts no lines, for a sink that asks for no numbers: each line is
-    /// lent under some number.
+    /// The same picker, which from now on counts no lines: each is lent under some number, to a sink that
+    /// makes nothing of it. Counting takes up to a sixth of the time of a search for one rare literal.
     pub fn without_numbers(mut self) -> Picker<'p>
         ensures { result ≡ record self.entry { is_numbered = false; lines = 0 } }
     {
@@ -148,7 +148,8 @@ impl<'p> Picker<'p> {
     }
 
     /// Takes the next piece of the text, and lends to the sink each selected line that a newline ends
-    /// in it, in order, with its number, unless the picker is one without numbers, and without its newline.
+    /// in it, in order, with its number and without its newline. A picker without numbers lends it with
+    /// some number.
     ///
     /// The line to which the sink answers `Stop` or a fault is the last one lent, and the answer is
     /// the same. `StreamTooLong` comes where the bytes fed would pass 2^64 - 1, before any line is

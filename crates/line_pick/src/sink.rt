@@ -19,8 +19,9 @@ pub trait Sink {
     /// after.
     ghost takes: { Self → ℕ → List ℕ → Result Next Fault → Self → Type 0 };
 
-    /// Takes a line, without its newline, and its number in the text, from 1 on. `Stop`, or a
-    /// fault, makes it the last line lent. It fails with `WriteFault` or `OutOfMemory` alone.
+    /// Takes a line, without its newline, and its number in the text, from 1 on, or some number from
+    /// a picker without numbers. `Stop`, or a fault, makes it the last line lent. It fails with
+    /// `WriteFault` or `OutOfMemory` alone.
     fn line(&mut self, number: u64, bytes: &[u8]) -> Result<Next, Fault>
         ensures taken { takes self.old number bytes.now result self.new }
         ensures faults { result ≢ Err Fault.StreamTooLong };

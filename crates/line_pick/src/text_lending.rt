@@ -36,7 +36,8 @@ const SHORT_LINE: usize = 16;
 const SAMPLE: usize = 1024;
 
 /// Lends the selected ones of the lines of a text that a newline ends, and answers how many lines
-/// there are by then, if they are numbered. So many stand before the text.
+/// there are by then, if they are numbered. So many stand before the text. Where they are not numbered,
+/// those that are passed over are not counted.
 pub(crate) fn lend_text<S: Sink>(
     matcher: Matcher<'_>,
     finder: &mut Option<EndFinder<'_>>,
