@@ -134,7 +134,7 @@ impl<'p> EndFinder<'p> {
         }
         match search.next_near(from) {
             Ok(found) => {
-                self.learning.count_hit();
+                self.learning.count_start();
                 Some(found)
             }
             Err(seen) => self.next_plainly(search, from, seen),
@@ -216,7 +216,7 @@ impl<'p> EndFinder<'p> {
         let before = out.len();
         let stop = add_hits(self.compiled, text, from, at, most, &mut spent, out)?;
         let gained = out.len().saturating_sub(before);
-        self.learning.note(stop - from, spent, gained);
+        self.learning.note_scan(stop - from, spent, gained);
         Ok(stop)
     }
 
@@ -237,10 +237,8 @@ impl<'p> EndFinder<'p> {
         ensures quiet { NoEndAfter self.old.literals text.now from → IsOk result }
     {
         let mut met = Met::nothing();
-        let before = out.len();
         let stop = self.add_hits_by_windows(text, from, at, most, &mut met, out)?;
-        let gained = out.len().saturating_sub(before);
-        self.note_windowed(stop - from, met, gained);
+        self.note_windowed(stop - from, met, 0);
         Ok(stop)
     }
 
@@ -279,12 +277,12 @@ impl<'p> EndFinder<'p> {
         Ok(text.len())
     }
 
-    /// Notes what a search by windows met in so many bytes, and how many hits.
-    fn note_windowed(&mut self, count: usize, met: Met, hits: usize)
+    /// Notes what a search by windows met in so many bytes, and how often it begins anew behind them.
+    fn note_windowed(&mut self, count: usize, met: Met, starts: usize)
         ensures { self.new ≡ self.old }
     {
         let spent = cost_by_windows(&self.windows, self.compiled.list().len(), count, met);
-        self.learning.note(count, spent, hits);
+        self.learning.note(count, spent, starts);
     }
 
     /// The search of `next_end` by windows.
@@ -321,7 +319,7 @@ impl<'p> EndFinder<'p> {
     {
         let (_, behind) = text.split_at(from);
         let (sample, _) = behind.split_at(behind.len().min(SAMPLE));
-        let cost = self.windows.learn(sample, self.learning.hits());
+        let cost = self.windows.learn(sample, self.learning.starts());
         self.learning.choose(cost);
     }
 }

@@ -28,6 +28,9 @@ const PLAIN_COST: usize = 512;
 /// What a search by windows may take for 1,024 bytes beyond one and a half times its estimate.
 const WINDOWED_COST: usize = 2048;
 
+/// A hit of a scan takes so much longer by the plan than by windows, which go on behind it with what their block has claimed.
+const PLAIN_HIT_COST: usize = 500;
+
 /// To learn takes about so long: half a millisecond. It is worth while once as much was lost.
 const LEAST_LOSS: usize = 5_000_000;
 
@@ -67,7 +70,7 @@ pub(crate) struct Learning {
     is_windowed: bool,
     passed: usize,
     spent: usize,
-    hits: usize,
+    starts: usize,
     /// What it may take for 1,024 bytes.
     allowed: usize,
     lost: usize,
@@ -82,7 +85,7 @@ impl Learning {
             is_windowed: false,
             passed: 0,
             spent: 0,
-            hits: 0,
+            starts: 0,
             allowed: PLAIN_COST,
             lost: 0,
             most_lost: LEAST_LOSS,
@@ -101,11 +104,11 @@ impl Learning {
         self.lost >= self.most_lost
     }
 
-    /// Adds what so many bytes took, and how many ends were found in them.
-    pub fn note(&mut self, passed: usize, spent: usize, hits: usize) {
+    /// Adds what so many bytes took, and how many ends were found in them behind which the search begins anew.
+    pub fn note(&mut self, passed: usize, spent: usize, starts: usize) {
         self.passed = self.passed.saturating_add(passed);
         self.spent = self.spent.saturating_add(spent);
-        self.hits = self.hits.saturating_add(hits);
+        self.starts = self.starts.saturating_add(starts);
         let allowed = passed.saturating_mul(self.allowed) / 1024;
         self.lost = self.lost.saturating_add(spent).saturating_sub(allowed);
     }
@@ -126,7 +129,7 @@ impl Learning {
         }
         self.passed = 0;
         self.spent = 0;
-        self.hits = 0;
+        self.starts = 0;
         self.lost = 0;
     }
 
@@ -144,13 +147,19 @@ impl Learning {
 
     /// Counts one hit more, which a search of another kind found.
     #[inline(always)]
-    pub fn count_hit(&mut self) {
-        self.hits = self.hits.saturating_add(1);
+    pub fn count_start(&mut self) {
+        self.starts = self.starts.saturating_add(1);
     }
 
-    /// How many hits there were in 1,024 bytes since the last choice.
-    pub fn hits(&self) -> usize {
-        self.hits.saturating_mul(1024) / self.passed.max(1)
+    /// Adds what so many bytes took that were scanned by the plan, with so many hits.
+    pub fn note_scan(&mut self, passed: usize, spent: usize, hits: usize) {
+        let more = hits.saturating_mul(PLAIN_HIT_COST);
+        self.note(passed, spent.saturating_add(more), 0);
+    }
+
+    /// How often the search began anew behind a hit, in 1,024 bytes since the last choice.
+    pub fn starts(&self) -> usize {
+        self.starts.saturating_mul(1024) / self.passed.max(1)
     }
 
     /// What 1,024 bytes took since the last choice.
