@@ -22,6 +22,9 @@ const PLACES: u64 = 0x00ff_ffff_ffff_ffff;
 /// So many places are told by one step of the filter.
 const STEP: usize = 64;
 
+/// Where some literals are sieved and the others strided, so many bytes are skipped for the first ones and then for the others.
+const SPAN: usize = 256;
+
 /// The bytes of a window, but for one: a place with no more before it is looked at by itself.
 const FRONT: usize = 3;
 
@@ -263,8 +266,8 @@ fn sieve_ahead(
     (at, look_at_each(windows, text, at, count, marks))
 }
 
-/// A place from `seen` on up to which nothing ends: where all literals are strided and no end is claimed, strides whose looks have
-/// no mark are skipped.
+/// A place from `seen` on up to which nothing ends: where no end is claimed, places are skipped of which none passes, and strides
+/// whose looks have no mark.
 #[inline(always)]
 fn skip_quiet(windows: &Windows<'_>, text: &[u8], seen: usize, marks: u64) -> usize
     requires inside { seen ≤ length text.now }
@@ -275,43 +278,126 @@ fn skip_quiet(windows: &Windows<'_>, text: &[u8], seen: usize, marks: u64) -> us
     ensures claimed { let all = length windows.now.literals.texts in AreClaimed 0 all windows.now text.now seen seen (seen + 1) marks
         → AreClaimed 0 all windows.now text.now seen result (result + 1) marks }
 {
-    if marks != 0 || seen < FRONT || windows.split() != 0 {
+    if marks != 0 || seen < FRONT {
         return seen;
     }
-    if windows.has_short() {
-        return skip_by_all_widths(windows, text, seen);
+    skip_spans(windows, text, seen)
+}
+
+/// The same where no end is claimed, span by span.
+#[inline(always)]
+fn skip_spans(windows: &Windows<'_>, text: &[u8], seen: usize) -> usize
+    requires behind { 3 ≤ seen }
+    requires inside { seen ≤ length text.now }
+    ensures ahead { seen ≤ result }
+    ensures inside { result ≤ length text.now }
+    ensures claimed { let all = length windows.now.literals.texts in AreClaimed 0 all windows.now text.now seen seen (seen + 1) 0
+        → AreClaimed 0 all windows.now text.now seen seen (result + 1) 0 }
+{
+    let _split = windows.split();
+    let span = span_of(windows);
+    let mut at = seen;
+    'spans: loop {
+        let stop = text.len().min(at.saturating_add(span));
+        let unpassed = skip_unpassed(windows, text, at, stop);
+        let next = skip_strides(windows, text, at, unpassed);
+        if next - at < span / 2 {
+            return next;
+        }
+        at = next;
     }
-    skip_unmarked(windows, text, seen, false)
+}
+
+/// How many bytes are skipped at once, if some literals are sieved: what is skipped for these beyond a mark of the others is in vain.
+fn span_of(windows: &Windows<'_>) -> usize
+    ensures { 1 < result }
+{
+    if windows.split() == 0 {
+        usize::MAX
+    } else {
+        SPAN
+    }
+}
+
+/// A place from `at` on and up to `last` up to which no place passes, 64 of them at a time: the last one, if no literal is sieved.
+#[inline(always)]
+fn skip_unpassed(windows: &Windows<'_>, text: &[u8], seen: usize, last: usize) -> usize
+    requires behind { 3 ≤ seen }
+    requires ahead { seen ≤ last }
+    requires inside { last ≤ length text.now }
+    ensures ahead { seen ≤ result }
+    ensures inside { result ≤ last }
+    ensures claimed { (from : ℕ) → AreClaimed 0 windows.now.split windows.now text.now from from (seen + 1) 0
+        → AreClaimed 0 windows.now.split windows.now text.now from from (result + 1) 0 }
+{
+    if windows.split() == 0 {
+        return last;
+    }
+    let filter = BlockFilter::new(windows.masks());
+    let mut at = seen;
+    'blocks: while last - at >= STEP {
+        if filter.passing(text, at + 1) != 0 {
+            return at;
+        }
+        at += STEP;
+    }
+    at
+}
+
+/// A place from `seen` on and up to `last` up to which no look has a mark.
+#[inline(always)]
+fn skip_strides(windows: &Windows<'_>, text: &[u8], seen: usize, last: usize) -> usize
+    requires behind { 3 ≤ seen }
+    requires ahead { seen ≤ last }
+    requires inside { last ≤ length text.now }
+    ensures ahead { seen ≤ result }
+    ensures inside { result ≤ last }
+    ensures claimed { let all = length windows.now.literals.texts in (from : ℕ)
+        → AreClaimed windows.now.split all windows.now text.now from from (seen + 1) 0
+        → AreClaimed windows.now.split all windows.now text.now from from (result + 1) 0 }
+{
+    if windows.has_short() {
+        return skip_by_all_widths(windows, text, seen, last);
+    }
+    skip_unmarked(windows, text, seen, last, false)
 }
 
 /// The place of `skip_unmarked` for lists that have short literals.
 #[inline(never)]
-fn skip_by_all_widths(windows: &Windows<'_>, text: &[u8], seen: usize) -> usize
-    requires strided { windows.now.split ≡ 0 }
+fn skip_by_all_widths(windows: &Windows<'_>, text: &[u8], seen: usize, last: usize) -> usize
     requires behind { 3 ≤ seen }
-    requires inside { seen ≤ length text.now }
+    requires ahead { seen ≤ last }
+    requires inside { last ≤ length text.now }
     ensures ahead { seen ≤ result }
-    ensures inside { result ≤ length text.now }
-    ensures claimed { let all = length windows.now.literals.texts in AreClaimed 0 all windows.now text.now seen seen (seen + 1) 0
-        → AreClaimed 0 all windows.now text.now seen seen (result + 1) 0 }
+    ensures inside { result ≤ last }
+    ensures claimed { let all = length windows.now.literals.texts in (from : ℕ)
+        → AreClaimed windows.now.split all windows.now text.now from from (seen + 1) 0
+        → AreClaimed windows.now.split all windows.now text.now from from (result + 1) 0 }
 {
-    skip_unmarked(windows, text, seen, true)
+    skip_unmarked(windows, text, seen, last, true)
 }
 
-/// A place from `seen` on up to which no look has a mark, two of them at a time.
+/// A place from `seen` on and up to `last` up to which no look has a mark, two of them at a time.
 #[inline(always)]
-fn skip_unmarked(windows: &Windows<'_>, text: &[u8], seen: usize, has_short: bool) -> usize
-    requires strided { windows.now.split ≡ 0 }
+fn skip_unmarked(
+    windows: &Windows<'_>,
+    text: &[u8],
+    seen: usize,
+    last: usize,
+    has_short: bool,
+) -> usize
     requires behind { 3 ≤ seen }
-    requires inside { seen ≤ length text.now }
+    requires ahead { seen ≤ last }
+    requires inside { last ≤ length text.now }
     ensures ahead { seen ≤ result }
-    ensures inside { result ≤ length text.now }
-    ensures claimed { let all = length windows.now.literals.texts in AreClaimed 0 all windows.now text.now seen seen (seen + 1) 0
-        → AreClaimed 0 all windows.now text.now seen seen (result + 1) 0 }
+    ensures inside { result ≤ last }
+    ensures claimed { let all = length windows.now.literals.texts in (from : ℕ)
+        → AreClaimed windows.now.split all windows.now text.now from from (seen + 1) 0
+        → AreClaimed windows.now.split all windows.now text.now from from (result + 1) 0 }
 {
     let stride = windows.stride();
     let mut at = seen;
-    'strides: while text.len() - at > 2 * stride {
+    'strides: while last - at > 2 * stride {
         let near = windows.marks_behind_front(text, at + 1, has_short);
         let far = windows.marks_behind_front(text, at + 1 + stride, has_short);
         if near | far != 0 {

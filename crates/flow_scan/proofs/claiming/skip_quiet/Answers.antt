@@ -18,14 +18,8 @@ module _ (w : Windowing) (text : List ℕ) (seen last marks : ℕ) (ahead : seen
   quiet : NoEndUpTo w.literals text seen last
   quiet = unclaimed w text seen seen last (omega arith) passed
 
-pub returns-then-has_short-clause-none : goal.returns-then-has_short-clause-none
-returns-then-has_short-clause-none c = quiet c.args.windows.now c.args.text.now c.args.seen c.skip_by_all_widths.result c.args.marks c.skip_by_all_widths.ensures.ahead c.if-marks-ne0.false c.skip_by_all_widths.ensures.claimed
-
-pub returns-then-has_short-clause-claimed : goal.returns-then-has_short-clause-claimed
-returns-then-has_short-clause-claimed c = still c.args.windows.now c.args.text.now c.args.seen c.skip_by_all_widths.result c.args.marks c.skip_by_all_widths.ensures.ahead c.if-marks-ne0.false c.skip_by_all_widths.ensures.claimed
-
 pub returns-clause-none : goal.returns-clause-none
-returns-clause-none c = quiet c.args.windows.now c.args.text.now c.args.seen c.skip_unmarked.result c.args.marks c.skip_unmarked.ensures.ahead c.if-marks-ne0.false c.skip_unmarked.ensures.claimed
+returns-clause-none c = quiet c.args.windows.now c.args.text.now c.args.seen c.skip_spans.result c.args.marks c.skip_spans.ensures.ahead c.if-marks-ne0.false c.skip_spans.ensures.claimed
 
 pub returns-clause-claimed : goal.returns-clause-claimed
-returns-clause-claimed c = still c.args.windows.now c.args.text.now c.args.seen c.skip_unmarked.result c.args.marks c.skip_unmarked.ensures.ahead c.if-marks-ne0.false c.skip_unmarked.ensures.claimed
+returns-clause-claimed c = still c.args.windows.now c.args.text.now c.args.seen c.skip_spans.result c.args.marks c.skip_spans.ensures.ahead c.if-marks-ne0.false c.skip_spans.ensures.claimed

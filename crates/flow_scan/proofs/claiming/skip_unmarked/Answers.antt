@@ -11,7 +11,6 @@ strides-preserved c =
     let w = c.args.windows.now in
     let all : ℕ = length w.literals.texts in
     let text = c.args.text.now in
-    let seen : ℕ = c.args.seen in
     let at : ℕ = c.strides.at in
     let stride : ℕ = c.stride-stride.result in
     let before = c.strides.invariant in
@@ -20,13 +19,13 @@ strides-preserved c =
     let none = c.if-near-far-ne0.false in
     let near : c.marks_behind_front-near.result ≡ 0 = omega (arith, le_or_l c.marks_behind_front-near.result c.marks_behind_front-far.result, none) in
     let far : c.marks_behind_front-far.result ≡ 0 = omega (arith, le_or_r c.marks_behind_front-near.result c.marks_behind_front-far.result, none) in
-    let of_near : AreMarksOf 0 all stride w text (at + 1) c.marks_behind_front-near.result = λ place back counted below from before occurs. c.marks_behind_front-near.ensures place back (omega (arith, c.requires.strided)) below from (omega (arith, before, is)) occurs in
-    let of_far : AreMarksOf 0 all stride w text (at + 1 + stride) c.marks_behind_front-far.result = λ place back counted below from before occurs. c.marks_behind_front-far.ensures place back (omega (arith, c.requires.strided)) below from (omega (arith, before, is)) occurs in
+    let of_near : AreMarksOf w.split all stride w text (at + 1) c.marks_behind_front-near.result = λ place back counted below from before occurs. c.marks_behind_front-near.ensures place back counted below from (omega (arith, before, is)) occurs in
+    let of_far : AreMarksOf w.split all stride w text (at + 1 + stride) c.marks_behind_front-far.result = λ place back counted below from before occurs. c.marks_behind_front-far.ensures place back counted below from (omega (arith, before, is)) occurs in
     record {
       ahead = omega (arith, before.ahead);
       inside = omega (arith, c.strides-test.true, before.inside);
-      claimed = λ first.
-          subst (λ (next : ℕ). AreClaimed 0 all w text seen seen next 0) (omega arith)
-          (none_marked 0 all w text seen seen (at + 1 + stride) stride c.marks_behind_front-far.result far of_far
-          (none_marked 0 all w text seen seen (at + 1) stride c.marks_behind_front-near.result near of_near (before.claimed first)));
+      claimed = λ from first.
+          subst (λ (next : ℕ). AreClaimed w.split all w text from from next 0) (omega arith)
+          (none_marked w.split all w text from from (at + 1 + stride) stride c.marks_behind_front-far.result far of_far
+          (none_marked w.split all w text from from (at + 1) stride c.marks_behind_front-near.result near of_near (before.claimed from first)));
     }
