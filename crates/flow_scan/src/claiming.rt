@@ -53,13 +53,7 @@ pub(crate) fn claims_behind(
 
 /// The same near the front or the end of a text, for so many places: each is looked at by itself.
 #[inline(never)]
-fn look_at_each(
-    windows: &Windows<'_>,
-    text: &[u8],
-    seen: usize,
-    count: usize,
-    marks: u64,
-) -> u64
+fn look_at_each(windows: &Windows<'_>, text: &[u8], seen: usize, count: usize, marks: u64) -> u64
     requires few { count ≤ BLOCK }
     requires inside { seen + count ≤ length text.now }
     ensures { let all = length windows.now.literals.texts in (from : ℕ)
@@ -106,13 +100,7 @@ fn look_at_block(
 
 /// The claims of sieved literals, if there are some.
 #[inline(always)]
-fn sieve_if_any(
-    windows: &Windows<'_>,
-    text: &[u8],
-    seen: usize,
-    marks: u64,
-    met: &mut Met,
-) -> u64
+fn sieve_if_any(windows: &Windows<'_>, text: &[u8], seen: usize, marks: u64, met: &mut Met) -> u64
     requires behind { 3 ≤ seen }
     requires inside { seen + 64 ≤ length text.now }
     ensures claimed { (from : ℕ) → AreClaimed 0 windows.now.split windows.now text.now from seen (seen + 1) marks
@@ -180,13 +168,7 @@ fn stride_by_all_widths(windows: &Windows<'_>, text: &[u8], seen: usize, marks: 
 
 /// The claims of `stride`, by looks that are a stride apart, the first of them at the block's first place.
 #[inline(always)]
-fn stride_over(
-    windows: &Windows<'_>,
-    text: &[u8],
-    seen: usize,
-    marks: u64,
-    has_short: bool,
-) -> u64
+fn stride_over(windows: &Windows<'_>, text: &[u8], seen: usize, marks: u64, has_short: bool) -> u64
     requires behind { 3 ≤ seen }
     requires inside { seen + 64 ≤ length text.now }
     ensures claimed { let all = length windows.now.literals.texts in (from : ℕ)

@@ -6,12 +6,12 @@ ghost use Rattle.flow_scan.specs.HitsAt.{Extends};
 ghost use Rattle.flow_scan.specs.NextEnds.{IsNextEnd, NoEndAfter};
 ghost use Rattle.flow_scan.specs.Tails.{AreHitsBehind, Continues, StopsAt};
 
-use crate::met::Met;
 use crate::compiled::Compiled;
 use crate::fault::Fault;
 use crate::hit::Hit;
 use crate::hit_search::HitSearch;
 use crate::learning::{Learning, cost_by_windows};
+use crate::met::Met;
 use crate::pace::PAIRED;
 use crate::searching::{add_hits, add_hits_at, skip_short_ends};
 use crate::text_search::TextSearch;

@@ -106,12 +106,7 @@ impl Claims {
 
     /// The first of the claimed ends at which some literal ends, with the first literal that ends there, if there is one.
     #[inline(always)]
-    fn first_end(
-        self,
-        windows: &Windows<'_>,
-        list: &LitList,
-        text: &[u8],
-    ) -> Option<(usize, usize)>
+    fn first_end(self, windows: &Windows<'_>, list: &LitList, text: &[u8]) -> Option<(usize, usize)>
         requires list { windows.now.literals ≡ list.now }
         requires claims { AreClaims windows.now text.now self }
         ensures next { MatchOption result
@@ -128,13 +123,7 @@ impl Claims {
 
     /// Those of the next block, where nothing ends in this one.
     #[inline(always)]
-    fn next_block(
-        self,
-        windows: &Windows<'_>,
-        list: &LitList,
-        text: &[u8],
-        met: &mut Met,
-    ) -> Claims
+    fn next_block(self, windows: &Windows<'_>, list: &LitList, text: &[u8], met: &mut Met) -> Claims
         requires list { windows.now.literals ≡ list.now }
         requires claims { AreClaims windows.now text.now self }
         requires left { self.seen + self.count < length text.now }

@@ -1,8 +1,8 @@
 //! Searches that change their way at places drawn by chance in the middle of a text: by the plan alone, by windows that
 //! some piece of the text chooses, by a search that learns. What they find together is what the plan alone finds.
-use crate::met::Met;
 use crate::compiled::Compiled;
 use crate::end_finder::EndFinder;
+use crate::met::Met;
 use crate::searching::next_end;
 use crate::tests::finding::{
     CAPITALS, Draws, FIGURES, Told, WORDS, pieces_of, plain_in, plan_of_pieces, text_of, with_end,
