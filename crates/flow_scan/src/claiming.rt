@@ -16,13 +16,7 @@ use text_windows::Windows;
 /// So many places are looked at together: the marks of the last of them have room above it in a word.
 pub(crate) const BLOCK: usize = 56;
 
-/// So many are looked at where a mark stands behind a long stretch that has none: the next one is likely to be far.
-const SHORT_BLOCK: usize = 16;
-
-/// Such a stretch has so many bytes.
-const STRETCH: usize = 128;
-
-/// The bits of the places of a block.
+/// The bits of as many places.
 const PLACES: u64 = 0x00ff_ffff_ffff_ffff;
 
 /// So many places are told by one step of the filter.
@@ -34,29 +28,27 @@ const SPAN: usize = 256;
 /// The bytes of a window, but for one: a place with no more before it is looked at by itself.
 const FRONT: usize = 3;
 
-/// The claims of the ends behind a place, with those of so many next places, or of all that are left of the text.
+/// The claims of the ends behind a place, with those of the next `BLOCK` places, or of all that are left of the text.
 #[inline(always)]
 pub(crate) fn claims_behind(
     windows: &Windows<'_>,
     list: &LitList,
     text: &[u8],
     seen: usize,
-    count: usize,
     marks: u64,
     met: &mut Met,
 ) -> u64
     requires list { windows.now.literals ≡ list.now }
     requires inside { seen ≤ length text.now }
-    requires few { count ≤ BLOCK }
     ensures { let all = length windows.now.literals.texts in (from : ℕ)
         → AreClaimed 0 all windows.now text.now from seen (seen + 1) marks
-        → AreClaimed 0 all windows.now text.now from seen (seen + min count (length text.now - seen) + 1) result }
+        → AreClaimed 0 all windows.now text.now from seen (seen + min BLOCK (length text.now - seen) + 1) result }
 {
     let left = text.len() - seen;
     if seen < FRONT || left < STEP {
-        return look_at_each(windows, text, seen, count.min(left), marks);
+        return look_at_each(windows, text, seen, BLOCK.min(left), marks);
     }
-    look_at_block(windows, list, text, seen, count, marks, met)
+    look_at_block(windows, list, text, seen, marks, met)
 }
 
 /// The same near the front or the end of a text, for so many places: each is looked at by itself.
@@ -88,24 +80,22 @@ fn look_at_block(
     list: &LitList,
     text: &[u8],
     seen: usize,
-    count: usize,
     marks: u64,
     met: &mut Met,
 ) -> u64
     requires list { windows.now.literals ≡ list.now }
     requires behind { 3 ≤ seen }
     requires inside { seen + 64 ≤ length text.now }
-    requires few { count ≤ BLOCK }
     ensures { let all = length windows.now.literals.texts in (from : ℕ)
         → AreClaimed 0 all windows.now text.now from seen (seen + 1) marks
-        → AreClaimed 0 all windows.now text.now from seen (seen + count + 1) result }
+        → AreClaimed 0 all windows.now text.now from seen (seen + BLOCK + 1) result }
 {
     let split = windows.split();
     let sieved = sieve_if_any(windows, text, seen, marks, met);
     if split == list.len() {
         return sieved;
     }
-    stride(windows, text, seen, count, sieved)
+    stride(windows, text, seen, sieved)
 }
 
 /// The claims of sieved literals, if there are some.
@@ -149,63 +139,47 @@ fn sieve(windows: &Windows<'_>, text: &[u8], seen: usize, marks: u64, passing: u
 
 /// The claims of strided literals, by a loop for lists that have short ones or by one for those that have not.
 #[inline(always)]
-fn stride(windows: &Windows<'_>, text: &[u8], seen: usize, count: usize, marks: u64) -> u64
+fn stride(windows: &Windows<'_>, text: &[u8], seen: usize, marks: u64) -> u64
     requires behind { 3 ≤ seen }
     requires inside { seen + 64 ≤ length text.now }
-    requires few { count ≤ BLOCK }
     ensures claimed { let all = length windows.now.literals.texts in (from : ℕ)
         → AreClaimed windows.now.split all windows.now text.now from seen (seen + 1) marks
-        → AreClaimed windows.now.split all windows.now text.now from seen (seen + count + 1) result }
+        → AreClaimed windows.now.split all windows.now text.now from seen (seen + BLOCK + 1) result }
     ensures kept { (back : ℕ) → back < 64 → bit_at marks back ≡ 1 → bit_at result back ≡ 1 }
 {
     if windows.has_short() {
-        return stride_by_all_widths(windows, text, seen, count, marks);
+        return stride_by_all_widths(windows, text, seen, marks);
     }
-    stride_over(windows, text, seen, count, marks, false)
+    stride_over(windows, text, seen, marks, false)
 }
 
 /// The claims of `stride` for lists that have short literals.
 #[inline(never)]
-fn stride_by_all_widths(
-    windows: &Windows<'_>,
-    text: &[u8],
-    seen: usize,
-    count: usize,
-    marks: u64,
-) -> u64
+fn stride_by_all_widths(windows: &Windows<'_>, text: &[u8], seen: usize, marks: u64) -> u64
     requires behind { 3 ≤ seen }
     requires inside { seen + 64 ≤ length text.now }
-    requires few { count ≤ BLOCK }
     ensures claimed { let all = length windows.now.literals.texts in (from : ℕ)
         → AreClaimed windows.now.split all windows.now text.now from seen (seen + 1) marks
-        → AreClaimed windows.now.split all windows.now text.now from seen (seen + count + 1) result }
+        → AreClaimed windows.now.split all windows.now text.now from seen (seen + BLOCK + 1) result }
     ensures kept { (back : ℕ) → back < 64 → bit_at marks back ≡ 1 → bit_at result back ≡ 1 }
 {
-    stride_over(windows, text, seen, count, marks, true)
+    stride_over(windows, text, seen, marks, true)
 }
 
 /// The claims of `stride`, by looks that are a stride apart, the first of them at the block's first place.
 #[inline(always)]
-fn stride_over(
-    windows: &Windows<'_>,
-    text: &[u8],
-    seen: usize,
-    count: usize,
-    marks: u64,
-    has_short: bool,
-) -> u64
+fn stride_over(windows: &Windows<'_>, text: &[u8], seen: usize, marks: u64, has_short: bool) -> u64
     requires behind { 3 ≤ seen }
     requires inside { seen + 64 ≤ length text.now }
-    requires few { count ≤ BLOCK }
     ensures claimed { let all = length windows.now.literals.texts in (from : ℕ)
         → AreClaimed windows.now.split all windows.now text.now from seen (seen + 1) marks
-        → AreClaimed windows.now.split all windows.now text.now from seen (seen + count + 1) result }
+        → AreClaimed windows.now.split all windows.now text.now from seen (seen + BLOCK + 1) result }
     ensures kept { (back : ℕ) → back < 64 → bit_at marks back ≡ 1 → bit_at result back ≡ 1 }
 {
     let stride = windows.stride();
     let mut found = marks;
     let mut back = 0;
-    'looks: while back < count {
+    'looks: while back < BLOCK {
         let look = windows.marks_behind_front(text, seen + 1 + back, has_short);
         found |= (look as u64) << back;
         back += stride;
@@ -214,7 +188,7 @@ fn stride_over(
 }
 
 /// The next block from `seen` on that claims an end, or may, or the last one: how much of the text lies before it, where nothing
-/// ends, how many places are looked at, and its claims as `claims_behind` gives them.
+/// ends, and its claims as `claims_behind` gives them.
 #[inline(always)]
 pub(crate) fn next_claims(
     windows: &Windows<'_>,
@@ -223,7 +197,7 @@ pub(crate) fn next_claims(
     seen: usize,
     marks: u64,
     met: &mut Met,
-) -> (usize, usize, u64)
+) -> (usize, u64)
     requires list { windows.now.literals ≡ list.now }
     requires inside { seen ≤ length text.now }
     ensures ahead { seen ≤ result.0 }
@@ -231,21 +205,13 @@ pub(crate) fn next_claims(
     ensures none { let all = length windows.now.literals.texts in AreClaimed 0 all windows.now text.now seen seen (seen + 1) marks
         → NoEndUpTo windows.now.literals text.now seen result.0 }
     ensures claimed { let all = length windows.now.literals.texts in AreClaimed 0 all windows.now text.now seen seen (seen + 1) marks
-        → AreClaimed 0 all windows.now text.now seen result.0 (result.0 + min result.1 (length text.now - result.0) + 1) result.2 }
-    ensures some { 0 < result.1 }
-    ensures few { result.1 ≤ BLOCK }
+        → AreClaimed 0 all windows.now text.now seen result.0 (result.0 + min BLOCK (length text.now - result.0) + 1) result.1 }
 {
     if seen >= FRONT && windows.split() == list.len() {
         return sieve_ahead(windows, text, seen, marks, met);
     }
     let at = skip_quiet(windows, text, seen, marks);
-    let count = if at - seen < STRETCH {
-        BLOCK
-    } else {
-        SHORT_BLOCK
-    };
-    let claims = claims_behind(windows, list, text, at, count, marks, met);
-    (at, count, claims)
+    (at, claims_behind(windows, list, text, at, marks, met))
 }
 
 /// The same where all literals are sieved: blocks of which no place passes are skipped, if no end is claimed in them.
@@ -256,7 +222,7 @@ fn sieve_ahead(
     seen: usize,
     marks: u64,
     met: &mut Met,
-) -> (usize, usize, u64)
+) -> (usize, u64)
     requires sieved { windows.now.split ≡ length windows.now.literals.texts }
     requires behind { 3 ≤ seen }
     requires inside { seen ≤ length text.now }
@@ -265,9 +231,7 @@ fn sieve_ahead(
     ensures none { let all = length windows.now.literals.texts in AreClaimed 0 all windows.now text.now seen seen (seen + 1) marks
         → NoEndUpTo windows.now.literals text.now seen result.0 }
     ensures claimed { let all = length windows.now.literals.texts in AreClaimed 0 all windows.now text.now seen seen (seen + 1) marks
-        → AreClaimed 0 all windows.now text.now seen result.0 (result.0 + min result.1 (length text.now - result.0) + 1) result.2 }
-    ensures some { 0 < result.1 }
-    ensures few { result.1 ≤ BLOCK }
+        → AreClaimed 0 all windows.now text.now seen result.0 (result.0 + min BLOCK (length text.now - result.0) + 1) result.1 }
 {
     let _split = windows.split();
     let filter = BlockFilter::new(windows.masks());
@@ -276,12 +240,12 @@ fn sieve_ahead(
         let passing = filter.passing(text, at + 1);
         if passing | marks != 0 {
             met.pass(passing);
-            return (at, BLOCK, sieve(windows, text, at, marks, passing));
+            return (at, sieve(windows, text, at, marks, passing));
         }
         at += STEP;
     }
     let count = BLOCK.min(text.len() - at);
-    (at, BLOCK, look_at_each(windows, text, at, count, marks))
+    (at, look_at_each(windows, text, at, count, marks))
 }
 
 /// A place from `seen` on up to which nothing ends: where no end is claimed, places are skipped of which none passes, and strides

@@ -42,7 +42,7 @@ impl Claims {
     {
         let _split = windows.split();
         let start = from.saturating_sub(REACH);
-        let marks = claims_behind(windows, list, text, start, BLOCK, 0, met);
+        let marks = claims_behind(windows, list, text, start, 0, met);
         let block = Claims {
             seen: start,
             count: BLOCK.min(text.len() - start),
@@ -133,11 +133,11 @@ impl Claims {
         ensures none { NoEndUpTo list.now text.now (self.seen + self.count) result.seen }
     {
         let rest = self.but_first(self.count);
-        let (seen, count, marks) = next_claims(windows, list, text, rest.seen, rest.marks, met);
+        let (seen, marks) = next_claims(windows, list, text, rest.seen, rest.marks, met);
         met.claim(marks);
         Claims {
             seen,
-            count: count.min(text.len() - seen),
+            count: BLOCK.min(text.len() - seen),
             marks,
         }
     }

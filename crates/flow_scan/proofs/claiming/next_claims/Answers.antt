@@ -2,4 +2,4 @@
 use Rattle.flow_scan.proofs.claiming.next_claims.Goals as goal
 
 pub returns-clause-claimed : goal.returns-clause-claimed
-returns-clause-claimed c = λ first. c.claims_behind-claims.ensures c.args.seen (c.skip_quiet-at.ensures.claimed first)
+returns-clause-claimed c = λ first. c.claims_behind.ensures c.args.seen (c.skip_quiet-at.ensures.claimed first)

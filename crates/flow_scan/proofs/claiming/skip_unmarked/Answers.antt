@@ -1,5 +1,5 @@
 -- Two looks without a mark claim nothing.
-use Rattle.std.proofs.Common.{◌≡◌, ℕ, ◌+◌, length, subst, arith}
+use Rattle.std.proofs.Common.{◌≡◌, ℕ, ◌+◌, ◌*◌, length, sym, subst, arith}
 use Rattle.std.proofs.lemmas.Nat.{le_or_l, le_or_r}
 use Rattle.text_windows.specs.Windows.{AreMarksOf}
 use Rattle.flow_scan.specs.Windowed.{AreClaimed}

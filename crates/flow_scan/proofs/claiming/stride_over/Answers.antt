@@ -1,5 +1,5 @@
 -- One look after the other joins its claims.
-use Rattle.std.proofs.Common.{ℕ, ◌+◌, ◌*◌, ◌%◌, ◌^◌, length, sym, subst, arith}
+use Rattle.std.proofs.Common.{◌≡◌, ℕ, ◌+◌, ◌*◌, ◌%◌, ◌^◌, ◌<◌, length, sym, subst, arith}
 use Rattle.std.specs.Int.RustNames.{bit_or}
 use Rattle.flow_scan.specs.Windowed.{AreClaimed}
 use Rattle.flow_scan.proofs.ClaimSteps.{claims_further}
@@ -21,10 +21,10 @@ looks-preserved c =
     let before = c.looks.invariant in
     let within = c.stride-stride.ensures.within in
     record {
-      few = omega (arith, c.looks-test.true, c.requires.few, c.stride-stride.ensures.short);
+      few = omega (arith, c.looks-test.true, c.stride-stride.ensures.short);
       claimed = λ from first.
           subst (λ (s : ℕ). AreClaimed w.split all w text from c.args.seen (c.args.seen + 1 + (c.looks.back + s)) (bit_or c.looks.found (c.marks_behind_front-look.result * 2 ^ c.looks.back % 2 ^ 64))) (sym c.stride-stride.ensures.value)
-          (claims_further w.split all w text from c.args.seen c.looks.back w.stride c.looks.found c.marks_behind_front-look.result (omega (arith, c.looks-test.true, c.requires.few))
+          (claims_further w.split all w text from c.args.seen c.looks.back w.stride c.looks.found c.marks_behind_front-look.result c.looks-test.true
           (λ place counted below. (within.strided place counted below).near) c.marks_behind_front-look.ensures (before.claimed from first));
       kept = λ back near set. marked_below c.looks.found c.marks_behind_front-look.result c.looks.back back near (before.kept back near set);
     }
