@@ -378,14 +378,15 @@ fn skip_unmarked(
         → AreClaimed windows.now.split all windows.now text.now from from (result + 1) 0 }
 {
     let stride = windows.stride();
-    let mut at = seen;
-    'strides: while last - at > 2 * stride {
-        let near = windows.marks_behind_front(text, at + 1, has_short);
-        let far = windows.marks_behind_front(text, at + 1 + stride, has_short);
+    // The four bytes of each look are read at once if the loop goes by the place itself, and not by the one before.
+    let mut at = seen + 1;
+    'strides: while last.saturating_sub(at) >= 2 * stride {
+        let near = windows.marks_behind_front(text, at, has_short);
+        let far = windows.marks_behind_front(text, at + stride, has_short);
         if near | far != 0 {
-            return at;
+            return at - 1;
         }
         at += 2 * stride;
     }
-    at
+    at - 1
 }

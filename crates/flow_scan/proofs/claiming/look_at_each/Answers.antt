@@ -1,5 +1,5 @@
 -- One place after the other is looked at, for both kinds of literals.
-use Rattle.std.proofs.Common.{◌≡◌, ℕ, ◌+◌, ◌<◌, ◌≤◌, length, inl, inr, arith}
+use Rattle.std.proofs.Common.{ℕ, ◌+◌, ◌<◌, ◌≤◌, length, inl, inr, arith}
 use Rattle.std.proofs.lemmas.Bool.{cases_lt}
 use Rattle.text_windows.specs.Windows.{AreWithin, Windowing, offset_at}
 use Rattle.flow_scan.proofs.ClaimSteps.{claims_further, marks_joined}

@@ -1,6 +1,5 @@
 -- A block of which no place passes claims nothing.
-use Rattle.std.proofs.Common.{◌≡◌, ℕ, ◌+◌, ap, sym, arith}
-use Rattle.flow_scan.specs.Windowed.{AreClaimed}
+use Rattle.std.proofs.Common.{ℕ, arith}
 use Rattle.flow_scan.proofs.ClaimSteps.{none_passes}
 use Rattle.flow_scan.proofs.Steps.{all_bytes}
 use Rattle.flow_scan.proofs.claiming.skip_unpassed.Goals as goal

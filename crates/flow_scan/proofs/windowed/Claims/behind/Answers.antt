@@ -1,5 +1,5 @@
 -- Looks that begin seven places before a place claim what ends behind it.
-use Rattle.std.proofs.Common.{ℕ, ◌+◌, ◌-◌, length, min, sym, subst, arith}
+use Rattle.std.proofs.Common.{ℕ, ◌+◌, ◌-◌, length, sym, subst, arith}
 use Rattle.flow_scan.specs.Windowed.{AreClaimed}
 use Rattle.flow_scan.proofs.ClaimSteps.{claims_from, none_claimed}
 use Rattle.flow_scan.proofs.windowed.Claims.behind.Goals as goal

@@ -1,10 +1,9 @@
 -- An end without a bit is none.
-use Rattle.std.proofs.Common.{◌≡◌, ℕ, ◌+◌, ◌-◌, ◌<◌, ◌≤◌, Option, Some, None, MatchOption, ap, sym, ◌∙◌, subst, arith}
+use Rattle.std.proofs.Common.{◌≡◌, ℕ, ◌+◌, ◌-◌, ap, sym, ◌∙◌, subst, arith}
 use Rattle.std.specs.Int.{bit_at}
 use Rattle.std.proofs.lemmas.Nat.Bits.{bit_at-zero}
 use Rattle.lit_base.specs.Literals.{Literals}
 use Rattle.lit_base.specs.Occurrences.{HasEnd}
-use Rattle.flow_scan.specs.NextEnds.{IsNextEnd, NoEndUpTo}
 use Rattle.flow_scan.proofs.ClaimSteps.{claimed_bit, next_within}
 use Rattle.flow_scan.proofs.windowed.Claims.first_end.Goals as goal
 use Rattle.flow_scan.proofs.windowed.Claims.first_end.Goals.{then-self-eq0-via-then-self-eq0, then-self-eq0-via-else-self-eq0+then-self-eq0-2}
