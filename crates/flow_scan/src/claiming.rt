@@ -378,9 +378,12 @@ fn skip_unmarked(
         → AreClaimed windows.now.split all windows.now text.now from from (result + 1) 0 }
 {
     let stride = windows.stride();
+    if seen == last {
+        return seen;
+    }
     // The four bytes of each look are read at once if the loop goes by the place itself, and not by the one before.
     let mut at = seen + 1;
-    'strides: while last.saturating_sub(at) >= 2 * stride {
+    'strides: while last - at >= 2 * stride {
         let near = windows.marks_behind_front(text, at, has_short);
         let far = windows.marks_behind_front(text, at + stride, has_short);
         if near | far != 0 {

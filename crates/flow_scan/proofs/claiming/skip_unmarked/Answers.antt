@@ -23,7 +23,7 @@ strides-preserved c =
     let of_far : AreMarksOf w.split all stride w text (at + stride) c.marks_behind_front-far.result = λ place back counted below from before occurs. c.marks_behind_front-far.ensures place back counted below from (omega (arith, before, is)) occurs in
     record {
       ahead = omega (arith, before.ahead);
-      inside = omega (arith, c.strides-test.true, c.saturating_sub.ensures, before.inside);
+      inside = omega (arith, c.strides-test.true, before.inside);
       claimed = λ from first.
           subst (λ (next : ℕ). AreClaimed w.split all w text from from next 0) (omega arith)
           (none_marked w.split all w text from from (at + stride) stride c.marks_behind_front-far.result far of_far
