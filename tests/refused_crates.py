@@ -34,7 +34,7 @@ BESIDE = {
 # Tests of calls that answer None for want of memory, where a value is wanted; the last is one of mistaken_tests.c.
 TELL_NONE = re.compile(
     "flow_scan::tests::.*"
-    "|line_pick::picker::tests::(finding::.*|names_its_faults|whole_lines::selects_.*)"
+    "|line_pick::picker::tests::(finding::.*|names_its_faults|numbers::.*|whole_lines::selects_.*)"
     "|lit_base::(costs|lit_list|raw_list)::tests::.*"
     "|plan_store::tests::(finds_.*_published|shows_in_one_thread_what_another_published|tells_two_threads_two_numbers)"
     "|scan_core::tests::(counts_the_literals_of_the_normal_form|has_64_streams_open|opens_.*_published|publishes_64_plans"
