@@ -22,7 +22,8 @@ const PLACES: u64 = 0x00ff_ffff_ffff_ffff;
 /// So many places are told by one step of the filter.
 const STEP: usize = 64;
 
-/// Where some literals are sieved and the others strided, so many bytes are skipped for the first ones and then for the others.
+/// Where some literals are sieved and the others strided, so many bytes are skipped for the first ones and then for the others. The
+/// number was not varied.
 const SPAN: usize = 256;
 
 /// The bytes of a window, but for one: a place with no more before it is looked at by itself.
@@ -290,7 +291,8 @@ fn skip_spans(windows: &Windows<'_>, text: &[u8], seen: usize) -> usize
     }
 }
 
-/// How many bytes are skipped at once, if some literals are sieved: what is skipped for these beyond a mark of the others is in vain.
+/// How many bytes are skipped at once: all, if no literal is sieved, and else a span, since what is skipped for sieved literals
+/// beyond a mark of the others is in vain.
 fn span_of(windows: &Windows<'_>) -> usize
     ensures { 1 < result }
 {
@@ -301,7 +303,7 @@ fn span_of(windows: &Windows<'_>) -> usize
     }
 }
 
-/// A place from `at` on and up to `last` up to which no place passes, 64 of them at a time: the last one, if no literal is sieved.
+/// A place from `seen` on and up to `last` up to which no place passes, 64 of them at a time: the last one, if no literal is sieved.
 #[inline(always)]
 fn skip_unpassed(windows: &Windows<'_>, text: &[u8], seen: usize, last: usize) -> usize
     requires behind { 3 ≤ seen }

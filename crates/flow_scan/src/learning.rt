@@ -28,7 +28,8 @@ const PLAIN_COST: usize = 512;
 /// What a search by windows may take for 1,024 bytes beyond one and a half times its estimate.
 const WINDOWED_COST: usize = 2048;
 
-/// A hit of a scan takes so much longer by the plan than by windows, which go on behind it with what their block has claimed.
+/// A hit of a scan takes so much longer by the plan than by windows, which go on behind it with what their block has claimed. The
+/// number was not varied: with it 30 to 1,000 frequent literals in four texts are found 1.3 to 1.9 times as fast.
 const PLAIN_HIT_COST: usize = 500;
 
 /// To learn takes about so long: half a millisecond. It is worth while once as much was lost.
