@@ -10,18 +10,22 @@ use crate::compiled::Compiled;
 use crate::fault::Fault;
 use crate::hit::Hit;
 use crate::hit_search::HitSearch;
-use crate::learning::{Learning, cost_by_windows};
+use crate::learning::{FEW, Learning, Way, cost_by_shift_or, cost_by_windows};
 use crate::met::Met;
 use crate::pace::PAIRED;
 use crate::searching::{add_hits, add_hits_at, skip_short_ends};
+use crate::shifted::{add_hits_by_shift_or, next_end_by_shift_or};
 use crate::text_search::TextSearch;
 use crate::windowed::{Claims, next_end_by_windows};
 use std::alloc::{AllocError, Global};
 use std::marker::Model;
-use text_windows::Windows;
+use text_windows::{ShiftOr, Windows};
 
 /// So many bytes of a text are learned from at most.
 const SAMPLE: usize = 65536;
+
+/// So many are where literals are few: their rare windows are told by less of a text.
+const SAMPLE_OF_FEW: usize = 32768;
 
 /// A scan goes on in the way that was chosen for so many bytes: as many as a run of grep reads at once.
 const SPAN: usize = 131_072;
@@ -36,6 +40,7 @@ pub const LEAST_SAMPLE: usize = 16384;
 pub struct EndFinder<'p> {
     compiled: &'p Compiled,
     windows: Windows<'p>,
+    shift_or: ShiftOr<'p>,
     learning: Learning,
 }
 
@@ -47,7 +52,7 @@ impl<'p> Model for EndFinder<'p> {
 
     ghost view = { λ s. s.compiled.now };
 
-    ghost invariant = { λ s. s.windows.literals ≡ s.compiled.now.literals };
+    ghost invariant = { λ s. (s.windows.literals ≡ s.compiled.now.literals) × (s.shift_or ≡ s.compiled.now.literals) };
 }
 
 impl<'p> EndFinder<'p> {
@@ -56,10 +61,12 @@ impl<'p> EndFinder<'p> {
         ensures { IfOk result (λ finder. finder ≡ compiled.now) }
     {
         let windows = Windows::new(alloc, compiled.list())?;
+        let shift_or = ShiftOr::new(alloc, compiled.list())?;
         Ok(EndFinder {
             compiled,
             windows,
-            learning: Learning::new(),
+            shift_or,
+            learning: Learning::new(compiled.list().len()),
         })
     }
 
@@ -129,9 +136,23 @@ impl<'p> EndFinder<'p> {
             (NoEndAfter self.old.literals search.old.text from)
             (λ found. IsNextEnd self.old.literals search.old.text from found.0) }
     {
-        if self.learning.is_windowed() {
-            return self.next_windowed(search.text(), from);
+        match self.learning.way() {
+            Way::Windows => self.next_windowed(search.text(), from),
+            Way::ShiftOr => self.next_shifted(search.text(), from),
+            Way::Plan => self.next_by_plan(search, from),
         }
+    }
+
+    /// The search of `next_end_of` by the plan.
+    fn next_by_plan(&mut self, search: &mut TextSearch<'_>, from: usize) -> Option<(usize, usize)>
+        requires plan { search.old.plan ≡ self.old }
+        requires inside { from < length search.old.text }
+        ensures same { self.new ≡ self.old }
+        ensures search { search.new ≡ search.old }
+        ensures next { MatchOption result
+            (NoEndAfter self.old.literals search.old.text from)
+            (λ found. IsNextEnd self.old.literals search.old.text from found.0) }
+    {
         match search.next_near(from) {
             Ok(found) => {
                 self.learning.count_start();
@@ -300,6 +321,60 @@ impl<'p> EndFinder<'p> {
         found
     }
 
+    /// Adds hits by shift-or, as `add_hits` does.
+    fn add_hits_shifted(
+        &mut self,
+        text: &[u8],
+        from: usize,
+        at: u64,
+        most: usize,
+        out: &mut Vec<Hit>,
+    ) -> Result<usize, AllocError>
+        requires inside { from ≤ length text.now }
+        requires room { at + (length text.now - from) < 2 ^ 64 }
+        ensures same { self.new ≡ self.old }
+        ensures ok { IfOk result (λ stop. StopsAt self.old.literals text.now from at most stop out.old.items out.new.items) }
+        ensures kept { Extends out.old.items out.new.items }
+        ensures quiet { NoEndAfter self.old.literals text.now from → IsOk result }
+    {
+        let mut met = Met::nothing();
+        let stop = add_hits_by_shift_or(
+            self.compiled,
+            &self.shift_or,
+            text,
+            from,
+            at,
+            most,
+            &mut met,
+            out,
+        )?;
+        self.note_shifted(stop - from, met, 0);
+        Ok(stop)
+    }
+
+    /// Notes what a search by shift-or met in so many bytes, and how often it begins anew behind them.
+    fn note_shifted(&mut self, count: usize, met: Met, starts: usize)
+        ensures { self.new ≡ self.old }
+    {
+        self.learning
+            .note(count, cost_by_shift_or(count, met), starts);
+    }
+
+    /// The search of `next_end` by shift-or.
+    fn next_shifted(&mut self, text: &[u8], from: usize) -> Option<(usize, usize)>
+        requires { from < length text.now }
+        ensures same { self.new ≡ self.old }
+        ensures next { MatchOption result
+            (NoEndAfter self.old.literals text.now from)
+            (λ found. IsNextEnd self.old.literals text.now from found.0) }
+    {
+        let list = self.compiled.list();
+        let mut met = Met::nothing();
+        let found = next_end_by_shift_or(&self.shift_or, list, text, from, &mut met);
+        self.note_shifted(passed(text, from, found), met, usize::from(found.is_some()));
+        found
+    }
+
     /// Learns from the text behind a place, where that is worth while and enough of it is left.
     #[inline(always)]
     fn learn_if_due(&mut self, text: &[u8], from: usize)
@@ -318,9 +393,20 @@ impl<'p> EndFinder<'p> {
         ensures { self.new ≡ self.old }
     {
         let (_, behind) = text.split_at(from);
-        let (sample, _) = behind.split_at(behind.len().min(SAMPLE));
-        let cost = self.windows.learn(sample, self.learning.starts());
-        self.learning.choose(cost);
+        let most = if self.compiled.list().len() <= FEW {
+            SAMPLE_OF_FEW
+        } else {
+            SAMPLE
+        };
+        let (sample, _) = behind.split_at(behind.len().min(most));
+        let by_windows = self.windows.learn(sample, self.learning.starts());
+        self.shift_or.fill();
+        let by_shift_or = self.shift_or.cost(sample);
+        if by_shift_or < by_windows {
+            self.learning.choose(Way::ShiftOr, by_shift_or);
+        } else {
+            self.learning.choose(Way::Windows, by_windows);
+        }
     }
 }
 
@@ -336,10 +422,10 @@ impl<'p> HitSearch for EndFinder<'p> {
         out: &mut Vec<Hit>,
     ) -> Result<usize, AllocError> {
         self.learn_if_due(text, from);
-        if self.learning.is_windowed() {
-            self.add_hits_windowed(text, from, at, most, out)
-        } else {
-            self.add_hits_plainly(text, from, at, most, out)
+        match self.learning.way() {
+            Way::Windows => self.add_hits_windowed(text, from, at, most, out),
+            Way::ShiftOr => self.add_hits_shifted(text, from, at, most, out),
+            Way::Plan => self.add_hits_plainly(text, from, at, most, out),
         }
     }
 }

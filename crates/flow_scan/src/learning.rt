@@ -1,7 +1,9 @@
 //! When a search learns from the text. Nothing here decides what is found, only how soon.
 
 use crate::met::Met;
-use text_windows::{LOOK_COST, MARK_COST, SIEVE_COST, Windows};
+use text_windows::{
+    LEFT_COST, LOOK_COST, MARK_COST, SHIFT_OR_COST, SIEVE_COST, Windows, cost_of_both,
+};
 
 /// A candidate of the sieve at which nothing ends takes so many, where the marks before it tell that.
 const CANDIDATE_COST: usize = 50;
@@ -21,12 +23,23 @@ pub(crate) fn cost_of_candidate(shortest: usize) -> usize {
     }
 }
 
+/// How a search goes through a text.
+#[derive(Clone, Copy, Debug)]
+pub(crate) enum Way {
+    /// By the plan alone: nothing that was learned suits the text better.
+    Plan,
+    /// By windows of the literals.
+    Windows,
+    /// By shift-or over buckets of the literals.
+    ShiftOr,
+}
+
 /// What a search by the plan may take for 1,024 bytes beside what the sieve takes, without learning: one place in a hundred
 /// may be a candidate.
 const PLAIN_COST: usize = 512;
 
-/// What a search by windows may take for 1,024 bytes beyond one and a half times its estimate.
-const WINDOWED_COST: usize = 2048;
+/// What a search by what was learned may take for 1,024 bytes beyond one and a half times its estimate.
+const LEARNED_COST: usize = 2048;
 
 /// A hit of a scan takes so much longer by the plan than by windows, which go on behind it with what their block has claimed. The
 /// number was not varied: with it 30 to 1,000 frequent literals in four texts are found 1.3 to 1.9 times as fast.
@@ -35,8 +48,14 @@ const PLAIN_HIT_COST: usize = 500;
 /// To learn takes about so long: half a millisecond. It is worth while once as much was lost.
 const LEAST_LOSS: usize = 5_000_000;
 
-/// The greatest loss that is waited for where learning gains little.
-const MOST_LOSS: usize = 32 * LEAST_LOSS;
+/// To learn for few literals takes about half as long: their windows are chosen from half as much text.
+const LEAST_LOSS_OF_FEW: usize = 2_500_000;
+
+/// So many literals at most are few.
+pub(crate) const FEW: usize = 32;
+
+/// So many times the least loss is waited for at most, where learning gains little.
+const MOST_WAIT: usize = 32;
 
 /// What `count` bytes take by looks that are a stride apart.
 pub(crate) fn cost_of_looks(stride: usize, count: usize) -> usize {
@@ -56,47 +75,68 @@ pub(crate) fn cost_by_windows(windows: &Windows<'_>, len: usize, count: usize, m
     } else {
         cost_of_looks(windows.stride(), count).saturating_mul(windows.widths())
     };
-    let passes = met.passed.saturating_mul(windows.pass_cost());
+    let passes = windows.cost_of_passes(met.passed, count);
     let marks = met.marked.saturating_mul(MARK_COST);
-    sieve
-        .saturating_add(looks)
-        .saturating_add(passes)
-        .saturating_add(marks)
+    if looks == 0 {
+        return sieve.saturating_add(passes).saturating_add(marks);
+    }
+    cost_of_both(looks.saturating_add(marks), sieve.saturating_add(passes))
+}
+
+/// What a search by shift-or took that passed so many bytes and met so much.
+pub(crate) fn cost_by_shift_or(count: usize, met: Met) -> usize {
+    let bytes = count.saturating_mul(SHIFT_OR_COST) / 1024;
+    bytes.saturating_add(met.marked.saturating_mul(LEFT_COST))
 }
 
 /// How a search has fared since it chose its way: what it took for how many bytes, and how much more that was than
 /// it may take.
 #[derive(Clone, Copy, Debug)]
 pub(crate) struct Learning {
-    is_windowed: bool,
+    way: Way,
     passed: usize,
     spent: usize,
     starts: usize,
     /// What it may take for 1,024 bytes.
     allowed: usize,
     lost: usize,
-    /// The loss at which it learns.
+    /// The loss at which it learns, and the least such loss.
     most_lost: usize,
+    least_lost: usize,
 }
 
 impl Learning {
-    /// That before any text.
-    pub fn new() -> Learning {
+    /// That of a list of so many literals, before any text.
+    pub fn new(len: usize) -> Learning {
+        let least_lost = if len <= FEW {
+            LEAST_LOSS_OF_FEW
+        } else {
+            LEAST_LOSS
+        };
         Learning {
-            is_windowed: false,
+            way: Way::Plan,
             passed: 0,
             spent: 0,
             starts: 0,
             allowed: PLAIN_COST,
             lost: 0,
-            most_lost: LEAST_LOSS,
+            most_lost: least_lost,
+            least_lost,
         }
     }
 
-    /// Whether it searches by windows.
+    /// How it searches.
     #[inline(always)]
-    pub fn is_windowed(&self) -> bool {
-        self.is_windowed
+    pub fn way(&self) -> Way {
+        self.way
+    }
+
+    /// Whether it goes by what was learned.
+    fn has_learned(&self) -> bool {
+        match self.way {
+            Way::Plan => false,
+            Way::Windows | Way::ShiftOr => true,
+        }
     }
 
     /// Whether it has lost as much as to learn takes.
@@ -114,18 +154,19 @@ impl Learning {
         self.lost = self.lost.saturating_add(spent).saturating_sub(allowed);
     }
 
-    /// It has learned windows by which 1,024 bytes are likely to take so long: it goes on by them if that is less
+    /// It has learned a way in which 1,024 bytes are likely to take so long: it goes on in it if that is less
     /// than they took.
-    pub fn choose(&mut self, cost: usize) {
-        let allowed = cost.saturating_add(cost / 2).saturating_add(WINDOWED_COST);
+    pub fn choose(&mut self, way: Way, cost: usize) {
+        let allowed = cost.saturating_add(cost / 2).saturating_add(LEARNED_COST);
         let is_better = self.is_better(cost, allowed);
         self.most_lost = if is_better {
-            (self.most_lost / 2).max(LEAST_LOSS)
+            (self.most_lost / 2).max(self.least_lost)
         } else {
-            self.most_lost.saturating_mul(2).min(MOST_LOSS)
+            let most = self.least_lost.saturating_mul(MOST_WAIT);
+            self.most_lost.saturating_mul(2).min(most)
         };
-        if is_better || self.is_windowed {
-            self.is_windowed = true;
+        if is_better || self.has_learned() {
+            self.way = way;
             self.allowed = allowed;
         }
         self.passed = 0;
@@ -134,12 +175,12 @@ impl Learning {
         self.lost = 0;
     }
 
-    /// Whether windows that were learned are likely to take less by a good part: than the plan took, or than those before
-    /// them were to take, or less than half of what these took. An estimate may be too low again and again: of frequent
+    /// Whether what was learned is likely to take less by a good part: than the plan took, or than what was learned before
+    /// was to take, or less than half of what that took. An estimate may be too low again and again: of frequent
     /// literals windows cost more than a sample tells.
     fn is_better(&self, cost: usize, allowed: usize) -> bool {
         let taken = self.taken();
-        if self.is_windowed {
+        if self.has_learned() {
             allowed < self.allowed - self.allowed / 8 || allowed < taken / 2
         } else {
             cost < taken - taken / 8
@@ -166,7 +207,7 @@ impl Learning {
     /// What 1,024 bytes took since the last choice.
     fn taken(&self) -> usize {
         let taken = self.spent.saturating_mul(1024) / self.passed.max(1);
-        if self.is_windowed {
+        if self.has_learned() {
             taken
         } else {
             taken.saturating_add(SIEVE_COST)

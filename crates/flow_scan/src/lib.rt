@@ -19,6 +19,7 @@ mod scanner;
 mod scanning;
 mod seam;
 mod searching;
+mod shifted;
 mod strides;
 mod suffix_flags;
 mod text_search;

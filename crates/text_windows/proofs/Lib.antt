@@ -1,1 +1,2 @@
 pub mod WindowLemmas
+pub mod ShiftOrLemmas

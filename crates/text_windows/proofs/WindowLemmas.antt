@@ -86,17 +86,17 @@ marks_are w low high least stride marks text at result wide are bytes told place
     (window_marked l marks text place at back (width_at l place) (offset_at w place) stride is counted near occurs bytes (omega (arith, narrow)))
 
 -- those of the strided literals
-pub strided_are : (w : Windowing) (shape : Shape) (marks text : List ℕ) (at result : ℕ) → IsShapeOf w.literals w.split shape → AreWindowed w.literals w.split w.stride w.offsets marks (length w.literals.texts) → AreBytes text
+pub strided_are : (w : Windowing) (shape : Shape) (others marks text : List ℕ) (at result : ℕ) → IsShapeOf w.literals w.split shape → AreWindowed w.literals w.split w.stride w.offsets others marks (length w.literals.texts) → AreBytes text
     → ((width back : ℕ) → shape.least_width ≤ width → width ≤ WIDTH → width ≤ at → IsMarked marks (hash_of HASH_BITS (suffix_key w.literals.folding text at width)) back → bit_at result back ≡ 1)
     → AreStridedMarks w text at result
-strided_are w shape marks text at result fits are bytes told =
+strided_are w shape others marks text at result fits are bytes told =
     marks_are w w.split (length w.literals.texts) shape.least_width w.stride marks text at result (λ place behind before there. fits.least place behind there) (λ place behind before there. are.strided place there behind) bytes told
 
 -- and of the sieved ones
-pub sieved_are : (w : Windowing) (shape : Shape) (marks text : List ℕ) (at result : ℕ) → IsShapeOf w.literals 0 shape → AreWindowed w.literals w.split w.stride w.offsets marks (length w.literals.texts) → AreBytes text
+pub sieved_are : (w : Windowing) (shape : Shape) (marks others text : List ℕ) (at result : ℕ) → IsShapeOf w.literals 0 shape → AreWindowed w.literals w.split w.stride w.offsets marks others (length w.literals.texts) → AreBytes text
     → ((width back : ℕ) → shape.least_width ≤ width → width ≤ WIDTH → width ≤ at → IsMarked marks (hash_of HASH_BITS (suffix_key w.literals.folding text at width)) back → bit_at result back ≡ 1)
     → AreSievedMarks w text at result
-sieved_are w shape marks text at result fits are bytes told =
+sieved_are w shape marks others text at result fits are bytes told =
     marks_are w 0 w.split shape.least_width 1 marks text at result (λ place from before there. fits.least place from there) (λ place from before there. are.sieved place there before) bytes told
 
 -- a mark that was looked at by a key is there

@@ -1,2 +1,3 @@
+pub mod ShiftOr
 pub mod Shapes
 pub mod Windows

@@ -47,9 +47,10 @@ pub record IsWindowed (l : Literals) (marks : List ℕ) (place width offset stri
   pub wide : width + offset + stride ≤ length (literal_at l place) + 1
   pub marked : IsMarkedFor marks l.folding (literal_at l place) width offset stride
 
--- each literal before a place is marked, by one window if it stands before the split
-pub record AreWindowed (l : Literals) (split stride : ℕ) (offsets marks : List ℕ) (count : ℕ) : Type 0 where
+-- each literal before a place is marked: by one window in the table of the sieved ones if it stands before the split, and else in that of the strided ones
+pub record AreWindowed (l : Literals) (split stride : ℕ) (offsets sieved_marks strided_marks : List ℕ) (count : ℕ) : Type 0 where
   pub offsets_len : length offsets ≡ length l.texts
-  pub marks_len : length marks ≡ 2 ^ HASH_BITS
-  pub sieved : (place : ℕ) → place < count → place < split → IsWindowed l marks place (width_at l place) (slice_index offsets place) 1
-  pub strided : (place : ℕ) → place < count → split ≤ place → IsWindowed l marks place (width_at l place) (slice_index offsets place) stride
+  pub sieved_len : length sieved_marks ≡ 2 ^ HASH_BITS
+  pub strided_len : length strided_marks ≡ 2 ^ HASH_BITS
+  pub sieved : (place : ℕ) → place < count → place < split → IsWindowed l sieved_marks place (width_at l place) (slice_index offsets place) 1
+  pub strided : (place : ℕ) → place < count → split ≤ place → IsWindowed l strided_marks place (width_at l place) (slice_index offsets place) stride

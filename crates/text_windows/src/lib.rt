@@ -6,9 +6,11 @@ mod counts;
 mod grouping;
 mod marking;
 mod shape;
+mod shift_or;
 mod windows;
 
-pub use choosing::{LOOK_COST, MARK_COST, SIEVE_COST};
+pub use choosing::{LOOK_COST, MARK_COST, SIEVE_COST, cost_of_both};
+pub use shift_or::{LEFT_COST, SHIFT_OR_COST, ShiftOr};
 pub use windows::Windows;
 
 #[cfg(test)]

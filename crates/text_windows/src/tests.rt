@@ -1,4 +1,5 @@
 //! Windows of lists with short literals and with long ones, and of literals whose last bytes a text is full of.
+use crate::shift_or::ShiftOr;
 use crate::windows::Windows;
 use lit_base::{Fold, LitList, RawList};
 use nib_mask::plain_byte;
@@ -243,4 +244,77 @@ fn sieves_short_literals_and_long_ones(rt: HostRuntime) {
         sieves_a_short_one(rt.alloc()),
         Some([(0, 1, 0), (2, 8, 0)])
     );
+}
+
+/// The ends of a text that shift-or does not rule out, as a search comes to them: how many there are, and how many of
+/// these ends are among them.
+fn count_left(shift_or: &ShiftOr<'_>, text: &[u8], ends: &[usize]) -> (usize, usize) {
+    let (mut left, mut met, mut seen) = (0usize, 0usize, 0usize);
+    for _ in 0..text.len() {
+        if seen >= text.len() {
+            return (left, met);
+        }
+        let before = shift_or.skip_ruled_out(text, seen);
+        if before >= text.len() {
+            return (left, met);
+        }
+        seen = before + 1;
+        left = left.saturating_add(1);
+        if ends.contains(&seen) {
+            met = met.saturating_add(1);
+        }
+    }
+    (left, met)
+}
+
+/// That of these literals, before the entries are made, and then.
+fn left_of(
+    alloc: Global,
+    fold: Fold,
+    literals: &[&[u8]],
+    text: &[u8],
+    ends: &[usize],
+) -> Option<[(usize, usize); 2]> {
+    let list = list_of(alloc, fold, literals)?;
+    let mut shift_or = ShiftOr::new(alloc, &list).ok()?;
+    let before = count_left(&shift_or, text, ends);
+    shift_or.fill();
+    Some([before, count_left(&shift_or, text, ends)])
+}
+
+#[test]
+fn rules_out_all_but_the_ends_of_long_literals(rt: HostRuntime) {
+    assert_eq!(rt;
+        left_of(
+            rt.alloc(),
+            Fold::No,
+            &LONG_WORDS,
+            WITH_LONG_WORDS,
+            &LONG_ENDS
+        ),
+        Some([(34, 3), (7, 3)])
+    );
+}
+
+#[test]
+fn rules_no_end_of_short_literals_out(rt: HostRuntime) {
+    assert_eq!(rt;
+        left_of(rt.alloc(), Fold::Ascii, &WORDS, WITH_CAPITALS, &ENDS),
+        Some([(23, 5), (23, 5)])
+    );
+}
+
+/// What a search by shift-or takes of a sample that has nothing of a literal, and of one that is nothing else.
+fn costs_of(alloc: Global) -> Option<(usize, usize)> {
+    let list = list_of(alloc, Fold::No, &[b"wxyz"])?;
+    let mut shift_or = ShiftOr::new(alloc, &list).ok()?;
+    shift_or.fill();
+    let quiet = shift_or.cost(&sample_of(alloc, *b"....")?);
+    let full = shift_or.cost(&sample_of(alloc, *b"wxyz")?);
+    Some((quiet, full / quiet.max(1)))
+}
+
+#[test]
+fn costs_more_where_ends_are_many(rt: HostRuntime) {
+    assert_eq!(rt; costs_of(rt.alloc()), Some((7500, 12)));
 }

@@ -9,7 +9,7 @@ ghost use Rattle.nib_mask.specs.Fronts.{CoversFronts};
 ghost use Rattle.text_windows.specs.declared.shape.TheConstants.{WIDTH};
 ghost use Rattle.text_windows.specs.Windows.{AreSievedMarks, AreStridedMarks, AreWithin};
 
-use crate::choosing::{best_choice, choose_offsets, cost_of_pass};
+use crate::choosing::{best_choice, choose_offsets, cost_of_passes};
 use crate::counts::Counts;
 use crate::grouping::group;
 use crate::marking::mark_all;
@@ -36,8 +36,10 @@ pub struct Windows<'p> {
     offsets: Vec<u8>,
     /// The bucket of the masks that each sieved literal has.
     buckets: Vec<u8>,
-    /// A byte for each hash. Bit `back` says that some literal has a window of this hash `back` places before its end.
-    marks: Vec<u8>,
+    /// A byte for each hash. Bit `back` says that some sieved literal has a window of this hash `back` places before its end.
+    sieved_marks: Vec<u8>,
+    /// The same for strided literals. Marks of few literals in a table of their own are hardly ever met by chance.
+    strided_marks: Vec<u8>,
     masks: Masks,
     counts: Counts,
 }
@@ -55,7 +57,7 @@ impl<'p> Model for Windows<'p> {
 
     ghost invariant = { λ w. IsShapeOf w.list.now 0 w.whole × IsShapeOf w.list.now w.split w.strided
         × (0 < w.stride) × (w.stride ≤ w.strided.most_stride) × (w.split ≤ length w.list.now.texts)
-        × AreWindowed w.list.now w.split w.stride w.offsets.items w.marks.items (length w.list.now.texts)
+        × AreWindowed w.list.now w.split w.stride w.offsets.items w.sieved_marks.items w.strided_marks.items (length w.list.now.texts)
         × CoversFronts w.list.now w.split w.offsets.items w.masks
         × (vec_len w.buckets ≡ length w.list.now.texts)
         × (vec_len w.counts.fours ≡ 2 ^ HASH_BITS) × (vec_len w.counts.threes ≡ 2 ^ HASH_BITS) };
@@ -69,9 +71,17 @@ impl<'p> Windows<'p> {
         let shape = Shape::of(list, 0);
         let mut offsets = Vec::from_elem(alloc, 0, list.len())?;
         let buckets = Vec::from_elem(alloc, 0, list.len())?;
-        let mut marks = Vec::from_elem(alloc, 0, 1 << HASH_BITS)?;
+        let mut sieved_marks = Vec::from_elem(alloc, 0, 1 << HASH_BITS)?;
+        let mut strided_marks = Vec::from_elem(alloc, 0, 1 << HASH_BITS)?;
         let counts = Counts::new(alloc)?;
-        mark_all(list, 0, 1, &mut offsets, &mut marks);
+        mark_all(
+            list,
+            0,
+            1,
+            &mut offsets,
+            &mut sieved_marks,
+            &mut strided_marks,
+        );
         let masks = Masks::of_fronts(list, 0, &offsets, &buckets);
         Ok(Windows {
             list,
@@ -81,7 +91,8 @@ impl<'p> Windows<'p> {
             strided: shape,
             offsets,
             buckets,
-            marks,
+            sieved_marks,
+            strided_marks,
             masks,
             counts,
         })
@@ -107,7 +118,14 @@ impl<'p> Windows<'p> {
         let stride = choice.stride.clamp(1, strided.most_stride);
         choose_offsets(self.list, split, &self.counts, stride, &mut self.offsets);
         group(self.list, split, &self.offsets, &mut self.buckets);
-        mark_all(self.list, split, stride, &mut self.offsets, &mut self.marks);
+        mark_all(
+            self.list,
+            split,
+            stride,
+            &mut self.offsets,
+            &mut self.sieved_marks,
+            &mut self.strided_marks,
+        );
         self.masks = Masks::of_fronts(self.list, split, &self.offsets, &self.buckets);
         self.split = split;
         self.stride = stride;
@@ -152,7 +170,7 @@ impl<'p> Windows<'p> {
     {
         if at < WIDTH {
             let least = self.strided.least_width;
-            return marks_near_front(&self.marks, self.list.fold(), least, text, at);
+            return marks_near_front(&self.strided_marks, self.list.fold(), least, text, at);
         }
         self.marks_by_widths(text, at)
     }
@@ -165,7 +183,7 @@ impl<'p> Windows<'p> {
     {
         if at < WIDTH {
             return marks_near_front(
-                &self.marks,
+                &self.sieved_marks,
                 self.list.fold(),
                 self.whole.least_width,
                 text,
@@ -206,7 +224,7 @@ impl<'p> Windows<'p> {
         ensures { AreStridedMarks self.now text.now at result }
     {
         let least = self.strided.least_width;
-        marks_of_widths(&self.marks, self.list.fold(), least, text, at)
+        marks_of_widths(&self.strided_marks, self.list.fold(), least, text, at)
     }
 
     /// The same, apart from the loop that asks it.
@@ -227,7 +245,7 @@ impl<'p> Windows<'p> {
         ensures { AreSievedMarks self.now text.now at result }
     {
         let least = self.whole.least_width;
-        marks_of_widths(&self.marks, self.list.fold(), least, text, at)
+        marks_of_widths(&self.sieved_marks, self.list.fold(), least, text, at)
     }
 
     /// How many times as long a look for strided literals takes as one for windows of one width.
@@ -236,10 +254,10 @@ impl<'p> Windows<'p> {
         self.strided.widths()
     }
 
-    /// What a place that passes the masks and has no mark takes, in tenths of a nanosecond.
+    /// What so many places of a text of `count` bytes take that pass the masks and have no mark, in tenths of a nanosecond.
     #[inline]
-    pub fn pass_cost(&self) -> usize {
-        cost_of_pass(self.whole.widths())
+    pub fn cost_of_passes(&self, passed: usize, count: usize) -> usize {
+        cost_of_passes(passed, count, self.whole.widths())
     }
 }
 
@@ -265,7 +283,7 @@ fn marks_of_widths(marks: &Vec<u8>, fold: Fold, least: usize, text: &[u8], at: u
 
 /// What the four bytes before a place spell, behind four zeros.
 #[inline(always)]
-fn last_four(text: &[u8], at: usize) -> u64
+pub(crate) fn last_four(text: &[u8], at: usize) -> u64
     requires four { 4 ≤ at }
     requires inside { at ≤ length text.now }
     ensures { result ≡ spelled (replicate 4 0 ++ slice_range text.now (at - 4) at) }

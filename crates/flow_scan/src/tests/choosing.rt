@@ -1,16 +1,17 @@
 //! Searches that change their way at places drawn by chance in the middle of a text: by the plan alone, by windows that
-//! some piece of the text chooses, by a search that learns. What they find together is what the plan alone finds.
+//! some piece of the text chooses, by shift-or, by a search that learns. What they find together is what the plan alone finds.
 use crate::compiled::Compiled;
 use crate::end_finder::EndFinder;
 use crate::met::Met;
 use crate::searching::next_end;
+use crate::shifted::next_end_by_shift_or;
 use crate::tests::finding::{
     CAPITALS, Draws, FIGURES, Told, WORDS, pieces_of, plain_in, plan_of_pieces, text_of, with_end,
 };
 use crate::windowed::next_end_by_windows;
 use lit_base::Fold;
 use std::alloc::Global;
-use text_windows::Windows;
+use text_windows::{ShiftOr, Windows};
 
 /// How far a search has come in a text, and what it has found up to there.
 type Progress = (usize, Told);
@@ -73,6 +74,29 @@ fn by_windows(
     Some((from, told))
 }
 
+/// So many, by shift-or.
+fn by_shift_or(
+    alloc: Global,
+    compiled: &Compiled,
+    text: &[u8],
+    progress: Progress,
+    count: usize,
+) -> Option<Progress> {
+    let list = compiled.list();
+    let mut shift_or = ShiftOr::new(alloc, list).ok()?;
+    shift_or.fill();
+    let (mut from, mut told) = progress;
+    let mut met = Met::nothing();
+    for _ in 0..count {
+        let Some((end, _)) = next_end_by_shift_or(&shift_or, list, text, from, &mut met) else {
+            return Some((text.len(), told));
+        };
+        told = with_end(told, end);
+        from = end;
+    }
+    Some((from, told))
+}
+
 /// A piece of a text from somewhere on.
 fn sample_of<'t>(draws: &mut Draws, text: &'t [u8]) -> Option<&'t [u8]> {
     let (_, behind) = text.split_at_checked(draws.below(text.len()))?;
@@ -90,9 +114,10 @@ fn changing_in(alloc: Global, compiled: &Compiled, draws: &mut Draws, text: &[u8
             return Some(told);
         }
         let count = draws.below(100).saturating_add(1);
-        progress = match draws.below(3) {
+        progress = match draws.below(4) {
             0 => by_plan(compiled, text, progress, count),
             1 => by_learning(&mut finder, text, progress, count),
+            2 => by_shift_or(alloc, compiled, text, progress, count)?,
             _ => {
                 let sample = sample_of(draws, text)?;
                 by_windows(alloc, compiled, text, sample, progress, count)?

@@ -22,10 +22,10 @@ loop-end-init c = record {
 }
 
 pub behind-claims-requires-clause-list : goal.behind-claims-requires-clause-list
-behind-claims-requires-clause-list c = c.self.invariant ∙ sym c.list-list.ensures
+behind-claims-requires-clause-list c = c.self.invariant.0 ∙ sym c.list-list.ensures
 
 pub next_end-requires-clause-list : goal.next_end-requires-clause-list
-next_end-requires-clause-list c = c.self.invariant ∙ sym c.list-list.ensures
+next_end-requires-clause-list c = c.self.invariant.0 ∙ sym c.list-list.ensures
 
 -- where the search goes to
 next_end : (c : In_ok-add_hits_at) → IsNextEnd c.args.self.now.literals c.args.text.now c.loop-end.claims.seen c.in-Some.end

@@ -1,19 +1,8 @@
--- An end that is near is the next one, and behind the places near it is the next one behind them.
-use Rattle.std.proofs.Common.{ap}
-use Rattle.flow_scan.specs.NextEnds.{IsPassed}
-use Rattle.flow_scan.specs.Plans.{Plan}
-use Rattle.flow_scan.specs.Searched.{Searched}
-use Rattle.flow_scan.proofs.EndLemmas.{found_further}
+-- Each way goes through the text of the search.
 use Rattle.flow_scan.proofs.end_finder.EndFinder.next_behind.Goals as goal
 
-pub returns-then-is_windowed-clause-next : goal.returns-then-is_windowed-clause-next
-returns-then-is_windowed-clause-next c = rw c.text.ensures at c.next_windowed.ensures.next
+pub returns-in-Windows-clause-next : goal.returns-in-Windows-clause-next
+returns-in-Windows-clause-next c = rw c.text.ensures at c.next_windowed.ensures.next
 
-pub returns-in-Ok-clause-next : goal.returns-in-Ok-clause-next
-returns-in-Ok-clause-next c = rw (ap (λ (p : Plan). p.literals) c.requires.plan) at c.in-Ok.ensures.next
-
-pub returns-in-Err-clause-next : goal.returns-in-Err-clause-next
-returns-in-Err-clause-next c =
-    let passed : IsPassed c.args.self.now.literals c.args.search.now.text c.args.from c.in-Err.seen = rw (ap (λ (p : Plan). p.literals) c.requires.plan) at c.in-Err.ensures.passed in
-    found_further c.args.self.now.literals c.args.search.now.text c.args.from c.in-Err.seen passed.none c.next_plainly.result passed.after
-    (rw (ap (λ (s : Searched). s.text) c.in-Err.ensures.same) at c.next_plainly.ensures.next)
+pub returns-in-ShiftOr-clause-next : goal.returns-in-ShiftOr-clause-next
+returns-in-ShiftOr-clause-next c = rw c.text-in-ShiftOr.ensures at c.next_shifted.ensures.next

@@ -12,8 +12,8 @@ use Rattle.text_windows.proofs.windows.Windows.marks_by_widths.Goals as goal
 pub returns : goal.returns
 returns c =
     let w : Windowing = record { literals = c.self.inside.list.now; split = c.self.inside.split; stride = c.self.inside.stride; offsets = c.self.inside.offsets.items } in
-    let marks = c.self.inside.marks.items in
+    let marks = c.self.inside.strided_marks.items in
     subst (λ (v : Windowing). AreStridedMarks v c.args.text.now c.args.at c.marks_of_widths.result) c.self.view_is
-    (strided_are w c.self.inside.strided marks c.args.text.now c.args.at c.marks_of_widths.result c.self.invariant.1 c.self.invariant.5 (are_bytes c.args.text.now c.type_inv.text)
+    (strided_are w c.self.inside.strided c.self.inside.sieved_marks.items marks c.args.text.now c.args.at c.marks_of_widths.result c.self.invariant.1 c.self.invariant.5 (are_bytes c.args.text.now c.type_inv.text)
     (λ width back enough most begins marked. c.marks_of_widths.ensures width back enough most
     (subst (λ (f : Fold). IsMarked marks (hash_of HASH_BITS (suffix_key f c.args.text.now c.args.at width)) back) (sym c.fold.ensures) marked)))

@@ -12,8 +12,8 @@ use Rattle.text_windows.proofs.windows.Windows.sieved_marks_at.Goals as goal
 pub returns-then-at-lt-WIDTH : goal.returns-then-at-lt-WIDTH
 returns-then-at-lt-WIDTH c =
     let w : Windowing = record { literals = c.self.inside.list.now; split = c.self.inside.split; stride = c.self.inside.stride; offsets = c.self.inside.offsets.items } in
-    let marks = c.self.inside.marks.items in
+    let marks = c.self.inside.sieved_marks.items in
     subst (λ (v : Windowing). AreSievedMarks v c.args.text.now c.args.at c.marks_near_front.result) c.self.view_is
-    (sieved_are w c.self.inside.whole marks c.args.text.now c.args.at c.marks_near_front.result c.self.invariant.0 c.self.invariant.5 (are_bytes c.args.text.now c.type_inv.text)
+    (sieved_are w c.self.inside.whole marks c.self.inside.strided_marks.items c.args.text.now c.args.at c.marks_near_front.result c.self.invariant.0 c.self.invariant.5 (are_bytes c.args.text.now c.type_inv.text)
     (λ width back enough most begins marked. c.marks_near_front.ensures width back enough begins
     (subst (λ (f : Fold). IsMarked marks (hash_of HASH_BITS (suffix_key f c.args.text.now c.args.at width)) back) (sym c.fold.ensures) marked)))

@@ -12,8 +12,8 @@ use Rattle.text_windows.proofs.windows.Windows.sieved_marks_behind_front.Goals a
 pub returns : goal.returns
 returns c =
     let w : Windowing = record { literals = c.self.inside.list.now; split = c.self.inside.split; stride = c.self.inside.stride; offsets = c.self.inside.offsets.items } in
-    let marks = c.self.inside.marks.items in
+    let marks = c.self.inside.sieved_marks.items in
     subst (λ (v : Windowing). AreSievedMarks v c.args.text.now c.args.at c.marks_of_widths.result) c.self.view_is
-    (sieved_are w c.self.inside.whole marks c.args.text.now c.args.at c.marks_of_widths.result c.self.invariant.0 c.self.invariant.5 (are_bytes c.args.text.now c.type_inv.text)
+    (sieved_are w c.self.inside.whole marks c.self.inside.strided_marks.items c.args.text.now c.args.at c.marks_of_widths.result c.self.invariant.0 c.self.invariant.5 (are_bytes c.args.text.now c.type_inv.text)
     (λ width back enough most begins marked. c.marks_of_widths.ensures width back enough most
     (subst (λ (f : Fold). IsMarked marks (hash_of HASH_BITS (suffix_key f c.args.text.now c.args.at width)) back) (sym c.fold.ensures) marked)))
