@@ -21,14 +21,15 @@ pub const SIEVE_COST: usize = 1536;
 const PASS_COST: usize = 20;
 
 /// A block of places of which some pass takes so many beside these: it is looked at as a whole, and how many pass is not foreseen.
-/// Without it estimates for 30 to 100 literals, of which some pass in most blocks, were 0.6 of what four texts took.
+/// Without it a hundred rare literals in log lines were estimated at 0.6 of what they took. The number was not varied.
 const BLOCK_COST: usize = 180;
 
 /// A block has so many places.
 const BLOCK: usize = 56;
 
 /// Where some literals are sieved and the others strided, both take half as long again: the one is left for the other wherever
-/// something is met. A hundred and three hundred rare literals of four texts' own words took 1.5 times the sum of both.
+/// something is met. A hundred rare literals in log lines, and a thousand with short ones, took 1.5 times the sum of both. The
+/// number was not varied.
 const BOTH_SHARE: usize = 2;
 
 /// To begin to sieve takes so many, where looks at strides begin at once: a hundred frequent literals took 1.3 times as
