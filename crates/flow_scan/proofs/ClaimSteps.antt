@@ -14,7 +14,8 @@ use Rattle.lane_filter.specs.Bits.{SplitsLowest}
 use Rattle.lane_filter.specs.Lanes.{TellsBits}
 use Rattle.text_windows.specs.Windows.{AreMarksOf, AreSievedMarks, AreStridedMarks, AreWithin, IsWithin, Windowing, offset_at}
 use Rattle.text_windows.proofs.WindowLemmas.{literal_is, marked_left, marked_right}
-use Rattle.flow_scan.specs.NextEnds.{IsNextEnd, NoEndUpTo}
+use Rattle.flow_scan.specs.NextEnds.{IsNextEnd}
+use Rattle.text_windows.specs.NoEnds.{NoEndUpTo}
 use Rattle.flow_scan.specs.Windowed.{AreClaimed, AreClaims}
 use Rattle.flow_scan.specs.declared.windowed.Claims.{Claims}
 use Rattle.flow_scan.proofs.MarkSteps.{marked_above, marked_below}

@@ -3,7 +3,8 @@ use Rattle.std.proofs.Common.{◌≡◌, ℕ, ◌+◌, ◌-◌, ◌*◌, ◌<◌
 use Rattle.std.proofs.lemmas.Bool.{cases_lt}
 use Rattle.std.proofs.Math.Nat.{mul-add, mul-le-mul_left, mul_comm}
 use Rattle.lit_base.specs.Occurrences.{HasEnd}
-use Rattle.flow_scan.specs.NextEnds.{IsNextEnd, IsPassed, NoEndAfter, NoEndUpTo}
+use Rattle.flow_scan.specs.NextEnds.{IsNextEnd, IsPassed, NoEndAfter}
+use Rattle.text_windows.specs.NoEnds.{NoEndUpTo}
 use Rattle.lit_base.specs.Literals.{Literals}
 use Rattle.flow_scan.specs.declared.strides.GaveUp.{GaveUp}
 

@@ -6,7 +6,8 @@ use Rattle.std.specs.List.{slice_get}
 use Rattle.std.proofs.lemmas.Option.{get_or_from_slice_get, slice_get_within}
 use Rattle.lit_base.specs.Folding.{folded_text}
 use Rattle.lit_base.specs.Literals.{Literals}
-use Rattle.flow_scan.specs.NextEnds.{IsNextEnd, IsPassed, NoEndAfter, NoEndUpTo}
+use Rattle.flow_scan.specs.NextEnds.{IsNextEnd, IsPassed, NoEndAfter}
+use Rattle.text_windows.specs.NoEnds.{NoEndUpTo}
 use Rattle.lit_base.specs.Occurrences.{IsFirstEnding, Occurs}
 use Rattle.flow_scan.specs.Tails.{HasBounds, carry_of, last_bytes}
 

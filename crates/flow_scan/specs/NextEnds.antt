@@ -2,14 +2,11 @@
 use Rattle.std.specs.Prelude.{ℕ, ◌<◌, ◌≤◌, List, length}
 use Rattle.lit_base.specs.Literals.{Literals}
 use Rattle.lit_base.specs.Occurrences.{HasEnd}
+use Rattle.text_windows.specs.NoEnds.{NoEndUpTo}
 
 -- none ends behind a place
 abbrev pub NoEndAfter : Literals → List ℕ → ℕ → Type 0
 NoEndAfter l text from = (end : ℕ) → from < end → ¬ HasEnd l text end
-
--- none ends behind a place and up to another one
-abbrev pub NoEndUpTo : Literals → List ℕ → ℕ → ℕ → Type 0
-NoEndUpTo l text from last = (end : ℕ) → from < end → end ≤ last → ¬ HasEnd l text end
 
 -- the first place behind another one at which some literal ends
 pub record IsNextEnd (l : Literals) (text : List ℕ) (from end : ℕ) : Type 0 where

@@ -4,7 +4,7 @@
 //! of its windows before that place. The claims of all looks of a block are joined in one word, without a jump on what is found.
 ghost use Rattle.std.specs.Prelude.{◌≡◌, ℕ, ◌+◌, ◌-◌, ◌<◌, ◌≤◌, length, min};
 ghost use Rattle.std.specs.Int.{bit_at};
-ghost use Rattle.flow_scan.specs.NextEnds.{NoEndUpTo};
+ghost use Rattle.text_windows.specs.NoEnds.{NoEndUpTo};
 ghost use Rattle.flow_scan.specs.Windowed.{AreClaimed, ArePassing};
 ghost use Rattle.flow_scan.specs.declared.claiming.TheConstants.{BLOCK};
 

@@ -10,7 +10,7 @@ use crate::compiled::Compiled;
 use crate::fault::Fault;
 use crate::hit::Hit;
 use crate::hit_search::HitSearch;
-use crate::learning::{FEW, Learning, Way, cost_by_shift_or, cost_by_windows};
+use crate::learning::{FEW, Learning, Way, cost_by_windows};
 use crate::met::Met;
 use crate::pace::PAIRED;
 use crate::searching::{add_hits, add_hits_at, skip_short_ends};
@@ -52,7 +52,7 @@ impl<'p> Model for EndFinder<'p> {
 
     ghost view = { λ s. s.compiled.now };
 
-    ghost invariant = { λ s. (s.windows.literals ≡ s.compiled.now.literals) × (s.shift_or ≡ s.compiled.now.literals) };
+    ghost invariant = { λ s. (s.windows.literals ≡ s.compiled.now.literals) × (s.shift_or.literals ≡ s.compiled.now.literals) };
 }
 
 impl<'p> EndFinder<'p> {
@@ -356,8 +356,8 @@ impl<'p> EndFinder<'p> {
     fn note_shifted(&mut self, count: usize, met: Met, starts: usize)
         ensures { self.new ≡ self.old }
     {
-        self.learning
-            .note(count, cost_by_shift_or(count, met), starts);
+        let spent = self.shift_or.cost_of(count, met.marked);
+        self.learning.note(count, spent, starts);
     }
 
     /// The search of `next_end` by shift-or.
@@ -400,8 +400,7 @@ impl<'p> EndFinder<'p> {
         };
         let (sample, _) = behind.split_at(behind.len().min(most));
         let by_windows = self.windows.learn(sample, self.learning.starts());
-        self.shift_or.fill();
-        let by_shift_or = self.shift_or.cost(sample);
+        let by_shift_or = self.shift_or.learn(sample);
         if by_shift_or < by_windows {
             self.learning.choose(Way::ShiftOr, by_shift_or);
         } else {

@@ -1,9 +1,7 @@
 //! When a search learns from the text. Nothing here decides what is found, only how soon.
 
 use crate::met::Met;
-use text_windows::{
-    LEFT_COST, LOOK_COST, MARK_COST, SHIFT_OR_COST, SIEVE_COST, Windows, cost_of_both,
-};
+use text_windows::{LOOK_COST, MARK_COST, SIEVE_COST, Windows, cost_of_both};
 
 /// A candidate of the sieve at which nothing ends takes so many, where the marks before it tell that.
 const CANDIDATE_COST: usize = 50;
@@ -81,12 +79,6 @@ pub(crate) fn cost_by_windows(windows: &Windows<'_>, len: usize, count: usize, m
         return sieve.saturating_add(passes).saturating_add(marks);
     }
     cost_of_both(looks.saturating_add(marks), sieve.saturating_add(passes))
-}
-
-/// What a search by shift-or took that passed so many bytes and met so much.
-pub(crate) fn cost_by_shift_or(count: usize, met: Met) -> usize {
-    let bytes = count.saturating_mul(SHIFT_OR_COST) / 1024;
-    bytes.saturating_add(met.marked.saturating_mul(LEFT_COST))
 }
 
 /// How a search has fared since it chose its way: what it took for how many bytes, and how much more that was than

@@ -28,6 +28,11 @@ impl Met {
         self.marked = self.marked.saturating_add(marks.count_ones() as usize);
     }
 
+    /// It met so many ends at which nothing ends.
+    pub fn miss(&mut self, count: usize) {
+        self.marked = self.marked.saturating_add(count);
+    }
+
     /// A literal did end at one of them.
     #[inline(always)]
     pub fn hit(&mut self) {

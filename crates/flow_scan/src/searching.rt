@@ -1,7 +1,8 @@
 //! Where literals end in a text, and the hits there.
 ghost use Rattle.std.specs.Prelude.{◌≡◌, ℕ, ◌+◌, ◌-◌, ◌^◌, ◌<◌, ◌≤◌, IfOk, IsOk, MatchOption, OnOk, List, length};
 ghost use Rattle.lit_base.specs.Occurrences.{IsFirstEnding};
-ghost use Rattle.flow_scan.specs.NextEnds.{IsNextEnd, NoEndAfter, NoEndUpTo};
+ghost use Rattle.flow_scan.specs.NextEnds.{IsNextEnd, NoEndAfter};
+ghost use Rattle.text_windows.specs.NoEnds.{NoEndUpTo};
 ghost use Rattle.flow_scan.specs.HitsAt.{Extends, GainsHitsAt};
 ghost use Rattle.flow_scan.specs.Tails.{StopsAt};
 

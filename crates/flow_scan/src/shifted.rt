@@ -23,26 +23,16 @@ pub(crate) fn next_end_by_shift_or(
     from: usize,
     met: &mut Met,
 ) -> Option<(usize, usize)>
-    requires { shift_or.now ≡ list.now }
+    requires { shift_or.now.literals ≡ list.now }
     ensures next { MatchOption result
         (NoEndAfter list.now text.now from)
         (λ found. IsNextEnd list.now text.now from found.0) }
     ensures first { IfSome result (λ found. IsFirstEnding list.now text.now 0 found.0 found.1) }
 {
-    let mut seen = from;
-    'ends: while seen < text.len() {
-        let before = shift_or.skip_ruled_out(text, seen);
-        if before == text.len() {
-            return None;
-        }
-        let end = before + 1;
-        if let Some(first) = list.next_ending(text, end, 0) {
-            return Some((end, first));
-        }
-        met.claim(1);
-        seen = end;
-    }
-    None
+    let mut left = 0;
+    let found = shift_or.next_end(text, from, &mut left);
+    met.miss(left);
+    found
 }
 
 /// Adds the hits that end in the text behind `from`, as `add_hits` of a plan does, and to `met` what is met at which nothing ends.
@@ -56,7 +46,7 @@ pub(crate) fn add_hits_by_shift_or(
     met: &mut Met,
     out: &mut Vec<Hit>,
 ) -> Result<usize, AllocError>
-    requires literals { shift_or.now ≡ compiled.now.literals }
+    requires literals { shift_or.now.literals ≡ compiled.now.literals }
     requires inside { from ≤ length text.now }
     requires room { at + (length text.now - from) < 2 ^ 64 }
     ensures ok { IfOk result (λ stop. StopsAt compiled.now.literals text.now from at most stop out.old.items out.new.items) }

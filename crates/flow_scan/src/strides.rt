@@ -3,7 +3,8 @@
 ghost use Rattle.std.specs.Prelude.{◌≡◌, ℕ, ◌+◌, ◌<◌, ◌≤◌, IfErr, IfOk, IfSome, MatchOption, length};
 ghost use Rattle.std.specs.Int.{bit_at};
 ghost use Rattle.lit_base.specs.Occurrences.{HasEnd, IsFirstEnding};
-ghost use Rattle.flow_scan.specs.NextEnds.{IsNextEnd, IsPassed, NoEndAfter, NoEndUpTo};
+ghost use Rattle.flow_scan.specs.NextEnds.{IsNextEnd, IsPassed, NoEndAfter};
+ghost use Rattle.text_windows.specs.NoEnds.{NoEndUpTo};
 ghost use Rattle.flow_scan.specs.declared.pace.TheConstants.{BLOCK, FREE_MARKS};
 
 use crate::mark_budget::MarkBudget;

@@ -2,7 +2,8 @@
 ghost use Rattle.std.specs.Prelude.{◌≡◌, ℕ, ◌+◌, ◌-◌, ◌^◌, ◌<◌, ◌≤◌, IfSome, MatchOption, length, min};
 ghost use Rattle.std.specs.Int.{bit_at};
 ghost use Rattle.lit_base.specs.Occurrences.{IsFirstEnding};
-ghost use Rattle.flow_scan.specs.NextEnds.{IsNextEnd, NoEndAfter, NoEndUpTo};
+ghost use Rattle.flow_scan.specs.NextEnds.{IsNextEnd, NoEndAfter};
+ghost use Rattle.text_windows.specs.NoEnds.{NoEndUpTo};
 ghost use Rattle.flow_scan.specs.Windowed.{AreClaims};
 ghost use Rattle.flow_scan.specs.declared.claiming.TheConstants.{BLOCK};
 

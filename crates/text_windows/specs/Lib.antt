@@ -1,3 +1,4 @@
+pub mod NoEnds
 pub mod ShiftOr
 pub mod Shapes
 pub mod Windows

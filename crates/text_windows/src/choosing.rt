@@ -21,8 +21,9 @@ pub const SIEVE_COST: usize = 1536;
 const PASS_COST: usize = 20;
 
 /// A block of places of which some pass takes so many beside these: it is looked at as a whole, and how many pass is not foreseen.
-/// Without it a hundred rare literals in log lines were estimated at 0.6 of what they took. The number was not varied.
-const BLOCK_COST: usize = 180;
+/// With it thirty rare literals are estimated at 0.8 to 1.1 of what they took, in log lines, English, JSON and source code; with
+/// three times as much at 1.1 to 1.8. Other numbers were not tried.
+const BLOCK_COST: usize = 60;
 
 /// A block has so many places.
 const BLOCK: usize = 56;

@@ -3,14 +3,16 @@
 
 mod choosing;
 mod counts;
+mod entries;
 mod grouping;
 mod marking;
+mod runs;
 mod shape;
 mod shift_or;
 mod windows;
 
 pub use choosing::{LOOK_COST, MARK_COST, SIEVE_COST, cost_of_both};
-pub use shift_or::{LEFT_COST, SHIFT_OR_COST, ShiftOr};
+pub use shift_or::ShiftOr;
 pub use windows::Windows;
 
 #[cfg(test)]

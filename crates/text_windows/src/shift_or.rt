@@ -1,345 +1,368 @@
-//! Shift-or over buckets of literals, as Hyperscan's FDR has it: which ends are ruled out by the pairs of bytes before them.
-ghost use Rattle.std.specs.Prelude.{◌≡◌, ◌≢◌, ℕ, ◌+◌, ◌-◌, ◌*◌, ◌/◌, ◌%◌, ◌^◌, ◌<◌, ◌≤◌, IsTrue, IfOk, IfSome, List, length, replicate, slice_index, false, true, vec_len};
-ghost use Rattle.std.specs.Int.{bit_at};
-ghost use Rattle.lit_base.specs.Chains.{literal_at};
-ghost use Rattle.lit_base.specs.Literals.{Literals};
-ghost use Rattle.lit_base.specs.Occurrences.{HasEnd};
-ghost use Rattle.lit_base.specs.Suffixes.{case_bits};
-ghost use Rattle.lit_base.specs.declared.fold.Fold.{Fold};
-ghost use Rattle.text_windows.specs.ShiftOr.{IsLetThrough, LetThrough, RulesOut, bucket_at, pair_at};
-ghost use Rattle.text_windows.specs.declared.shift_or.TheConstants.{PAIRS};
+//! Shift-or over buckets of literals, as Hyperscan's FDR has it: which ends are ruled out by the bytes before them.
+ghost use Rattle.std.specs.Prelude.{◌≡◌, ◌+◌, ◌-◌, ◌*◌, ◌%◌, ◌<◌, ◌≤◌, IfOk, length, false};
+ghost use Rattle.std.specs.Int.RustNames.{bit_and};
+ghost use Rattle.text_windows.specs.NoEnds.{Finds};
+ghost use Rattle.text_windows.specs.ShiftOr.{RulesOut};
 
+use crate::entries::{ENTRIES, PLACES, fill_all, number_of};
+use crate::runs::cut_runs;
 use crate::windows::last_four;
-use lit_base::{Fold, LitList, case_bits, suffix_key};
+use lit_base::{LitList, case_bits, last_bits};
 use std::alloc::{AllocError, Global};
 use std::marker::Model;
 
-/// So many numbers has a pair of bytes: an entry of eight bytes for each takes 32 KiB.
-const PAIRS: usize = 4096;
+/// The entries are told by so many bytes, where no literal has fewer.
+const WIDTH: usize = 3;
 
-/// A pair is told by the first of its bytes and four bits of the other.
-const SHIFT: usize = 48;
+/// To look at pairs of bytes at each place of 1,024 takes so many tenths of a nanosecond, where all ends are ruled out.
+const PAIRS_COST: usize = 7000;
 
-/// An entry speaks of the ends of so many places, its own the first.
-const PLACES: usize = 8;
+/// To look at three bytes at each place takes so many: a look takes more steps, for its hash.
+const THREES_COST: usize = 8200;
 
-/// A byte has a bit for each of so many buckets.
-const BUCKETS: usize = 8;
-
-/// An entry with the bits of all ends and buckets.
-const ALL: u64 = u64::MAX;
+/// An end that is not ruled out takes so many, if nothing ends there.
+const LEFT_COST: usize = 350;
 
 /// One place of so many tells how often an end of a sample is not ruled out.
 const SPARSE: usize = 31;
 
-/// To go over 1,024 bytes by shift-or takes so many tenths of a nanosecond, where all ends are ruled out: two cycles a byte.
-pub const SHIFT_OR_COST: usize = 7500;
+/// So many bytes of a text are gone through without looks: an end there may have fewer bytes before it than a look takes.
+const FRONT: usize = 8;
 
-/// An end that is not ruled out takes so many, if nothing ends there: it is verified, and the search begins anew behind it.
-pub const LEFT_COST: usize = 350;
+/// How far apart the places are at which a search looks.
+#[derive(Clone, Copy, Debug)]
+enum Stride {
+    One,
+    Two,
+}
 
-/// For each pair of bytes an entry that tells which ends it rules out: bit `8 * ahead + bucket` is set if no literal of a bucket
-/// ends `ahead` places behind such a pair. The entries of eight pairs in a row, each shifted by how far it stands before an end,
-/// leave few ends that are not ruled out. All memory is taken when it is made.
+/// For the bytes before a place an entry that tells which ends they rule out: bit `8 * ahead + bucket` is set if no literal of a
+/// bucket ends `ahead` places behind such bytes. The entries of all or of every second place, each shifted by how far it stands
+/// before an end, leave few ends that are not ruled out. All memory is taken when it is made.
 #[derive(Debug, Drop)]
 pub struct ShiftOr<'p> {
     list: &'p LitList,
-    /// The bits of case that are left out of two bytes. Kept here they are not joined with these by shifts at each place.
+    /// The bucket of each literal.
+    buckets: Vec<u8>,
+    /// By how many bytes an entry is told.
+    width: usize,
+    /// The bits of case that are left out of these.
     case: u64,
     entries: Vec<u64>,
     is_filled: bool,
+    stride: Stride,
 }
 
 impl<'p> Model for ShiftOr<'p> {
-    ghost use Rattle.std.specs.Prelude.{◌≡◌, ◌/◌, ◌^◌, length, vec_len};
-    ghost use Rattle.lit_base.specs.Literals.{Literals};
+    ghost use Rattle.std.specs.Prelude.{◌≡◌, ◌<◌, ◌≤◌, length, vec_len};
     ghost use Rattle.lit_base.specs.Suffixes.{case_bits};
-    ghost use Rattle.text_windows.specs.ShiftOr.{LetThrough};
-    ghost use Rattle.text_windows.specs.declared.shift_or.TheConstants.{PAIRS};
+    ghost use Rattle.text_windows.specs.ShiftOr.{Bucketing, LetThrough};
+    ghost use Rattle.text_windows.specs.declared.entries.TheConstants.{ENTRIES};
 
-    ghost Value = { Literals };
+    ghost Value = { Bucketing };
 
-    ghost view = { λ s. s.list.now };
+    ghost view = { λ s. record { literals = s.list.now; buckets = s.buckets.items; width = s.width } };
 
-    ghost invariant = { λ s. (vec_len s.entries ≡ PAIRS) × LetThrough s.list.now s.entries.items (length s.list.now.texts)
-        × (s.case ≡ case_bits s.list.now.folding / 2 ^ 48) };
+    ghost invariant = { λ s. (vec_len s.entries ≡ ENTRIES)
+        × LetThrough s.list.now s.buckets.items s.width s.entries.items (length s.list.now.texts)
+        × (1 < s.width) × (s.width ≤ 3) × (s.case ≡ case_bits s.list.now.folding)
+        × (vec_len s.buckets ≡ length s.list.now.texts) };
 }
 
 impl<'p> ShiftOr<'p> {
-    /// That of a list, by which nothing is ruled out before it is filled.
+    /// That of a list, by which nothing is ruled out before it has learned.
     pub fn new(alloc: Global, list: &'p LitList) -> Result<ShiftOr<'p>, AllocError>
-        ensures { IfOk result (λ made. made ≡ list.now) }
+        ensures { IfOk result (λ made. made.literals ≡ list.now) }
     {
+        let mut buckets = Vec::from_elem(alloc, 0, list.len())?;
+        cut_runs(list, &mut buckets);
+        let width = width_for(list);
+        let entries = Vec::from_elem(alloc, 0, ENTRIES)?;
         Ok(ShiftOr {
             list,
-            case: case_bits(list.fold()) >> SHIFT,
-            entries: no_entries(alloc)?,
+            buckets,
+            width,
+            case: case_bits(list.fold()),
+            entries,
             is_filled: false,
+            stride: Stride::One,
         })
     }
 
+    /// Makes the entries, unless they are made, chooses how far apart it looks, and answers what a search is likely to take for
+    /// 1,024 bytes of a text with such a sample, in tenths of a nanosecond.
+    pub fn learn(&mut self, sample: &[u8]) -> usize
+        ensures { self.new ≡ self.old }
+    {
+        self.fill();
+        let by_one = self.cost(sample, 1);
+        let by_two = self.cost(sample, 2);
+        if self.width > 2 && by_two < by_one {
+            self.stride = Stride::Two;
+            by_two
+        } else {
+            self.stride = Stride::One;
+            by_one
+        }
+    }
+
     /// Makes the entries, unless they are made.
-    pub fn fill(&mut self)
+    fn fill(&mut self)
         ensures { self.new ≡ self.old }
     {
         if !self.is_filled {
-            fill_all(self.list, &mut self.entries);
+            fill_all(self.list, &self.buckets, self.width, &mut self.entries);
             self.is_filled = true;
         }
     }
 
-    /// What a search by shift-or is likely to take for 1,024 bytes of a text with such a sample, in tenths of a nanosecond.
-    pub fn cost(&self, sample: &[u8]) -> usize {
-        let (left, all) = self.count_left(sample);
-        let ends = left.saturating_mul(1024) / all.max(1);
-        SHIFT_OR_COST.saturating_add(ends.saturating_mul(LEFT_COST))
+    /// What a search takes for so many bytes of which so many ends are left, in tenths of a nanosecond.
+    pub fn cost_of(&self, count: usize, left: usize) -> usize {
+        let stride = match self.stride {
+            Stride::One => 1,
+            Stride::Two => 2,
+        };
+        cost_of(count, left, self.width, stride)
     }
 
-    /// How many of some ends in a sample are not ruled out, and how many these are.
-    fn count_left(&self, sample: &[u8]) -> (usize, usize) {
+    /// What a search by looks that are so far apart is likely to take for 1,024 bytes of a text with such a sample.
+    fn cost(&self, sample: &[u8], stride: usize) -> usize {
+        let (left, all) = self.count_left(sample, stride);
+        let ends = left.saturating_mul(1024) / all.max(1);
+        cost_of(1024, ends, self.width, stride)
+    }
+
+    /// How many of some ends in a sample are not ruled out by looks that are so far apart, and how many these are.
+    fn count_left(&self, sample: &[u8], stride: usize) -> (usize, usize) {
         let (mut left, mut all) = (0usize, 0usize);
         for stretch in sample.chunks(SPARSE) {
             if stretch.len() == SPARSE {
-                all = all.saturating_add(1);
-                if may_end(self.ruled_out_before(stretch, SPARSE)) {
-                    left = left.saturating_add(1);
+                for ahead in 0..stride.min(PLACES) {
+                    all = all.saturating_add(1);
+                    if self.is_left_by(stretch, stride, ahead) {
+                        left = left.saturating_add(1);
+                    }
                 }
             }
         }
         (left, all)
     }
 
-    /// What is ruled out from a place on by the two bytes before it.
+    /// Whether the end of a stretch is left by looks that are so far apart, the last of them so far before it.
+    fn is_left_by(&self, stretch: &[u8], stride: usize, ahead: usize) -> bool {
+        let mut word = 0;
+        for back in 0..PLACES {
+            if back % stride.max(1) == ahead && stretch.len() >= 4 + back {
+                word |= self.ruled_out(stretch, stretch.len() - back, self.width) >> (8 * back);
+            }
+        }
+        is_left(word, 1)
+    }
+
+    /// What is ruled out from a place on by the bytes before it, as many as an entry is told by.
     #[inline(always)]
-    fn ruled_out(&self, text: &[u8], at: usize) -> u64
+    fn ruled_out(&self, text: &[u8], at: usize, width: usize) -> u64
+        requires width { width ≡ self.now.width }
         requires four { 4 ≤ at }
         requires inside { at ≤ length text.now }
         ensures { RulesOut self.now text.now at result }
     {
-        self.entries[pair_before(self.case, text, at)]
+        let case = self.case;
+        let key = (last_four(text, at) & last_bits(width)) | case;
+        self.entries[number_of(width, key)]
     }
 
-    /// What is ruled out from the next place on, where `word` is from a place on.
+    /// What is ruled out from a place on, where `word` is from a place on that is a stride before it.
     #[inline(always)]
-    fn next(&self, text: &[u8], at: usize, word: u64) -> u64
-        requires four { 4 ≤ at }
+    fn next(&self, text: &[u8], at: usize, word: u64, width: usize, stride: usize) -> u64
+        requires width { width ≡ self.now.width }
+        requires near { stride < 8 }
+        requires four { 4 + stride ≤ at }
         requires inside { at ≤ length text.now }
-        requires word { RulesOut self.now text.now (at - 1) word }
+        requires word { RulesOut self.now text.now (at - stride) word }
         ensures { RulesOut self.now text.now at result }
     {
-        (word >> 8) | self.ruled_out(text, at)
+        (word >> (8 * stride)) | self.ruled_out(text, at, width)
     }
 
-    /// What is ruled out from a place on by the pairs before it and before as many places as an entry reaches.
-    fn ruled_out_before(&self, text: &[u8], at: usize) -> u64
+    /// What is ruled out from a place on by all looks at it and before, as many places as an entry reaches.
+    fn ruled_out_before(&self, text: &[u8], at: usize, width: usize) -> u64
+        requires width { width ≡ self.now.width }
         requires four { 4 ≤ at }
         requires inside { at ≤ length text.now }
         ensures { RulesOut self.now text.now at result }
     {
         let mut place = at.saturating_sub(PLACES - 1).max(4);
-        let mut word = self.ruled_out(text, place);
+        let mut word = self.ruled_out(text, place, width);
         'places: while place < at {
             place += 1;
-            word = self.next(text, place, word);
+            word = self.next(text, place, word, width, 1);
         }
         word
     }
 
-    /// A place from `from` on up to which nothing ends: a literal may end behind it, or the text does.
+    /// The first place of the text behind `from` at which some literal ends, wherever it begins, with the first literal
+    /// that ends there, if there is one. Adds to `left` how many ends were not ruled out at which none does. It takes no memory.
     #[inline(never)]
-    pub fn skip_ruled_out(&self, text: &[u8], from: usize) -> usize
-        requires { from ≤ length text.now }
-        ensures ahead { from ≤ result }
-        ensures inside { result ≤ length text.now }
-        ensures none { (end : ℕ) → from < end → end ≤ result → ¬ HasEnd self.now text.now end }
+    pub fn next_end(&self, text: &[u8], from: usize, left: &mut usize) -> Option<(usize, usize)>
+        ensures { Finds self.now.literals text.now from (length text.now) result }
     {
-        if from < 4 {
-            return from;
+        if self.width == 2 {
+            return self.next_end_by(text, from, 2, 1, left);
         }
-        let mut word = self.ruled_out_before(text, from);
-        let mut at = from;
-        'fours: while text.len() - at >= 4 {
-            match self.pass_four(text, at, word) {
-                Some(next) => word = next,
-                None => return self.skip_few(text, at, word),
-            }
-            at += 4;
+        match self.stride {
+            Stride::One => self.next_end_by(text, from, 3, 1, left),
+            Stride::Two => self.next_end_by(text, from, 3, 2, left),
         }
-        self.skip_few(text, at, word)
     }
 
-    /// What is ruled out four places further on, where `word` is from a place on, unless a literal may end on the way.
+    /// The same by looks at so many bytes that are so far apart.
     #[inline(always)]
-    fn pass_four(&self, text: &[u8], at: usize, word: u64) -> Option<u64>
-        requires four { 4 ≤ at }
-        requires inside { at + 4 ≤ length text.now }
-        requires word { RulesOut self.now text.now at word }
-        ensures word { IfSome result (RulesOut self.now text.now (at + 4)) }
-        ensures none { IfSome result (λ _. (end : ℕ) → at < end → end ≤ at + 4 → ¬ HasEnd self.now text.now end) }
+    fn next_end_by(
+        &self,
+        text: &[u8],
+        from: usize,
+        width: usize,
+        stride: usize,
+        left: &mut usize,
+    ) -> Option<(usize, usize)>
+        requires width { width ≡ self.now.width }
+        requires some { 0 < stride }
+        requires few { stride ≤ 2 }
+        ensures { Finds self.now.literals text.now from (length text.now) result }
     {
-        let first = self.next(text, at + 1, word);
-        let second = self.next(text, at + 2, first);
-        let third = self.next(text, at + 3, second);
-        let fourth = self.next(text, at + 4, third);
-        if may_end(first & second & third & fourth) {
-            None
-        } else {
-            Some(fourth)
+        let start = from.max(FRONT);
+        if start >= text.len() {
+            return self.first_between(text, from, text.len());
         }
-    }
-
-    /// The same, one place after the other, where `word` rules out ends from a place on.
-    fn skip_few(&self, text: &[u8], from: usize, word: u64) -> usize
-        requires four { 4 ≤ from }
-        requires inside { from ≤ length text.now }
-        requires word { RulesOut self.now text.now from word }
-        ensures ahead { from ≤ result }
-        ensures inside { result ≤ length text.now }
-        ensures none { (end : ℕ) → from < end → end ≤ result → ¬ HasEnd self.now text.now end }
-    {
-        let mut word = word;
-        let mut at = from;
-        'places: while at < text.len() {
-            word = self.next(text, at + 1, word);
-            if may_end(word) {
-                return at;
+        if let Some(found) = self.first_between(text, from, start) {
+            return Some(found);
+        }
+        let mut word = self.ruled_out_before(text, start + 1 - stride, width);
+        // The bytes of each look are read at once if the loop goes by the place itself, and not by the one before.
+        let mut at = start + 1;
+        'twos: while text.len() - at >= 2 * stride {
+            let two = self.look_twice(text, at, word, width, stride);
+            if two.is_left(stride) {
+                let both = two.first | (two.second << (8 * stride));
+                if let Some(found) = self.end_left(text, at, both, 2 * stride, left) {
+                    return Some(found);
+                }
             }
-            at += 1;
+            word = two.second;
+            at += 2 * stride;
         }
-        at
+        self.first_between(text, at - 1, text.len())
+    }
+
+    /// Two looks, the first of them at a place, where `word` rules ends out from a place on that is a stride before it. With four
+    /// the compiler multiplies their keys in vectors, which takes 1.3 times as long.
+    #[inline(always)]
+    fn look_twice(&self, text: &[u8], at: usize, word: u64, width: usize, stride: usize) -> Two
+        requires width { width ≡ self.now.width }
+        requires near { stride < 8 }
+        requires four { 4 + stride ≤ at }
+        requires inside { at + stride ≤ length text.now }
+        requires word { RulesOut self.now text.now (at - stride) word }
+        ensures first { RulesOut self.now text.now at result.first }
+        ensures second { RulesOut self.now text.now (at + stride) result.second }
+    {
+        let first = self.next(text, at, word, width, stride);
+        let second = self.next(text, at + stride, first, width, stride);
+        Two { first, second }
+    }
+
+    /// The first of so many ends from a place on that a word leaves at which a literal does end, with the first one that does, if
+    /// there is one.
+    #[inline(never)]
+    fn end_left(
+        &self,
+        text: &[u8],
+        at: usize,
+        word: u64,
+        count: usize,
+        left: &mut usize,
+    ) -> Option<(usize, usize)>
+        requires few { count ≤ 8 }
+        requires behind { 0 < at }
+        requires inside { at + count ≤ length text.now + 1 }
+        requires word { RulesOut self.now text.now at word }
+        ensures { Finds self.now.literals text.now (at - 1) (at - 1 + count) result }
+    {
+        for ahead in 0..count {
+            if is_left(word >> (8 * ahead), 1) {
+                if let Some(first) = self.list.first_ending(text, at + ahead) {
+                    return Some((at + ahead, first));
+                }
+                *left = left.saturating_add(1);
+            }
+        }
+        None
+    }
+
+    /// The first end behind a place and up to another one, with the first literal that ends there, if there is one: without looks.
+    fn first_between(&self, text: &[u8], from: usize, last: usize) -> Option<(usize, usize)>
+        requires { last ≤ length text.now }
+        ensures { Finds self.now.literals text.now from last result }
+    {
+        for seen in from..last {
+            if let Some(first) = self.list.next_ending(text, seen + 1, 0) {
+                return Some((seen + 1, first));
+            }
+        }
+        None
     }
 }
 
-/// Entries by which nothing is ruled out.
-fn no_entries(alloc: Global) -> Result<Vec<u64>, AllocError>
-    ensures len { IfOk result (λ entries. vec_len entries ≡ PAIRS) }
-    ensures none { IfOk result (λ entries. entries.items ≡ replicate PAIRS 0) }
-{
-    Vec::from_elem(alloc, 0, PAIRS)
+/// What two looks in a row rule out, each from its place on.
+#[derive(Clone, Copy)]
+struct Two {
+    first: u64,
+    second: u64,
 }
 
-/// Whether a literal may end at the place from which on a word rules ends out.
+impl Two {
+    /// Whether an end is left by one of them, of as many as a stride has.
+    #[inline(always)]
+    fn is_left(self, stride: usize) -> bool
+        requires some { 0 < stride }
+        requires few { stride ≤ 2 }
+        ensures one { result ≡ false → stride ≡ 1 → bit_and self.first self.second % 256 ≡ 255 }
+        ensures two { result ≡ false → stride ≡ 2 → bit_and self.first self.second % 65536 ≡ 65535 }
+    {
+        is_left(self.first & self.second, stride)
+    }
+}
+
+/// Whether one of as many ends as a stride has is left by a word that rules ends out.
 #[inline(always)]
-fn may_end(word: u64) -> bool
-    ensures quiet { result ≡ false → word % 256 ≡ 255 }
-    ensures some { result ≡ true → word % 256 ≢ 255 }
+fn is_left(word: u64, stride: usize) -> bool
+    requires some { 0 < stride }
+    requires few { stride ≤ 2 }
+    ensures one { result ≡ false → stride ≡ 1 → word % 256 ≡ 255 }
+    ensures two { result ≡ false → stride ≡ 2 → word % 65536 ≡ 65535 }
 {
-    word % 256 != 255
-}
-
-/// The number of the two bytes before a place, without these bits of case.
-#[inline(always)]
-fn pair_before(case: u64, text: &[u8], at: usize) -> usize
-    requires four { 4 ≤ at }
-    requires inside { at ≤ length text.now }
-    ensures value { (fold : Fold) → case ≡ case_bits fold / 2 ^ 48 → result ≡ pair_at fold text.now at }
-    ensures below { result < PAIRS }
-{
-    let pair = last_four(text, at) >> SHIFT;
-    (pair | case) as usize % PAIRS
-}
-
-/// The number of the two bytes that a key spells.
-#[inline(always)]
-fn pair_of(key: u64) -> usize
-    ensures value { result ≡ key / 2 ^ 48 % PAIRS }
-    ensures below { result < PAIRS }
-{
-    (key >> SHIFT) as usize % PAIRS
-}
-
-/// Makes the entries that let the literals of a list through, and rule out all else.
-fn fill_all(list: &LitList, entries: &mut Vec<u64>)
-    requires { vec_len entries.old ≡ PAIRS }
-    ensures len { vec_len entries.new ≡ PAIRS }
-    ensures through { LetThrough list.now entries.new.items (length list.now.texts) }
-{
-    let base = base_of(list);
-    fill_with(entries, base);
-    for place in 0..list.len() {
-        let bucket = place * BUCKETS / list.len();
-        let_through(entries, list.fold(), list.get(place), bucket);
+    if stride == 1 {
+        word % 256 != 255
+    } else {
+        word % 65536 != 65535
     }
 }
 
-/// The entry that lets through what pairs of bytes do not tell: ends of literals that have no two bytes so far before them.
-fn base_of(list: &LitList) -> u64
-    ensures { (place ahead : ℕ) → place < length list.now.texts → ahead < 8 → length (literal_at list.now place) < 2 + ahead → bit_at result (8 * ahead + bucket_at list.now place) ≡ 0 }
+/// By how many bytes the entries of a list are told: by as many as its shortest literal has, two at least.
+fn width_for(list: &LitList) -> usize
+    ensures some { 1 < result }
+    ensures narrow { result ≤ 3 }
 {
-    let mut base = ALL;
-    for place in 0..list.len() {
-        let bucket = place * BUCKETS / list.len();
-        base = without_short(base, list.get(place).len(), bucket);
+    if list.is_empty() {
+        return WIDTH;
     }
-    base
+    list.get(0).len().clamp(2, WIDTH)
 }
 
-/// An entry that lets through what pairs do not tell of a literal of so many bytes.
-fn without_short(entry: u64, len: usize, bucket: usize) -> u64
-    requires { bucket < 8 }
-    ensures short { (ahead : ℕ) → ahead < 8 → len < 2 + ahead → bit_at result (8 * ahead + bucket) ≡ 0 }
-    ensures kept { (bit : ℕ) → bit < 64 → bit_at entry bit ≡ 0 → bit_at result bit ≡ 0 }
-{
-    let mut found = entry;
-    for ahead in 0..PLACES {
-        found = without_if(found, len < 2 + ahead, 8 * ahead + bucket);
-    }
-    found
-}
-
-/// An entry without a bit, if that is asked for.
-fn without_if(entry: u64, is_asked: bool, bit: usize) -> u64
-    requires { bit < 64 }
-    ensures cleared { IsTrue is_asked → bit_at result bit ≡ 0 }
-    ensures kept { (other : ℕ) → other < 64 → bit_at entry other ≡ 0 → bit_at result other ≡ 0 }
-{
-    if is_asked { without(entry, bit) } else { entry }
-}
-
-/// An entry without a bit.
-fn without(entry: u64, bit: usize) -> u64
-    requires { bit < 64 }
-    ensures cleared { bit_at result bit ≡ 0 }
-    ensures kept { (other : ℕ) → other < 64 → bit_at entry other ≡ 0 → bit_at result other ≡ 0 }
-{
-    entry & !(1 << bit)
-}
-
-/// Makes all entries alike.
-fn fill_with(entries: &mut Vec<u64>, entry: u64)
-    ensures len { vec_len entries.new ≡ vec_len entries.old }
-    ensures alike { (number : ℕ) → number < vec_len entries.old → slice_index entries.new.items number ≡ entry }
-{
-    for number in 0..entries.len() {
-        entries[number] = entry;
-    }
-}
-
-/// Lets a literal of a bucket through where its pairs of bytes stand.
-fn let_through(entries: &mut Vec<u64>, fold: Fold, literal: &[u8], bucket: usize)
-    requires room { vec_len entries.old ≡ PAIRS }
-    requires bucket { bucket < 8 }
-    requires some { 0 < length literal.now }
-    ensures len { vec_len entries.new ≡ vec_len entries.old }
-    ensures pairs { (ahead : ℕ) → ahead < 8 → 2 + ahead ≤ length literal.now → bit_at (slice_index entries.new.items (pair_at fold literal.now (length literal.now - ahead))) (8 * ahead + bucket) ≡ 0 }
-    ensures kept { (number bit : ℕ) → bit < 64 → bit_at (slice_index entries.old.items number) bit ≡ 0 → bit_at (slice_index entries.new.items number) bit ≡ 0 }
-{
-    let last = PLACES.min(literal.len() - 1);
-    for ahead in 0..last {
-        let_pair_through(entries, fold, literal, ahead, bucket);
-    }
-}
-
-/// Lets it through at the pair that stands so far before its end.
-fn let_pair_through(entries: &mut Vec<u64>, fold: Fold, literal: &[u8], ahead: usize, bucket: usize)
-    requires room { vec_len entries.old ≡ PAIRS }
-    requires near { ahead < 8 }
-    requires bucket { bucket < 8 }
-    requires long { 2 + ahead ≤ length literal.now }
-    ensures len { vec_len entries.new ≡ vec_len entries.old }
-    ensures pair { bit_at (slice_index entries.new.items (pair_at fold literal.now (length literal.now - ahead))) (8 * ahead + bucket) ≡ 0 }
-    ensures kept { (number bit : ℕ) → bit < 64 → bit_at (slice_index entries.old.items number) bit ≡ 0 → bit_at (slice_index entries.new.items number) bit ≡ 0 }
-{
-    let number = pair_of(suffix_key(fold, literal, literal.len() - ahead, 2));
-    entries[number] = without(entries[number], 8 * ahead + bucket);
+/// What a search by looks at so many bytes that are so far apart takes for so many bytes of which so many ends are left.
+fn cost_of(count: usize, left: usize, width: usize, stride: usize) -> usize {
+    let cost = if width == 2 { PAIRS_COST } else { THREES_COST };
+    let looks = count.saturating_mul(cost) / stride.max(1) / 1024;
+    looks.saturating_add(left.saturating_mul(LEFT_COST))
 }

@@ -1,4 +1,5 @@
 //! Windows of lists with short literals and with long ones, and of literals whose last bytes a text is full of.
+use crate::runs::cut_runs;
 use crate::shift_or::ShiftOr;
 use crate::windows::Windows;
 use lit_base::{Fold, LitList, RawList};
@@ -246,75 +247,137 @@ fn sieves_short_literals_and_long_ones(rt: HostRuntime) {
     );
 }
 
-/// The ends of a text that shift-or does not rule out, as a search comes to them: how many there are, and how many of
-/// these ends are among them.
-fn count_left(shift_or: &ShiftOr<'_>, text: &[u8], ends: &[usize]) -> (usize, usize) {
-    let (mut left, mut met, mut seen) = (0usize, 0usize, 0usize);
-    for _ in 0..text.len() {
-        if seen >= text.len() {
-            return (left, met);
-        }
-        let before = shift_or.skip_ruled_out(text, seen);
-        if before >= text.len() {
-            return (left, met);
-        }
-        seen = before + 1;
-        left = left.saturating_add(1);
-        if ends.contains(&seen) {
-            met = met.saturating_add(1);
-        }
-    }
-    (left, met)
-}
+/// Literals of four bytes, which looks at every second place tell by their last three bytes or by the three before the last.
+const FOURS: [&[u8]; 2] = [b"wxyz", b"abcd"];
 
-/// That of these literals, before the entries are made, and then.
-fn left_of(
+/// Some of them at even places and at odd ones, and what is nearly one.
+const WITH_FOURS: &[u8] = b"..wxyz.abcd..wxyz..xyz..abcdwxyz";
+
+/// Where they end there.
+const FOUR_ENDS: [usize; 5] = [6, 11, 17, 28, 32];
+
+/// What a search by shift-or finds in a text that has learned from a sample of these bytes: how many ends there are, how many of
+/// these are among them, and how many ends it verified in vain.
+fn found_by(
     alloc: Global,
     fold: Fold,
     literals: &[&[u8]],
+    bytes: [u8; 4],
     text: &[u8],
     ends: &[usize],
-) -> Option<[(usize, usize); 2]> {
+) -> Option<(usize, usize, usize)> {
     let list = list_of(alloc, fold, literals)?;
     let mut shift_or = ShiftOr::new(alloc, &list).ok()?;
-    let before = count_left(&shift_or, text, ends);
-    shift_or.fill();
-    Some([before, count_left(&shift_or, text, ends)])
+    shift_or.learn(&sample_of(alloc, bytes)?);
+    let (mut found, mut met, mut seen, mut left) = (0usize, 0usize, 0, 0);
+    for _ in 0..text.len() {
+        let Some((end, _)) = shift_or.next_end(text, seen, &mut left) else {
+            return Some((found, met, left));
+        };
+        seen = end;
+        found = found.saturating_add(1);
+        if ends.contains(&end) {
+            met = met.saturating_add(1);
+        }
+    }
+    Some((found, met, left))
+}
+
+/// That of literals of four bytes.
+fn found_fours(alloc: Global, bytes: [u8; 4]) -> Option<(usize, usize, usize)> {
+    found_by(alloc, Fold::No, &FOURS, bytes, WITH_FOURS, &FOUR_ENDS)
 }
 
 #[test]
-fn rules_out_all_but_the_ends_of_long_literals(rt: HostRuntime) {
+fn looks_at_each_place_where_halves_of_literals_are_many(rt: HostRuntime) {
+    assert_eq!(rt; found_fours(rt.alloc(), *b".xyz"), Some((5, 5, 0)));
+}
+
+#[test]
+fn looks_at_every_second_place_where_they_are_few(rt: HostRuntime) {
+    assert_eq!(rt; found_fours(rt.alloc(), *b"...."), Some((5, 5, 1)));
+}
+
+#[test]
+fn finds_long_literals_and_verifies_few_ends(rt: HostRuntime) {
     assert_eq!(rt;
-        left_of(
+        found_by(
             rt.alloc(),
             Fold::No,
             &LONG_WORDS,
+            *b"....",
             WITH_LONG_WORDS,
             &LONG_ENDS
         ),
-        Some([(34, 3), (7, 3)])
+        Some((3, 3, 0))
     );
 }
 
 #[test]
-fn rules_no_end_of_short_literals_out(rt: HostRuntime) {
+fn finds_short_literals_in_any_case(rt: HostRuntime) {
     assert_eq!(rt;
-        left_of(rt.alloc(), Fold::Ascii, &WORDS, WITH_CAPITALS, &ENDS),
-        Some([(23, 5), (23, 5)])
+        found_by(
+            rt.alloc(),
+            Fold::Ascii,
+            &WORDS,
+            *b"....",
+            WITH_CAPITALS,
+            &ENDS
+        ),
+        Some((5, 5, 12))
     );
 }
 
-/// What a search by shift-or takes of a sample that has nothing of a literal, and of one that is nothing else.
-fn costs_of(alloc: Global) -> Option<(usize, usize)> {
-    let list = list_of(alloc, Fold::No, &[b"wxyz"])?;
+/// What a search by shift-or for such literals is told to take of a sample of these bytes.
+fn cost_of(alloc: Global, literals: &[&[u8]], bytes: [u8; 4]) -> Option<usize> {
+    let list = list_of(alloc, Fold::No, literals)?;
     let mut shift_or = ShiftOr::new(alloc, &list).ok()?;
-    shift_or.fill();
-    let quiet = shift_or.cost(&sample_of(alloc, *b"....")?);
-    let full = shift_or.cost(&sample_of(alloc, *b"wxyz")?);
-    Some((quiet, full / quiet.max(1)))
+    Some(shift_or.learn(&sample_of(alloc, bytes)?))
 }
 
 #[test]
 fn costs_more_where_ends_are_many(rt: HostRuntime) {
-    assert_eq!(rt; costs_of(rt.alloc()), Some((7500, 12)));
+    assert_eq!(rt; cost_of(rt.alloc(), &FOURS, *b"...."), Some(4100));
+    assert_eq!(rt; cost_of(rt.alloc(), &FOURS, *b"wxyz"), Some(93350));
+}
+
+#[test]
+fn costs_more_where_literals_are_short(rt: HostRuntime) {
+    assert_eq!(rt;
+        cost_of(rt.alloc(), &[b"wx", b"abcd"], *b"...."),
+        Some(7000)
+    );
+}
+
+/// The buckets of literals of so many bytes, so many of each.
+fn runs_of(alloc: Global, lens: &[(usize, u8)]) -> Option<Vec<u8>> {
+    let mut raw = RawList::new(alloc);
+    for (len, count) in lens {
+        for number in 0..*count {
+            let literal = Vec::from_elem(alloc, number, *len).ok()?;
+            raw.push(literal.as_slice()).ok()?;
+        }
+    }
+    let (list, _) = LitList::normal(alloc, &raw, Fold::No).ok()?;
+    let mut buckets = Vec::from_elem(alloc, 0, list.len()).ok()?;
+    cut_runs(&list, &mut buckets);
+    Some(buckets)
+}
+
+/// How many literals each bucket has.
+fn counts_of(buckets: &Vec<u8>) -> [usize; 8] {
+    let mut counts = [0usize; 8];
+    for bucket in buckets {
+        let place = usize::from(*bucket) % 8;
+        counts[place] = counts[place].saturating_add(1);
+    }
+    counts
+}
+
+#[test]
+fn cuts_short_literals_off_and_long_ones_in_parts(rt: HostRuntime) {
+    assert_eq!(rt;
+        runs_of(rt.alloc(), &[(2, 4), (4, 16), (9, 200)]).map(|buckets| counts_of(&buckets)),
+        Some([2, 2, 4, 4, 4, 4, 100, 100])
+    );
 }

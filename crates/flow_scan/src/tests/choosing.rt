@@ -74,17 +74,18 @@ fn by_windows(
     Some((from, told))
 }
 
-/// So many, by shift-or.
+/// So many, by shift-or whose looks a sample chooses.
 fn by_shift_or(
     alloc: Global,
     compiled: &Compiled,
     text: &[u8],
+    sample: &[u8],
     progress: Progress,
     count: usize,
 ) -> Option<Progress> {
     let list = compiled.list();
     let mut shift_or = ShiftOr::new(alloc, list).ok()?;
-    shift_or.fill();
+    shift_or.learn(sample);
     let (mut from, mut told) = progress;
     let mut met = Met::nothing();
     for _ in 0..count {
@@ -117,7 +118,10 @@ fn changing_in(alloc: Global, compiled: &Compiled, draws: &mut Draws, text: &[u8
         progress = match draws.below(4) {
             0 => by_plan(compiled, text, progress, count),
             1 => by_learning(&mut finder, text, progress, count),
-            2 => by_shift_or(alloc, compiled, text, progress, count)?,
+            2 => {
+                let sample = sample_of(draws, text)?;
+                by_shift_or(alloc, compiled, text, sample, progress, count)?
+            }
             _ => {
                 let sample = sample_of(draws, text)?;
                 by_windows(alloc, compiled, text, sample, progress, count)?

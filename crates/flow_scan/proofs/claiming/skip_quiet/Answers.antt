@@ -1,6 +1,6 @@
 -- Where nothing is claimed, looks without a mark claim nothing either.
 use Rattle.std.proofs.Common.{◌≡◌, ℕ, ◌+◌, ◌≤◌, length, List, sym, subst, arith}
-use Rattle.flow_scan.specs.NextEnds.{NoEndUpTo}
+use Rattle.text_windows.specs.NoEnds.{NoEndUpTo}
 use Rattle.flow_scan.specs.Windowed.{AreClaimed}
 use Rattle.flow_scan.proofs.ClaimSteps.{none_further, unclaimed}
 use Rattle.text_windows.specs.Windows.{Windowing}

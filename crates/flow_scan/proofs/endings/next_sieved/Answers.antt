@@ -1,7 +1,7 @@
 -- Nothing ends between two candidates, nor at one that was looked at.
 use Rattle.std.proofs.Common.{◌≡◌, ℕ, ◌+◌, ◌<◌, ◌≤◌, length, inl, inr, sym, ◌∙◌, subst, arith}
 use Rattle.std.proofs.lemmas.Bool.{cases_lt}
-use Rattle.flow_scan.specs.NextEnds.{NoEndUpTo}
+use Rattle.text_windows.specs.NoEnds.{NoEndUpTo}
 use Rattle.lit_base.specs.Occurrences.{Occurs}
 use Rattle.lane_filter.specs.PlacesAfter.{IsFirstAfter, NoneWithin}
 use Rattle.lane_filter.specs.Sieves.{Passes}

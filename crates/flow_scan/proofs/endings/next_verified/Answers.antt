@@ -1,6 +1,6 @@
 -- The list goes on behind each crowd.
 use Rattle.std.proofs.Common.{◌≤◌, ◌∙◌, sym, subst, arith}
-use Rattle.flow_scan.specs.NextEnds.{NoEndUpTo}
+use Rattle.text_windows.specs.NoEnds.{NoEndUpTo}
 use Rattle.flow_scan.proofs.EndLemmas.{found_further, next_further, none_joined}
 use Rattle.flow_scan.proofs.endings.next_verified.Goals as goal
 use Rattle.flow_scan.proofs.endings.next_verified.Goals.{In-Err}

@@ -1,7 +1,7 @@
 -- A stride at whose marks nothing ends is one in which nothing ends.
 use Rattle.std.proofs.Common.{ℕ, ◌+◌, ◌<◌, arith}
 use Rattle.lit_base.specs.Occurrences.{HasEnd}
-use Rattle.flow_scan.specs.NextEnds.{NoEndUpTo}
+use Rattle.text_windows.specs.NoEnds.{NoEndUpTo}
 use Rattle.flow_scan.proofs.EndLemmas.{next_further, none_joined, passed}
 use Rattle.flow_scan.proofs.MarkSteps.{none_unmarked}
 use Rattle.flow_scan.proofs.nearby.next_nearby.Goals as goal

@@ -1,6 +1,6 @@
 -- Up to the ends that a look passes, and at them, nothing ends.
 use Rattle.std.proofs.Common.{ℕ, ◌+◌, ◌-◌, ◌*◌, ◌<◌, ◌≤◌, ◌∙◌, subst, arith}
-use Rattle.flow_scan.specs.NextEnds.{NoEndUpTo}
+use Rattle.text_windows.specs.NoEnds.{NoEndUpTo}
 use Rattle.flow_scan.specs.declared.pace.TheConstants.{FREE_MARKS}
 use Rattle.flow_scan.proofs.EndLemmas.{next_further, none_joined, paid_further, passed, tried_enough}
 use Rattle.flow_scan.proofs.strides.next_by_strides.Goals as goal

@@ -2,7 +2,7 @@
 use Rattle.std.proofs.Common.{◌≡◌, ℕ, ◌+◌, ◌-◌, ◌<◌, ◌≤◌, subst, arith}
 use Rattle.std.proofs.lemmas.Nat.Bits.{bit_at_ones}
 use Rattle.lit_base.specs.Occurrences.{HasEnd}
-use Rattle.flow_scan.specs.NextEnds.{NoEndUpTo}
+use Rattle.text_windows.specs.NoEnds.{NoEndUpTo}
 use Rattle.flow_scan.proofs.EndLemmas.{passed, stopped_further, told_further}
 use Rattle.flow_scan.proofs.strides.next_end_within_budget.Goals as goal
 use Rattle.flow_scan.proofs.strides.next_end_within_budget.Goals.{In_default}

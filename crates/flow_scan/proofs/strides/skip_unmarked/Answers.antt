@@ -1,7 +1,7 @@
 -- Two strides without a mark are two strides in which nothing ends.
 use Rattle.std.proofs.Common.{◌+◌, subst, arith}
 use Rattle.std.proofs.lemmas.Nat.{le_or_l, le_or_r}
-use Rattle.flow_scan.specs.NextEnds.{NoEndUpTo}
+use Rattle.text_windows.specs.NoEnds.{NoEndUpTo}
 use Rattle.flow_scan.proofs.EndLemmas.{passed}
 use Rattle.flow_scan.proofs.MarkSteps.{none_unmarked}
 use Rattle.flow_scan.proofs.strides.skip_unmarked.Goals as goal

@@ -1,5 +1,5 @@
 use Rattle.std.proofs.Common.{◌-◌, ◌<◌, ◌≤◌}
-use Rattle.flow_scan.specs.NextEnds.{NoEndUpTo}
+use Rattle.text_windows.specs.NoEnds.{NoEndUpTo}
 use Rattle.flow_scan.proofs.strides.skip_unmarked.Given as goal
 
 -- no literal ends at the places passed

@@ -1,7 +1,7 @@
 -- The next block begins where this one ends, or further on.
 use Rattle.std.proofs.Common.{ℕ, ◌+◌, length, subst, arith}
 use Rattle.lit_base.specs.Literals.{Literals}
-use Rattle.flow_scan.specs.NextEnds.{NoEndUpTo}
+use Rattle.text_windows.specs.NoEnds.{NoEndUpTo}
 use Rattle.flow_scan.specs.Windowed.{AreClaimed, AreClaims}
 use Rattle.flow_scan.proofs.ClaimSteps.{claims_rest}
 use Rattle.flow_scan.proofs.windowed.Claims.next_block.Goals as goal

@@ -1,6 +1,6 @@
 -- One block after the other is claimed, until a literal ends at one of the claimed ends.
 use Rattle.std.proofs.Common.{ℕ, ◌+◌, ◌-◌, arith}
-use Rattle.flow_scan.specs.NextEnds.{NoEndUpTo}
+use Rattle.text_windows.specs.NoEnds.{NoEndUpTo}
 use Rattle.flow_scan.proofs.ClaimSteps.{claims_rest}
 use Rattle.flow_scan.proofs.EndLemmas.{next_further, none_joined}
 use Rattle.flow_scan.proofs.windowed.Claims.next_end.Goals as goal

@@ -4,4 +4,4 @@ use Rattle.text_windows.proofs.ShiftOrLemmas.{ruled_next}
 use Rattle.text_windows.proofs.shift_or.ShiftOr.next.Goals as goal
 
 pub returns : goal.returns
-returns c = ruled_next c.args.self.now c.args.text.now c.args.at c.args.word c.ruled_out.result (omega (arith, c.requires.four)) (omega (arith, c.ranges.word.fits)) c.requires.word c.ruled_out.ensures
+returns c = ruled_next c.args.self.now c.args.text.now c.args.at c.args.stride c.args.word c.ruled_out.result (omega (arith, c.requires.four)) (omega (arith, c.ranges.word.fits)) c.requires.word c.ruled_out.ensures
