@@ -256,7 +256,7 @@ impl<'p> ShiftOr<'p> {
     }
 
     /// Two looks, the first of them at a place, where `word` rules ends out from a place on that is a stride before it. With four
-    /// the compiler multiplies their keys in vectors, which takes 1.3 times as long.
+    /// the compiler multiplies their keys in vectors, which takes longer.
     #[inline(always)]
     fn look_twice(&self, text: &[u8], at: usize, word: u64, width: usize, stride: usize) -> Two
         requires width { width ≡ self.now.width }
