@@ -1,12 +1,14 @@
 #!/usr/bin/env python3
 """Measures scans in memory that learn from their text beside scans by the plan alone and Hyperscan.
 
-    python3 bench/learned.py [--size MB] [--turns N] [--seed S] [--only WORD] [--scanner PATH] [--write]
+    python3 bench/learned.py [--size MB] [--turns N] [--seed S] [--only WORD] [--scanner NAME=PATH ..] [--write]
 
 The texts and lists are those of lists.py: literals made of a text's own words or syllables, rare and frequent ones, and such
 lists of which every tenth literal is short. The text is at hand, beside Hyperscan's block mode, and then a stream in pieces of
 64 KiB, beside its streaming mode. Each program is started in turn, scans the text three times over and gives the
-median; the figure is the least of the turns. Hit counts are compared. With --write the tables go to bench/LEARNED.md.
+median; the figure is the least of the turns. Hit counts are compared. --scanner, more than once, measures builds for different
+processors, each beside the others. With --write the tables go to bench/LEARNED.md, and a plot to
+bench/learned.svg.
 """
 import argparse
 import os
@@ -15,7 +17,9 @@ import statistics
 import sys
 import tempfile
 
+from held import with_reasons
 from lists import COUNTS, FEWER, gathered, make_texts, pick, pools
+from plot import plot_of_learned
 from programs import HERE, MB, machine, write_lines
 from scanning import PEERS, scan
 
@@ -107,10 +111,10 @@ def report(results, options):
              "A ratio is the time of another scan by that of the one that learns, each the least of the turns: above 1, it pays to",
              "learn, and the scan is ahead of Hyperscan. `least` is that of one list. A text is at hand, or a stream that comes",
              "in pieces of 64 KiB.", ""]
-    for way, rows_of_way in results.items():
-        lines += ["## By kind, %s" % way, ""] + as_groups(rows_of_way) + [""]
-    for way, rows_of_way in results.items():
-        lines += ["## Each list, %s" % way, ""] + as_rows(rows_of_way) + [""]
+    for (build, way), like in results.items():
+        lines += ["## By kind, %s, %s" % (way, build), ""] + as_groups(like) + [""]
+    for (build, way), like in results.items():
+        lines += ["## Each list, %s, %s" % (way, build), ""] + as_rows(like) + [""]
     return "\n".join(lines)
 
 
@@ -121,19 +125,24 @@ def main():
     parser.add_argument("--seed", type=int, default=1)
     parser.add_argument("--only", default="", metavar="WORD")
     parser.add_argument("--ways", nargs="+", choices=WAYS, default=list(WAYS), metavar="WAY")
-    parser.add_argument("--scanner", default=os.path.join(HERE, "../bin/bench_scan"), metavar="PATH")
+    parser.add_argument("--scanner", action="append", metavar="NAME=PATH")
     parser.add_argument("--write", action="store_true")
     options = parser.parse_args()
-    results = {way: [] for way in options.ways}
+    scanners = [scanner.split("=", 1) for scanner in options.scanner or ["bench_scan=" + os.path.join(HERE, "../bin/bench_scan")]]
+    results = {(build, way): [] for build, _ in scanners for way in options.ways}
     with tempfile.TemporaryDirectory(prefix="learned-bench-") as folder:
         for row in rows(folder, options.size * MB, options.seed):
             if options.only in row[1]:
-                for way, found in results.items():
-                    found.append(measured(programs(options.scanner, way), options.turns, row))
-                    print(way, found[-1].line(), flush=True)
+                for build, path in scanners:
+                    for way in options.ways:
+                        found = measured(programs(path, way), options.turns, row)
+                        results[build, way].append(found)
+                        print(build, way, found.line(), flush=True)
     if options.write:
         with open(os.path.join(HERE, "LEARNED.md"), "w") as out:
-            out.write(report(results, options))
+            out.write(with_reasons(report(results, options)))
+        with open(os.path.join(HERE, "learned.svg"), "w") as out:
+            out.write(plot_of_learned())
     wrong = [result for found in results.values() for result in found if len(result.hits) > 1]
     for result in wrong:
         print("other counts: %s: %s" % (result.name, sorted(result.hits)))

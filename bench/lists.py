@@ -22,6 +22,7 @@ import sys
 import sysconfig
 import tempfile
 
+from held import with_reasons
 from plot import plot_of_lists
 from programs import (COMMON, HERE, MB, UNITS, Row, differs, english_block, fill, litgreps, log_block, machine, measure, peers,
                       run, word, write_lines)
@@ -458,7 +459,7 @@ def main():
     print("\n" + tables)
     if options.write:
         with open(os.path.join(HERE, "LISTS.md"), "w") as out:
-            out.write(tables)
+            out.write(with_reasons(tables))
         with open(os.path.join(HERE, "lists.svg"), "w") as out:
             out.write(plot_of_lists())
     for line in wrong:

@@ -20,6 +20,7 @@ import sys
 import tempfile
 import time
 
+from held import with_reasons
 from plot import programs_plot
 
 HERE = os.path.dirname(os.path.abspath(__file__))
@@ -334,7 +335,7 @@ def main():
     print("\n" + table)
     if options.write:
         with open(os.path.join(HERE, "PROGRAMS.md"), "w") as out:
-            out.write("# litgrep beside other greps\n\n" + table)
+            out.write(with_reasons("# litgrep beside other greps\n\n" + table))
         with open(os.path.join(HERE, "programs.svg"), "w") as out:
             out.write(as_plot(results, names))
     for line in wrong:

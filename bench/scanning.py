@@ -15,6 +15,7 @@ import subprocess
 import sys
 import tempfile
 
+from held import with_reasons
 from plot import scanning_plot
 from programs import HERE, MB, english_block, fill, log_block, machine, random_literals, rare_literal, write_lines
 
@@ -148,7 +149,7 @@ def main():
                 print(results[-1].line(tools, ours), flush=True)
     if options.write:
         with open(os.path.join(HERE, "SCANNING.md"), "w") as out:
-            out.write("# The scanner in memory\n\n" + as_table(results, tools, ours))
+            out.write(with_reasons("# The scanner in memory\n\n" + as_table(results, tools, ours)))
         with open(os.path.join(HERE, "scanning.svg"), "w") as out:
             out.write(as_plot(results, ours))
     wrong = [result for result in results if len(set(result.hits.values())) > 1]
