@@ -14,7 +14,7 @@ pub fn split_lowest(mask: u64) -> (usize, u64)
 
 /// The mask without its bits below a place.
 #[inline(always)]
-pub(crate) fn from_bit(mask: u64, place: usize) -> u64
+pub fn from_bit(mask: u64, place: usize) -> u64
     requires { place < 64 }
     ensures { (k : ℕ) → (bit_at result k ≡ 1) ↔ ((place ≤ k) × (bit_at mask k ≡ 1)) }
 {

@@ -24,7 +24,7 @@ mod sieve;
 mod tables;
 
 pub use any_of::AnyOf;
-pub use bits::split_lowest;
+pub use bits::{from_bit, split_lowest};
 pub use block_filter::BlockFilter;
 pub use candidates::Candidates;
 pub use exact_pair::ExactPair;

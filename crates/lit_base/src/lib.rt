@@ -32,4 +32,6 @@ pub use lit_list::{Endings, LitList, Normal};
 pub use normal_form::normal_form_law;
 pub use occurrences::hits_law;
 pub use raw_list::RawList;
-pub use suffixes::{HASH_BITS, case_bits, hash_of, last_bits, last_word, mark_literal, suffix_key};
+pub use suffixes::{
+    HASH_BITS, case_bits, hash_of, is_marked, last_bits, last_word, mark, mark_literal, suffix_key,
+};

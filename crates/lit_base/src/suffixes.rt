@@ -21,7 +21,7 @@ use crate::suffixes::chains::SuffixChains;
 use crate::suffixes::checks::SuffixChecks;
 pub use crate::suffixes::key::{case_bits, hash_of, last_bits, last_word, suffix_key};
 use crate::suffixes::marks::SuffixMarks;
-pub use crate::suffixes::marks::{HASH_BITS, mark_literal};
+pub use crate::suffixes::marks::{HASH_BITS, is_marked, mark, mark_literal};
 use std::alloc::{AllocError, Global};
 
 /// Marks, which tell at once most places where no literal ends, checks, which tell most of the others,

@@ -1,3 +1,4 @@
+pub mod Looks
 pub mod NoEnds
 pub mod ShiftOr
 pub mod Shapes

@@ -1,40 +1,65 @@
 -- Which ends of literals are ruled out by the bytes before each of some places, bucket by bucket: shift-or over buckets of literals.
-use Rattle.std.specs.Prelude.{◌≡◌, ℕ, ◌+◌, ◌-◌, ◌*◌, ◌%◌, ◌<◌, ◌≤◌, List, length, nat_eq, slice_index, ◌/◌, ◌^◌, if◌then◌else◌}
+use Rattle.std.specs.Prelude.{◌≡◌, ℕ, ◌+◌, ◌-◌, ◌*◌, ◌%◌, ◌<◌, ◌≤◌, List, length, slice_index, ◌/◌, ◌^◌}
 use Rattle.std.specs.Int.{bit_at}
 use Rattle.lit_base.specs.Chains.{literal_at}
 use Rattle.lit_base.specs.Literals.{Literals}
+use Rattle.lit_base.specs.Marks.{IsMarked}
 use Rattle.lit_base.specs.Occurrences.{Occurs}
-use Rattle.lit_base.specs.Suffixes.{hash_of, suffix_key}
+use Rattle.lit_base.specs.Suffixes.{case_bits, hash_of, suffix_key}
 use Rattle.lit_base.specs.declared.fold.Fold.{Fold}
-use Rattle.text_windows.specs.declared.entries.TheConstants.{ENTRIES, KEY_BITS}
+use Rattle.text_windows.specs.declared.confirming.Confirms.{Confirms}
+use Rattle.text_windows.specs.declared.confirming.TheConstants.{CONFIRM_BITS}
+use Rattle.text_windows.specs.declared.entries.TheConstants.{ENTRIES}
 
--- what a contract sees of `ShiftOr`: the literals, the bucket of each, and by how many bytes an entry is told
+-- what a contract sees of `ShiftOr`: the literals, and the bucket of each
 pub record Bucketing : Type 0 where
   pub literals : Literals
   pub buckets : List ℕ
-  pub width : ℕ
 
 -- the bucket of a literal, one of eight
 abbrev pub bucket_at : List ℕ → ℕ → ℕ
 bucket_at buckets place = slice_index buckets place % 8
 
--- the number of a key: two bytes are told by what they spell, but for its upper bit, and more of them by their hash
-unfoldable pub number_of : ℕ → ℕ → ℕ
-number_of width key = if nat_eq width 2 then key / 2 ^ 48 % ENTRIES else hash_of KEY_BITS key
+-- the number that the two bytes before a place of a text spell, the last one the greater, without the case of letters
+abbrev pub number_at : Fold → List ℕ → ℕ → ℕ
+number_at fold text at = suffix_key fold text at 2 / 2 ^ 48
 
--- that of the bytes before a place of a text, so many of them, without the case of letters
-abbrev pub number_at : Fold → List ℕ → ℕ → ℕ → ℕ
-number_at fold text at width = number_of width (suffix_key fold text at width)
+-- that of the last one alone
+abbrev pub last_number_at : Fold → List ℕ → ℕ → ℕ
+last_number_at fold text at = suffix_key fold text at 1 / 2 ^ 56
 
 -- a word rules ends out from a place of a text on: byte k speaks of the end k places further on, and lacks the bit of each bucket of which a literal ends there
 abbrev pub RulesOut : Bucketing → List ℕ → ℕ → ℕ → Type 0
 RulesOut b text at word = (place ahead : ℕ) → ahead < 8 → Occurs b.literals text place (at + ahead) → bit_at word (8 * ahead + bucket_at b.buckets place) ≡ 0
 
--- a literal is let through by the entries of a table: by that of each so many of its bytes, so far before its end, and by all where it does not reach so far before
-pub record IsLetThrough (fold : Fold) (width : ℕ) (entries literal : List ℕ) (bucket : ℕ) : Type 0 where
-  pub keys : (ahead : ℕ) → ahead < 8 → width + ahead ≤ length literal → bit_at (slice_index entries (number_at fold literal (length literal - ahead) width)) (8 * ahead + bucket) ≡ 0
-  pub short : (ahead number : ℕ) → ahead < 8 → length literal < width + ahead → number < ENTRIES → bit_at (slice_index entries number) (8 * ahead + bucket) ≡ 0
+-- so do sixteen bytes: byte k speaks of the end k places further on
+abbrev pub RulesOutLanes : Bucketing → List ℕ → ℕ → List ℕ → Type 0
+RulesOutLanes b text at lanes = (place ahead : ℕ) → ahead < 16 → Occurs b.literals text place (at + ahead) → bit_at (slice_index lanes ahead) (bucket_at b.buckets place) ≡ 0
+
+-- none of the literals of a bucket ends at a place
+abbrev pub NoneOf : Bucketing → List ℕ → ℕ → ℕ → Type 0
+NoneOf b text bucket end = (place : ℕ) → bucket_at b.buckets place ≡ bucket → ¬ Occurs b.literals text place end
+
+-- a literal is let through by the entries of a table: by that of each two of its bytes, so far before its end, by those of its first byte behind any other one, and by all where it does not reach so far before
+pub record IsLetThrough (fold : Fold) (entries literal : List ℕ) (bucket : ℕ) : Type 0 where
+  pub pairs : (ahead : ℕ) → ahead < 8 → 2 + ahead ≤ length literal → bit_at (slice_index entries (number_at fold literal (length literal - ahead))) (8 * ahead + bucket) ≡ 0
+  pub first : (ahead number : ℕ) → ahead < 8 → length literal ≡ 1 + ahead → number < ENTRIES → number / 256 ≡ last_number_at fold literal 1 → bit_at (slice_index entries number) (8 * ahead + bucket) ≡ 0
+  pub short : (ahead number : ℕ) → ahead < 8 → length literal ≤ ahead → number < ENTRIES → bit_at (slice_index entries number) (8 * ahead + bucket) ≡ 0
 
 -- each literal of a list is
-abbrev pub LetThrough : Literals → List ℕ → ℕ → List ℕ → ℕ → Type 0
-LetThrough l buckets width entries count = (place : ℕ) → place < count → place < length l.texts → IsLetThrough l.folding width entries (literal_at l place) (bucket_at buckets place)
+abbrev pub LetThrough : Literals → List ℕ → List ℕ → ℕ → Type 0
+LetThrough l buckets entries count = (place : ℕ) → place < count → place < length l.texts → IsLetThrough l.folding entries (literal_at l place) (bucket_at buckets place)
+
+-- a table confirms a literal of a bucket: by the bucket's bit at the hash of so many of its last bytes
+abbrev pub IsConfirmed : Fold → List ℕ → ℕ → List ℕ → ℕ → Type 0
+IsConfirmed fold table width literal bucket = IsMarked table (hash_of CONFIRM_BITS (suffix_key fold literal (length literal) width)) bucket
+
+-- each literal is confirmed by as many of its last bytes as its bucket asks for, which each of the bucket has, and there is room for every hash
+pub record AreConfirmsOf (l : Literals) (buckets : List ℕ) (confirms : Confirms) : Type 0 where
+  pub case : confirms.case_bits ≡ case_bits l.folding
+  pub room : length confirms.table.items ≡ 2 ^ CONFIRM_BITS
+  pub eight : length confirms.widths.items ≡ 8
+  pub some : (bucket : ℕ) → bucket < 8 → 0 < slice_index confirms.widths.items bucket
+  pub narrow : (bucket : ℕ) → bucket < 8 → slice_index confirms.widths.items bucket ≤ 8
+  pub long : (place : ℕ) → place < length l.texts → slice_index confirms.widths.items (bucket_at buckets place) ≤ length (literal_at l place)
+  pub confirmed : (place : ℕ) → place < length l.texts → IsConfirmed l.folding confirms.table.items (slice_index confirms.widths.items (bucket_at buckets place)) (literal_at l place) (bucket_at buckets place)

@@ -2,9 +2,12 @@
 #![tactic(auto)]
 
 mod choosing;
+mod confirming;
 mod counts;
 mod entries;
 mod grouping;
+mod joining;
+mod looks;
 mod marking;
 mod runs;
 mod shape;
@@ -12,6 +15,7 @@ mod shift_or;
 mod windows;
 
 pub use choosing::{LOOK_COST, MARK_COST, SIEVE_COST, cost_of_both};
+pub use looks::Looks;
 pub use shift_or::ShiftOr;
 pub use windows::Windows;
 

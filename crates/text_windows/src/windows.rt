@@ -283,7 +283,7 @@ fn marks_of_widths(marks: &Vec<u8>, fold: Fold, least: usize, text: &[u8], at: u
 
 /// What the four bytes before a place spell, behind four zeros.
 #[inline(always)]
-pub(crate) fn last_four(text: &[u8], at: usize) -> u64
+fn last_four(text: &[u8], at: usize) -> u64
     requires four { 4 ≤ at }
     requires inside { at ≤ length text.now }
     ensures { result ≡ spelled (replicate 4 0 ++ slice_range text.now (at - 4) at) }

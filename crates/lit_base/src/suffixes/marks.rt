@@ -136,8 +136,8 @@ pub fn mark_literal(
     }
 }
 
-/// Marks a number as one that stands so far back.
-pub(crate) fn mark(marks: &mut Vec<u8>, number: usize, back: usize)
+/// Sets a bit in the byte of a number: marks it as one that stands so far back.
+pub fn mark(marks: &mut Vec<u8>, number: usize, back: usize)
     requires room { number < vec_len marks.old }
     requires bit { back < 8 }
     ensures len { vec_len marks.new ≡ vec_len marks.old }
@@ -147,9 +147,9 @@ pub(crate) fn mark(marks: &mut Vec<u8>, number: usize, back: usize)
     marks[number] |= 1 << back;
 }
 
-/// Whether a byte of marks has one so far back.
+/// Whether a byte of marks has a bit: one that stands so far back.
 #[inline(always)]
-pub(crate) fn is_marked(marks: u8, back: usize) -> bool
+pub fn is_marked(marks: u8, back: usize) -> bool
     requires { back < 8 }
     ensures { IsTrue result ↔ (bit_at marks back ≡ 1) }
 {

@@ -23,10 +23,11 @@ loop-end-init c = record {
   within = c.requires.inside;
   few = omega arith;
   gained = gained_nothing c.args.compiled.now.literals c.args.text.now c.args.from c.args.at c.args.out.now.items;
+  looks = c.looks_behind-looks.ensures;
 }
 
-pub next_end_by_shift_or-requires : goal.next_end_by_shift_or-requires
-next_end_by_shift_or-requires c = c.requires.literals ∙ sym c.list-list.ensures
+pub next_end_by_looks-requires-clause-literals : goal.next_end_by_looks-requires-clause-literals
+next_end_by_looks-requires-clause-literals c = c.requires.literals ∙ sym c.list-list.ensures
 
 -- the hits up to the end that was gone to
 further : (c : In_ok-add_hits_at) → GainsHitsBehind c.args.compiled.now.literals (take c.in-Some.end c.args.text.now) c.args.from c.args.at c.args.out.now.items c.add_hits_at.new.out.items
@@ -44,6 +45,7 @@ loop-end-preserved c =
       within = next.within;
       few = omega (arith, c.len-before.ensures);
       gained = further at;
+      looks = c.in-Some.ensures.looks;
     }
 
 -- enough was gained

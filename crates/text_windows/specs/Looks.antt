@@ -1,0 +1,33 @@
+-- The looks of a search by shift-or: what they leave of the ends at eight places in a row, and what they rule out behind them.
+use Rattle.std.specs.Prelude.{◌≡◌, ℕ, ◌+◌, ◌-◌, ◌*◌, ◌/◌, ◌<◌, ◌≤◌, List, length, max}
+use Rattle.std.specs.Int.{bit_at}
+use Rattle.lit_base.specs.Occurrences.{Occurs}
+use Rattle.text_windows.specs.NoEnds.{IsFirstFound, NoEndUpTo}
+use Rattle.text_windows.specs.ShiftOr.{Bucketing, RulesOut, bucket_at}
+use Rattle.text_windows.specs.declared.looks.Looks.{Looks}
+use Rattle.text_windows.specs.declared.looks.Verified.{Verified}
+use Rattle.text_windows.specs.declared.shift_or.TheConstants.{FRONT}
+
+-- each end of a literal among the eight from a place on has its bit
+abbrev pub AreUnruled : Bucketing → List ℕ → ℕ → ℕ → Type 0
+AreUnruled b text at unruled = (place ahead : ℕ) → ahead < 8 → Occurs b.literals text place (at + ahead) → bit_at unruled (8 * ahead + bucket_at b.buckets place) ≡ 1
+
+-- the looks of a search for ends behind a place: none of the ends behind it lies before them, those among their eight have their bits, and no others have, and what is carried is ruled out behind them
+pub record AreLooks (b : Bucketing) (text : List ℕ) (from : ℕ) (looks : Looks) : Type 0 where
+  pub some : 8 ≤ looks.at
+  pub near : from ≤ looks.at + 7
+  pub inside : 0 < looks.unruled → looks.at + 7 ≤ length text
+  pub within : looks.at + 7 ≤ max from (length text)
+  pub later : (bit : ℕ) → bit_at looks.unruled bit ≡ 1 → from < looks.at + bit / 8
+  pub none : NoEndUpTo b.literals text from (looks.at - 1)
+  pub unruled : (place ahead : ℕ) → ahead < 8 → from < looks.at + ahead → Occurs b.literals text place (looks.at + ahead) → bit_at looks.unruled (8 * ahead + bucket_at b.buckets place) ≡ 1
+  pub carried : RulesOut b text (looks.at + 8) looks.carried
+
+-- those of a search behind a place of which a text's front, which is gone through without looks, is no part
+abbrev pub AreLooksBehind : Bucketing → List ℕ → ℕ → Looks → Type 0
+AreLooksBehind b text from looks = AreLooks b text (max from FRONT) looks
+
+-- the first end behind a place, with the first literal that ends there and the looks of a search behind it
+pub record IsVerified (b : Bucketing) (text : List ℕ) (from : ℕ) (found : Verified) : Type 0 where
+  pub first : IsFirstFound b.literals text from found.end found.first
+  pub looks : AreLooks b text found.end found.looks
