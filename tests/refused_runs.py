@@ -178,6 +178,7 @@ SEARCHES = [
     Search("s", ("o",), (), ("none", "g")),
     Search("cv", ("",), (), ("f", "none")),
     Search("n", ("cat", "dog"), (), ("long", "g")),
+    Search("n", ("cat", "dog", "bird", "horse"), (), ("long", "g")),
     Search("c", ("\n".join(MANY_WORDS),), inputs=("t",)),
 ]
 

@@ -9,14 +9,14 @@ ghost use Rattle.grep_run.specs.Writers.{Writer, is_write_fault, writer};
 use crate::block::Block;
 use crate::request::{End, Request};
 use crate::status::Stop;
-use flow_scan::EndFinder;
+use flow_scan::{EndFinder, LEAST_SAMPLE};
 use line_pick::{Fault, LineRule, Next, Picker};
 use lit_base::{ByteIn, ByteOut, Failed, MAX_TURNS};
 use std::alloc::{AllocError, Global};
 
 /// What learns from the inputs of a request which parts of its literals are rare there, if it has so many literals that it
 /// gains by that.
-pub fn finder_for<'a>(request: &Request<'a>) -> Result<Option<EndFinder<'a>>, AllocError>
+fn finder_for<'a>(request: &Request<'a>) -> Result<Option<EndFinder<'a>>, AllocError>
     ensures { IfOk result (λ finder. IfSome finder (λ plan. request.now.patterns.now.plan ≡ Some plan)) }
 {
     match request.patterns.plan.as_ref() {
@@ -66,15 +66,18 @@ fn numbered_picker_for<'a>(request: &Request<'a>, finder: Option<EndFinder<'a>>)
 
 /// Reads the lines of an input into the block, as far as they are wanted. What a piece gives is written
 /// before more is read, since more may be long in coming; only what the last line gives is held at the
-/// end.
+/// end. In a long run, or behind the first piece, the search learns from what is read.
 pub fn read_lines<'a, I: ByteIn, W: ByteOut>(
+    request: &Request<'a>,
+    is_long_run: bool,
     picker: &mut Picker<'a>,
     input: &mut I,
     block: &mut Block<'a>,
     piece: &mut [u8],
     out: &mut W,
 ) -> Result<End, Stop>
-    requires { 0 < length piece.old }
+    requires some { 0 < length piece.old }
+    requires plan { picker.old.plan ≡ request.now.patterns.now.plan }
     ensures answer { (o : GrepOptions) (test : List ℕ → Bool) (name : List ℕ) (c : Content) (before : Writer)
         → StandsBehind o test name [] picker.old block.old before (writer W.written W.has_failed out.old)
         → I.coming input.old ≡ Some (coming_of c) → IsShort c
@@ -82,21 +85,64 @@ pub fn read_lines<'a, I: ByteIn, W: ByteOut>(
     ensures plan { picker.new.plan ≡ picker.old.plan }
     ensures flag { W.has_failed out.new ≡ (W.has_failed out.old || is_write_fault result) }
 {
-    for _turn in 0..MAX_TURNS {
+    for turn in 0..MAX_TURNS {
         match input.read_some(piece) {
             Err(Failed) => return Ok(End::Fault),
             Ok(0) => return end_lines(picker, block),
-            Ok(count) => match feed(picker, &piece[..count], block, out)? {
-                Some(end) => return Ok(end),
-                None => {}
-            },
+            Ok(count) => {
+                let is_long = (is_long_run || turn > 0) && count >= LEAST_SAMPLE;
+                match feed(request, is_long, picker, &piece[..count], block, out)? {
+                    Some(end) => return Ok(end),
+                    None => {}
+                }
+            }
         }
     }
     Ok(End::Fault)
 }
 
-/// Takes the next piece of an input, and writes the lines that it ends. `Some` where it is the last one.
+/// Takes the next piece of an input, and writes the lines that it ends. `Some` where it is the last one. If the input is long, the
+/// search learns from it.
 fn feed<'a, W: ByteOut>(
+    request: &Request<'a>,
+    is_long: bool,
+    picker: &mut Picker<'a>,
+    piece: &[u8],
+    block: &mut Block<'a>,
+    out: &mut W,
+) -> Result<Option<End>, Stop>
+    requires { picker.old.plan ≡ request.now.patterns.now.plan }
+    ensures answer { (o : GrepOptions) (test : List ℕ → Bool) (name text : List ℕ) (before : Writer)
+        → StandsBehind o test name text picker.old block.old before (writer W.written W.has_failed out.old)
+        → FeedsPiece o test name text piece.now result picker.new block.new before (writer W.written W.has_failed out.new) }
+    ensures plan { picker.new.plan ≡ picker.old.plan }
+    ensures flag { W.has_failed out.new ≡ (W.has_failed out.old || is_write_fault result) }
+{
+    learn_if(is_long, request, picker)?;
+    feed_piece(picker, piece, block, out)
+}
+
+/// Lets a picker's search learn from now on, if the input is long: to make what learns takes half a millisecond, as much as a whole
+/// run over a small input.
+fn learn_if<'a>(
+    is_long: bool,
+    request: &Request<'a>,
+    picker: &mut Picker<'a>,
+) -> Result<(), AllocError>
+    requires { picker.old.plan ≡ request.now.patterns.now.plan }
+    ensures { picker.new ≡ picker.old }
+{
+    if !is_long || picker.learns() {
+        return Ok(());
+    }
+    if let Some(finder) = finder_for(request)? {
+        picker.learn_by(finder);
+    }
+    Ok(())
+}
+
+/// The same, as far as the search has learned.
+fn feed_piece<'a, W: ByteOut>(
     picker: &mut Picker<'a>,
     piece: &[u8],
     block: &mut Block<'a>,

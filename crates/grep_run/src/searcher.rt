@@ -15,7 +15,7 @@ use crate::message::say_unreadable;
 use crate::names::shown_name;
 use crate::options::GrepOptions;
 use crate::request::{Found, Request};
-use crate::scanning::{finder_for, picker_for, read_lines};
+use crate::scanning::{picker_for, read_lines};
 use crate::status::Stop;
 use byte_io::{ByteIn, ByteOut, Opener, open_operand};
 use flow_scan::EndFinder;
@@ -31,6 +31,10 @@ const LEAST_READ_SIZE: usize = 1024;
 /// How many bytes may be held of names, numbers and newlines, before the lines of a piece are written.
 /// The lines themselves take no more than the piece.
 const MOST_HELD: usize = 4 * 1024 * 1024;
+
+/// Behind so many inputs a run is long: to search them took about as long as it takes to make what learns, which many small inputs
+/// gain by as well.
+const MANY_INPUTS: usize = 16;
 
 /// What a line takes beside its name and itself: a number, a colon behind each, and its newline.
 const NUMBER_SIZE: usize = 23;
@@ -82,8 +86,10 @@ fn longest_name(options: &GrepOptions) -> usize {
 #[derive(Drop)]
 struct Searcher<'a> {
     request: Request<'a>,
-    /// What has learned from the inputs so far, if the request gains by that.
+    /// What has learned from the inputs so far, once one was long enough, if the request gains by that.
     finder: Option<EndFinder<'a>>,
+    /// How many inputs were searched before.
+    searched: usize,
     block: Block<'a>,
     piece: Vec<u8>,
     ghost room: { 0 < vec_len piece },
@@ -95,11 +101,11 @@ impl<'a> Searcher<'a> {
         ensures { IfOk result (λ searcher. searcher.request ≡ request.entry) }
     {
         let piece = vec![in request.alloc; 0u8; read_size(request.options)]?;
-        let finder = finder_for(&request)?;
         let block = Block::new(request.alloc, request.options);
         Ok(Searcher {
             request,
-            finder,
+            finder: None,
+            searched: 0,
             block,
             piece,
         })
@@ -173,8 +179,18 @@ impl<'a> Searcher<'a> {
     {
         self.block.begin(self.request.options, name);
         let mut picker = picker_for(&self.request, self.finder.take());
+        let is_long_run = self.searched >= MANY_INPUTS;
+        self.searched = self.searched.saturating_add(1);
         let piece = self.piece.as_mut_slice();
-        let end = read_lines(&mut picker, input, &mut self.block, piece, out)?;
+        let end = read_lines(
+            &self.request,
+            is_long_run,
+            &mut picker,
+            input,
+            &mut self.block,
+            piece,
+            out,
+        )?;
         self.finder = picker.into_finder();
         self.block.finish(out)?;
         let found = Found {

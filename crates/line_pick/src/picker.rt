@@ -140,7 +140,20 @@ impl<'p> Picker<'p> {
         self
     }
 
-    /// What learned from the text, if the picker was made with it, for the next text.
+    /// Whether the search learns from the text.
+    pub fn learns(&self) -> bool {
+        self.finder.is_some()
+    }
+
+    /// The search learns from now on, by such a finder. What is lent does not depend on that.
+    pub fn learn_by(&mut self, finder: EndFinder<'p>)
+        requires { self.old.plan ≡ Some finder }
+        ensures { self.new ≡ self.old }
+    {
+        self.finder = Some(finder);
+    }
+
+    /// What learned from the text, if anything did, for the next text.
     pub fn into_finder(self) -> Option<EndFinder<'p>>
         ensures { IfSome result (λ plan. self.entry.plan ≡ Some plan) }
     {

@@ -63,13 +63,39 @@ fn lent_by_finder(
     lent_by(alloc, &mut picker, text)
 }
 
-/// Whether both lend the same, and some lines.
+/// What one lends that learns from the middle of the text on.
+fn lent_by_late_finder(
+    alloc: Global,
+    compiled: &Compiled,
+    rule: LineRule,
+    text: &[u8],
+) -> Option<Vec<u8>> {
+    if !is_in_lines(compiled) {
+        return None;
+    }
+    let (front, rest) = text.split_at(text.len() / 2);
+    let mut picker = Picker::new(alloc, Some(compiled), false, rule);
+    let mut sink = Kept::new(alloc, Mood::Takes);
+    picker.feed(front, &mut sink).ok()?;
+    picker.learn_by(EndFinder::new(alloc, compiled).ok()?);
+    picker.feed(rest, &mut sink).ok()?;
+    picker.finish(&mut sink).ok()?;
+    if picker.learns() {
+        Some(sink.text)
+    } else {
+        None
+    }
+}
+
+/// Whether all lend the same, and some lines.
 fn lend_the_same(alloc: Global, rule: LineRule) -> Option<bool> {
     let compiled = plan_of_words(alloc)?;
     let text = long_text(alloc)?;
     let plain = lent_plainly(alloc, &compiled, rule, &text)?;
     let learned = lent_by_finder(alloc, &compiled, rule, &text)?;
-    Some(!plain.is_empty() && plain.as_slice() == learned.as_slice())
+    let late = lent_by_late_finder(alloc, &compiled, rule, &text)?;
+    let are_alike = plain.as_slice() == learned.as_slice() && plain.as_slice() == late.as_slice();
+    Some(!plain.is_empty() && are_alike)
 }
 
 #[test]
@@ -90,13 +116,13 @@ fn hands_back_a_finder(alloc: Global) -> Option<bool> {
     }
     let finder = EndFinder::new(alloc, &compiled).ok()?;
     let picker = Picker::by_finder(alloc, finder, false, PARTS);
-    Some(picker.into_finder().is_some())
+    Some(picker.learns() && picker.into_finder().is_some())
 }
 
 /// Whether one that was made without does.
 fn hands_out_a_finder(alloc: Global) -> bool {
     let picker = Picker::new(alloc, None, true, PARTS);
-    picker.into_finder().is_some()
+    picker.learns() || picker.into_finder().is_some()
 }
 
 #[test]
