@@ -18,9 +18,10 @@ HELD = tuple((re.compile(words), reason) for words, reason in (
     (r"some short", "short members"),
     (r"null pattern", "a null pattern"),
     (r"-x", "whole lines"),
-    (r"small files|source files|start-up|early", "opening"),
+    (r"small files|source file|start-up|early", "opening"),
     (r"one byte|one rare|three bytes|one absent|-q|standard input|[Mm]egabyte|endless", "reading"),
     (r"frequent|-c|-n|-v", "hits"),
+    (r"iB, (32|100|1000) rare", "strides"),
     (r"\b(1|3|5|10) rare|-f 10 rare|3 rare", "few literals"),
     (r"", "ends left"),
 ))

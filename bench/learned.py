@@ -4,7 +4,7 @@
     python3 bench/learned.py [--size MB] [--turns N] [--seed S] [--only WORD] [--scanner NAME=PATH ..] [--write]
 
 The texts and lists are those of lists.py: literals made of a text's own words or syllables, rare and frequent ones, and such
-lists of which every tenth literal is short. The text is at hand, beside Hyperscan's block mode, and then a stream in pieces of
+lists of which every tenth literal is short. Random bytes, with literals of random bytes, stand beside them. The text is at hand, beside Hyperscan's block mode, and then a stream in pieces of
 64 KiB, beside its streaming mode. Each program is started in turn, scans the text three times over and gives the
 median; the figure is the least of the turns. Hit counts are compared. --scanner, more than once, measures builds for different
 processors, each beside the others. With --write the tables go to bench/LEARNED.md, and a plot to
@@ -30,8 +30,29 @@ PLAN, LEARNED, HYPERSCAN = "plan", "learned", "Hyperscan"
 WAYS = {"at hand": ("all", "learned", "block"), "in pieces": ("stream", "learned-stream", "stream")}
 
 
+def group_of(name, kind, count):
+    """What lists of this kind and about this length are called."""
+    return "%s: %s, %s" % (name, kind, "5 to 29" if count < 30 else "30 to 1,000")
+
+
+def random_rows(folder, size, seed):
+    """Literals of three to six random bytes in random bytes: nothing of a text can be learned there but that all places are alike."""
+    rng = random.Random(seed)
+    text = os.path.join(folder, "random")
+    with open(text, "wb") as out:
+        out.write(rng.randbytes(size))
+    for count in COUNTS:
+        literals = set()
+        while len(literals) < count:
+            literals.add(rng.randbytes(rng.randint(3, 6)).replace(b"\n", b"\0"))
+        path = os.path.join(folder, "random-%d" % count)
+        write_lines(path, sorted(literals))
+        yield group_of("random bytes", "of 3 to 6", count), "random bytes: %d of 3 to 6" % count, text, path
+
+
 def rows(folder, size, seed):
     """The group, the name, the text and the list of each row."""
+    yield from random_rows(folder, size, seed)
     rng = random.Random(seed)
     for text in make_texts(folder, size, seed):
         pool = pools(text, rng)
@@ -39,8 +60,7 @@ def rows(folder, size, seed):
             for count in counts:
                 path = os.path.join(folder, "%s-%s-%d" % (text.name, kind.replace(", ", "-"), count))
                 write_lines(path, pick(rng, pool, kind, count))
-                group = "%s: %s, %s" % (text.name, kind, "5 to 29" if count < 30 else "30 to 1,000")
-                yield group, "%s: %d %s" % (text.name, count, kind), text.path, path
+                yield group_of(text.name, kind, count), "%s: %d %s" % (text.name, count, kind), text.path, path
 
 
 def programs(scanner, way):

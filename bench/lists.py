@@ -309,7 +309,7 @@ class Searches:
                 yield self.list_row("spoilt literals", " ".join(["spoilt: %d" % count] + options), options, path, literals)
 
     def many_files(self, size):
-        """The files of the source code, each by itself."""
+        """The files of the source code, each by itself, and one of middling size alone."""
         files, total = [], 0
         for name in source_files(self.seed):
             total += os.path.getsize(name)
@@ -321,6 +321,9 @@ class Searches:
         yield Search(group, "source files: -l one frequent", ["-l", "-e", self.rng.choice(pool["frequent"])], files)
         for count in FEWER:
             yield self.list_row(group, "source files: %d rare" % count, [], files, pick(self.rng, pool, "rare", count))
+        alone = sorted(files, key=os.path.getsize)[len(files) // 2]
+        for count in FEWER:
+            yield self.list_row("one source file", "one source file: %d rare" % count, [], alone, pick(self.rng, pool, "rare", count))
 
     def rows(self, size):
         for text in self.texts:
