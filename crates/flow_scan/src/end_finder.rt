@@ -19,7 +19,7 @@ use crate::text_search::TextSearch;
 use crate::windowed::{Claims, next_end_by_windows};
 use std::alloc::{AllocError, Global};
 use std::marker::Model;
-use text_windows::{ShiftOr, Windows};
+use text_windows::{SHIFT_OR_COST, ShiftOr, Windows};
 
 /// So many bytes of a text are learned from at most.
 const SAMPLE: usize = 65536;
@@ -400,6 +400,11 @@ impl<'p> EndFinder<'p> {
         };
         let (sample, _) = behind.split_at(behind.len().min(most));
         let by_windows = self.windows.learn(sample, self.learning.starts());
+        if by_windows <= SHIFT_OR_COST {
+            // Shift-or is not likely to take less: its entries, half a megabyte, need not be made.
+            self.learning.choose(Way::Windows, by_windows);
+            return;
+        }
         let by_shift_or = self.shift_or.learn(sample);
         if by_shift_or < by_windows {
             self.learning.choose(Way::ShiftOr, by_shift_or);

@@ -10,7 +10,7 @@ const CANDIDATE_COST: usize = 50;
 const UNTOLD_COST: usize = 150;
 
 /// Literals of so many bytes are told by their marks.
-const TOLD_LEN: usize = 4;
+pub(crate) const TOLD_LEN: usize = 4;
 
 /// What a candidate at which nothing ends takes, where the shortest literal has so many bytes.
 pub(crate) fn cost_of_candidate(shortest: usize) -> usize {

@@ -3,7 +3,7 @@ ghost use Rattle.std.specs.Prelude.{◌≤◌, IfErr, IfOk, length};
 ghost use Rattle.flow_scan.specs.NextEnds.{IsNextEnd, IsPassed};
 
 use crate::endings::Backoff;
-use crate::learning::cost_of_looks;
+use crate::learning::{TOLD_LEN, cost_of_looks};
 use crate::pace::{NEAR_LOOKS, PAIRED, START_COST};
 use crate::strides::{first_marked, skip_unmarked};
 use lit_base::LitList;
@@ -27,7 +27,7 @@ pub(crate) fn is_near(
 }
 
 /// The first end near a place of a text, with the first literal that ends there, or a place up to which nothing ends: looked for by
-/// the marks alone, two strides after the other. Within the loop over lines, where it would lack registers, it took up to twice as
+/// the marks alone, two strides after the other, unless they tell little. Within the loop over lines, where it would lack registers, it took up to twice as
 /// long.
 #[inline(never)]
 pub(crate) fn next_nearby(
@@ -45,6 +45,9 @@ pub(crate) fn next_nearby(
     if from < 7 || from >= last {
         return Err(from);
     }
+    if has_short(list) {
+        return next_at_each(list, text, from, last);
+    }
     let mut seen = from;
     'marks: loop {
         seen = skip_unmarked(list, text, seen, last);
@@ -60,4 +63,30 @@ pub(crate) fn next_nearby(
         }
         seen += stride;
     }
+}
+
+/// Whether some literal is so short that marks, which are then by as few bytes, tell little.
+fn has_short(list: &LitList) -> bool {
+    !list.is_empty() && list.shortest() < TOLD_LEN
+}
+
+/// The search of `next_nearby` up to a place, where marks tell little: what may end is asked at each place.
+#[inline(always)]
+fn next_at_each(
+    list: &LitList,
+    text: &[u8],
+    from: usize,
+    last: usize,
+) -> Result<(usize, usize), usize>
+    requires ahead { from ≤ last }
+    requires inside { last ≤ length text.now }
+    ensures next { IfOk result (λ found. IsNextEnd list.now text.now from found.0) }
+    ensures passed { IfErr result (IsPassed list.now text.now from) }
+{
+    for seen in from..last {
+        if let Some(first) = list.first_ending(text, seen + 1) {
+            return Ok((seen + 1, first));
+        }
+    }
+    Err(last)
 }

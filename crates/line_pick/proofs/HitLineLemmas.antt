@@ -18,7 +18,7 @@ use Rattle.line_pick.specs.Cutting.{IsFirstLine, IsLastCut}
 use Rattle.line_pick.specs.HitLines.{AllMiss, IsFirstHitLine}
 use Rattle.line_pick.proofs.Crossing.{crossing, ended_lines-slices, ends_in_newline, middle_slice}
 use Rattle.line_pick.proofs.Literals.{not_passed, occurs-parts, own_folded, own_some, own, slice-occurs}
-use Rattle.line_pick.proofs.Newlines.{open_rest-ended}
+use Rattle.line_pick.proofs.Newlines.{one-shorter, open_rest-ended, open_rest-nil}
 
 -- a newline stays one
 folded-10 : (fold : Fold) → folded fold 10 ≡ 10
@@ -150,6 +150,20 @@ module _ (l : Literals) (normal : IsNormal l) where
         misses = misses-front text missed (head ++ tail) parts (λ e some within. n.first e some (omega (arith, within, size)));
         hit = hit-line apart text missed line behind head tail end whole cut.closed parts cut.one size n.here;
       }
+
+  -- the first line is that line, where the first end stands in it
+  pub first-line-hit : (apart : All IsOnePiece l.texts) (text missed line behind : List ℕ) (end : ℕ) → IsNextEnd l text 0 end → missed ≡ [] → IsFirstLine text line behind → end ≤ length line → IsFirstHitLine l text missed line behind
+  first-line-hit apart text missed line behind end n none cut low =
+      let same : line ≡ take (length line) text = sym (ap (take (length line)) cut.whole ∙ take-append_seam line (10 ∷ behind)) in
+      let one : IsOnePiece (take (end - 1) text) = one-shorter text (end - 1) (length line) (omega arith) (subst IsOnePiece same cut.one) in
+      let size : 0 + length (take (end - 1) text) + 1 ≡ end = omega (arith, n.after, n.within, length-take (end - 1) text) in
+      subst (λ m. IsFirstHitLine l text m line behind) (sym none) (record {
+        whole = cut.whole;
+        closed = open_rest-nil;
+        one = cut.one;
+        misses = misses-front text [] text refl (λ e some within. absurd (omega (arith, some, within)));
+        hit = hit-line apart text [] line behind (take (end - 1) text) (drop (end - 1) text) end cut.whole open_rest-nil (sym (take-append-drop (end - 1) text)) one size n.here;
+      })
 
   -- in a text of ended lines it has a newline
   pub no-hit-open : (text front tail missed head : List ℕ) (end : ℕ) → IsNextEnd l text 0 end → front ≡ take (end - 1) text → tail ≡ drop (end - 1) text

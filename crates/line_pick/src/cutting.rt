@@ -1,5 +1,5 @@
 //! Where a text is cut into lines.
-ghost use Rattle.std.specs.Prelude.{◌≡◌, ◌≤◌, MatchOption, length, take};
+ghost use Rattle.std.specs.Prelude.{◌≡◌, ◌≤◌, IfSome, MatchOption, length, take};
 ghost use Rattle.lit_base.specs.Lines.{IsOnePiece};
 ghost use Rattle.line_pick.specs.Cutting.{IsFirstLine, IsLastCut};
 
@@ -34,6 +34,24 @@ pub(crate) fn split_near_line(text: &[u8]) -> Option<(&[u8], &[u8])>
         }
     }
     split_line(text)
+}
+
+/// The first line of a text and what stands after its newline, where the line is short and some bytes before a place belong to it:
+/// by one look, which tells both ends of a line that a hit near its front has.
+#[inline(always)]
+pub(crate) fn split_line_behind(text: &[u8], place: usize) -> Option<(&[u8], &[u8])>
+    ensures line { IfSome result (λ parts. IsFirstLine text.now parts.0.now parts.1.now) }
+    ensures behind { IfSome result (λ parts. place ≤ length parts.0.now) }
+{
+    if place >= 2 * LANES || text.len() < 2 * LANES {
+        return None;
+    }
+    let end = first_newline_of_two(text);
+    if end < place || end >= 2 * LANES {
+        return None;
+    }
+    let (line, behind) = text.split_at(end);
+    Some((line, &behind[1..]))
 }
 
 /// The text up to its last newline, with it, and the text after it.

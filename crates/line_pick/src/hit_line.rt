@@ -1,10 +1,11 @@
 //! The first line of a text that holds a literal.
 ghost use Rattle.std.specs.Prelude.{◌≡◌, [], All, IfSome, MatchOption};
 ghost use Rattle.lit_base.specs.Lines.{IsOnePiece, open_rest};
+ghost use Rattle.lit_base.specs.Literals.{IsNormal};
 ghost use Rattle.flow_scan.specs.NextEnds.{IsNextEnd, NoEndAfter};
 ghost use Rattle.line_pick.specs.HitLines.{AllMiss, IsBehindLines, IsFirstHitLine};
 
-use crate::cutting::{split_front, split_near_line};
+use crate::cutting::{split_front, split_line_behind, split_near_line};
 use flow_scan::{Compiled, EndFinder, TextSearch};
 
 /// A line that holds a literal, with the text round it.
@@ -40,6 +41,28 @@ pub(crate) fn first_hit_line<'t>(
 {
     compiled.list().normal_law();
     let end = first_end(compiled, finder, search, whole, text)?;
+    if let Some((line, behind)) = split_line_behind(text, end) {
+        let (missed, _) = text.split_at(0);
+        return Some(HitLine {
+            missed,
+            line,
+            behind,
+        });
+    }
+    hit_line_round(compiled, text, end)
+}
+
+/// The line in which a literal ends, where it is the first end of one in a text of ended lines.
+#[inline(always)]
+fn hit_line_round<'t>(compiled: &Compiled, text: &'t [u8], end: usize) -> Option<HitLine<'t>>
+    requires end { IsNextEnd compiled.now.literals text.now 0 end }
+    requires closed { open_rest text.now ≡ [] }
+    requires apart { All IsOnePiece compiled.now.literals.texts }
+    requires normal { IsNormal compiled.now.literals }
+    ensures { MatchOption result
+        (AllMiss compiled.now.literals text.now)
+        (λ hit. IsFirstHitLine compiled.now.literals text.now hit.missed.now hit.line.now hit.behind.now) }
+{
     let (front, tail) = text.split_at(end - 1);
     let (missed, head) = split_front(front, text);
     let (ending, behind) = split_near_line(tail)?;

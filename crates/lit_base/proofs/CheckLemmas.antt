@@ -1,5 +1,5 @@
 -- Checks: a text has the bit of each literal that ends in it.
-use Rattle.std.proofs.Common.{◌≡◌, ◌≢◌, ℕ, ◌+◌, ◌-◌, ◌*◌, ◌%◌, ◌^◌, ◌++◌, replicate, ◌<◌, ◌≤◌, List, [], length, inl, inr, refl, sym, ap, ◌∙◌, subst, arith}
+use Rattle.std.proofs.Common.{◌≡◌, ◌≢◌, ℕ, ◌+◌, ◌-◌, ◌*◌, ◌%◌, ◌^◌, ◌++◌, replicate, ◌<◌, ◌≤◌, List, [], length, min, inl, inr, refl, sym, ap, ◌∙◌, subst, arith}
 use Rattle.std.specs.Int.{bit_at, bit_not, w8}
 use Rattle.std.specs.Int.RustNames.{bit_and, bit_or}
 use Rattle.std.specs.List.{slice_range}
@@ -19,21 +19,21 @@ use Rattle.lit_base.proofs.InsertLemmas.{literal_total}
 use Rattle.lit_base.proofs.SortedLists.{not_below}
 use Rattle.lit_base.proofs.SuffixLemmas.{AreBytes, key-occurs, masked, spelled_fits}
 
--- where a literal ends, the hash of the bytes before that place that it is told by has the bit of their number
+-- where a literal ends, the hash of the bytes before that place that it is checked by has the bit of how many tell it
 pub checked-occurs : (l : Literals) (checks : SuffixChecks) (text : List ℕ) (place end : ℕ) → AreChecksOf l checks → AreBytes text → 8 ≤ end → Occurs l text place end
-    → IsChecked checks.widths.items (told_at l place) (bit_or (bit_and (spelled (slice_range text (end - 8) end)) (last_bits (told_at l place))) checks.case_bits)
+    → IsChecked checks.widths.items (told_at l place) (bit_or (bit_and (spelled (slice_range text (end - 8) end)) (last_bits (min (told_at l place) checks.most))) checks.case_bits)
 unfolding suffix_key
 checked-occurs l checks text place end is bytes room occurs =
     let there = slice_get_within l.texts place occurs.literal occurs.stands in
     let inside : end ≤ length text = occurs.ends in
-    let width : ℕ = told_at l place in
+    let width : ℕ = min (told_at l place) checks.most in
     let narrow : width ≤ 8 = omega arith in
     let word : ℕ = spelled (slice_range text (end - 8) end) in
     let masks : bit_and word (last_bits width) ≡ spelled (replicate (8 - width) 0 ++ slice_range text (end - width) end) =
     masked text end width word bytes narrow room inside (spelled_fits text end bytes room inside) refl in
     let key : bit_or (bit_and word (last_bits width)) checks.case_bits ≡ suffix_key l.folding text end width = λ i. bit_or (masks i) (is.case i) in
     let literal = key-occurs l text place end width bytes narrow (omega arith) occurs in
-    subst (IsChecked checks.widths.items width) (sym (key ∙ literal)) (is.checked place there)
+    subst (IsChecked checks.widths.items (told_at l place)) (sym (key ∙ literal)) (is.checked place there)
 
 -- a bit that some widths have stays, whatever is added
 pub width_stays : (widths more place : ℕ) → bit_at widths place ≡ 1 → bit_at (bit_or widths more) place ≡ 1

@@ -1,25 +1,30 @@
 -- Checks by the hashes of the last bytes that literals are told by, by which most places where no literal ends are told.
-use Rattle.std.specs.Prelude.{◌≡◌, ℕ, ◌-◌, ◌^◌, ◌<◌, ◌≤◌, List, length}
+use Rattle.std.specs.Prelude.{◌≡◌, ℕ, ◌-◌, ◌^◌, ◌<◌, ◌≤◌, List, length, min}
 use Rattle.lit_base.specs.declared.suffixes.Suffixes.{Suffixes}
 use Rattle.lit_base.specs.declared.suffixes.checks.SuffixChecks.{SuffixChecks}
 use Rattle.lit_base.specs.declared.suffixes.checks.TheConstants.{CHECK_BITS}
-use Rattle.lit_base.specs.Chains.{AreChainsOf, literal_at, told_at, told_key}
+use Rattle.lit_base.specs.Chains.{AreChainsOf, literal_at, told_at}
 use Rattle.lit_base.specs.Literals.{Literals}
 use Rattle.lit_base.specs.Marks.{AreMarksOf, IsMarked}
-use Rattle.lit_base.specs.Suffixes.{case_bits, hash_of}
+use Rattle.lit_base.specs.Suffixes.{case_bits, hash_of, suffix_key}
 
--- the hash of a key of so many bytes has the bit of that width
+-- the hash of a key has the bit of a width
 abbrev pub IsChecked : List ℕ → ℕ → ℕ → Type 0
 IsChecked widths width key = IsMarked widths (hash_of CHECK_BITS key) (width - 1)
 
--- each literal is checked by the bytes that it is told by, and there is room for every hash
+-- the key of the last bytes that the literal at a place is checked by: of those that it is told by, up to so many
+abbrev pub checked_key : Literals → ℕ → ℕ → ℕ
+checked_key l most place = suffix_key l.folding (literal_at l place) (length (literal_at l place)) (min (told_at l place) most)
+
+-- each literal is checked by the last of the bytes that it is told by, and there is room for every hash
 pub record AreChecksOf (l : Literals) (checks : SuffixChecks) : Type 0 where
   pub some : 0 < checks.least
-  pub narrow : checks.least ≤ 8
+  pub ordered : checks.least ≤ checks.most
+  pub narrow : checks.most ≤ 8
   pub case : checks.case_bits ≡ case_bits l.folding
   pub room : length checks.widths.items ≡ 2 ^ CHECK_BITS
   pub wide : (place : ℕ) → place < length l.texts → checks.least ≤ length (literal_at l place)
-  pub checked : (place : ℕ) → place < length l.texts → IsChecked checks.widths.items (told_at l place) (told_key l place)
+  pub checked : (place : ℕ) → place < length l.texts → IsChecked checks.widths.items (told_at l place) (checked_key l checks.most place)
 
 -- chains, marks and checks of the literals
 pub record AreSuffixesOf (l : Literals) (suffixes : Suffixes) : Type 0 where

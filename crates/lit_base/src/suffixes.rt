@@ -93,6 +93,8 @@ impl Suffixes {
     #[inline(always)]
     pub fn widths_at(&self, text: &[u8], end: usize) -> u8
         requires some { 0 < self.now.checks.least }
+        requires ordered { self.now.checks.least ≤ self.now.checks.most }
+        requires narrow { self.now.checks.most ≤ 8 }
         requires room { length self.now.checks.widths.items ≡ 2 ^ CHECK_BITS }
         requires inside { end ≤ length text.now }
         ensures { (l : Literals) → AreSuffixesOf l self.now → HaveWidths l text.now 0 end result }

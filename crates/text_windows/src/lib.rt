@@ -16,7 +16,7 @@ mod windows;
 
 pub use choosing::{LOOK_COST, MARK_COST, SIEVE_COST, cost_of_both};
 pub use looks::Looks;
-pub use shift_or::ShiftOr;
+pub use shift_or::{SHIFT_OR_COST, ShiftOr};
 pub use windows::Windows;
 
 #[cfg(test)]

@@ -19,8 +19,8 @@ use std::simd::prelude::*;
 /// To look at each place of 1,024 takes so many tenths of a nanosecond, where all ends are ruled out.
 const EACH_COST: usize = 5400;
 
-/// To look at every second one takes so many.
-const SECOND_COST: usize = 3700;
+/// To look at every second one takes so many: no search by shift-or is told to take less.
+pub const SHIFT_OR_COST: usize = 3700;
 
 /// An end that is not ruled out takes so many, once for each bucket, if nothing ends there.
 const LEFT_COST: usize = 190;
@@ -390,7 +390,7 @@ impl<'p> ShiftOr<'p> {
 fn cost_of(count: usize, left: usize, stride: Stride) -> usize {
     let cost = match stride {
         Stride::One => EACH_COST,
-        Stride::Two => SECOND_COST,
+        Stride::Two => SHIFT_OR_COST,
     };
     let looks = count.saturating_mul(cost) / 1024;
     looks.saturating_add(left.saturating_mul(LEFT_COST))

@@ -1,13 +1,14 @@
 //! Checks by the bytes that literals are told by, for what the marks let pass.
-ghost use Rattle.std.specs.Prelude.{◌≡◌, ℕ, ◌-◌, ◌^◌, ◌<◌, ◌≤◌, All, length, map, vec_len, IfOk};
+ghost use Rattle.std.specs.Prelude.{◌≡◌, ℕ, ◌-◌, ◌^◌, ◌<◌, ◌≤◌, All, length, map, min, slice_index, vec_len, IfOk};
 ghost use Rattle.std.specs.Int.{bit_at};
+ghost use Rattle.std.specs.Int.RustNames.{bit_and, bit_or};
 ghost use Rattle.std.specs.List.Sorted.{IsNonDecreasing};
 ghost use Rattle.lit_base.specs.Chains.{told_at};
 ghost use Rattle.lit_base.specs.Checks.{AreChecksOf, IsChecked};
 ghost use Rattle.lit_base.specs.Literals.{Literals};
 ghost use Rattle.lit_base.specs.Marks.{IsMarked};
 ghost use Rattle.lit_base.specs.Occurrences.{Occurs};
-ghost use Rattle.lit_base.specs.Suffixes.{suffix_key, told_width};
+ghost use Rattle.lit_base.specs.Suffixes.{hash_of, last_bits, suffix_key, told_width};
 ghost use Rattle.lit_base.specs.declared.suffixes.checks.TheConstants.{CHECK_BITS};
 
 use crate::fold::Fold;
@@ -20,13 +21,20 @@ use std::alloc::{AllocError, Global};
 /// a byte for each takes 8 KiB, which stay in a processor's first cache.
 pub(crate) const CHECK_BITS: usize = 13;
 
-/// A byte for each hash. Bit `width - 1` is set where some literal that is told by `width` bytes has
-/// that hash. So a literal of at most eight bytes is told by all of them, where marks tell each
-/// literal by as many bytes as the shortest leaves, and chains are walked for those widths alone.
+/// Literals of so many bytes or more are checked by one look. To check each by all the bytes that it is told by took a look for
+/// each width from the least to eight, a fifth of all instructions where hits are frequent; what one look lets through besides is
+/// told by the chains.
+const LEAST_CHECKED: usize = 4;
+
+/// A byte for each hash. Bit `width - 1` is set where some literal that is told by `width` bytes has, by the last of these, that
+/// hash: by as many as the shortest literal has, but by four at least, and where it has fewer, by all. So chains are walked for
+/// those widths alone.
 #[derive(Debug, Drop)]
 pub(crate) struct SuffixChecks {
     /// Each literal has so many bytes at least; at most eight.
     pub least: usize,
+    /// Each is checked by so many at most.
+    pub most: usize,
     /// The bits of case that are left out.
     pub case_bits: u64,
     /// The widths of each hash.
@@ -40,47 +48,64 @@ impl SuffixChecks {
         requires rising { IsNonDecreasing (map length literals.now) }
         ensures { IfOk result (AreChecksOf (record { folding = fold; texts = literals.now })) }
     {
+        let least = marked_len(literals).min(8);
+        let most = least.max(LEAST_CHECKED);
         let mut widths = Vec::from_elem(alloc, 0, 1 << CHECK_BITS)?;
         for place in 0..literals.len() {
-            check_literal(&mut widths, fold, literals[place].as_slice());
+            check_literal(&mut widths, fold, literals[place].as_slice(), most);
         }
         Ok(SuffixChecks {
-            least: marked_len(literals).min(8),
+            least,
+            most,
             case_bits: case_bits(fold),
             widths,
         })
     }
 
     /// The widths of the literals that may end at `end`, told by the hashes of the last bytes before it: bit `width - 1`
-    /// for those that are told by so many bytes. It looks at every width: a jump for each would often be foreseen
-    /// wrongly.
+    /// for those that are told by so many bytes. It looks at every width that literals are checked by: a jump for each would
+    /// often be foreseen wrongly.
     #[inline(always)]
     pub fn widths_at(&self, text: &[u8], end: usize) -> u8
         requires some { 0 < self.now.least }
+        requires ordered { self.now.least ≤ self.now.most }
+        requires narrow { self.now.most ≤ 8 }
         requires room { length self.now.widths.items ≡ 2 ^ CHECK_BITS }
         requires eight { 8 ≤ end }
         requires inside { end ≤ length text.now }
         ensures { (l : Literals) (place : ℕ) → AreChecksOf l self.now → Occurs l text.now place end → bit_at result (told_at l place - 1) ≡ 1 }
     {
         let word = last_word(text, end);
-        let mut widths = 0;
-        for width in self.least..9 {
-            let key = (word & last_bits(width)) | self.case_bits;
-            widths |= self.widths[hash_of(CHECK_BITS, key)] & (1 << (width - 1));
+        let long = self.widths_of(word, self.most);
+        let mut widths = long;
+        for width in self.least..self.most {
+            widths |= self.widths_of(word, width) & (1 << (width - 1));
         }
         widths
     }
+
+    /// The widths of the literals that have the hash of the last `width` of the eight bytes that a word spells.
+    #[inline(always)]
+    fn widths_of(&self, word: u64, width: usize) -> u8
+        requires some { 0 < width }
+        requires narrow { width ≤ 8 }
+        requires room { length self.now.widths.items ≡ 2 ^ CHECK_BITS }
+        ensures { result ≡ slice_index self.now.widths.items (hash_of CHECK_BITS (bit_or (bit_and word (last_bits width)) self.now.case_bits)) }
+    {
+        self.widths[hash_of(CHECK_BITS, (word & last_bits(width)) | self.case_bits)]
+    }
 }
 
-/// Sets the bit of a literal.
-fn check_literal(widths: &mut Vec<u8>, fold: Fold, literal: &[u8])
+/// Sets the bit of a literal that is checked by so many bytes at most.
+fn check_literal(widths: &mut Vec<u8>, fold: Fold, literal: &[u8], most: usize)
     requires some { 0 < length literal.now }
+    requires checked { 0 < most }
     requires room { vec_len widths.old ≡ 2 ^ CHECK_BITS }
     ensures len { vec_len widths.new ≡ vec_len widths.old }
-    ensures checked { IsChecked widths.new.items (told_width (length literal.now)) (suffix_key fold literal.now (length literal.now) (told_width (length literal.now))) }
+    ensures checked { IsChecked widths.new.items (told_width (length literal.now)) (suffix_key fold literal.now (length literal.now) (min (told_width (length literal.now)) most)) }
     ensures kept { (hash back : ℕ) → IsMarked widths.old.items hash back → IsMarked widths.new.items hash back }
 {
     let width = told_width(literal.len());
-    let key = suffix_key(fold, literal, literal.len(), width);
+    let key = suffix_key(fold, literal, literal.len(), width.min(most));
     mark(widths, hash_of(CHECK_BITS, key), width - 1);
 }

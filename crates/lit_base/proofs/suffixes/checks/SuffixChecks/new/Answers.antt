@@ -1,5 +1,5 @@
 -- There is a bit for each hash, and in the end every literal has its own set.
-use Rattle.std.proofs.Common.{◌≡◌, ◌<◌, [], length, get_or, ◌∙◌, subst, arith, below_more}
+use Rattle.std.proofs.Common.{◌≡◌, ◌<◌, [], length, min, get_or, ◌∙◌, subst, arith, below_more}
 use Rattle.std.proofs.lemmas.List.{get_or_read}
 use Rattle.lit_base.specs.Checks.{IsChecked}
 use Rattle.lit_base.specs.Suffixes.{suffix_key, told_width}
@@ -14,15 +14,16 @@ loop-place-preserved c =
       len = c.check_literal.ensures.len ∙ c.loop-place.invariant.len;
       checked = below_more _ _
           (λ place low. c.check_literal.ensures.kept _ _ (c.loop-place.invariant.checked place low))
-          (subst (λ t. IsChecked c.check_literal.new.widths.items (told_width (length t)) (suffix_key c.args.fold t (length t) (told_width (length t)))) here c.check_literal.ensures.checked);
+          (subst (λ t. IsChecked c.check_literal.new.widths.items (told_width (length t)) (suffix_key c.args.fold t (length t) (min (told_width (length t)) c.max-most.result))) here c.check_literal.ensures.checked);
     }
 
 pub returns : goal.returns
 returns c = record {
-  some = omega (arith, c.marked_len.ensures.some, c.min.ensures);
-  narrow = omega (arith, c.min.ensures);
+  some = omega (arith, c.marked_len.ensures.some, c.min-least.ensures);
+  ordered = omega (arith, c.max-most.ensures);
+  narrow = omega (arith, c.min-least.ensures, c.max-most.ensures);
   case = c.case_bits.ensures;
   room = omega (arith, c.loop-place.invariant.len);
-  wide = λ place inside. omega (arith, c.marked_len.ensures.shared place inside, c.min.ensures);
+  wide = λ place inside. omega (arith, c.marked_len.ensures.shared place inside, c.min-least.ensures);
   checked = λ place inside. c.loop-place.invariant.checked place (omega (arith, inside, c.loop-place-test.false));
 }

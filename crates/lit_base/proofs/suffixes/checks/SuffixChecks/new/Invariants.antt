@@ -1,4 +1,4 @@
-use Rattle.std.proofs.Common.{◌≡◌, ℕ, ◌^◌, ◌<◌, [], length, vec_len, slice_index_or}
+use Rattle.std.proofs.Common.{◌≡◌, ℕ, ◌^◌, ◌<◌, [], length, min, vec_len, slice_index_or}
 use Rattle.lit_base.specs.Checks.{IsChecked}
 use Rattle.lit_base.specs.Suffixes.{suffix_key, told_width}
 use Rattle.lit_base.specs.declared.suffixes.checks.TheConstants.{CHECK_BITS}
@@ -9,5 +9,5 @@ abbrev pub invariant-loop-place : goal.invariant-loop-place
 invariant-loop-place l = record {
   len : vec_len l.widths ≡ 2 ^ CHECK_BITS;
   checked : (place : ℕ) → place < l.place → IsChecked l.widths.items (told_width (length (slice_index_or l.literals place [])))
-      (suffix_key l.fold (slice_index_or l.literals place []) (length (slice_index_or l.literals place [])) (told_width (length (slice_index_or l.literals place []))));
+      (suffix_key l.fold (slice_index_or l.literals place []) (length (slice_index_or l.literals place [])) (min (told_width (length (slice_index_or l.literals place []))) l.most));
 }
