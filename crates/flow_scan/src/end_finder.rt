@@ -34,8 +34,8 @@ const SPAN: usize = 131_072;
 pub const LEAST_SAMPLE: usize = 16384;
 
 /// A search through the texts of one run for the literals of a plan. It begins as `next_end` does; where what
-/// it meets in a text ends nothing too often, it learns which windows of the literals are rare there, and goes on by
-/// these. What it finds does not depend on that. All memory is taken when it is made.
+/// it meets in a text ends nothing too often, it learns which windows of the literals are rare there, and what shift-or would
+/// leave, and goes on by what promises to take least. What it finds does not depend on that. All memory is taken when it is made.
 #[derive(Debug, Drop)]
 pub struct EndFinder<'p> {
     compiled: &'p Compiled,

@@ -5,8 +5,8 @@ ghost use Rattle.nib_mask.specs.Candidates.{CoversBy};
 ghost use Rattle.lane_filter.specs.Sieves.{Passes};
 ghost use Rattle.flow_scan.specs.NextEnds.{IsNextEnd, IsPassed, NoEndAfter};
 
-use crate::learning::{cost_of_candidate, cost_of_looks};
-use crate::pace::{CROWD, LONGEST_DELAY, LOOKS, LOOKS_OF_MARK, SHORTEST_DELAY, WINDOW};
+use crate::learning::{CANDIDATE_COST, cost_of_looks};
+use crate::pace::{CROWD, LONGEST_DELAY, LOOKS, LOOKS_OF_MARK, PLACE_COST, SHORTEST_DELAY, WINDOW};
 use crate::strides::next_end_within_budget;
 use lane_filter::Candidates;
 use lit_base::LitList;
@@ -44,6 +44,11 @@ impl Backoff {
     fn spend_on_strides(&mut self, list: &LitList, count: usize, met: usize) {
         self.spend(cost_of_looks(list.stride(), count));
         self.spend(met.saturating_mul(MARK_COST));
+    }
+
+    /// So many places were asked one by one.
+    pub(crate) fn spend_on_places(&mut self, count: usize) {
+        self.spend(count.saturating_mul(PLACE_COST));
     }
 
     /// It met a mark at which nothing ended.
@@ -122,14 +127,13 @@ fn next_sieved(
     ensures crowd { IfErr result (λ crowd. IsPassed list.now text.now candidates.old.from crowd.last) }
     ensures further { IfErr result (λ crowd. candidates.old.from < crowd.last) }
 {
-    let price = price_of_candidate(list);
     let mut start = 0;
     let mut left = CROWD;
     while let Some(end) = candidates.next() {
         if let Some(first) = list.first_ending(text, end) {
             return Ok(Some((end, first)));
         }
-        backoff.spend(price);
+        backoff.spend(CANDIDATE_COST);
         if left == 0 {
             let bytes = end.saturating_sub(start);
             if backoff.retry_at <= end && are_close(list, bytes) {
@@ -141,14 +145,6 @@ fn next_sieved(
         left -= 1;
     }
     Ok(None)
-}
-
-/// What a candidate at which nothing ends takes.
-fn price_of_candidate(list: &LitList) -> usize {
-    if list.is_empty() {
-        return 0;
-    }
-    cost_of_candidate(list.shortest())
 }
 
 /// Whether candidates at which nothing ends, `CROWD` of them in so many bytes, cost more than the

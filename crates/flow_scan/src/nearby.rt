@@ -3,14 +3,14 @@ ghost use Rattle.std.specs.Prelude.{◌≤◌, IfErr, IfOk, length};
 ghost use Rattle.flow_scan.specs.NextEnds.{IsNextEnd, IsPassed};
 
 use crate::endings::Backoff;
-use crate::learning::{TOLD_LEN, cost_of_looks};
-use crate::pace::{NEAR_LOOKS, PAIRED, START_COST};
+use crate::learning::cost_of_looks;
+use crate::pace::{NEAR_LOOKS, NEAR_PLACES, PAIRED, PLACE_COST, START_COST, TOLD_LEN};
 use crate::strides::{first_marked, skip_unmarked};
 use lit_base::LitList;
 
-/// Whether looks at the marks of all places up to the end that a search found behind a place would have taken well less than
-/// the sieve, which spent so much on candidates at which nothing ended: half as long, since a mark at which nothing ends takes
-/// longer than a candidate.
+/// Whether looks at the marks of all places up to the end that a search found behind a place, or questions at each of them, would
+/// have taken well less than the sieve, which spent so much on candidates at which nothing ended: half as long, since marks at which
+/// nothing ends take longer than looks.
 pub(crate) fn is_near(
     list: &LitList,
     from: usize,
@@ -21,14 +21,18 @@ pub(crate) fn is_near(
         return false;
     };
     let distance = end.saturating_sub(from);
+    let most = spent.saturating_add(START_COST) / 2;
+    if has_short(list) {
+        return distance < NEAR_PLACES && distance.saturating_mul(PLACE_COST) < most;
+    }
     list.len() > PAIRED
         && distance / list.stride() < NEAR_LOOKS
-        && cost_of_looks(list.stride(), distance) < spent.saturating_add(START_COST) / 2
+        && cost_of_looks(list.stride(), distance) < most
 }
 
 /// The first end near a place of a text, with the first literal that ends there, or a place up to which nothing ends: looked for by
-/// the marks alone, two strides after the other, unless they tell little. Within the loop over lines, where it would lack registers, it took up to twice as
-/// long.
+/// the marks, two strides after the other, or where they tell little, place by place. It is a function of its own: within the loop
+/// over lines, where it would lack registers, it took up to twice as long.
 #[inline(never)]
 pub(crate) fn next_nearby(
     list: &LitList,
@@ -40,13 +44,15 @@ pub(crate) fn next_nearby(
     ensures next { IfOk result (λ found. IsNextEnd list.now text.now from found.0) }
     ensures passed { IfErr result (IsPassed list.now text.now from) }
 {
+    if has_short(list) {
+        let found = next_at_each(list, text, from);
+        backoff.spend_on_places(reached(found).saturating_sub(from));
+        return found;
+    }
     let stride = list.stride();
     let last = text.len().min(from.saturating_add(NEAR_LOOKS * stride));
     if from < 7 || from >= last {
         return Err(from);
-    }
-    if has_short(list) {
-        return next_at_each(list, text, from, last);
     }
     let mut seen = from;
     'marks: loop {
@@ -65,24 +71,27 @@ pub(crate) fn next_nearby(
     }
 }
 
-/// Whether some literal is so short that marks, which are then by as few bytes, tell little.
+/// Whether a list that is not searched by pairs has literals so short that marks, which are then by as few bytes, tell little.
 fn has_short(list: &LitList) -> bool {
-    !list.is_empty() && list.shortest() < TOLD_LEN
+    list.len() > PAIRED && list.shortest() < TOLD_LEN
 }
 
-/// The search of `next_nearby` up to a place, where marks tell little: what may end is asked at each place.
+/// The place up to which a search near a place has come.
+fn reached(found: Result<(usize, usize), usize>) -> usize {
+    match found {
+        Ok((end, _)) => end,
+        Err(seen) => seen,
+    }
+}
+
+/// The search of `next_nearby` where marks tell little: some places are asked one by one which literal ends there.
 #[inline(always)]
-fn next_at_each(
-    list: &LitList,
-    text: &[u8],
-    from: usize,
-    last: usize,
-) -> Result<(usize, usize), usize>
-    requires ahead { from ≤ last }
-    requires inside { last ≤ length text.now }
+fn next_at_each(list: &LitList, text: &[u8], from: usize) -> Result<(usize, usize), usize>
+    requires { from ≤ length text.now }
     ensures next { IfOk result (λ found. IsNextEnd list.now text.now from found.0) }
     ensures passed { IfErr result (IsPassed list.now text.now from) }
 {
+    let last = text.len().min(from.saturating_add(NEAR_PLACES));
     for seen in from..last {
         if let Some(first) = list.first_ending(text, seen + 1) {
             return Ok((seen + 1, first));

@@ -9,7 +9,7 @@ pub(crate) const CROWD: usize = 4;
 pub(crate) const LOOKS: usize = 5;
 
 /// A mark at which nothing ends counts as so many looks. It cost up to three times as much where marks
-/// crowd, and nothing got quicker by a higher number. Since a mark is told by all last bytes it costs less;
+/// crowd, and nothing got quicker by a higher number. Since checks stand before the chains it costs less;
 /// the number was not chosen anew.
 pub(crate) const LOOKS_OF_MARK: usize = 8;
 
@@ -40,11 +40,21 @@ pub(crate) const NEAR: usize = 32;
 /// 100 and 1,000 frequent literals took longer, by up to 1.3 times in log lines; with 96 those of 10 and 100 did.
 pub(crate) const NEAR_LOOKS: usize = 64;
 
+/// Literals of so many bytes are told by their marks. Where some have fewer, marks tell little, and what ends near is asked place by
+/// place.
+pub(crate) const TOLD_LEN: usize = 4;
+
+/// So many places at most are asked so before the sieve is begun.
+pub(crate) const NEAR_PLACES: usize = 16;
+
+/// To ask at a place what ends there takes about so long, in tenths of a nanosecond.
+pub(crate) const PLACE_COST: usize = 50;
+
 /// To begin a search by the sieve takes about so long, in tenths of a nanosecond.
 pub(crate) const START_COST: usize = 100;
 
-/// Where marks at which nothing ends took so long on the way to an end, which is two of them, the next end is not looked for by
-/// marks alone.
+/// Where marks at which nothing ends took so long on the way to an end, which is two of them, or ten places that were asked one by
+/// one, the next end is not looked for without the sieve.
 pub(crate) const FALSE_COST: usize = 500;
 
 /// A list of at most so many literals is searched for by two bytes of each, which tell little that is false.

@@ -18,7 +18,7 @@ pub struct TextSearch<'a> {
     text: &'a [u8],
     candidates: Candidates<'a>,
     backoff: Backoff,
-    /// Whether the next end is likely to be so near that marks find it sooner than the sieve does.
+    /// Whether the next end is likely to be so near that looks at the places behind a hit find it sooner than the sieve does.
     is_near: bool,
 }
 
@@ -70,7 +70,7 @@ impl<'a> TextSearch<'a> {
         }
     }
 
-    /// Where ends are near each other, a search behind a place of the text over some places by marks alone: an end, with the
+    /// Where ends are near each other, a search behind a place of the text over some places without the sieve: an end, with the
     /// first literal that ends there, or a place up to which there is none.
     #[inline]
     pub(crate) fn next_near(&mut self, from: usize) -> Result<(usize, usize), usize>

@@ -66,7 +66,7 @@ fn numbered_picker_for<'a>(request: &Request<'a>, finder: Option<EndFinder<'a>>)
 
 /// Reads the lines of an input into the block, as far as they are wanted. What a piece gives is written
 /// before more is read, since more may be long in coming; only what the last line gives is held at the
-/// end. In a long run, or behind the first piece, the search learns from what is read.
+/// end. In a long run, or behind the first piece, the search learns from pieces that are long enough.
 pub fn read_lines<'a, I: ByteIn, W: ByteOut>(
     request: &Request<'a>,
     is_long_run: bool,
@@ -141,7 +141,8 @@ fn learn_if<'a>(
     Ok(())
 }
 
-/// The same, as far as the search has learned.
+/// Takes the next piece of an input, by what the search has learned, and writes the lines that it ends. `Some` where it is the
+/// last one.
 fn feed_piece<'a, W: ByteOut>(
     picker: &mut Picker<'a>,
     piece: &[u8],

@@ -36,8 +36,8 @@ pub(crate) fn split_near_line(text: &[u8]) -> Option<(&[u8], &[u8])>
     split_line(text)
 }
 
-/// The first line of a text and what stands after its newline, where the line is short and some bytes before a place belong to it:
-/// by one look, which tells both ends of a line that a hit near its front has.
+/// The first line of a text and what stands after its newline, if all bytes before a place belong to it and its newline is among the
+/// first 128 bytes: by one look, which cuts the line of a hit that ends at that place. `None` tells nothing.
 #[inline(always)]
 pub(crate) fn split_line_behind(text: &[u8], place: usize) -> Option<(&[u8], &[u8])>
     ensures line { IfSome result (λ parts. IsFirstLine text.now parts.0.now parts.1.now) }
@@ -66,7 +66,6 @@ pub(crate) fn split_ended(text: &[u8]) -> (&[u8], &[u8])
 
 /// The front of a text up to its last newline, and what stands after it, by one look where the newline
 /// is near, or where the front is short and has none: for some bytes a search from the end takes longer.
-/// With the look at 128 bytes after a hit, a search for a frequent literal is 1.05 to 1.1 times as fast.
 #[inline(always)]
 pub(crate) fn split_front<'t>(front: &'t [u8], text: &[u8]) -> (&'t [u8], &'t [u8])
     requires { front.now ≡ take (length front.now) text.now }

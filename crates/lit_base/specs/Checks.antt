@@ -1,4 +1,4 @@
--- Checks by the hashes of the last bytes that literals are told by, by which most places where no literal ends are told.
+-- Checks by hashes of some of the last bytes that literals are told by, which name the widths of those that may end at a place.
 use Rattle.std.specs.Prelude.{◌≡◌, ℕ, ◌-◌, ◌^◌, ◌<◌, ◌≤◌, List, length, min}
 use Rattle.lit_base.specs.declared.suffixes.Suffixes.{Suffixes}
 use Rattle.lit_base.specs.declared.suffixes.checks.SuffixChecks.{SuffixChecks}

@@ -24,8 +24,8 @@ use crate::suffixes::marks::SuffixMarks;
 pub use crate::suffixes::marks::{HASH_BITS, is_marked, mark, mark_literal};
 use std::alloc::{AllocError, Global};
 
-/// Marks, which tell at once most places where no literal ends, checks, which tell most of the others,
-/// and chains, which tell for the rest which literals do.
+/// Marks, which tell at once most places where no literal ends, checks, which tell of the others by how many bytes the literals are
+/// told that may end there, and chains, which tell for the rest which literals do.
 #[derive(Debug, Drop)]
 pub(crate) struct Suffixes {
     pub chains: SuffixChains,

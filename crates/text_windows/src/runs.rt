@@ -28,7 +28,7 @@ pub(crate) fn cut_runs(list: &LitList, buckets: &mut Vec<u8>)
     }
 }
 
-/// The place of a list behind which its runs are cut best, or the end of the list, where nothing is gained.
+/// The place of a list before which its runs are cut best, or the end of the list, where nothing is gained.
 fn best_cut(list: &LitList, buckets: &Vec<u8>) -> usize
     requires { vec_len buckets.now ≡ length list.now.texts }
     ensures { result ≤ length list.now.texts }

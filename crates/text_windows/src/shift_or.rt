@@ -19,7 +19,8 @@ use std::simd::prelude::*;
 /// To look at each place of 1,024 takes so many tenths of a nanosecond, where all ends are ruled out.
 const EACH_COST: usize = 5400;
 
-/// To look at every second one takes so many: no search by shift-or is told to take less.
+/// What looks at every second place of 1,024 take, in tenths of a nanosecond, where all ends are ruled out: no search by shift-or is
+/// estimated at less.
 pub const SHIFT_OR_COST: usize = 3700;
 
 /// An end that is not ruled out takes so many, once for each bucket, if nothing ends there.

@@ -1,4 +1,4 @@
-//! Checks by the bytes that literals are told by, for what the marks let pass.
+//! Checks by the last of the bytes that literals are told by, for what the marks let pass.
 ghost use Rattle.std.specs.Prelude.{◌≡◌, ℕ, ◌-◌, ◌^◌, ◌<◌, ◌≤◌, All, length, map, min, slice_index, vec_len, IfOk};
 ghost use Rattle.std.specs.Int.{bit_at};
 ghost use Rattle.std.specs.Int.RustNames.{bit_and, bit_or};
@@ -26,9 +26,9 @@ pub(crate) const CHECK_BITS: usize = 13;
 /// told by the chains.
 const LEAST_CHECKED: usize = 4;
 
-/// A byte for each hash. Bit `width - 1` is set where some literal that is told by `width` bytes has, by the last of these, that
-/// hash: by as many as the shortest literal has, but by four at least, and where it has fewer, by all. So chains are walked for
-/// those widths alone.
+/// A byte for each hash. Bit `width - 1` is set where some literal that is told by `width` bytes has that hash by the last of these:
+/// by as many as the shortest literal has, but by four at least, or by all where it has fewer. So chains are walked for those widths
+/// alone.
 #[derive(Debug, Drop)]
 pub(crate) struct SuffixChecks {
     /// Each literal has so many bytes at least; at most eight.

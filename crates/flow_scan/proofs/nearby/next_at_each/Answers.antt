@@ -7,7 +7,7 @@ use Rattle.flow_scan.proofs.nearby.next_at_each.Goals as goal
 pub returns-in-Some-clause-next : goal.returns-in-Some-clause-next
 returns-in-Some-clause-next c = record {
   after = omega (arith, c.loop-seen.auto.seen);
-  within = omega (arith, c.loop-seen-test.true, c.requires.inside);
+  within = omega (arith, c.loop-seen-test.true, c.min-last.ensures);
   here = (c.in-Some.first, c.in-Some.ensures.first.occurs);
   first = λ other after sooner. c.loop-seen.invariant other after (omega (arith, sooner));
 }
@@ -19,7 +19,7 @@ loop-seen-preserved c =
 
 pub returns-clause-passed : goal.returns-clause-passed
 returns-clause-passed c = record {
-  after = c.requires.ahead;
-  within = c.requires.inside;
+  after = omega (arith, c.requires, c.saturating_add.ensures, c.min-last.ensures);
+  within = omega (arith, c.min-last.ensures);
   none = λ end after within. c.loop-seen.invariant end after (omega (arith, within, after, c.loop-seen-test.false, c.loop-seen.auto));
 }
