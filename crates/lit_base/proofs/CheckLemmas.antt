@@ -5,12 +5,12 @@ use Rattle.std.specs.Int.RustNames.{bit_and, bit_or}
 use Rattle.std.specs.List.{slice_range}
 use Rattle.std.proofs.lemmas.Bool.{cases_eq, cases_lt}
 use Rattle.std.proofs.lemmas.Nat.{and_le_l}
-use Rattle.std.proofs.lemmas.Nat.Bits.{bit_at-lt, bit_at-zero, bit_at_and, bit_at_clear_other, bit_at_clear_same, bit_at_or, bit_at_set_same}
+use Rattle.std.proofs.lemmas.Nat.Bits.{bit_at-lt, bit_at-zero, bit_at_and, bit_at_clear_other, bit_at_clear_same, bit_at_ones, bit_at_or, bit_at_set_same}
 use Rattle.std.proofs.lemmas.Map.Keys.{Less-from_sorted}
 use Rattle.std.proofs.lemmas.Option.{get_or_from_slice_get, slice_get_within}
 use Rattle.lit_base.specs.declared.suffixes.checks.SuffixChecks.{SuffixChecks}
 use Rattle.lit_base.specs.Chains.{HaveWidths, NoneToldEnds, literal_at, told_at}
-use Rattle.lit_base.specs.Checks.{AreChecksOf, IsChecked}
+use Rattle.lit_base.specs.Checks.{AreChecksOf, IsChecked, last_key}
 use Rattle.lit_base.specs.Literals.{IsNormal, Literals, literal_cmp}
 use Rattle.lit_base.specs.Occurrences.{Occurs}
 use Rattle.lit_base.specs.Folding.{folded_text}
@@ -19,25 +19,29 @@ use Rattle.lit_base.proofs.InsertLemmas.{literal_total}
 use Rattle.lit_base.proofs.SortedLists.{not_below}
 use Rattle.lit_base.proofs.SuffixLemmas.{AreBytes, key-occurs, masked, spelled_fits}
 
--- where a literal ends, the hash of the bytes before that place that it is checked by has the bit of how many tell it
-pub checked-occurs : (l : Literals) (checks : SuffixChecks) (text : List ℕ) (place end : ℕ) → AreChecksOf l checks → AreBytes text → 8 ≤ end → Occurs l text place end
-    → IsChecked checks.widths.items (told_at l place) (bit_or (bit_and (spelled (slice_range text (end - 8) end)) (last_bits (min (told_at l place) checks.most))) checks.case_bits)
+-- where a literal ends, the hash of so many bytes before that place has the bit of how many tell it, if that of its own last ones has
+pub checked-occurs : (l : Literals) (checks : SuffixChecks) (text : List ℕ) (place end most : ℕ) → AreChecksOf l checks → AreBytes text → 8 ≤ end → Occurs l text place end
+    → IsChecked checks.widths.items (told_at l place) (last_key l most place)
+    → IsChecked checks.widths.items (told_at l place) (bit_or (bit_and (spelled (slice_range text (end - 8) end)) (last_bits (min (told_at l place) most))) checks.case_bits)
 unfolding suffix_key
-checked-occurs l checks text place end is bytes room occurs =
-    let there = slice_get_within l.texts place occurs.literal occurs.stands in
+checked-occurs l checks text place end most is bytes room occurs checked =
     let inside : end ≤ length text = occurs.ends in
-    let width : ℕ = min (told_at l place) checks.most in
+    let width : ℕ = min (told_at l place) most in
     let narrow : width ≤ 8 = omega arith in
     let word : ℕ = spelled (slice_range text (end - 8) end) in
     let masks : bit_and word (last_bits width) ≡ spelled (replicate (8 - width) 0 ++ slice_range text (end - width) end) =
     masked text end width word bytes narrow room inside (spelled_fits text end bytes room inside) refl in
     let key : bit_or (bit_and word (last_bits width)) checks.case_bits ≡ suffix_key l.folding text end width = λ i. bit_or (masks i) (is.case i) in
     let literal = key-occurs l text place end width bytes narrow (omega arith) occurs in
-    subst (IsChecked checks.widths.items (told_at l place)) (sym (key ∙ literal)) (is.checked place there)
+    subst (IsChecked checks.widths.items (told_at l place)) (sym (key ∙ literal)) checked
 
 -- a bit that some widths have stays, whatever is added
 pub width_stays : (widths more place : ℕ) → bit_at widths place ≡ 1 → bit_at (bit_or widths more) place ≡ 1
 width_stays widths more place has = omega (arith, has, bit_at_or widths more place, bit_at-lt (bit_or widths more) place)
+
+-- and so does one that what is added has
+pub more_stays : (widths more place : ℕ) → bit_at more place ≡ 1 → bit_at (bit_or widths more) place ≡ 1
+more_stays widths more place has = omega (arith, has, bit_at_or widths more place, bit_at-lt (bit_or widths more) place)
 
 -- the bit of a byte is added to them
 pub width_added : (widths byte back : ℕ) → back < 8 → bit_at byte back ≡ 1 → bit_at (bit_or widths (bit_and byte (1 * 2 ^ back % 256))) back ≡ 1
@@ -52,6 +56,14 @@ told_some : (l : Literals) (checks : SuffixChecks) (text : List ℕ) (place end 
 told_some l checks text place end is occurs =
     let there = slice_get_within l.texts place occurs.literal occurs.stands in
     omega (arith, is.some, is.wide place there)
+
+-- the highest bit of a byte is left by a mask of it
+pub bit_highest : (byte : ℕ) → bit_at byte 7 ≡ 1 → bit_at (bit_and byte 128) 7 ≡ 1
+bit_highest byte has = let one : bit_at 128 7 ≡ 1 = refl in omega (arith, has, one, bit_at_and byte 128 7)
+
+-- and one below it by a mask of the others
+pub bit_below : (byte back : ℕ) → back < 7 → bit_at byte back ≡ 1 → bit_at (bit_and byte 127) back ≡ 1
+bit_below byte back low has = omega (arith, has, bit_at_ones 7 back low, bit_at_and byte 127 back)
 
 -- some widths, of which the lowest that has its bit is one more than a number
 module _ (l : Literals) (checks : SuffixChecks) (is : AreChecksOf l checks) (text : List ℕ) (from end widths low : ℕ) (have : HaveWidths l text from end widths) where

@@ -12,11 +12,11 @@ use Rattle.lit_base.specs.Suffixes.{case_bits, hash_of, suffix_key}
 abbrev pub IsChecked : List ℕ → ℕ → ℕ → Type 0
 IsChecked widths width key = IsMarked widths (hash_of CHECK_BITS key) (width - 1)
 
--- the key of the last bytes that the literal at a place is checked by: of those that it is told by, up to so many
-abbrev pub checked_key : Literals → ℕ → ℕ → ℕ
-checked_key l most place = suffix_key l.folding (literal_at l place) (length (literal_at l place)) (min (told_at l place) most)
+-- the key of the last bytes of the literal at a place, of those that it is told by, up to so many
+abbrev pub last_key : Literals → ℕ → ℕ → ℕ
+last_key l most place = suffix_key l.folding (literal_at l place) (length (literal_at l place)) (min (told_at l place) most)
 
--- each literal is checked by the last of the bytes that it is told by, and there is room for every hash
+-- each literal is checked by all eight bytes that it is told by, or by the last of fewer, and there is room for every hash
 pub record AreChecksOf (l : Literals) (checks : SuffixChecks) : Type 0 where
   pub some : 0 < checks.least
   pub ordered : checks.least ≤ checks.most
@@ -24,7 +24,8 @@ pub record AreChecksOf (l : Literals) (checks : SuffixChecks) : Type 0 where
   pub case : checks.case_bits ≡ case_bits l.folding
   pub room : length checks.widths.items ≡ 2 ^ CHECK_BITS
   pub wide : (place : ℕ) → place < length l.texts → checks.least ≤ length (literal_at l place)
-  pub checked : (place : ℕ) → place < length l.texts → IsChecked checks.widths.items (told_at l place) (checked_key l checks.most place)
+  pub short : (place : ℕ) → place < length l.texts → told_at l place < 8 → IsChecked checks.widths.items (told_at l place) (last_key l checks.most place)
+  pub long : (place : ℕ) → place < length l.texts → told_at l place ≡ 8 → IsChecked checks.widths.items (told_at l place) (last_key l 8 place)
 
 -- chains, marks and checks of the literals
 pub record AreSuffixesOf (l : Literals) (suffixes : Suffixes) : Type 0 where

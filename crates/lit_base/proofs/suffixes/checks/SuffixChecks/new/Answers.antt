@@ -12,9 +12,12 @@ loop-place-preserved c =
     c.as_slice.ensures ∙ get_or_read c.args.literals.now c.loop-place.place c.index-literals-place.result inside c.index-literals-place.is [] in
     record {
       len = c.check_literal.ensures.len ∙ c.loop-place.invariant.len;
-      checked = below_more _ _
-          (λ place low. c.check_literal.ensures.kept _ _ (c.loop-place.invariant.checked place low))
-          (subst (λ t. IsChecked c.check_literal.new.widths.items (told_width (length t)) (suffix_key c.args.fold t (length t) (min (told_width (length t)) c.max-most.result))) here c.check_literal.ensures.checked);
+      short = below_more _ _
+          (λ place low narrow. c.check_literal.ensures.kept _ _ (c.loop-place.invariant.short place low narrow))
+          (subst (λ t. told_width (length t) < 8 → IsChecked c.check_literal.new.widths.items (told_width (length t)) (suffix_key c.args.fold t (length t) (min (told_width (length t)) c.max-most.result))) here c.check_literal.ensures.short);
+      long = below_more _ _
+          (λ place low wide. c.check_literal.ensures.kept _ _ (c.loop-place.invariant.long place low wide))
+          (subst (λ t. told_width (length t) ≡ 8 → IsChecked c.check_literal.new.widths.items (told_width (length t)) (suffix_key c.args.fold t (length t) (min (told_width (length t)) 8))) here c.check_literal.ensures.long);
     }
 
 pub returns : goal.returns
@@ -25,5 +28,6 @@ returns c = record {
   case = c.case_bits.ensures;
   room = omega (arith, c.loop-place.invariant.len);
   wide = λ place inside. omega (arith, c.marked_len.ensures.shared place inside, c.min-least.ensures);
-  checked = λ place inside. c.loop-place.invariant.checked place (omega (arith, inside, c.loop-place-test.false));
+  short = λ place inside. c.loop-place.invariant.short place (omega (arith, inside, c.loop-place-test.false));
+  long = λ place inside. c.loop-place.invariant.long place (omega (arith, inside, c.loop-place-test.false));
 }

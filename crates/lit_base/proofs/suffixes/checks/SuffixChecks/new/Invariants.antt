@@ -8,6 +8,8 @@ use Rattle.lit_base.proofs.suffixes.checks.SuffixChecks.new.Given as goal
 abbrev pub invariant-loop-place : goal.invariant-loop-place
 invariant-loop-place l = record {
   len : vec_len l.widths ≡ 2 ^ CHECK_BITS;
-  checked : (place : ℕ) → place < l.place → IsChecked l.widths.items (told_width (length (slice_index_or l.literals place [])))
+  short : (place : ℕ) → place < l.place → told_width (length (slice_index_or l.literals place [])) < 8 → IsChecked l.widths.items (told_width (length (slice_index_or l.literals place [])))
       (suffix_key l.fold (slice_index_or l.literals place []) (length (slice_index_or l.literals place [])) (min (told_width (length (slice_index_or l.literals place []))) l.most));
+  long : (place : ℕ) → place < l.place → told_width (length (slice_index_or l.literals place [])) ≡ 8 → IsChecked l.widths.items (told_width (length (slice_index_or l.literals place [])))
+      (suffix_key l.fold (slice_index_or l.literals place []) (length (slice_index_or l.literals place [])) (min (told_width (length (slice_index_or l.literals place []))) 8));
 }

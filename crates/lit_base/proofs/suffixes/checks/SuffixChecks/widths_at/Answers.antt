@@ -6,10 +6,10 @@ use Rattle.std.proofs.lemmas.Bool.{cases_lt}
 use Rattle.std.proofs.lemmas.List.{get_or_read}
 use Rattle.std.proofs.lemmas.Option.{slice_get_within}
 use Rattle.lit_base.specs.Chains.{told_at}
-use Rattle.lit_base.specs.Checks.{IsChecked}
+use Rattle.lit_base.specs.Checks.{IsChecked, last_key}
 use Rattle.lit_base.specs.Suffixes.{hash_of, last_bits}
 use Rattle.lit_base.specs.declared.suffixes.checks.TheConstants.{CHECK_BITS}
-use Rattle.lit_base.proofs.CheckLemmas.{checked-occurs, width_added, width_stays}
+use Rattle.lit_base.proofs.CheckLemmas.{bit_below, bit_highest, checked-occurs, more_stays, width_added, width_stays}
 use Rattle.lit_base.proofs.SuffixLemmas.{are_bytes}
 use Rattle.lit_base.proofs.suffixes.checks.SuffixChecks.widths_at.Goals as goal
 
@@ -37,12 +37,25 @@ returns c = λ l place is occurs.
     let there = slice_get_within l.texts place occurs.literal occurs.stands in
     let width : ℕ = told_at l place in
     let most = c.args.self.now.most in
+    let widths = c.args.self.now.widths.items in
     let least : c.args.self.now.least ≤ width = omega (arith, is.ordered, is.narrow, is.wide place there) in
-    let checked = checked-occurs l c.args.self.now text place c.args.end is (are_bytes text c.type_inv.text) c.requires.eight occurs in
-    let looked : (checked_by : ℕ) → min width most ≡ checked_by → IsChecked c.args.self.now.widths.items width (bit_or (bit_and c.last_word-word.result (last_bits checked_by)) c.args.self.now.case_bits) = λ checked_by same.
-    subst (λ n. IsChecked c.args.self.now.widths.items width (bit_or (bit_and c.last_word-word.result (last_bits n)) c.args.self.now.case_bits)) same
-    (subst (λ word. IsChecked c.args.self.now.widths.items width (bit_or (bit_and word (last_bits (min width most))) c.args.self.now.case_bits)) (sym c.last_word-word.ensures) checked) in
-    elim (cases_lt width most) [
-      | inl short ↦ c.loop-width.invariant.passed width least (omega (arith, c.loop-width-test.false, short)) (looked width (omega (arith, short)))
-      | inr long ↦ c.loop-width.invariant.kept (width - 1) (ap (λ b. bit_at b (width - 1)) c.widths_of-long.ensures ∙ looked most (omega (arith, long)))
+    let looked : (by bytes : ℕ) → IsChecked widths width (last_key l by place) → min width by ≡ bytes → IsChecked widths width (bit_or (bit_and c.last_word-word.result (last_bits bytes)) c.args.self.now.case_bits) = λ by bytes checked same.
+    subst (λ n. IsChecked widths width (bit_or (bit_and c.last_word-word.result (last_bits n)) c.args.self.now.case_bits)) same
+    (subst (λ word. IsChecked widths width (bit_or (bit_and word (last_bits (min width by))) c.args.self.now.case_bits)) (sym c.last_word-word.ensures)
+    (checked-occurs l c.args.self.now text place c.args.end by is (are_bytes text c.type_inv.text) c.requires.eight occurs checked)) in
+    elim (cases_lt width 8) [
+      | inl narrow ↦
+          let checked = is.short place there narrow in
+          elim (cases_lt width most) [
+            | inl short ↦ c.loop-width.invariant.passed width least (omega (arith, c.loop-width-test.false, short)) (looked most width checked (omega (arith, short)))
+            | inr long ↦
+                let has = ap (λ b. bit_at b (width - 1)) c.widths_of-narrower.ensures ∙ looked most most checked (omega (arith, long)) in
+                c.loop-width.invariant.kept (width - 1) (more_stays _ _ (width - 1) (bit_below c.widths_of-narrower.result (width - 1) (omega (arith, narrow, is.some, least)) has))
+          ]
+      | inr wide ↦
+          let eight : width ≡ 8 = omega (arith, wide) in
+          let has = ap (λ b. bit_at b (width - 1)) c.widths_of-widest.ensures ∙ looked 8 8 (is.long place there eight) (omega (arith, eight)) in
+          let seven : width - 1 ≡ 7 = omega (arith, eight) in
+          c.loop-width.invariant.kept (width - 1) (subst (λ k. bit_at (bit_or (bit_and c.widths_of-widest.result 128) (bit_and c.widths_of-narrower.result 127)) k ≡ 1) (sym seven)
+          (width_stays _ _ 7 (bit_highest c.widths_of-widest.result (subst (λ k. bit_at c.widths_of-widest.result k ≡ 1) seven has))))
     ]
