@@ -108,15 +108,20 @@ fn lends_the_same_whole_lines_as_it_learns(rt: HostRuntime) {
     assert_eq!(rt; lend_the_same(rt.alloc(), WHOLE), Some(true));
 }
 
-/// Whether a picker that was made with what learns hands it back.
-fn hands_back_a_finder(alloc: Global) -> Option<bool> {
-    let compiled = plan_of_words(alloc)?;
-    if !is_in_lines(&compiled) {
+/// Whether a picker by a plan that was made with what learns hands it back.
+fn hands_back_by(alloc: Global, compiled: &Compiled) -> Option<bool> {
+    if !is_in_lines(compiled) {
         return None;
     }
-    let finder = EndFinder::new(alloc, &compiled).ok()?;
+    let finder = EndFinder::new(alloc, compiled).ok()?;
     let picker = Picker::by_finder(alloc, finder, false, PARTS);
     Some(picker.learns() && picker.into_finder().is_some())
+}
+
+/// The same by the plan of the tests.
+fn hands_back_a_finder(alloc: Global) -> Option<bool> {
+    let compiled = plan_of_words(alloc)?;
+    hands_back_by(alloc, &compiled)
 }
 
 /// Whether one that was made without does.
