@@ -4,8 +4,8 @@ use crate::met::Met;
 use text_windows::{LOOK_COST, MARK_COST, SIEVE_COST, Windows, cost_of_both};
 
 /// A candidate of the sieve at which nothing ends takes so many tenths of a nanosecond, since it is not foreseen. From one seed of
-/// log lines, English, JSON and source code: with 50, lists of 5 to 30 rare literals learned later or not at all, and took 1.0 to
-/// 1.25 times as long; with 600 they took as long as with this, and frequent ones with any of these.
+/// log lines, English, JSON and source code: with 50, lists of 5 to 30 literals learned later or not at all, and took 1.0 to 1.25
+/// times as long where they are rare, and up to 1.4 times where they are frequent; with 600 they took as long as with this.
 pub(crate) const CANDIDATE_COST: usize = 400;
 
 /// How a search goes through a text.
