@@ -3,9 +3,9 @@
 use crate::met::Met;
 use text_windows::{LOOK_COST, MARK_COST, SIEVE_COST, Windows, cost_of_both};
 
-/// A candidate of the sieve at which nothing ends takes so many tenths of a nanosecond, since it is not foreseen. From one seed of
-/// log lines, English, JSON and source code: with 50, lists of 5 to 30 literals learned later or not at all, and took 1.0 to 1.25
-/// times as long where they are rare, and up to 1.4 times where they are frequent; with 600 they took as long as with this.
+/// A candidate of the sieve at which nothing ends counts for so many tenths of a nanosecond. What one takes was not measured: the number
+/// was chosen together with `LEAST_LOSS_OF_FEW`, by what both gain on one seed of log lines, English, JSON and source code. With 50 and
+/// 2,500,000 lists of 5 to 30 rare literals learned later or not at all, and took 0.98 to 1.23 times as long; with 600 as long as so.
 pub(crate) const CANDIDATE_COST: usize = 400;
 
 /// How a search goes through a text.
@@ -33,8 +33,8 @@ const PLAIN_HIT_COST: usize = 500;
 /// To learn takes about so long: half a millisecond. It is worth while once as much was lost.
 const LEAST_LOSS: usize = 5_000_000;
 
-/// To learn for few literals takes less than a third of that: their windows are chosen from half as much text, and mostly shift-or
-/// is not asked.
+/// To learn for few literals takes less: their windows are chosen from half as much text, and mostly shift-or is not asked. The number
+/// was chosen as `CANDIDATE_COST` says, and is not a measured time.
 const LEAST_LOSS_OF_FEW: usize = 1_500_000;
 
 /// So many literals at most are few.

@@ -44,10 +44,11 @@ pub(crate) const NEAR_LOOKS: usize = 64;
 /// place.
 pub(crate) const TOLD_LEN: usize = 4;
 
-/// So many places at most are asked so before the sieve is begun.
+/// So many places at most are asked so before the sieve is begun. The number was not varied.
 pub(crate) const NEAR_PLACES: usize = 16;
 
-/// To ask at a place what ends there takes about so long, in tenths of a nanosecond.
+/// To ask at a place what ends there counts for so long, in tenths of a nanosecond: reckoned from some sixty instructions, and not
+/// varied.
 pub(crate) const PLACE_COST: usize = 50;
 
 /// To begin a search by the sieve takes about so long, in tenths of a nanosecond.

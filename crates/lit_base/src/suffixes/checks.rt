@@ -22,9 +22,9 @@ use std::alloc::{AllocError, Global};
 pub(crate) const CHECK_BITS: usize = 13;
 
 /// Literals of so many bytes up to seven are checked by one look, and longer ones by another. To check each by all the bytes that it
-/// is told by took a look for each width from the least to eight, a fifth of all instructions where hits are frequent; what these
-/// looks let through besides is told by the chains. With one look for all, places at which nothing ends are not told often enough: a
-/// thousand rare literals in English text took 1.07 times as long.
+/// is told by took a look for each width from the least to eight, 18 of 100 instructions for a thousand frequent literals in log lines;
+/// what these looks let through besides is told by the chains. With one look for all, a thousand rare literals in English text took
+/// 1.1 times as long.
 const LEAST_CHECKED: usize = 4;
 
 /// A byte for each hash. Bit `width - 1` is set where some literal that is told by `width` bytes has that hash by the bytes that it is
