@@ -15,7 +15,6 @@ import platform
 import random
 import shutil
 import statistics
-import subprocess
 import sys
 import tempfile
 import time
@@ -203,34 +202,36 @@ def litgreps(given):
 
 
 class Run:
-    def __init__(self, status, digest, size, cpu, wall, memory):
-        self.status, self.digest, self.size, self.cpu, self.wall, self.memory = status, digest, size, cpu, wall, memory
+    def __init__(self, status, digest, size, cpu, wall):
+        self.status, self.digest, self.size, self.cpu, self.wall = status, digest, size, cpu, wall
+        self.memory = 0
 
 
 def run(words, stdin):
-    """One process, its output read through a pipe. GNU time starts it, since the peak of a process counts from the
-    one that forked it, which would be this script."""
-    environment = dict(os.environ, LC_ALL="C")
-    peak = tempfile.NamedTemporaryFile("r")
-    words = ["/usr/bin/time", "-q", "-f", "%M", "-o", peak.name] + words
-    source = open(stdin or os.devnull, "rb")
+    """One process, its output read through a pipe. It is spawned without a fork of this script, whose pages would be copied on its
+    account."""
+    reading, writing = os.pipe()
+    actions = [(os.POSIX_SPAWN_OPEN, 0, stdin or os.devnull, os.O_RDONLY, 0), (os.POSIX_SPAWN_DUP2, writing, 1),
+               (os.POSIX_SPAWN_OPEN, 2, os.devnull, os.O_WRONLY, 0)]
     before = time.monotonic()
-    child = subprocess.Popen(words, stdin=source, stdout=subprocess.PIPE, stderr=subprocess.DEVNULL, env=environment)
+    child = os.posix_spawnp(words[0], words, dict(os.environ, LC_ALL="C"), file_actions=actions)
+    os.close(writing)
     digest, size = hashlib.blake2b(), 0
-    while True:
-        piece = child.stdout.read1(MB)
-        if not piece:
-            break
+    while piece := os.read(reading, MB):
         size += len(piece)
         digest.update(piece)
-    _, status, usage = os.wait4(child.pid, 0)
+    _, status, usage = os.wait4(child, 0)
     wall = time.monotonic() - before
-    child.returncode = os.waitstatus_to_exitcode(status)
-    source.close()
-    child.stdout.close()
-    memory = int(peak.read().split()[-1])
-    peak.close()
-    return Run(child.returncode, digest.hexdigest(), size, usage.ru_utime + usage.ru_stime, wall, memory)
+    os.close(reading)
+    return Run(os.waitstatus_to_exitcode(status), digest.hexdigest(), size, usage.ru_utime + usage.ru_stime, wall)
+
+
+def peak(words, stdin):
+    """The peak memory of one process in KiB. GNU time starts it, since the peak of a process counts from the one that started it,
+    which would be this script."""
+    with tempfile.NamedTemporaryFile("r") as told:
+        run(["/usr/bin/time", "-q", "-f", "%M", "-o", told.name] + words, stdin)
+        return int(told.read().split()[-1])
 
 
 def command(program, row):
@@ -246,8 +247,8 @@ def command(program, row):
 
 
 def measure(row, programs, turns):
-    """The runs of each program, in turn, so that what the machine does meanwhile meets all alike. A program that
-    refuses a row, as one does that takes patterns for UTF-8, has none."""
+    """The runs of each program, in turn, so that what the machine does meanwhile meets all alike, and the peak memory of each
+    litgrep by a run of its own. A program that refuses a row, as one does that takes patterns for UTF-8, has none."""
     found = {program[0]: [] for program in programs}
     for _ in range(turns):
         for program in programs:
@@ -255,6 +256,11 @@ def measure(row, programs, turns):
                 done = run(command(program, row), row.stdin)
                 if done.status < 2:
                     found[program[0]].append(done)
+    for program in programs:
+        if found[program[0]] and program[0].startswith("litgrep"):
+            memory = peak(command(program, row), row.stdin)
+            for done in found[program[0]]:
+                done.memory = memory
     return found
 
 

@@ -103,3 +103,9 @@ pub rest-none : (l : Literals) → All IsOnePiece l.texts → (whole text : List
 rest-none l apart whole text from behind place none =
     let at : from ≡ length behind.front = omega (arith, place, behind-len whole text behind) in
     none_in_text l apart behind.front text behind.closed (subst (λ w. NoEndAfter l w (length behind.front)) behind.cut (subst (NoEndAfter l whole) at none))
+
+-- and so of any literal that ends in the whole behind them
+pub rest-end : (l : Literals) → All IsOnePiece l.texts → (whole text : List ℕ) (from end : ℕ) → IsBehindLines whole text → from + length text ≡ length whole → 0 < end → HasEnd l whole (from + end) → HasEnd l text end
+rest-end l apart whole text from end behind place some here =
+    let at : from ≡ length behind.front = omega (arith, place, behind-len whole text behind) in
+    ends_in_text l apart behind.front text behind.closed end some (subst (λ n. HasEnd l (behind.front ++ text) (n + end)) at (subst (λ w. HasEnd l w (from + end)) behind.cut here))

@@ -151,18 +151,19 @@ module _ (l : Literals) (normal : IsNormal l) where
         hit = hit-line apart text missed line behind head tail end whole cut.closed parts cut.one size n.here;
       }
 
-  -- the first line is that line, where the first end stands in it
-  pub first-line-hit : (apart : All IsOnePiece l.texts) (text missed line behind : List ℕ) (end : ℕ) → IsNextEnd l text 0 end → missed ≡ [] → IsFirstLine text line behind → end ≤ length line → IsFirstHitLine l text missed line behind
-  first-line-hit apart text missed line behind end n none cut low =
+  -- the first line is that line, where some literal ends in it
+  pub first-line-hit : (apart : All IsOnePiece l.texts) (text missed line behind : List ℕ) (end : ℕ) → 0 < end → HasEnd l text end → missed ≡ [] → IsFirstLine text line behind → end ≤ length line → IsFirstHitLine l text missed line behind
+  first-line-hit apart text missed line behind end some here none cut low =
       let same : line ≡ take (length line) text = sym (ap (take (length line)) cut.whole ∙ take-append_seam line (10 ∷ behind)) in
       let one : IsOnePiece (take (end - 1) text) = one-shorter text (end - 1) (length line) (omega arith) (subst IsOnePiece same cut.one) in
-      let size : 0 + length (take (end - 1) text) + 1 ≡ end = omega (arith, n.after, n.within, length-take (end - 1) text) in
+      let long : length text ≡ length line + length (10 ∷ behind) = ap length cut.whole ∙ length-append line (10 ∷ behind) in
+      let size : 0 + length (take (end - 1) text) + 1 ≡ end = omega (arith, some, low, long, length-take (end - 1) text) in
       subst (λ m. IsFirstHitLine l text m line behind) (sym none) (record {
         whole = cut.whole;
         closed = open_rest-nil;
         one = cut.one;
-        misses = misses-front text [] text refl (λ e some within. absurd (omega (arith, some, within)));
-        hit = hit-line apart text [] line behind (take (end - 1) text) (drop (end - 1) text) end cut.whole open_rest-nil (sym (take-append-drop (end - 1) text)) one size n.here;
+        misses = misses-front text [] text refl (λ e more within. absurd (omega (arith, more, within)));
+        hit = hit-line apart text [] line behind (take (end - 1) text) (drop (end - 1) text) end cut.whole open_rest-nil (sym (take-append-drop (end - 1) text)) one size here;
       })
 
   -- in a text of ended lines it has a newline

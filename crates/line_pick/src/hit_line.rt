@@ -5,6 +5,7 @@ ghost use Rattle.lit_base.specs.Literals.{IsNormal};
 ghost use Rattle.flow_scan.specs.NextEnds.{IsNextEnd, NoEndAfter};
 ghost use Rattle.line_pick.specs.HitLines.{AllMiss, IsBehindLines, IsFirstHitLine};
 
+use crate::column::Column;
 use crate::cutting::{split_front, split_line_behind, split_near_line};
 use flow_scan::{Compiled, EndFinder, TextSearch};
 
@@ -25,6 +26,7 @@ pub(crate) fn first_hit_line<'t>(
     compiled: &Compiled,
     finder: &mut Option<EndFinder<'_>>,
     search: &mut TextSearch<'_>,
+    column: &mut Column,
     whole: &[u8],
     text: &'t [u8],
 ) -> Option<HitLine<'t>>
@@ -39,9 +41,13 @@ pub(crate) fn first_hit_line<'t>(
         (AllMiss compiled.now.literals text.now)
         (λ hit. IsFirstHitLine compiled.now.literals text.now hit.missed.now hit.line.now hit.behind.now) }
 {
+    if let Some(hit) = likely_hit_line(compiled, column, whole, text) {
+        return Some(hit);
+    }
     compiled.list().normal_law();
     let end = first_end(compiled, finder, search, whole, text)?;
     if let Some((line, behind)) = split_line_behind(text, end) {
+        column.note(end);
         let (missed, _) = text.split_at(0);
         return Some(HitLine {
             missed,
@@ -49,12 +55,71 @@ pub(crate) fn first_hit_line<'t>(
             behind,
         });
     }
-    hit_line_round(compiled, text, end)
+    hit_line_round(compiled, column, text, end)
+}
+
+/// The first line of a text, if a literal ends in it where one is likely to. `None` tells nothing.
+#[inline(always)]
+fn likely_hit_line<'t>(
+    compiled: &Compiled,
+    column: &mut Column,
+    whole: &[u8],
+    text: &'t [u8],
+) -> Option<HitLine<'t>>
+    requires behind { IsBehindLines whole.now text.now }
+    requires apart { All IsOnePiece compiled.now.literals.texts }
+    ensures { IfSome result
+        (λ hit. IsFirstHitLine compiled.now.literals text.now hit.missed.now hit.line.now hit.behind.now) }
+{
+    let at = column.likely()?;
+    let found = line_with_end(compiled, whole, text, at);
+    match found {
+        Some(_) => column.was_right(),
+        None => column.was_wrong(),
+    }
+    found
+}
+
+/// The first line of a text, if some literal ends in it so many bytes behind its front.
+#[inline(always)]
+fn line_with_end<'t>(
+    compiled: &Compiled,
+    whole: &[u8],
+    text: &'t [u8],
+    at: usize,
+) -> Option<HitLine<'t>>
+    requires behind { IsBehindLines whole.now text.now }
+    requires apart { All IsOnePiece compiled.now.literals.texts }
+    ensures { IfSome result
+        (λ hit. IsFirstHitLine compiled.now.literals text.now hit.missed.now hit.line.now hit.behind.now) }
+{
+    if at == 0 || text.len() < at {
+        return None;
+    }
+    let list = compiled.list();
+    list.normal_law();
+    let end = whole.len() - text.len() + at;
+    let _first = list.first_ending(whole, end)?;
+    let (line, behind) = split_near_line(text)?;
+    if line.len() < at {
+        return None;
+    }
+    let (missed, _) = text.split_at(0);
+    Some(HitLine {
+        missed,
+        line,
+        behind,
+    })
 }
 
 /// The line in which a literal ends, where it is the first end of one in a text of ended lines.
 #[inline(always)]
-fn hit_line_round<'t>(compiled: &Compiled, text: &'t [u8], end: usize) -> Option<HitLine<'t>>
+fn hit_line_round<'t>(
+    compiled: &Compiled,
+    column: &mut Column,
+    text: &'t [u8],
+    end: usize,
+) -> Option<HitLine<'t>>
     requires end { IsNextEnd compiled.now.literals text.now 0 end }
     requires closed { open_rest text.now ≡ [] }
     requires apart { All IsOnePiece compiled.now.literals.texts }
@@ -68,6 +133,7 @@ fn hit_line_round<'t>(compiled: &Compiled, text: &'t [u8], end: usize) -> Option
     let (ending, behind) = split_near_line(tail)?;
     let (_, rest) = text.split_at(missed.len());
     let (line, _) = rest.split_at(head.len() + ending.len());
+    column.note(head.len().saturating_add(1));
     Some(HitLine {
         missed,
         line,

@@ -1,6 +1,7 @@
 //! The selected lines of a text that comes in pieces, lent one by one with their numbers.
 #![tactic(auto)]
 
+mod column;
 mod counting;
 mod cutting;
 mod fault;

@@ -6,6 +6,7 @@ ghost use Rattle.lit_base.specs.Selected.{is_selected, matches};
 ghost use Rattle.line_pick.specs.Lending.{Lent, answer_of, as_numbered, numbered};
 ghost use Rattle.line_pick.specs.Matching.{AreInLines, picks};
 
+use crate::column::Column;
 use crate::counting::count_newlines;
 use crate::fault::Fault;
 use crate::halt::Halt;
@@ -135,10 +136,11 @@ fn lend_hit_lines<S: Sink>(
     ensures faults { result ≢ Err (Halt.Failed Fault.StreamTooLong) }
 {
     let mut search = TextSearch::new(compiled, text);
+    let mut column = Column::new();
     let mut rest = text;
     let mut lines = before;
     let mut credit = CREDIT;
-    while let Some(hit) = first_hit_line(compiled, finder, &mut search, text, rest) {
+    while let Some(hit) = first_hit_line(compiled, finder, &mut search, &mut column, text, rest) {
         lines = lend_all(rule.invert, hit.missed, lines, is_numbered, sink)?;
         let selected = selects_at_hit(compiled, rule, hit.line);
         lend_if(selected, hit.line, lines, sink)?;

@@ -1,4 +1,5 @@
 //! What no clause says: worked rows, and the texts of faults.
+mod columns;
 mod finding;
 mod numbers;
 mod whole_lines;

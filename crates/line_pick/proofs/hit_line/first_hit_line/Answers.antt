@@ -9,8 +9,9 @@ returns-in_err-end-clause-hit c =
     let normal = subst IsNormal c.list.ensures c.normal_law.ensures in
     rw c.from_residual.ensures (misses-all c.args.compiled.now.literals normal c.args.text.now c.in_err-end.ensures.next)
 
-pub returns-in-Some-clause-hit : goal.returns-in-Some-clause-hit
-returns-in-Some-clause-hit c =
+pub returns-in-Some-split_line_behind-clause-hit : goal.returns-in-Some-split_line_behind-clause-hit
+returns-in-Some-split_line_behind-clause-hit c =
     let normal = subst IsNormal c.list.ensures c.normal_law.ensures in
-    first-line-hit c.args.compiled.now.literals normal c.requires.apart c.args.text.now c.split_at.result.0.now c.in-Some.line.now c.in-Some.behind.now c.in_ok-end.end
-    c.in_ok-end.ensures.next c.split_at.ensures.front c.in-Some.ensures.line c.in-Some.ensures.behind
+    let near = c.in-Some-split_line_behind in
+    first-line-hit c.args.compiled.now.literals normal c.requires.apart c.args.text.now c.split_at.result.0.now near.line.now near.behind.now c.in_ok-end.end
+    c.in_ok-end.ensures.next.after c.in_ok-end.ensures.next.here c.split_at.ensures.front near.ensures.line near.ensures.behind

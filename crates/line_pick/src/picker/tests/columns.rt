@@ -1,0 +1,29 @@
+//! Lines in which literals end in one column, and others.
+use super::*;
+
+/// Lines with a literal that ends behind five bytes, one so short that its fifth byte is the next one's, and some with a literal in
+/// other columns.
+static ALIKE: [Turn; 3] = [
+    (
+        Some(b"a cat\na cat\na cat\nx\ncat\na cat\na dog\nno cat\na cat\na ca"),
+        Ok(Next::More),
+        b"1:a cat\n2:a cat\n3:a cat\n5:cat\n6:a cat\n8:no cat\n9:a cat\n",
+    ),
+    (
+        Some(b"t\na cat\n"),
+        Ok(Next::More),
+        b"1:a cat\n2:a cat\n3:a cat\n5:cat\n6:a cat\n8:no cat\n9:a cat\n10:a cat\n11:a cat\n",
+    ),
+    (
+        None,
+        Ok(Next::More),
+        b"1:a cat\n2:a cat\n3:a cat\n5:cat\n6:a cat\n8:no cat\n9:a cat\n10:a cat\n11:a cat\n",
+    ),
+];
+
+#[test]
+fn takes_lines_by_their_own_columns(rt: HostRuntime) -> Result<(), Fail> {
+    let wrong = first_wrong_of(rt.alloc(), b"cat", PARTS, Mood::Takes, &ALIKE)?;
+    assert_eq!(rt; wrong, None);
+    Ok(())
+}
