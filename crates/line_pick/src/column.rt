@@ -14,12 +14,18 @@ pub(crate) struct Column {
     at: usize,
     /// How often that was right, less how often it was wrong, up to a bound.
     trust: u8,
+    /// The place in the list of the literal that ended there last: it is compared before others are looked for.
+    pub literal: usize,
 }
 
 impl Column {
     /// That before any hit.
     pub fn new() -> Column {
-        Column { at: 0, trust: 0 }
+        Column {
+            at: 0,
+            trust: 0,
+            literal: 0,
+        }
     }
 
     /// The column, if it is worth asking for.

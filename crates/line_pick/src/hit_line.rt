@@ -1,13 +1,15 @@
 //! The first line of a text that holds a literal.
-ghost use Rattle.std.specs.Prelude.{◌≡◌, [], All, IfSome, MatchOption};
+ghost use Rattle.std.specs.Prelude.{◌≡◌, ◌<◌, ◌≤◌, ◌↔◌, [], All, IfSome, IsTrue, MatchOption, length};
 ghost use Rattle.lit_base.specs.Lines.{IsOnePiece, open_rest};
 ghost use Rattle.lit_base.specs.Literals.{IsNormal};
+ghost use Rattle.lit_base.specs.Occurrences.{HasEnd};
 ghost use Rattle.flow_scan.specs.NextEnds.{IsNextEnd, NoEndAfter};
 ghost use Rattle.line_pick.specs.HitLines.{AllMiss, IsBehindLines, IsFirstHitLine};
 
 use crate::column::Column;
 use crate::cutting::{split_front, split_line_behind, split_near_line};
 use flow_scan::{Compiled, EndFinder, TextSearch};
+use lit_base::{Fold, LitList};
 
 /// A line that holds a literal, with the text round it.
 #[derive(Clone, Copy)]
@@ -72,7 +74,7 @@ fn likely_hit_line<'t>(
         (λ hit. IsFirstHitLine compiled.now.literals text.now hit.missed.now hit.line.now hit.behind.now) }
 {
     let at = column.likely()?;
-    let found = line_with_end(compiled, whole, text, at);
+    let found = line_with_end(compiled, column, whole, text, at);
     match found {
         Some(_) => column.was_right(),
         None => column.was_wrong(),
@@ -84,6 +86,7 @@ fn likely_hit_line<'t>(
 #[inline(always)]
 fn line_with_end<'t>(
     compiled: &Compiled,
+    column: &mut Column,
     whole: &[u8],
     text: &'t [u8],
     at: usize,
@@ -96,10 +99,10 @@ fn line_with_end<'t>(
     if at == 0 || text.len() < at {
         return None;
     }
-    let list = compiled.list();
-    list.normal_law();
-    let end = whole.len() - text.len() + at;
-    let _first = list.first_ending(whole, end)?;
+    compiled.list().normal_law();
+    if !has_end(compiled, column, whole, text, at) {
+        return None;
+    }
     let (line, behind) = split_near_line(text)?;
     if line.len() < at {
         return None;
@@ -110,6 +113,53 @@ fn line_with_end<'t>(
         line,
         behind,
     })
+}
+
+/// Whether some literal ends so many bytes behind the front of a text: the one that did last, or another.
+#[inline(always)]
+fn has_end(compiled: &Compiled, column: &mut Column, whole: &[u8], text: &[u8], at: usize) -> bool
+    requires behind { IsBehindLines whole.now text.now }
+    requires apart { All IsOnePiece compiled.now.literals.texts }
+    requires some { 0 < at }
+    requires inside { at ≤ length text.now }
+    ensures { IsTrue result → HasEnd compiled.now.literals text.now at }
+{
+    let list = compiled.list();
+    if is_spelled_before(list, column.literal, text, at) {
+        return true;
+    }
+    match list.first_ending(whole, whole.len() - text.len() + at) {
+        Some(first) => {
+            column.literal = first;
+            true
+        }
+        None => false,
+    }
+}
+
+/// Whether the literal at a place of the list is spelled before a place of a text. Where case is ignored this is not told.
+#[inline(always)]
+fn is_spelled_before(list: &LitList, place: usize, text: &[u8], end: usize) -> bool
+    requires { end ≤ length text.now }
+    ensures { IsTrue result → HasEnd list.now text.now end }
+{
+    match list.fold() {
+        Fold::Ascii => return false,
+        Fold::No => {}
+    }
+    if list.len() <= place {
+        return false;
+    }
+    let literal = list.get(place);
+    literal.len() <= end && is_same(&text[end - literal.len()..end], literal)
+}
+
+/// Whether two texts are one.
+#[inline(always)]
+fn is_same(text: &[u8], other: &[u8]) -> bool
+    ensures { IsTrue result ↔ (text.now ≡ other.now) }
+{
+    text == other
 }
 
 /// The line in which a literal ends, where it is the first end of one in a text of ended lines.
