@@ -56,8 +56,23 @@ impl Compiled {
         ensures least { OnOk result (NoAssignmentBelow 8 list certificate.cost) }
     {
         match check(&list, &certificate) {
-            Ok(()) => Ok(with_sieve(list, certificate)),
+            Ok(()) => Ok(Compiled::certified(list, certificate)),
             Err(reason) => Err((Fault::NotCertified { reason }, list, certificate)),
+        }
+    }
+
+    /// The plan of a certificate that is known to hold, as one that was just made: it is not checked again. It takes no memory.
+    pub fn certified(list: LitList, certificate: Certificate) -> Compiled
+        requires { IsCertified 8 list certificate }
+        ensures { result ≡ record { literals = list; certificate = certificate } }
+    {
+        let sieve = Sieve::of(&list, &certificate.ends);
+        let suffixes = SuffixFlags::of(&list);
+        Compiled {
+            list,
+            certificate,
+            sieve,
+            suffixes,
         }
     }
 
@@ -127,21 +142,6 @@ impl Compiled {
         ensures bounds { HasBounds self.now.literals }
     {
         carry(&self.list)
-    }
-}
-
-/// The plan of a certificate that holds.
-fn with_sieve(list: LitList, certificate: Certificate) -> Compiled
-    requires { IsCertified 8 list certificate }
-    ensures { result ≡ record { literals = list; certificate = certificate } }
-{
-    let sieve = Sieve::of(&list, &certificate.ends);
-    let suffixes = SuffixFlags::of(&list);
-    Compiled {
-        list,
-        certificate,
-        sieve,
-        suffixes,
     }
 }
 

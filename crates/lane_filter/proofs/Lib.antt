@@ -7,3 +7,4 @@ pub mod FourLemmas
 pub mod LaneLemmas
 pub mod PairLemmas
 pub mod Ranks
+pub mod TripleLemmas

@@ -134,7 +134,7 @@ case_told Ascii byte other is =
     ]
 
 -- where a literal ends, each of its bytes stands before the end
-rare_stands : (l : Literals) (text : List ℕ) (place end at : ℕ) (rare : RareByte) (occurs : Occurs l text place end) → IsRareByteOf l.folding occurs.literal at rare
+pub rare_stands : (l : Literals) (text : List ℕ) (place end at : ℕ) (rare : RareByte) (occurs : Occurs l text place end) → IsRareByteOf l.folding occurs.literal at rare
     → (rare.behind < end) × StandsBefore rare text end
 rare_stands l text place end at rare occurs is =
     let literal = occurs.literal in

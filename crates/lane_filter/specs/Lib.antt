@@ -9,4 +9,5 @@ pub mod Lanes
 pub mod OneBytes
 pub mod Pairs
 pub mod Sieves
+pub mod Triples
 pub mod WideTables

@@ -4,9 +4,11 @@ use Rattle.lit_base.specs.Literals.{Literals}
 use Rattle.nib_mask.specs.Candidates.{GivesFilterSets, IsCandidate}
 use Rattle.lane_filter.specs.OneBytes.{IsByteOf, IsEndOfByte}
 use Rattle.lane_filter.specs.Pairs.{IsPairEnd, IsPairOf}
+use Rattle.lane_filter.specs.Triples.{IsTripleEnd, IsTripleOf}
 use Rattle.lane_filter.specs.declared.pair.BytePair.{BytePair}
+use Rattle.lane_filter.specs.declared.triple.ByteTriple.{ByteTriple}
 use Rattle.lane_filter.specs.declared.sieve.Sieve.{Sieve}
-use Rattle.lane_filter.specs.declared.sieve.Sieve.TheVariants.{Nibbles, OneByte, OneExactByte, OnePair, OneExactPair, TwoPairs, TwoExactPairs, ThreePairs, ThreeExactPairs}
+use Rattle.lane_filter.specs.declared.sieve.Sieve.TheVariants.{Nibbles, OneByte, OneExactByte, OneTriple, OneExactTriple, TwoPairs, TwoExactPairs, ThreePairs, ThreeExactPairs}
 
 -- one of two pairs of bytes, or of three, stands before this place of the text
 abbrev pub IsEndOfTwo : BytePair → BytePair → List ℕ → ℕ → Type 0
@@ -20,8 +22,8 @@ abbrev pub Passes : Sieve → List ℕ → ℕ → Type 0
 Passes (Nibbles masks) = IsCandidate masks
 Passes (OneByte one) = IsEndOfByte one.byte one.case_bit
 Passes (OneExactByte exact) = IsEndOfByte exact.byte 0
-Passes (OnePair pair) = IsPairEnd pair
-Passes (OneExactPair exact) = IsPairEnd exact.pair
+Passes (OneTriple triple) = IsTripleEnd triple
+Passes (OneExactTriple exact) = IsTripleEnd exact.triple
 Passes (TwoPairs any) = IsEndOfTwo any.one any.other
 Passes (TwoExactPairs any) = IsEndOfTwo any.one.pair any.other.pair
 Passes (ThreePairs any) = IsEndOfThree any.one any.other.one any.other.other
@@ -31,24 +33,25 @@ Passes (ThreeExactPairs any) = IsEndOfThree any.one.pair any.other.one.pair any.
 abbrev pub IsOnlyByte : Literals → ℕ → ℕ → Type 0
 IsOnlyByte l byte bit = (length l.texts ≡ 1) × IsByteOf l 0 byte bit
 
--- one pair of bytes, two, or three, of each of as many literals
-abbrev pub IsOnePair : Literals → BytePair → Type 0
-IsOnePair l pair = (length l.texts ≡ 1) × IsPairOf l 0 pair
+-- three bytes of the only literal
+abbrev pub IsOneTriple : Literals → ByteTriple → Type 0
+IsOneTriple l triple = (length l.texts ≡ 1) × IsTripleOf l 0 triple
 
+-- a pair of bytes of each of two literals, or of three
 abbrev pub AreTwoPairs : Literals → BytePair → BytePair → Type 0
 AreTwoPairs l one two = (length l.texts ≡ 2) × IsPairOf l 0 one × IsPairOf l 1 two
 
 abbrev pub AreThreePairs : Literals → BytePair → BytePair → BytePair → Type 0
 AreThreePairs l one two three = (length l.texts ≡ 3) × IsPairOf l 0 one × IsPairOf l 1 two × IsPairOf l 2 three
 
--- the sieve of literals and a cut of them: tables that give their filter sets, or the byte of the only one, or two bytes
--- of each of at most three literals
+-- the sieve of literals and a cut of them: tables that give their filter sets, or the byte of the only one, or three bytes of it,
+-- or two bytes of each of two or three literals
 abbrev pub IsSieveOf : Literals → List ℕ → Sieve → Type 0
 IsSieveOf l ends (Nibbles masks) = GivesFilterSets l ends masks
 IsSieveOf l ends (OneByte one) = IsOnlyByte l one.byte one.case_bit
 IsSieveOf l ends (OneExactByte exact) = IsOnlyByte l exact.byte 0
-IsSieveOf l ends (OnePair pair) = IsOnePair l pair
-IsSieveOf l ends (OneExactPair exact) = IsOnePair l exact.pair
+IsSieveOf l ends (OneTriple triple) = IsOneTriple l triple
+IsSieveOf l ends (OneExactTriple exact) = IsOneTriple l exact.triple
 IsSieveOf l ends (TwoPairs any) = AreTwoPairs l any.one any.other
 IsSieveOf l ends (TwoExactPairs any) = AreTwoPairs l any.one.pair any.other.pair
 IsSieveOf l ends (ThreePairs any) = AreThreePairs l any.one any.other.one any.other.other

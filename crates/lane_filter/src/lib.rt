@@ -13,6 +13,7 @@ mod candidates;
 mod end_test;
 mod entries;
 mod exact_pair;
+mod exact_triple;
 mod four;
 mod kernels;
 mod lanes;
@@ -22,16 +23,19 @@ mod pair;
 mod plain;
 mod sieve;
 mod tables;
+mod triple;
 
 pub use any_of::AnyOf;
 pub use bits::{from_bit, split_lowest};
 pub use block_filter::BlockFilter;
 pub use candidates::Candidates;
 pub use exact_pair::ExactPair;
+pub use exact_triple::ExactTriple;
 pub use kernels::{any_set, filter, filter_wide};
 pub use one_byte::{ExactByte, OneByte};
 pub use pair::BytePair;
 pub use sieve::Sieve;
+pub use triple::ByteTriple;
 
 #[cfg(test)]
 mod tests;

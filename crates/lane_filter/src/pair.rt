@@ -13,7 +13,7 @@ use std::simd::prelude::*;
 
 /// From how many of a literal's last bytes the pair is chosen: the ends nearer to a text's start are
 /// looked at one by one.
-const CHOSEN_FROM: usize = 256;
+pub(crate) const CHOSEN_FROM: usize = 256;
 
 /// A byte of a literal, and where it stands before an end.
 #[derive(Clone, Copy, Debug, PartialEq, Eq)]
@@ -27,7 +27,7 @@ pub(crate) struct RareByte {
 
 impl RareByte {
     /// The byte at a place of a folded literal.
-    fn at(fold: Fold, literal: &[u8], place: usize) -> RareByte
+    pub(crate) fn at(fold: Fold, literal: &[u8], place: usize) -> RareByte
         requires within { place < length literal.now }
         requires near { length literal.now ≤ place + 256 }
         ensures { IsRareByteOf fold literal.now place result }
@@ -40,9 +40,26 @@ impl RareByte {
         }
     }
 
+    /// How many bytes before an end are looked at.
+    #[inline(always)]
+    pub(crate) fn reach(&self) -> usize
+        ensures value { result ≡ self.now.behind + 1 }
+        ensures near { result ≤ 256 }
+    {
+        usize::from(self.behind) + 1
+    }
+
+    /// Whether its case counts.
+    #[inline(always)]
+    pub(crate) fn is_exact(&self) -> bool
+        ensures { IsTrue result ↔ (self.now.case_bit ≡ 0) }
+    {
+        self.case_bit == 0
+    }
+
     /// Whether the text has the byte before an end.
     #[inline(always)]
-    fn stands_before(&self, text: &[u8], end: usize) -> bool
+    pub(crate) fn stands_before(&self, text: &[u8], end: usize) -> bool
         requires after { self.now.behind < end }
         requires within { end ≤ length text.now }
         ensures { IsTrue result ↔ StandsBefore self.now text.now end }
@@ -62,7 +79,7 @@ impl RareByte {
 
     /// 255 in each of 32 lanes where the text has the byte before an end.
     #[inline(always)]
-    fn lanes(&self, text: &[u8], first: usize) -> u8x32
+    pub(crate) fn lanes(&self, text: &[u8], first: usize) -> u8x32
         requires after { self.now.behind < first }
         requires within { first + 31 ≤ length text.now }
         ensures { TellsLanes (StandsBefore self.now text.now) first result }
@@ -73,7 +90,7 @@ impl RareByte {
 
     /// 255 in each of 32 lanes where the text has a byte of which the case counts before an end.
     #[inline(always)]
-    fn exact_lanes(&self, text: &[u8], first: usize) -> u8x32
+    pub(crate) fn exact_lanes(&self, text: &[u8], first: usize) -> u8x32
         requires exact { self.now.case_bit ≡ 0 }
         requires after { self.now.behind < first }
         requires within { first + 31 ≤ length text.now }
@@ -85,7 +102,7 @@ impl RareByte {
 
     /// Before which of 64 ends the text has the byte.
     #[inline(always)]
-    fn marks(&self, text: &[u8], first: usize) -> u64
+    pub(crate) fn marks(&self, text: &[u8], first: usize) -> u64
         requires after { self.now.behind < first }
         requires within { first + 63 ≤ length text.now }
         ensures { TellsBits (StandsBefore self.now text.now) first 64 result }
@@ -120,17 +137,22 @@ impl BytePair {
         }
     }
 
+    /// Whether one of them has so many bytes behind it.
+    pub(crate) fn has_byte_at(&self, behind: usize) -> bool {
+        usize::from(self.first.behind) == behind || usize::from(self.second.behind) == behind
+    }
+
     /// Whether the case of both bytes counts.
     #[inline(always)]
     pub(crate) fn is_exact(&self) -> bool
         ensures { IsTrue result ↔ IsExact self.now }
     {
-        self.first.case_bit == 0 && self.second.case_bit == 0
+        self.first.is_exact() && self.second.is_exact()
     }
 
     /// 255 in each of 32 lanes where both bytes stand before an end.
     #[inline(always)]
-    fn lanes(&self, text: &[u8], first: usize) -> u8x32
+    pub(crate) fn lanes(&self, text: &[u8], first: usize) -> u8x32
         requires after { max self.now.first.behind self.now.second.behind < first }
         requires within { first + 31 ≤ length text.now }
         ensures { TellsLanes (IsPairEnd self.now text.now) first result }
@@ -166,7 +188,7 @@ impl EndTest for BytePair {
     ghost reaches = { λ pair. max pair.first.behind pair.second.behind + 1 };
 
     fn reach(&self) -> usize {
-        usize::from(self.first.behind.max(self.second.behind)) + 1
+        self.first.reach().max(self.second.reach())
     }
 
     fn is_candidate(&self, text: &[u8], end: usize) -> bool {
@@ -242,7 +264,7 @@ fn cost_of(fold: Fold, literal: &[u8], place: usize, chosen: Option<usize>) -> u
 }
 
 /// How common a folded byte is in usual text, in either case of a letter.
-fn usual_rank(fold: Fold, byte: u8) -> u16
+pub(crate) fn usual_rank(fold: Fold, byte: u8) -> u16
     ensures { result < 256 }
 {
     let ranks = DefaultFrequencyRank;

@@ -4,13 +4,15 @@ ghost use Rattle.lit_base.specs.Cuts.{IsCut};
 ghost use Rattle.lit_base.specs.Literals.{Literals};
 ghost use Rattle.nib_mask.specs.Candidates.{CoversBy};
 ghost use Rattle.lane_filter.specs.OneBytes.{IsEndOfByte};
-ghost use Rattle.lane_filter.specs.Pairs.{IsPairEnd};
-ghost use Rattle.lane_filter.specs.Sieves.{AreThreePairs, AreTwoPairs, IsEndOfThree, IsEndOfTwo, IsOnePair, IsOnlyByte, IsSieveOf, Passes};
+ghost use Rattle.lane_filter.specs.Triples.{IsTripleEnd};
+ghost use Rattle.lane_filter.specs.Sieves.{AreThreePairs, AreTwoPairs, IsEndOfThree, IsEndOfTwo, IsOneTriple, IsOnlyByte, IsSieveOf, Passes};
 
 use crate::any_of::AnyOf;
 use crate::exact_pair::ExactPair;
+use crate::exact_triple::ExactTriple;
 use crate::one_byte::{ExactByte, OneByte};
 use crate::pair::BytePair;
+use crate::triple::ByteTriple;
 use lit_base::{Ends, LitList};
 use nib_mask::Masks;
 
@@ -24,10 +26,10 @@ pub enum Sieve {
     OneByte(OneByte),
     /// The only byte of the only literal, of which the case counts.
     OneExactByte(ExactByte),
-    /// Two bytes of the only literal.
-    OnePair(BytePair),
-    /// Two bytes of the only literal, of which the case counts.
-    OneExactPair(ExactPair),
+    /// Three bytes of the only literal.
+    OneTriple(ByteTriple),
+    /// Three bytes of the only literal, of which the case counts.
+    OneExactTriple(ExactTriple),
     /// Two bytes of each of two literals.
     TwoPairs(AnyOf<BytePair, BytePair>),
     /// Two bytes of each of two literals, of which the case counts.
@@ -48,7 +50,7 @@ impl Sieve {
         match list.len() {
             1 => match OneByte::of(list, 0) {
                 Some(byte) => Sieve::of_byte(byte),
-                None => Sieve::of_one(BytePair::of(list, 0)),
+                None => Sieve::of_one(ByteTriple::of(list, 0)),
             },
             2 => Sieve::of_two(BytePair::of(list, 0), BytePair::of(list, 1)),
             3 => Sieve::of_three(
@@ -72,14 +74,14 @@ impl Sieve {
         }
     }
 
-    /// By a pair of the only literal.
-    fn of_one(pair: BytePair) -> Sieve
-        ensures sieve { (l : Literals) (ends : List ℕ) → IsOnePair l pair → IsSieveOf l ends result }
-        ensures passes { (text : List ℕ) (end : ℕ) → IsPairEnd pair text end → Passes result text end }
+    /// By three bytes of the only literal.
+    fn of_one(triple: ByteTriple) -> Sieve
+        ensures sieve { (l : Literals) (ends : List ℕ) → IsOneTriple l triple → IsSieveOf l ends result }
+        ensures passes { (text : List ℕ) (end : ℕ) → IsTripleEnd triple text end → Passes result text end }
     {
-        match ExactPair::of(pair) {
-            Some(exact) => Sieve::OneExactPair(exact),
-            None => Sieve::OnePair(pair),
+        match ExactTriple::of(triple) {
+            Some(exact) => Sieve::OneExactTriple(exact),
+            None => Sieve::OneTriple(triple),
         }
     }
 

@@ -24,9 +24,7 @@ pub fn compile(alloc: Global, list: LitList) -> Result<Compiled, Fault>
     ensures none { (result ≡ Err NoLiterals) ↔ (length list.texts ≡ 0) }
 {
     let certificate = plan(alloc, &list)?;
-    match Compiled::new(list, certificate) {
-        Ok(compiled) => Ok(compiled),
-        // What `plan` answers is certified.
-        Err(_) => unreachable!(),
-    }
+    // What `plan` answers is certified: to check it again took a seventh of all instructions of a run of grep with a thousand
+    // literals and no text.
+    Ok(Compiled::certified(list, certificate))
 }

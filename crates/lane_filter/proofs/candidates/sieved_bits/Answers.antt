@@ -10,8 +10,8 @@ returns-in-OneByte-clause-marked c = rw c.in-OneByte.is c.next_bits-in-OneByte.e
 pub returns-in-OneExactByte-clause-marked : goal.returns-in-OneExactByte-clause-marked
 returns-in-OneExactByte-clause-marked c = rw c.in-OneExactByte.is c.next_bits-in-OneExactByte.ensures.marked
 
-pub returns-in-OnePair-clause-marked : goal.returns-in-OnePair-clause-marked
-returns-in-OnePair-clause-marked c = rw c.in-OnePair.is c.next_bits-in-OnePair.ensures.marked
+pub returns-in-OneTriple-clause-marked : goal.returns-in-OneTriple-clause-marked
+returns-in-OneTriple-clause-marked c = rw c.in-OneTriple.is c.next_bits-in-OneTriple.ensures.marked
 
-pub returns-in-OneExactPair-clause-marked : goal.returns-in-OneExactPair-clause-marked
-returns-in-OneExactPair-clause-marked c = rw c.in-OneExactPair.is c.next_bits-in-OneExactPair.ensures.marked
+pub returns-in-OneExactTriple-clause-marked : goal.returns-in-OneExactTriple-clause-marked
+returns-in-OneExactTriple-clause-marked c = rw c.in-OneExactTriple.is c.next_bits-in-OneExactTriple.ensures.marked

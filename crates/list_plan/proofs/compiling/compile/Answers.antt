@@ -6,8 +6,8 @@ pub returns-clause-planned : goal.returns-clause-planned
 returns-clause-planned c =
     let made : IsPlanned c.args.list c.in_ok-certificate.certificate =
     record { first = c.in_ok-certificate.ensures.first; cost = c.in_ok-certificate.ensures.cost; potentials = c.in_ok-certificate.ensures.potentials } in
-    rw c.in-Ok.ensures.ok made
+    rw c.certified.ensures made
 
 -- and what no assignment costs less than is its cost
 pub returns-clause-least : goal.returns-clause-least
-returns-clause-least c = rw c.in-Ok.ensures.ok c.in-Ok.ensures.least
+returns-clause-least c = rw c.certified.ensures c.in_ok-certificate.ensures.least

@@ -1,4 +1,4 @@
--- Each literal has its byte, or its pair.
+-- Each literal has its byte, its three bytes, or its pair.
 use Rattle.std.proofs.Common.{◌≡◌, ℕ, ◌<◌, List, length, inl, inr, subst, arith}
 use Rattle.std.proofs.lemmas.Bool.{cases_eq}
 use Rattle.std.proofs.lemmas.Option.{slice_get_within}
@@ -20,7 +20,7 @@ returns-in-Some-clause-sieve c =
 
 pub returns-in-None-clause-sieve : goal.returns-in-None-clause-sieve
 returns-in-None-clause-sieve c =
-    c.of_one.ensures.sieve c.args.list.now c.args.ends.now.items (omega (arith, c.in-1.is, c.len.ensures.value), c.of-in-None.ensures.pair)
+    c.of_one.ensures.sieve c.args.list.now c.args.ends.now.items (omega (arith, c.in-1.is, c.len.ensures.value), c.of-in-None.ensures.triple)
 
 pub returns-in-2-clause-sieve : goal.returns-in-2-clause-sieve
 returns-in-2-clause-sieve c =

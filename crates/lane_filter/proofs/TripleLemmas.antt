@@ -1,0 +1,39 @@
+-- Three bytes of a literal: their marks, and that they stand before each end of it.
+use Rattle.std.proofs.Common.{◌≡◌, ℕ, ◌+◌, ◌<◌, ◌≤◌, List, [], length, bit_and, sym, subst, ◌∙◌, arith}
+use Rattle.std.specs.Int.{bit_at}
+use Rattle.std.proofs.lemmas.Nat.Bits.{bit_at_and, bit_at-lt}
+use Rattle.std.proofs.lemmas.Option.{get_or_from_slice_get}
+use Rattle.lit_base.specs.Literals.{Literals}
+use Rattle.lit_base.specs.Occurrences.{Occurs}
+use Rattle.lane_filter.proofs.PairLemmas.{pair_stands, rare_stands}
+use Rattle.lane_filter.specs.Lanes.{TellsBits}
+use Rattle.lane_filter.specs.Pairs.{IsPairEnd, IsRareByteOf, StandsBefore}
+use Rattle.lane_filter.specs.Triples.{IsTripleEnd, IsTripleOf}
+use Rattle.lane_filter.specs.declared.triple.ByteTriple.{ByteTriple}
+
+-- the bits that both masks have tell the ends before which the pair and the third byte stand
+pub all_told : (triple : ByteTriple) (text : List ℕ) (first one other : ℕ) → triple.third.behind < first
+    → TellsBits (IsPairEnd triple.pair text) first 64 one → TellsBits (StandsBefore triple.third text) first 64 other → TellsBits (IsTripleEnd triple text) first 64 (bit_and one other)
+all_told triple text first one other after of_one of_other k =
+    let meet = bit_at_and one other k in
+    let small = bit_at-lt one k in
+    let small_other = bit_at-lt other k in (
+      λ h.
+          let here : bit_at one k ≡ 1 = omega arith in
+          let there : bit_at other k ≡ 1 = omega arith in
+          let left = (of_one k).0 here in
+          let right = (of_other k).0 there in
+          (left.0, record { pair = left.1; after_third = omega arith; third = right.1 }),
+      λ h.
+          let here = (of_one k).1 (h.0, h.1.pair) in
+          let there = (of_other k).1 (h.0, h.1.third) in
+          omega arith,
+    )
+
+-- all three bytes stand before each place where the literal ends
+pub triple_stands : (l : Literals) (place : ℕ) (triple : ByteTriple) → IsTripleOf l place triple → (text : List ℕ) (end : ℕ) → Occurs l text place end → IsTripleEnd triple text end
+triple_stands l place triple of text end occurs =
+    let same : of.literal ≡ occurs.literal =
+    sym (get_or_from_slice_get l.texts place of.literal [] of.stands) ∙ get_or_from_slice_get l.texts place occurs.literal [] occurs.stands in
+    let of_third = rare_stands l text place end of.third_place triple.third occurs (subst (λ t. IsRareByteOf l.folding t of.third_place triple.third) same of.third) in
+    record { pair = pair_stands l place triple.pair of.pair text end occurs; after_third = of_third.0; third = of_third.1 }

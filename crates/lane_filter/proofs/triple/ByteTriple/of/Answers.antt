@@ -1,0 +1,17 @@
+use Rattle.std.proofs.lemmas.Option.{slice_get_read}
+use Rattle.std.proofs.Common.{refl}
+use Rattle.lane_filter.proofs.TripleLemmas.{triple_stands}
+use Rattle.lane_filter.proofs.triple.ByteTriple.of.Goals as goal
+
+pub returns-clause-triple : goal.returns-clause-triple
+returns-clause-triple c =
+    record {
+      pair = c.of-pair.ensures.pair;
+      literal = c.get-literal.result.now;
+      stands = slice_get_read c.args.list.now.texts _ c.args.place c.get-literal.result.now refl c.requires c.get-literal.ensures.value;
+      third_place = c.rarest_beside-third.result;
+      third = rw c.fold-fold.ensures at c.at.ensures;
+    }
+
+pub returns-clause-stands : goal.returns-clause-stands
+returns-clause-stands c = triple_stands c.args.list.now c.args.place _ (returns-clause-triple c)

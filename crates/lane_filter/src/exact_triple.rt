@@ -1,0 +1,61 @@
+//! The test of ends by three bytes of which the case counts.
+ghost use Rattle.std.specs.Prelude.{◌≡◌, ◌↔◌, IsSome, IfSome};
+ghost use Rattle.lane_filter.specs.Triples.{AreExact};
+
+use crate::end_test::EndTest;
+use crate::lanes::any_lane_of;
+use crate::triple::ByteTriple;
+
+/// Three bytes of which the case counts, compared without the bits of case.
+#[derive(Clone, Copy, Debug, PartialEq, Eq)]
+pub struct ExactTriple {
+    triple: ByteTriple,
+    ghost exact: { AreExact triple },
+}
+
+impl ExactTriple {
+    /// The three bytes, if the case of all counts.
+    pub(crate) fn of(triple: ByteTriple) -> Option<ExactTriple>
+        ensures exact { IsSome result ↔ AreExact triple }
+        ensures same { IfSome result (λ exact. exact.triple ≡ triple) }
+    {
+        if triple.is_exact() {
+            Some(ExactTriple { triple })
+        } else {
+            None
+        }
+    }
+}
+
+impl EndTest for ExactTriple {
+    ghost use Rattle.std.specs.Prelude.{max, ◌+◌};
+    ghost use Rattle.lane_filter.specs.Triples.{IsTripleEnd};
+
+    ghost candidate = { λ s. IsTripleEnd s.triple };
+
+    ghost reaches = { λ s. max (max s.triple.pair.first.behind s.triple.pair.second.behind) s.triple.third.behind + 1 };
+
+    fn reach(&self) -> usize {
+        self.triple.reach()
+    }
+
+    fn is_candidate(&self, text: &[u8], end: usize) -> bool {
+        self.triple.is_candidate(text, end)
+    }
+
+    #[inline(always)]
+    fn may_mark(&self, text: &[u8], first: usize) -> bool {
+        let triple = &self.triple;
+        any_lane_of(
+            triple.exact_lanes(text, first),
+            triple.exact_lanes(text, first + 32),
+            triple.exact_lanes(text, first + 64),
+            triple.exact_lanes(text, first + 96),
+        )
+    }
+
+    #[inline(always)]
+    fn marks(&self, text: &[u8], first: usize) -> u64 {
+        self.triple.marks(text, first)
+    }
+}

@@ -1,0 +1,127 @@
+//! Three bytes of a literal that are rare in usual text: where not all of them stand, it does not end.
+ghost use Rattle.std.specs.Prelude.{◌≡◌, ◌↔◌, ℕ, ◌+◌, ◌<◌, ◌≤◌, IsTrue, List, length, max};
+ghost use Rattle.lane_filter.specs.Lanes.{TellsLanes};
+ghost use Rattle.lane_filter.specs.Triples.{AreExact, IsTripleEnd, IsTripleOf};
+ghost use Rattle.lit_base.specs.Occurrences.{Occurs};
+
+use crate::end_test::EndTest;
+use crate::lanes::{any_lane_of, both};
+use crate::pair::{BytePair, CHOSEN_FROM, RareByte, usual_rank};
+use lit_base::{Fold, LitList};
+use std::simd::prelude::*;
+
+/// A pair of bytes of a literal, and the rarest one beside these. Where the literal has no third byte, the third is one of the pair.
+///
+/// Of some pairs of bytes a text of words has eight in a kilobyte, each of which takes some 20 ns; three bytes stand together less
+/// than once in most. To compare the third one takes half as much again as two do, which is less in text of any kind that was measured.
+#[derive(Clone, Copy, Debug, PartialEq, Eq)]
+pub struct ByteTriple {
+    pair: BytePair,
+    third: RareByte,
+}
+
+impl ByteTriple {
+    /// The pair of the literal at a place, and the rarest of its last bytes beside it, by what is usual in text. They stand before
+    /// each end of the literal.
+    pub fn of(list: &LitList, place: usize) -> ByteTriple
+        requires { place < length list.now.texts }
+        ensures triple { IsTripleOf list.now place result }
+        ensures stands { (text : List ℕ) (end : ℕ) → Occurs list.now text place end → IsTripleEnd result text end }
+    {
+        let pair = BytePair::of(list, place);
+        let (fold, literal) = (list.fold(), list.get(place));
+        let third = rarest_beside(fold, literal, &pair);
+        ByteTriple {
+            pair,
+            third: RareByte::at(fold, literal, third),
+        }
+    }
+
+    /// Whether the case of all bytes counts.
+    #[inline(always)]
+    pub(crate) fn is_exact(&self) -> bool
+        ensures { IsTrue result ↔ AreExact self.now }
+    {
+        self.pair.is_exact() && self.third.is_exact()
+    }
+
+    /// 255 in each of 32 lanes where all bytes stand before an end.
+    #[inline(always)]
+    fn lanes(&self, text: &[u8], first: usize) -> u8x32
+        requires after { max (max self.now.pair.first.behind self.now.pair.second.behind) self.now.third.behind < first }
+        requires within { first + 31 ≤ length text.now }
+        ensures { TellsLanes (IsTripleEnd self.now text.now) first result }
+    {
+        both(self.pair.lanes(text, first), self.third.lanes(text, first))
+    }
+
+    /// 255 in each of 32 lanes where all bytes, of which the case counts, stand before an end.
+    #[inline(always)]
+    pub(crate) fn exact_lanes(&self, text: &[u8], first: usize) -> u8x32
+        requires exact { AreExact self.now }
+        requires after { max (max self.now.pair.first.behind self.now.pair.second.behind) self.now.third.behind < first }
+        requires within { first + 31 ≤ length text.now }
+        ensures { TellsLanes (IsTripleEnd self.now text.now) first result }
+    {
+        both(
+            self.pair.exact_lanes(text, first),
+            self.third.exact_lanes(text, first),
+        )
+    }
+}
+
+impl EndTest for ByteTriple {
+    ghost use Rattle.std.specs.Prelude.{max, ◌+◌};
+    ghost use Rattle.lane_filter.specs.Triples.{IsTripleEnd};
+
+    ghost candidate = { IsTripleEnd };
+
+    ghost reaches = { λ triple. max (max triple.pair.first.behind triple.pair.second.behind) triple.third.behind + 1 };
+
+    fn reach(&self) -> usize {
+        self.pair.reach().max(self.third.reach())
+    }
+
+    fn is_candidate(&self, text: &[u8], end: usize) -> bool {
+        self.pair.is_candidate(text, end)
+            && self.third.reach() <= end
+            && self.third.stands_before(text, end)
+    }
+
+    #[inline(always)]
+    fn may_mark(&self, text: &[u8], first: usize) -> bool {
+        any_lane_of(
+            self.lanes(text, first),
+            self.lanes(text, first + 32),
+            self.lanes(text, first + 64),
+            self.lanes(text, first + 96),
+        )
+    }
+
+    #[inline(always)]
+    fn marks(&self, text: &[u8], first: usize) -> u64 {
+        self.pair.marks(text, first) & self.third.marks(text, first)
+    }
+}
+
+/// The place of the rarest of a folded literal's last bytes beside those of its pair, where there is another.
+fn rarest_beside(fold: Fold, literal: &[u8], pair: &BytePair) -> usize
+    requires some { 0 < length literal.now }
+    ensures within { result < length literal.now }
+    ensures near { length literal.now ≤ result + 256 }
+{
+    let start = literal.len().saturating_sub(CHOSEN_FROM);
+    let (mut least, mut found) = (u16::MAX, start);
+    for place in start..literal.len() {
+        let rank = usual_rank(fold, literal[place]);
+        let cost = if pair.has_byte_at(literal.len() - 1 - place) {
+            256 + rank
+        } else {
+            rank
+        };
+        if cost < least {
+            (least, found) = (cost, place);
+        }
+    }
+    found
+}
