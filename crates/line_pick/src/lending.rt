@@ -4,7 +4,7 @@ ghost use Rattle.lit_base.specs.Lines.{ended_lines};
 ghost use Rattle.line_pick.specs.Lending.{Lent, answer_of, numbered};
 ghost use Rattle.line_pick.specs.Matching.{picks};
 
-use crate::cutting::split_line;
+use crate::cutting::split_near_line;
 use crate::fault::Fault;
 use crate::halt::Halt;
 use crate::matcher::Matcher;
@@ -27,7 +27,7 @@ pub(crate) fn lend_lines<S: Sink>(
 {
     let mut rest = text;
     let mut lines = before;
-    while let Some((line, behind)) = split_line(rest) {
+    while let Some((line, behind)) = split_near_line(rest) {
         lend_selected(matcher, line, lines, sink)?;
         rest = behind;
         lines += 1;
