@@ -93,12 +93,13 @@ fn sieve_of(list: &LitList) -> Sieve {
     }
 }
 
-/// What tells an end by itself: the filter byte of the three bytes before it, or that the last of
-/// them is one of two.
+/// What tells an end by itself: the filter byte of the three bytes before it, that the last of them is one of two, or that
+/// each of them is one of two.
 #[derive(Clone, Copy)]
 enum PlainTest {
     Filter(Masks),
     LastOf([u8; 2]),
+    WordOf([[u8; 2]; 3]),
 }
 
 impl PlainTest {
@@ -108,7 +109,12 @@ impl PlainTest {
             PlainTest::Filter(masks) => {
                 plain_byte(masks, before(text, end, 3), before(text, end, 2), last) != 0
             }
-            PlainTest::LastOf(bytes) => last == bytes[0] || last == bytes[1],
+            PlainTest::LastOf(bytes) => is_one_of(last, *bytes),
+            PlainTest::WordOf(word) => {
+                is_one_of(before(text, end, 3), word[0])
+                    && is_one_of(before(text, end, 2), word[1])
+                    && is_one_of(last, word[2])
+            }
         }
     }
 }
@@ -145,6 +151,29 @@ fn all_cases(alloc: Global) -> Result<Vec<Case>, Fault> {
         })?;
     }
     Ok(all)
+}
+
+/// By the three bytes of a list's only word, of which the case counts or does not.
+fn word_cases(alloc: Global) -> Result<Vec<Case>, Fault> {
+    let mut all = Vec::new(alloc);
+    for (fold, word) in [
+        (Fold::No, [*b"cc", *b"aa", *b"tt"]),
+        (Fold::Ascii, [*b"cC", *b"aA", *b"tT"]),
+    ] {
+        let mut raw = RawList::new(alloc);
+        raw.push(b"cat")?;
+        let (list, _) = LitList::normal(alloc, &raw, fold)?;
+        all.push(Case {
+            sieve: sieve_of(&list),
+            plain: PlainTest::WordOf(word),
+        })?;
+    }
+    Ok(all)
+}
+
+/// Whether a byte is one of two.
+fn is_one_of(byte: u8, two: [u8; 2]) -> bool {
+    byte == two[0] || byte == two[1]
 }
 
 /// The byte so many places before an end, zero before the text.
@@ -306,6 +335,23 @@ fn cursor_finds_a_letter_at_any_place(rt: HostRuntime) -> Result<(), Fail> {
             assert!(rt; cursor_agrees(case, &text, 0), "at {place}");
             text[place] = b'-';
             text[399 - place] = b'-';
+        }
+    }
+    Ok(())
+}
+
+#[test]
+fn cursor_finds_a_word_at_any_place(rt: HostRuntime) -> Result<(), Fail> {
+    for case in &word_cases(rt.alloc())? {
+        for place in 0..395usize {
+            // A word, one in other letters, and two that lack a byte.
+            let mut text = [b'-'; 400];
+            let words = [b"cat--", b"-cAT-", b"cot--", b"--caT"];
+            let word = words[place % 4];
+            for (back, byte) in word.iter().enumerate() {
+                text[place + back] = *byte;
+            }
+            assert!(rt; cursor_agrees(case, &text, 0), "at {place}");
         }
     }
     Ok(())
