@@ -1,6 +1,7 @@
 -- A number of one bit for each run of a cut.
 use Rattle.std.proofs.Common.{◌≡◌, ℕ, zero, suc, ◌+◌, ◌-◌, ◌*◌, ◌^◌, ◌<◌, ◌≤◌, min, ◌&&◌, Bool, true, false, cond, List, [], ◌∷◌, length, get_or, drop, map, slice_range, bit_and, refl, sym, ap, subst, ◌∙◌, inl, inr, arith}
 use Rattle.std.specs.Int.{bit_at}
+use Rattle.std.proofs.Math.Pow.{pow_mono}
 use Rattle.std.specs.Simd.Lanes.{mask_l}
 use Rattle.std.proofs.lemmas.Bool.{cases_lt, lt-ltb, le-ltb}
 use Rattle.std.proofs.lemmas.Nat.Bits.{bit_at_and, same_from_bits}
@@ -30,10 +31,10 @@ module _ (test : List (List ℕ) → Bool) (texts : List (List ℕ)) where
   runs_mask-none p (end ∷ ends) empty = absurd (omega arith)
 
   -- the first run has the lowest bit
-  pub runs_mask-first : (p : ℕ) (ends : List ℕ) (x : Bool) (rest : ℕ) → 1 ≤ length ends → x ≡ test (slice_range texts p (get_or ends 0 0)) → rest ≡ runs_mask test texts (get_or ends 0 0) (drop 1 ends) → cond x 1 0 + 2 * rest ≡ runs_mask test texts p ends
+  pub runs_mask-first : (p : ℕ) (ends : List ℕ) (entry bit rest : ℕ) → 1 ≤ length ends → entry ≡ bit + 2 * rest → bit ≡ cond (test (slice_range texts p (get_or ends 0 0))) 1 0 → rest ≡ runs_mask test texts (get_or ends 0 0) (drop 1 ends) → entry ≡ runs_mask test texts p ends
   unfolding runs_mask
-  runs_mask-first p [] x rest some here later = absurd (omega arith)
-  runs_mask-first p (end ∷ ends) x rest some here later = λ i. cond (here i) 1 0 + 2 * later i
+  runs_mask-first p [] entry bit rest some is here later = absurd (omega arith)
+  runs_mask-first p (end ∷ ends) entry bit rest some is here later = is ∙ (λ i. here i + 2 * later i)
 
   -- no bit lies past the last run
   pub runs_mask-lt : (p : ℕ) (ends : List ℕ) → runs_mask test texts p ends < 2 ^ length ends
@@ -41,6 +42,10 @@ module _ (test : List (List ℕ) → Bool) (texts : List (List ℕ)) where
   runs_mask-lt p ends =
       let runs = runs_from texts p ends in
       subst (λ n. mask_l (map test runs) < 2 ^ n) (length-map runs test ∙ length-runs texts p ends) (mask_l-lt (map test runs))
+
+  -- no more than seven runs leave room for one more bit in a byte
+  pub runs_mask-seven : (p : ℕ) (ends : List ℕ) → length ends ≤ 7 → runs_mask test texts p ends < 128
+  runs_mask-seven p ends few = omega (arith, runs_mask-lt p ends, pow_mono {i = length ends} {j = 7} few)
 
   -- the bit of a run is the run's test
   pub bit_at-runs_mask : (p : ℕ) (ends : List ℕ) (b : ℕ) → bit_at (runs_mask test texts p ends) b ≡ cond (get_or (map test (runs_from texts p ends)) b false) 1 0

@@ -4,7 +4,7 @@ use Rattle.std.specs.List.{list_all, list_any}
 use Rattle.std.proofs.lemmas.Bool.{cases_lt}
 use Rattle.std.proofs.lemmas.List.{get_or-drop, length-drop}
 use Rattle.std.proofs.lemmas.List.Edits.{length-between}
-use Rattle.std.proofs.lemmas.List.Folds.{list_all_more, list_any_more, list_all_at, list_any_at}
+use Rattle.std.proofs.lemmas.List.Folds.{list_all_more, list_any_more, list_all_at}
 use Rattle.lit_base.specs.declared.fold.Fold.{Fold}
 use Rattle.nib_mask.specs.declared.half.Half.{Half}
 use Rattle.nib_mask.specs.FilterSet.{has_half, is_used, reaches, shares_half}
@@ -68,19 +68,15 @@ module _ (position : ℕ) (texts : List (List ℕ)) (start : ℕ) where
     unfolding shares_half
     shares_half-none end empty = none (list_any (has_half fold position half value)) texts start end empty
 
-    -- one more literal that does not have it
-    pub shares_half-more : (place : ℕ) (literal : List ℕ) → start ≤ place → place < length texts → literal ≡ get_or texts place literal → shares_half fold position half value (slice_range texts start place) ≡ false → has_half fold position half value literal ≡ false → shares_half fold position half value (slice_range texts start (place + 1)) ≡ false
+    -- one more literal
+    pub shares_half-more : (place : ℕ) (literal : List ℕ) → start ≤ place → place < length texts → literal ≡ get_or texts place literal → shares_half fold position half value (slice_range texts start (place + 1)) ≡ (shares_half fold position half value (slice_range texts start place) || has_half fold position half value literal)
     unfolding shares_half
-    shares_half-more place literal from inside is before here =
-        any_more (has_half fold position half value) texts start place literal from inside is ∙ (λ i. before i || here i)
+    shares_half-more place literal from inside is = any_more (has_half fold position half value) texts start place literal from inside is
 
-    -- one literal that has it
-    pub shares_half-some : (end place : ℕ) (literal : List ℕ) → start ≤ place → place < end → end ≤ length texts → literal ≡ get_or texts place literal → has_half fold position half value literal ≡ true → shares_half fold position half value (slice_range texts start end) ≡ true
-    unfolding shares_half
-    shares_half-some end place literal from before within is has =
-        list_any_at (has_half fold position half value) (slice_range texts start end) (place - start) literal (omega (arith, length-between texts start end within))
-        (ap (has_half fold position half value) (get_or-range texts start end place literal from before ∙ sym is) ∙ has)
-
-    -- all literals up to where a loop over them ended
-    pub shares_half-ended : (place end : ℕ) → start ≤ place → (start ≤ end → place ≤ end) → end ≤ place → shares_half fold position half value (slice_range texts start place) ≡ false → shares_half fold position half value (slice_range texts start end) ≡ false
-    shares_half-ended place end from up_to past now = ended (shares_half fold position half value) false texts start place end from up_to past shares_half-none now
+    -- all literals up to where a loop over them ended, with the last place or at once
+    pub shares_half-ended : (place end : ℕ) → start ≤ place → (start ≤ end → place ≤ end) → (end ≤ start → place ≤ start) → end ≤ place → shares_half fold position half value (slice_range texts start place) ≡ shares_half fold position half value (slice_range texts start end)
+    shares_half-ended place end from up_to at_once past =
+        elim (cases_lt end start) [
+          | inl empty ↦ shares_half-none place (omega (arith, at_once (omega arith))) ∙ sym (shares_half-none end (omega arith))
+          | inr some ↦ let last : place ≡ end = omega (arith, up_to some) in ap (λ k. shares_half fold position half value (slice_range texts start k)) last
+        ]

@@ -1,8 +1,8 @@
 -- Tables by fronts: where a literal ends, its front keeps its bucket.
-use Rattle.std.proofs.Common.{◌≡◌, ℕ, ◌+◌, ◌-◌, ◌/◌, ◌%◌, ◌<◌, ◌≤◌, not, true, List, [], ◌∷◌, ◌++◌, length, get_or, take, slice_range, bit_and, refl, sym, ap, subst, ◌∙◌, inl, inr, arith}
+use Rattle.std.proofs.Common.{◌≡◌, ℕ, ◌+◌, ◌-◌, ◌/◌, ◌%◌, ◌<◌, ◌≤◌, ◌⊎◌, ◌||◌, not, true, List, [], ◌∷◌, ◌++◌, length, get_or, take, slice_range, bit_and, refl, sym, ap, subst, ◌∙◌, inl, inr, arith}
 use Rattle.std.specs.Int.{bit_at}
 use Rattle.std.specs.Option.{unwrap_or}
-use Rattle.std.proofs.lemmas.Bool.{cases_Bool, or_left, or_right}
+use Rattle.std.proofs.lemmas.Bool.{cases_Bool, eqb-true, or_cases, or_left, or_right}
 use Rattle.std.proofs.lemmas.Nat.Bits.{bit_at_and, bit_at-zero}
 use Rattle.std.proofs.lemmas.List.{length-take}
 use Rattle.std.proofs.lemmas.Option.{get_or_from_slice_get, unwrap_or-slice_get}
@@ -15,9 +15,10 @@ use Rattle.lit_base.proofs.SuffixLemmas.{front_folds}
 use Rattle.nib_mask.specs.declared.half.Half.{Half}
 use Rattle.nib_mask.specs.declared.half.Half.TheVariants.{Low, High}
 use Rattle.nib_mask.specs.declared.masks.Masks.{Masks}
-use Rattle.nib_mask.specs.FilterSet.{half_of, reaches}
+use Rattle.nib_mask.specs.FilterSet.{capital, half_of, has_half, reaches}
 use Rattle.nib_mask.specs.Fronts.{CoversFronts, KeepsFronts, front_at, keeps_front}
 use Rattle.nib_mask.specs.Tables.{table_value, value_at}
+use Rattle.nib_mask.proofs.HalfLemmas.{has_half-long}
 use Rattle.nib_mask.proofs.LawLemmas.{Agrees, agrees-occurs, has_half-agrees}
 use Rattle.nib_mask.proofs.TableLemmas.{padded-lt}
 
@@ -52,6 +53,15 @@ front-kept fold position byte half front agrees = elim (cases_Bool (reaches posi
   | inl long ↦ or_right _ _ (has_half-agrees fold position byte half front agrees long)
   | inr short ↦ or_left _ _ (ap not short)
 ]
+
+-- a front that reaches the position is kept by the half of its byte there and by that of the byte's capital alone
+pub front_halves : (fold : Fold) (position byte value : ℕ) (half : Half) (front : List ℕ) → reaches position front ≡ true → byte ≡ get_or front (length front + position - 3) 0 → keeps_front fold position half value front ≡ true → (half_of half byte ≡ value) ⊎ (half_of half (capital fold byte) ≡ value)
+front_halves fold position byte value half front long is keeps =
+    let has : has_half fold position half value front ≡ true = sym (ap (λ r. not r || has_half fold position half value front) long) ∙ keeps in
+    elim (or_cases _ _ (has_half-long fold position half front byte long is value ∙ has)) [
+      | inl own ↦ inl (eqb-true _ _ own)
+      | inr other ↦ inr (eqb-true _ _ other)
+    ]
 
 -- the six tables have the bits of all fronts
 pub record HaveFronts (l : Literals) (count : ℕ) (offsets buckets : List ℕ) (masks : Masks) : Type 0 where

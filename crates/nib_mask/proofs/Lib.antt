@@ -1,6 +1,7 @@
 pub mod Buckets
 pub mod Fingerprints
 pub mod FrontLemmas
+pub mod HalfLemmas
 pub mod LawLemmas
 pub mod Ranges
 pub mod TableLemmas

@@ -1,5 +1,6 @@
 -- What the tables of a `Masks` say of bytes: a number whose bit b stands for bucket b.
-use Rattle.std.specs.Prelude.{ℕ, ◌/◌, ◌%◌, ◌||◌, not, [], Bool, List, bit_and, slice_index, slice_index_or}
+use Rattle.std.specs.Prelude.{◌≡◌, ℕ, ◌/◌, ◌%◌, ◌<◌, ◌||◌, not, if◌then◌else◌, [], Bool, List, bit_and, slice_index, slice_index_or}
+use Rattle.std.specs.Int.{bit_at}
 use Rattle.lit_base.specs.declared.fold.Fold.{Fold}
 use Rattle.nib_mask.specs.declared.half.Half.{Half}
 use Rattle.nib_mask.specs.declared.masks.Masks.{Masks}
@@ -18,3 +19,7 @@ table_value masks a b c = bit_and (bit_and (value_at masks 0 a) (value_at masks 
 -- a table keeps the run at its entry for this half: the position is not used, or the run shares the half there
 unfoldable pub allows : Fold → ℕ → Half → ℕ → List (List ℕ) → Bool
 allows fold position half value run = not (is_used position run) || shares_half fold position half value run
+
+-- the bits of a number say which halves pass a test
+abbrev pub Marks : ℕ → (ℕ → Bool) → Type 0
+Marks halves test = (value : ℕ) → value < 16 → bit_at halves value ≡ (if test value then 1 else 0)

@@ -1,13 +1,13 @@
 //! Tables by fronts of literals.
 
-ghost use Rattle.std.specs.Prelude.{◌≡◌, ℕ, ◌%◌, ◌<◌, ◌≤◌, length, slice_index};
+ghost use Rattle.std.specs.Prelude.{◌≡◌, ℕ, ◌%◌, ◌<◌, ◌≤◌, true, length, slice_index};
 ghost use Rattle.std.specs.Int.{bit_at};
 ghost use Rattle.nib_mask.specs.Fronts.{CoversFronts, KeepsFronts, front_at, keeps_front};
 
-use crate::fingerprint::{has_half, reaches};
-use crate::half::Half;
+use crate::fingerprint::{capital, reaches};
+use crate::half::{Half, half_of};
 use crate::masks::Masks;
-use lit_base::LitList;
+use lit_base::{Fold, LitList};
 
 impl Masks {
     /// The tables for the literals before a place of a list, each told by its front: what it is but for so many of its
@@ -50,43 +50,65 @@ fn table(
     ensures { (value : ℕ) → value < 16
         → KeepsFronts list.now count offsets.now buckets.now position half value (slice_index result value) }
 {
+    let fold = list.fold();
     let mut table = [0; 16];
-    for value in 0..16_u8 {
-        table[usize::from(value)] = entry(list, count, offsets, buckets, position, half, value);
+    for place in 0..count {
+        let front = front_at(list, place, usize::from(offsets[place]));
+        add_front(&mut table, fold, position, half, front, buckets[place]);
     }
     table
 }
 
-/// The entry of a table for one value of the half.
-fn entry(
-    list: &LitList,
-    count: usize,
-    offsets: &[u8],
-    buckets: &[u8],
+/// The front of a literal.
+fn front_at(list: &LitList, place: usize, offset: usize) -> &[u8]
+    requires { place < length list.now.texts }
+    ensures { result.now ≡ front_at list.now place offset }
+{
+    let literal = list.get(place);
+    let (front, _) = literal.split_at(literal.len().saturating_sub(offset));
+    front
+}
+
+/// Gives the entries that keep a front its bucket: all where it does not reach the position.
+fn add_front(
+    table: &mut [u8; 16],
+    fold: Fold,
     position: usize,
     half: Half,
-    value: u8,
-) -> u8
-    requires count { count ≤ length list.now.texts }
-    requires offsets { count ≤ length offsets.now }
-    requires buckets { count ≤ length buckets.now }
-    requires position { position < 3 }
-    ensures { KeepsFronts list.now count offsets.now buckets.now position half value result }
+    front: &[u8],
+    bucket: u8,
+)
+    requires { position < 3 }
+    ensures here { (value : ℕ) → value < 16 → keeps_front fold position half value front.now ≡ true → bit_at (slice_index table.new value) (bucket % 8) ≡ 1 }
+    ensures kept { (value bit : ℕ) → bit_at (slice_index table.old value) bit ≡ 1 → bit_at (slice_index table.new value) bit ≡ 1 }
 {
-    let mut kept = 0;
-    for place in 0..count {
-        if keeps_front(
-            list,
-            place,
-            usize::from(offsets[place]),
-            position,
-            half,
-            value,
-        ) {
-            kept = with_bucket(kept, buckets[place]);
-        }
+    if reaches(position, front) {
+        let byte = front[front.len() + position - 3];
+        add_bucket(table, half_of(half, byte), bucket);
+        add_bucket(table, half_of(half, capital(fold, byte)), bucket);
+    } else {
+        add_to_all(table, bucket);
     }
-    kept
+}
+
+/// Gives all entries a bucket.
+fn add_to_all(table: &mut [u8; 16], bucket: u8)
+    ensures here { (value : ℕ) → value < 16 → bit_at (slice_index table.new value) (bucket % 8) ≡ 1 }
+    ensures kept { (value bit : ℕ) → bit_at (slice_index table.old value) bit ≡ 1 → bit_at (slice_index table.new value) bit ≡ 1 }
+{
+    for value in 0..16 {
+        add_bucket(table, value, bucket);
+    }
+}
+
+/// Gives the entry of one value a bucket.
+fn add_bucket(table: &mut [u8; 16], value: u8, bucket: u8)
+    requires { value < 16 }
+    ensures here { bit_at (slice_index table.new value) (bucket % 8) ≡ 1 }
+    ensures kept { (other bit : ℕ) → bit_at (slice_index table.old other) bit ≡ 1 → bit_at (slice_index table.new other) bit ≡ 1 }
+{
+    let value = usize::from(value);
+    table[value] = with_bucket(table[value], bucket);
 }
 
 /// A number with the bit of one more bucket.
@@ -95,22 +117,4 @@ fn with_bucket(kept: u8, bucket: u8) -> u8
     ensures others { (bit : ℕ) → bit_at kept bit ≡ 1 → bit_at result bit ≡ 1 }
 {
     kept | 1 << (bucket % 8)
-}
-
-/// Whether the front of a literal keeps its bucket at an entry.
-fn keeps_front(
-    list: &LitList,
-    place: usize,
-    offset: usize,
-    position: usize,
-    half: Half,
-    value: u8,
-) -> bool
-    requires place { place < length list.now.texts }
-    requires position { position < 3 }
-    ensures { result ≡ keeps_front list.now.folding position half value (front_at list.now place offset) }
-{
-    let literal = list.get(place);
-    let (front, _) = literal.split_at(literal.len().saturating_sub(offset));
-    !reaches(position, front) || has_half(list.fold(), position, half, value, front)
 }

@@ -1,6 +1,6 @@
 //! The halves of a byte, by which the tables are looked up.
 
-ghost use Rattle.std.specs.Prelude.{◌≡◌};
+ghost use Rattle.std.specs.Prelude.{◌≡◌, ◌<◌};
 ghost use Rattle.nib_mask.specs.FilterSet.{half_of};
 
 /// Which four bits of a byte a table is looked up by.
@@ -14,7 +14,8 @@ pub enum Half {
 
 /// These four bits of the byte, as a number below 16.
 pub fn half_of(half: Half, byte: u8) -> u8
-    ensures { result ≡ half_of half byte }
+    ensures value { result ≡ half_of half byte }
+    ensures bound { result < 16 }
 {
     match half {
         Half::Low => byte & 15,

@@ -1,12 +1,13 @@
 //! The tables, their making, and a look into them.
 
-ghost use Rattle.std.specs.Prelude.{◌≡◌, ℕ, ◌<◌, ◌≤◌, ◌^◌, length, slice_index, slice_range};
+ghost use Rattle.std.specs.Prelude.{◌≡◌, ℕ, ◌+◌, ◌*◌, ◌<◌, ◌≤◌, length, slice_index, slice_range};
+ghost use Rattle.std.specs.Int.{bit_at};
 ghost use Rattle.lit_base.specs.Cuts.{CutsFrom, IsCut};
 ghost use Rattle.nib_mask.specs.Runs.{runs_mask};
-ghost use Rattle.nib_mask.specs.Tables.{allows, value_at, table_value};
+ghost use Rattle.nib_mask.specs.Tables.{Marks, allows, value_at, table_value};
 ghost use Rattle.nib_mask.specs.Candidates.{Covers, GivesFilterSets};
 
-use crate::fingerprint::{is_used, shares_half};
+use crate::fingerprint::{halves_at, reaches};
 use crate::half::Half;
 use lit_base::{Ends, LitList};
 
@@ -31,60 +32,77 @@ impl Masks {
         let ends = ends.as_slice();
         Masks {
             low: [
-                table(list, ends, 0, Half::Low),
-                table(list, ends, 1, Half::Low),
-                table(list, ends, 2, Half::Low),
+                table(list, 0, ends, 0, Half::Low),
+                table(list, 0, ends, 1, Half::Low),
+                table(list, 0, ends, 2, Half::Low),
             ],
             high: [
-                table(list, ends, 0, Half::High),
-                table(list, ends, 1, Half::High),
-                table(list, ends, 2, Half::High),
+                table(list, 0, ends, 0, Half::High),
+                table(list, 0, ends, 1, Half::High),
+                table(list, 0, ends, 2, Half::High),
             ],
         }
     }
 }
 
-/// The table of one position by one half.
-fn table(list: &LitList, ends: &[u16], position: usize, half: Half) -> [u8; 16]
-    requires cut { IsCut 8 (length list.now.texts) ends.now }
+/// The table of one position by one half, where the first run begins at place `start`: bit b of an
+/// entry says whether the table keeps run b there.
+fn table(list: &LitList, start: usize, ends: &[u16], position: usize, half: Half) -> [u8; 16]
+    requires cuts { CutsFrom (length list.now.texts) start ends.now }
+    requires few { length ends.now ≤ 8 }
     requires position { position < 3 }
     ensures { (value : ℕ) → value < 16
-        → slice_index result value ≡ runs_mask (allows list.now.folding position half value) list.now.texts 0 ends.now }
+        → slice_index result value ≡ runs_mask (allows list.now.folding position half value) list.now.texts start ends.now }
+{
+    match ends {
+        [] => [0; 16],
+        [end, rest @ ..] => {
+            let end = usize::from(*end);
+            let kept = kept_halves(list, start, end, position, half);
+            let later = table(list, end, rest, position, half);
+            with_first(kept, &later)
+        }
+    }
+}
+
+/// The entries of later runs, with the bit of a run before them.
+fn with_first(kept: u16, later: &[u8; 16]) -> [u8; 16]
+    requires { (value : ℕ) → value < 16 → slice_index later.now value < 128 }
+    ensures { (value : ℕ) → value < 16 → slice_index result value ≡ bit_at kept value + 2 * slice_index later.now value }
 {
     let mut table = [0; 16];
-    for value in 0..16_u8 {
-        table[usize::from(value)] = entry(list, 0, ends, position, half, value);
+    for value in 0..16 {
+        table[value] = entry(kept, value, later[value]);
     }
     table
 }
 
-/// The entry of a table for one value of the half, where the first run begins at place `start`:
-/// bit b says whether the table keeps run b.
-fn entry(list: &LitList, start: usize, ends: &[u16], position: usize, half: Half, value: u8) -> u8
-    requires cuts { CutsFrom (length list.now.texts) start ends.now }
-    requires few { length ends.now ≤ 8 }
-    requires position { position < 3 }
-    ensures value { result ≡ runs_mask (allows list.now.folding position half value) list.now.texts start ends.now }
-    ensures bound { result < 2 ^ length ends.now }
+/// The entry for one value of the half.
+fn entry(kept: u16, value: usize, later: u8) -> u8
+    requires value { value < 16 }
+    requires later { later < 128 }
+    ensures { result ≡ bit_at kept value + 2 * later }
 {
-    match ends {
-        [] => 0,
-        [end, rest @ ..] => {
-            let end = usize::from(*end);
-            let first = allows(list, start, end, position, half, value);
-            u8::from(first) + 2 * entry(list, end, rest, position, half, value)
-        }
-    }
+    u8::from(kept >> value & 1 == 1) + 2 * later
 }
 
-/// Whether a table keeps the run from `start` up to but not including `end` at this entry.
-#[tactic(auto, unfolding(crate::specs::Tables::allows))]
-fn allows(list: &LitList, start: usize, end: usize, position: usize, half: Half, value: u8) -> bool
+/// The halves at which a table keeps the run from `start` up to but not including `end`, each told
+/// by its bit: all where a literal does not reach the position, and else those of the literals.
+fn kept_halves(list: &LitList, start: usize, end: usize, position: usize, half: Half) -> u16
     requires within { end ≤ length list.now.texts }
     requires position { position < 3 }
-    ensures { result ≡ allows list.now.folding position half value (slice_range list.now.texts start end) }
+    ensures { Marks result (λ value. allows list.now.folding position half value (slice_range list.now.texts start end)) }
 {
-    !is_used(position, list, start, end) || shares_half(position, half, value, list, start, end)
+    let fold = list.fold();
+    let mut halves = 0;
+    for place in start..end {
+        let literal = list.get(place);
+        if !reaches(position, literal) {
+            return u16::MAX;
+        }
+        halves |= halves_at(fold, position, half, literal);
+    }
+    halves
 }
 
 /// The filter byte of three bytes: bucket b has its bit set where all six entries have it.

@@ -1,9 +1,8 @@
-use Rattle.std.proofs.Common.{◌≡◌, ℕ, ◌<◌, length, get_or}
+use Rattle.std.proofs.Common.{ℕ, ◌<◌, get_or}
 use Rattle.nib_mask.specs.Fronts.{KeepsFronts}
 use Rattle.nib_mask.proofs.fronts.table.Given as goal
 
--- the entries passed have the bits of all fronts
-abbrev pub invariant-loop-value : goal.invariant-loop-value
-invariant-loop-value l =
-    (length l.table ≡ 16)
-    × ((k : ℕ) → k < l.value → KeepsFronts l.list l.count l.offsets l.buckets l.position l.half k (get_or l.table k 0))
+-- the entries have the bits of the fronts passed
+abbrev pub invariant-loop-place : goal.invariant-loop-place
+invariant-loop-place l =
+    (value : ℕ) → value < 16 → KeepsFronts l.list l.place l.offsets l.buckets l.position l.half value (get_or l.table value 0)
