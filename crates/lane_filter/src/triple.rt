@@ -12,8 +12,9 @@ use std::simd::prelude::*;
 
 /// A pair of bytes of a literal, and the rarest one beside these. Where the literal has no third byte, the third is one of the pair.
 ///
-/// Of some pairs of bytes a text of words has eight in a kilobyte, each of which takes some 20 ns; three bytes stand together less
-/// than once in most. To compare the third one takes half as much again as two do, which is less in text of any kind that was measured.
+/// Of some pairs of bytes a text has eight in a kilobyte, each of which takes some 20 ns, where three bytes stand together less than
+/// once: of sixteen rare words of each of four texts, three pairs stood more often than five times. A search of a file by three bytes
+/// took 0.55 to 0.97 of the time so where a pair tells little, and up to 1.07 where it tells all.
 #[derive(Clone, Copy, Debug, PartialEq, Eq)]
 pub struct ByteTriple {
     pair: BytePair,
