@@ -6,7 +6,7 @@ use Rattle.std.specs.List.{slice_index, slice_range}
 use Rattle.std.specs.Int.RustNames.{bit_and, bit_or}
 use Rattle.std.proofs.lemmas.Bool.{cases_lt}
 use Rattle.std.proofs.lemmas.Nat.Bits.{bit_at_above, bit_at_and, bit_at_not, bit_at_or, bit_at-zero}
-use Rattle.std.proofs.lemmas.List.{get_or-replicate, get_or_past, length-replicate, take-take}
+use Rattle.std.proofs.lemmas.List.{take-take}
 use Rattle.std.proofs.lemmas.Nat.{or_mod, or_shr}
 use Rattle.std.proofs.lemmas.Option.{slice_get_within}
 use Rattle.lane_filter.specs.Bits.{SplitsLowest}
@@ -19,7 +19,7 @@ use Rattle.lit_base.specs.Suffixes.{case_bits, hash_of, last_bits, spelled, suff
 use Rattle.lit_base.proofs.SuffixLemmas.{AreBytes, drop-range, key-occurs, key-occurs_inside, masked, range_bytes, spelled-drop, spelled_fits, zeros_bytes}
 use Rattle.text_windows.specs.Looks.{AreLooks, AreUnruled, IsVerified}
 use Rattle.text_windows.specs.NoEnds.{Finds, IsFirstFound, NoEndUpTo}
-use Rattle.text_windows.specs.ShiftOr.{AreConfirmsOf, Bucketing, IsLetThrough, LetThrough, NoneOf, RulesOut, RulesOutLanes, bucket_at, last_number_at, number_at}
+use Rattle.text_windows.specs.ShiftOr.{AreConfirmsOf, Bucketing, LetThrough, NoneOf, RulesOut, RulesOutLanes, bucket_at, last_number_at, number_at}
 use Rattle.text_windows.specs.declared.confirming.Confirms.{Confirms}
 use Rattle.text_windows.specs.declared.confirming.TheConstants.{CONFIRM_BITS}
 use Rattle.text_windows.specs.declared.entries.TheConstants.{ENTRIES}
@@ -306,20 +306,6 @@ ruled_by_entry l text buckets entries at number entry bytes some inside through 
 -- a bit that one of two words lacks both lack
 pub and_zero : (a b i : ℕ) → bit_at a i ≡ 0 → bit_at (bit_and a b) i ≡ 0
 and_zero a b i none = omega (arith, bit_at_and a b i, none)
-
--- entries without a bit let all through
-pub zeros_through : (fold : Fold) (entries literal : List ℕ) (bucket : ℕ) → entries ≡ replicate ENTRIES 0 → IsLetThrough fold entries literal bucket
-zeros_through fold entries literal bucket is =
-    let none : (number bit : ℕ) → bit_at (slice_index entries number) bit ≡ 0 = λ number bit.
-    ap (λ e. bit_at (slice_index e number) bit) is ∙ ap (λ e. bit_at e bit) (elim (cases_lt number ENTRIES) [
-      | inl below ↦ get_or-replicate ENTRIES number 0 0 below
-      | inr past ↦ get_or_past (replicate ENTRIES 0) number 0 (omega (arith, past, length-replicate {A = ℕ} ENTRIES 0))
-    ]) ∙ bit_at-zero bit in
-    record {
-      pairs = λ ahead near long. none (number_at fold literal (length literal - ahead)) (8 * ahead + bucket);
-      first = λ ahead number near long small same. none number (8 * ahead + bucket);
-      short = λ ahead number near less below. none number (8 * ahead + bucket);
-    }
 
 -- of the number that eight bytes spell, the last bits, without the case of letters, are the key of the last of them
 own_key : (fold : Fold) (text : List ℕ) (end width word bits : ℕ) → AreBytes text → width ≤ 8 → 8 ≤ end → end ≤ length text → word < 2 ^ 64 → word ≡ spelled (slice_range text (end - 8) end) → bits ≡ case_bits fold

@@ -50,6 +50,11 @@ pub record IsLetThrough (fold : Fold) (entries literal : List ℕ) (bucket : ℕ
 abbrev pub LetThrough : Literals → List ℕ → List ℕ → ℕ → Type 0
 LetThrough l buckets entries count = (place : ℕ) → place < count → place < length l.texts → IsLetThrough l.folding entries (literal_at l place) (bucket_at buckets place)
 
+-- a table has an entry for each two bytes, by which each literal is let through
+pub record AreEntriesOf (l : Literals) (buckets entries : List ℕ) : Type 0 where
+  pub all : length entries ≡ ENTRIES
+  pub through : LetThrough l buckets entries (length l.texts)
+
 -- a table confirms a literal of a bucket: by the bucket's bit at the hash of so many of its last bytes
 abbrev pub IsConfirmed : Fold → List ℕ → ℕ → List ℕ → ℕ → Type 0
 IsConfirmed fold table width literal bucket = IsMarked table (hash_of CONFIRM_BITS (suffix_key fold literal (length literal) width)) bucket

@@ -1,5 +1,5 @@
 //! The entries of shift-or: which ends the two bytes before a place rule out.
-ghost use Rattle.std.specs.Prelude.{◌≡◌, ℕ, ◌+◌, ◌-◌, ◌*◌, ◌/◌, ◌^◌, ◌<◌, ◌≤◌, IsTrue, length, slice_index, vec_len};
+ghost use Rattle.std.specs.Prelude.{◌≡◌, ℕ, ◌+◌, ◌-◌, ◌*◌, ◌/◌, ◌^◌, ◌<◌, ◌≤◌, IsTrue, length, slice_index, vec_capacity, vec_len};
 ghost use Rattle.std.specs.Int.{bit_at};
 ghost use Rattle.lit_base.specs.Chains.{literal_at};
 ghost use Rattle.text_windows.specs.ShiftOr.{LetThrough, bucket_at, number_at, last_number_at};
@@ -28,10 +28,11 @@ pub(crate) fn bucket_of(buckets: &Vec<u8>, place: usize) -> usize
     usize::from(buckets[place]) % BUCKETS
 }
 
-/// Makes the entries that let the literals of a list through, and rule out all else.
+/// Makes the entries that let the literals of a list through, and rule out all else, in room that is there.
 pub(crate) fn fill_all(list: &LitList, buckets: &Vec<u8>, entries: &mut Vec<u64>)
     requires buckets { vec_len buckets.now ≡ length list.now.texts }
-    requires room { vec_len entries.old ≡ ENTRIES }
+    requires none { vec_len entries.old ≡ 0 }
+    requires room { ENTRIES ≤ vec_capacity entries.old }
     ensures len { vec_len entries.new ≡ ENTRIES }
     ensures through { LetThrough list.now buckets.now.items entries.new.items (length list.now.texts) }
 {
@@ -89,12 +90,13 @@ fn without(entry: u64, bit: usize) -> u64
 
 /// Makes all entries alike.
 fn fill_with(entries: &mut Vec<u64>, entry: u64)
-    ensures len { vec_len entries.new ≡ vec_len entries.old }
-    ensures alike { (number : ℕ) → number < vec_len entries.old → slice_index entries.new.items number ≡ entry }
+    requires none { vec_len entries.old ≡ 0 }
+    requires room { ENTRIES ≤ vec_capacity entries.old }
+    ensures len { vec_len entries.new ≡ ENTRIES }
+    ensures alike { (number : ℕ) → number < ENTRIES → slice_index entries.new.items number ≡ entry }
 {
-    for number in 0..entries.len() {
-        entries[number] = entry;
-    }
+    // It takes no memory, and so is not refused.
+    let _is_done = entries.resize(ENTRIES, entry);
 }
 
 /// Lets a literal of a bucket through where two of its bytes stand, and where its first one does behind any other byte.

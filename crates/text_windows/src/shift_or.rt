@@ -1,7 +1,7 @@
 //! Shift-or over buckets of literals, as Hyperscan's FDR has it: which ends are ruled out by the bytes before them.
 ghost use Rattle.std.specs.Prelude.{◌≡◌, ℕ, ◌+◌, ◌<◌, ◌≤◌, IfOk, IfSome, MatchOption, length, max, false};
 ghost use Rattle.text_windows.specs.NoEnds.{Finds, IsFirstFound, NoEndUpTo};
-ghost use Rattle.text_windows.specs.ShiftOr.{NoneOf, RulesOut, RulesOutLanes};
+ghost use Rattle.text_windows.specs.ShiftOr.{AreEntriesOf, NoneOf, RulesOut, RulesOutLanes};
 ghost use Rattle.text_windows.specs.Looks.{AreLooks, AreLooksBehind, AreUnruled, IsVerified};
 ghost use Rattle.text_windows.specs.declared.shift_or.TheConstants.{FRONT};
 
@@ -42,7 +42,8 @@ enum Stride {
 
 /// For the two bytes before a place an entry that tells which ends they rule out: bit `8 * ahead + bucket` is set if no literal of
 /// a bucket ends `ahead` places behind such bytes. The entries of all or of every second place, each shifted by how far it stands
-/// before an end, leave few ends that are not ruled out. All memory is taken when it is made.
+/// before an end, leave few ends that are not ruled out. All memory is taken when it is made, but the entries are written only
+/// when it first learns: to write half a megabyte takes longer than many a search that never learns.
 #[derive(Debug, Drop)]
 pub struct ShiftOr<'p> {
     list: &'p LitList,
@@ -50,22 +51,22 @@ pub struct ShiftOr<'p> {
     buckets: Vec<u8>,
     /// By what the buckets of an end are told once more.
     confirms: Confirms,
+    /// None, with room for all, until it has learned.
     entries: Vec<u64>,
-    is_filled: bool,
     stride: Stride,
 }
 
 impl<'p> Model for ShiftOr<'p> {
-    ghost use Rattle.std.specs.Prelude.{◌≡◌, length, vec_len};
-    ghost use Rattle.text_windows.specs.ShiftOr.{AreConfirmsOf, Bucketing, LetThrough};
+    ghost use Rattle.std.specs.Prelude.{◌≡◌, ◌<◌, ◌≤◌, length, vec_capacity, vec_len};
+    ghost use Rattle.text_windows.specs.ShiftOr.{AreConfirmsOf, AreEntriesOf, Bucketing};
     ghost use Rattle.text_windows.specs.declared.entries.TheConstants.{ENTRIES};
 
     ghost Value = { Bucketing };
 
     ghost view = { λ s. record { literals = s.list.now; buckets = s.buckets.items } };
 
-    ghost invariant = { λ s. (vec_len s.entries ≡ ENTRIES)
-        × LetThrough s.list.now s.buckets.items s.entries.items (length s.list.now.texts)
+    ghost invariant = { λ s. (ENTRIES ≤ vec_capacity s.entries)
+        × (0 < vec_len s.entries → AreEntriesOf s.list.now s.buckets.items s.entries.items)
         × (vec_len s.buckets ≡ length s.list.now.texts)
         × AreConfirmsOf s.list.now s.buckets.items s.confirms };
 }
@@ -78,13 +79,12 @@ impl<'p> ShiftOr<'p> {
         let mut buckets = Vec::from_elem(alloc, 0, list.len())?;
         cut_runs(list, &mut buckets);
         let confirms = Confirms::new(alloc, list, &buckets)?;
-        let entries = Vec::from_elem(alloc, 0, ENTRIES)?;
+        let entries = Vec::with_capacity(alloc, ENTRIES)?;
         Ok(ShiftOr {
             list,
             buckets,
             confirms,
             entries,
-            is_filled: false,
             stride: Stride::One,
         })
     }
@@ -95,8 +95,12 @@ impl<'p> ShiftOr<'p> {
         ensures { self.new ≡ self.old }
     {
         self.fill();
-        let by_one = self.cost(sample, Stride::One);
-        let by_two = self.cost(sample, Stride::Two);
+        let Some(entries) = self.made_entries() else {
+            // It does not come to this: they are made.
+            return usize::MAX;
+        };
+        let by_one = self.cost(entries, sample, Stride::One);
+        let by_two = self.cost(entries, sample, Stride::Two);
         self.stride = if by_two < by_one {
             Stride::Two
         } else {
@@ -109,10 +113,20 @@ impl<'p> ShiftOr<'p> {
     fn fill(&mut self)
         ensures { self.new ≡ self.old }
     {
-        if !self.is_filled {
+        if self.entries.is_empty() {
             fill_all(self.list, &self.buckets, &mut self.entries);
-            self.is_filled = true;
         }
+    }
+
+    /// The entries, if they are made.
+    #[inline(always)]
+    fn made_entries(&self) -> Option<&[u64]>
+        ensures { IfSome result (λ entries. AreEntriesOf self.now.literals self.now.buckets entries.now) }
+    {
+        if self.entries.is_empty() {
+            return None;
+        }
+        Some(self.entries.as_slice())
     }
 
     /// What a search takes for so many bytes of which so many ends are left, in tenths of a nanosecond.
@@ -121,15 +135,19 @@ impl<'p> ShiftOr<'p> {
     }
 
     /// What a search by looks that are so far apart is likely to take for 1,024 bytes of a text with such a sample.
-    fn cost(&self, sample: &[u8], stride: Stride) -> usize {
-        let (left, all) = self.count_left(sample, stride);
+    fn cost(&self, entries: &[u64], sample: &[u8], stride: Stride) -> usize
+        requires entries { AreEntriesOf self.now.literals self.now.buckets entries.now }
+    {
+        let (left, all) = self.count_left(entries, sample, stride);
         let ends = left.saturating_mul(1024) / all.max(1);
         cost_of(1024, ends, stride)
     }
 
     /// How many of some ends in a sample are not ruled out by looks that are so far apart, once for each bucket, and how many ends
     /// these are: the last ones of eight, of which each look has spoken that speaks of them.
-    fn count_left(&self, sample: &[u8], stride: Stride) -> (usize, usize) {
+    fn count_left(&self, entries: &[u64], sample: &[u8], stride: Stride) -> (usize, usize)
+        requires entries { AreEntriesOf self.now.literals self.now.buckets entries.now }
+    {
         let told = match stride {
             Stride::One => 1,
             Stride::Two => 2,
@@ -138,7 +156,7 @@ impl<'p> ShiftOr<'p> {
         for stretch in sample.chunks(SPARSE) {
             if stretch.len() == SPARSE {
                 let at = SPARSE - (PLACES - 1);
-                let looks = self.looks_at(stretch, at, lanes_of(0), stride);
+                let looks = self.looks_at(entries, stretch, at, lanes_of(0), stride);
                 let unruled = !first_word(looks) >> (64 - 8 * told);
                 left = left.saturating_add(unruled.count_ones() as usize);
                 all = all.saturating_add(told);
@@ -150,7 +168,8 @@ impl<'p> ShiftOr<'p> {
     /// What looks at a place and at every second one of the next six rule out from it on. The bytes before them are read as one
     /// word: of pairs that are read one by one the compiler makes a vector, from which it takes each by itself.
     #[inline(always)]
-    fn every_second_look(&self, text: &[u8], at: usize) -> u8x16
+    fn every_second_look(&self, entries: &[u64], text: &[u8], at: usize) -> u8x16
+        requires entries { AreEntriesOf self.now.literals self.now.buckets entries.now }
         requires two { 2 ≤ at }
         requires inside { at + 6 ≤ length text.now }
         ensures { RulesOutLanes self.now text.now at result }
@@ -161,7 +180,7 @@ impl<'p> ShiftOr<'p> {
         'pairs: while pairs > 0 {
             pairs -= 1;
             let number = (word >> (16 * pairs)) % ENTRIES as u64;
-            let entry = lanes_of(self.entries[number as usize]);
+            let entry = lanes_of(entries[number as usize]);
             lanes = joined(two_ahead(lanes), entry);
         }
         lanes
@@ -169,37 +188,47 @@ impl<'p> ShiftOr<'p> {
 
     /// What looks at a place and at the next seven rule out from it on.
     #[inline(always)]
-    fn each_look(&self, text: &[u8], at: usize) -> u8x16
+    fn each_look(&self, entries: &[u64], text: &[u8], at: usize) -> u8x16
+        requires entries { AreEntriesOf self.now.literals self.now.buckets entries.now }
         requires two { 2 ≤ at }
         requires inside { at + 7 ≤ length text.now }
         ensures { RulesOutLanes self.now text.now at result }
     {
-        let others = one_ahead(self.every_second_look(text, at + 1));
-        joined(others, self.every_second_look(text, at))
+        let others = one_ahead(self.every_second_look(entries, text, at + 1));
+        joined(others, self.every_second_look(entries, text, at))
     }
 
     /// What looks so far apart at the eight places from one on rule out from there on.
     #[inline(always)]
-    fn looks_by(&self, text: &[u8], at: usize, stride: Stride) -> u8x16
+    fn looks_by(&self, entries: &[u64], text: &[u8], at: usize, stride: Stride) -> u8x16
+        requires entries { AreEntriesOf self.now.literals self.now.buckets entries.now }
         requires two { 2 ≤ at }
         requires inside { at + 7 ≤ length text.now }
         ensures { RulesOutLanes self.now text.now at result }
     {
         match stride {
-            Stride::One => self.each_look(text, at),
-            Stride::Two => self.every_second_look(text, at),
+            Stride::One => self.each_look(entries, text, at),
+            Stride::Two => self.every_second_look(entries, text, at),
         }
     }
 
     /// The same, joined with what looks before rule out.
     #[inline(always)]
-    fn looks_at(&self, text: &[u8], at: usize, carried: u8x16, stride: Stride) -> u8x16
+    fn looks_at(
+        &self,
+        entries: &[u64],
+        text: &[u8],
+        at: usize,
+        carried: u8x16,
+        stride: Stride,
+    ) -> u8x16
+        requires entries { AreEntriesOf self.now.literals self.now.buckets entries.now }
         requires two { 2 ≤ at }
         requires inside { at + 7 ≤ length text.now }
         requires carried { RulesOutLanes self.now text.now at carried }
         ensures { RulesOutLanes self.now text.now at result }
     {
-        joined(carried, self.looks_by(text, at, stride))
+        joined(carried, self.looks_by(entries, text, at, stride))
     }
 
     /// The looks with which a search for ends behind a place begins.
@@ -220,13 +249,16 @@ impl<'p> ShiftOr<'p> {
         }
     }
 
-    /// What the looks at the eight places before one rule out from it on.
+    /// What the looks at the eight places before one rule out from it on: nothing where no entries are made.
     fn carried_to(&self, text: &[u8], at: usize) -> u64
         requires behind { 12 ≤ at }
         requires inside { at ≤ length text.now + 1 }
         ensures { RulesOut self.now text.now at result }
     {
-        let looks = self.looks_at(text, at - PLACES, lanes_of(0), self.stride);
+        let Some(entries) = self.made_entries() else {
+            return 0;
+        };
+        let looks = self.looks_at(entries, text, at - PLACES, lanes_of(0), self.stride);
         first_word(last_eight(looks))
     }
 
@@ -245,23 +277,41 @@ impl<'p> ShiftOr<'p> {
         ensures next { Finds self.now.literals text.now from (length text.now) result }
         ensures looks { IfSome result (λ found. AreLooksBehind self.now text.now found.0 looks.new) }
     {
+        let Some(entries) = self.made_entries() else {
+            return self.next_plainly(text, from, looks);
+        };
         match self.stride {
-            Stride::One => self.next_by_stride(text, from, Stride::One, looks, left),
-            Stride::Two => self.next_by_stride(text, from, Stride::Two, looks, left),
+            Stride::One => self.next_by_stride(entries, text, from, Stride::One, looks, left),
+            Stride::Two => self.next_by_stride(entries, text, from, Stride::Two, looks, left),
         }
+    }
+
+    /// The same where no entries are made, by which nothing is ruled out.
+    #[inline(never)]
+    fn next_plainly(&self, text: &[u8], from: usize, looks: &mut Looks) -> Option<(usize, usize)>
+        ensures next { Finds self.now.literals text.now from (length text.now) result }
+        ensures looks { IfSome result (λ found. AreLooksBehind self.now text.now found.0 looks.new) }
+    {
+        let found = self.first_between(text, from, text.len());
+        if let Some((end, _)) = found {
+            *looks = self.looks_behind(text, end);
+        }
+        found
     }
 
     /// The same by looks that are so far apart.
     #[inline(always)]
     fn next_by_stride(
         &self,
+        entries: &[u64],
         text: &[u8],
         from: usize,
         stride: Stride,
         looks: &mut Looks,
         left: &mut usize,
     ) -> Option<(usize, usize)>
-        requires { AreLooksBehind self.now text.now from looks.old }
+        requires entries { AreEntriesOf self.now.literals self.now.buckets entries.now }
+        requires looks { AreLooksBehind self.now text.now from looks.old }
         ensures next { Finds self.now.literals text.now from (length text.now) result }
         ensures looks { IfSome result (λ found. AreLooksBehind self.now text.now found.0 looks.new) }
     {
@@ -278,7 +328,7 @@ impl<'p> ShiftOr<'p> {
         let last = text.len().saturating_sub(2 * PLACES - 1);
         'eights: while at <= last {
             at += PLACES;
-            let now = self.looks_at(text, at, carried, stride);
+            let now = self.looks_at(entries, text, at, carried, stride);
             carried = last_eight(now);
             let ruled = first_word(now);
             let unruled = !ruled;

@@ -329,6 +329,23 @@ fn finds_short_literals_in_any_case(rt: HostRuntime) {
     );
 }
 
+/// Where a search by shift-or finds the second of them that has learned from nothing.
+fn second_unlearned(alloc: Global) -> Option<usize> {
+    let list = list_of(alloc, Fold::No, &FOURS)?;
+    let shift_or = ShiftOr::new(alloc, &list).ok()?;
+    let mut looks = shift_or.looks_behind(WITH_FOURS, FOUR_ENDS[0]);
+    let mut left = 0;
+    match shift_or.next_by(WITH_FOURS, FOUR_ENDS[0], &mut looks, &mut left) {
+        Some((end, _)) => Some(end),
+        None => None,
+    }
+}
+
+#[test]
+fn finds_what_ends_before_it_has_learned(rt: HostRuntime) {
+    assert_eq!(rt; second_unlearned(rt.alloc()), Some(11));
+}
+
 /// What a search by shift-or for such literals is told to take of a sample of these bytes.
 fn cost_of(alloc: Global, literals: &[&[u8]], bytes: [u8; 4]) -> Option<usize> {
     let list = list_of(alloc, Fold::No, literals)?;

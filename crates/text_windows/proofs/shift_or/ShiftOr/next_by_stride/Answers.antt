@@ -9,20 +9,20 @@ pub returns-in-Some-end_left-clause-next : goal.returns-in-Some-end_left-clause-
 returns-in-Some-end_left-clause-next c =
     let start : ℕ = max c.args.from 15 in
     let found = c.in-Some-end_left.found in
-    let verified : IsVerified c.args.self.now c.args.text.now start found = c.in-Some-end_left.ensures start c.requires in
+    let verified : IsVerified c.args.self.now c.args.text.now start found = c.in-Some-end_left.ensures start c.requires.looks in
     found_further c.args.self.now.literals c.args.text.now c.args.from start start found.end found.first (omega arith) (omega arith) c.in_default.ensures verified.first
 
 pub returns-in-Some-end_left-clause-looks : goal.returns-in-Some-end_left-clause-looks
 returns-in-Some-end_left-clause-looks c =
     let start : ℕ = max c.args.from 15 in
     let found = c.in-Some-end_left.found in
-    let verified : IsVerified c.args.self.now c.args.text.now start found = c.in-Some-end_left.ensures start c.requires in
+    let verified : IsVerified c.args.self.now c.args.text.now start found = c.in-Some-end_left.ensures start c.requires.looks in
     subst (λ s. AreLooks c.args.self.now c.args.text.now s found.looks) (omega (arith, verified.first.after)) verified.looks
 
 pub eights-init : goal.eights-init
 eights-init c =
     let start : ℕ = max c.args.from 15 in
-    let looks = c.requires in
+    let looks = c.requires.looks in
     record {
       some = looks.some;
       near = looks.near;
