@@ -1,5 +1,5 @@
 //! How often windows occur in texts, by their hashes.
-ghost use Rattle.std.specs.Prelude.{◌≡◌, ◌^◌, ◌<◌, ◌≤◌, IfOk, length, vec_len};
+ghost use Rattle.std.specs.Prelude.{◌≡◌, ◌^◌, ◌<◌, ◌≤◌, IfOk, length, vec_capacity, vec_len};
 ghost use Rattle.lit_base.specs.declared.suffixes.marks.TheConstants.{HASH_BITS};
 
 use crate::shape::WIDTH;
@@ -16,7 +16,8 @@ pub(crate) const NEVER: u32 = 1 << 28;
 const SIEVED: usize = 3;
 
 /// How often windows of four bytes, and the last three bytes of windows, occurred in samples of texts, older ones
-/// counted half for each later sample.
+/// counted half for each later sample. There is room for all counts from the first on, and they are written only when it first
+/// counts.
 #[derive(Debug, Drop)]
 pub(crate) struct Counts {
     pub fours: Vec<u16>,
@@ -28,11 +29,11 @@ pub(crate) struct Counts {
 impl Counts {
     /// Those of no text.
     pub fn new(alloc: Global) -> Result<Counts, AllocError>
-        ensures fours { IfOk result (λ counts. vec_len counts.fours ≡ 2 ^ HASH_BITS) }
-        ensures threes { IfOk result (λ counts. vec_len counts.threes ≡ 2 ^ HASH_BITS) }
+        ensures fours { IfOk result (λ counts. 2 ^ HASH_BITS ≤ vec_capacity counts.fours) }
+        ensures threes { IfOk result (λ counts. 2 ^ HASH_BITS ≤ vec_capacity counts.threes) }
     {
-        let fours = Vec::from_elem(alloc, 0, 1 << HASH_BITS)?;
-        let threes = Vec::from_elem(alloc, 0, 1 << HASH_BITS)?;
+        let fours = Vec::with_capacity(alloc, 1 << HASH_BITS)?;
+        let threes = Vec::with_capacity(alloc, 1 << HASH_BITS)?;
         Ok(Counts {
             fours,
             threes,
@@ -42,8 +43,8 @@ impl Counts {
 
     /// Halves what was counted, and counts the windows of a sample.
     pub fn count(&mut self, list: &LitList, sample: &[u8])
-        requires fours { vec_len self.old.fours ≡ 2 ^ HASH_BITS }
-        requires threes { vec_len self.old.threes ≡ 2 ^ HASH_BITS }
+        requires fours { 2 ^ HASH_BITS ≤ vec_capacity self.old.fours }
+        requires threes { 2 ^ HASH_BITS ≤ vec_capacity self.old.threes }
         ensures fours { vec_len self.new.fours ≡ 2 ^ HASH_BITS }
         ensures threes { vec_len self.new.threes ≡ 2 ^ HASH_BITS }
     {
@@ -92,10 +93,13 @@ impl Counts {
     }
 }
 
-/// Halves each count.
+/// Halves each count. Those that were not written are nothing.
 fn halve(counts: &mut Vec<u16>)
-    ensures { vec_len counts.new ≡ vec_len counts.old }
+    requires { 2 ^ HASH_BITS ≤ vec_capacity counts.old }
+    ensures { vec_len counts.new ≡ 2 ^ HASH_BITS }
 {
+    // It takes no memory, and so is not refused.
+    let _is_done = counts.resize(1 << HASH_BITS, 0);
     for number in 0..counts.len() {
         counts[number] /= 2;
     }

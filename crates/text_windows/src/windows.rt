@@ -45,7 +45,7 @@ pub struct Windows<'p> {
 }
 
 impl<'p> Model for Windows<'p> {
-    ghost use Rattle.std.specs.Prelude.{◌≡◌, ◌^◌, ◌<◌, ◌≤◌, length, vec_len};
+    ghost use Rattle.std.specs.Prelude.{◌≡◌, ◌^◌, ◌<◌, ◌≤◌, length, vec_capacity, vec_len};
     ghost use Rattle.lit_base.specs.declared.suffixes.marks.TheConstants.{HASH_BITS};
     ghost use Rattle.nib_mask.specs.Fronts.{CoversFronts};
     ghost use Rattle.text_windows.specs.Shapes.{IsShapeOf};
@@ -60,7 +60,7 @@ impl<'p> Model for Windows<'p> {
         × AreWindowed w.list.now w.split w.stride w.offsets.items w.sieved_marks.items w.strided_marks.items (length w.list.now.texts)
         × CoversFronts w.list.now w.split w.offsets.items w.masks
         × (vec_len w.buckets ≡ length w.list.now.texts)
-        × (vec_len w.counts.fours ≡ 2 ^ HASH_BITS) × (vec_len w.counts.threes ≡ 2 ^ HASH_BITS) };
+        × (2 ^ HASH_BITS ≤ vec_capacity w.counts.fours) × (2 ^ HASH_BITS ≤ vec_capacity w.counts.threes) };
 }
 
 impl<'p> Windows<'p> {

@@ -15,6 +15,6 @@ invariant_of-self c =
       c.mark_all.ensures,
       fronts,
       omega (arith, c.group.ensures, c.best_choice-choice.ensures.buckets, c.self.invariant.7),
-      c.count.ensures.fours,
-      c.count.ensures.threes,
+      omega (arith, c.count.ensures.fours),
+      omega (arith, c.count.ensures.threes),
     )
