@@ -1,20 +1,22 @@
 //! Where in its line a literal is likely to end.
 
-/// A column is asked for once it was the same in so many lines more than it was another one. It is a guess that was not varied.
+/// A column is asked for once so many more hits in a row had it. The number is a guess and was not varied.
 const LEAST_TRUST: u8 = 2;
 
-/// So much it may be trusted, so that it is not given up for a few lines that are made otherwise.
+/// It is trusted no more than so much: two lines that are made otherwise leave it, and at the third in a row it is given up.
 const MOST_TRUST: u8 = 4;
 
 /// Where in its line a literal is likely to end. The lines of a log, or of JSON, begin alike: where literals are frequent, one often
-/// ends as many bytes behind the front of a line as in the line before. So that place is asked first, and no other if one does.
+/// ends as many bytes behind the front of a line as in the line before. So that place is asked first, and the line is searched only
+/// if none ends there.
 #[derive(Clone, Copy)]
 pub(crate) struct Column {
-    /// So many bytes of a line stood before the end of a literal.
-    at: usize,
-    /// How often that was right, less how often it was wrong, up to a bound.
+    /// So many bytes of a line stood up to the end of a literal.
+    end: usize,
+    /// How often that was right, less how often it was wrong, up to a bound: 0 again where the column changes.
     trust: u8,
-    /// The place in the list of the literal that ended there last: it is compared before others are looked for.
+    /// The place in the list of the literal that was found last where a column was asked for, at first 0: it is compared before others
+    /// are looked for.
     pub literal: usize,
 }
 
@@ -22,19 +24,19 @@ impl Column {
     /// That before any hit.
     pub fn new() -> Column {
         Column {
-            at: 0,
+            end: 0,
             trust: 0,
             literal: 0,
         }
     }
 
-    /// The column, if it is worth asking for.
+    /// Behind how many bytes of a line a literal is likely to end, if that is worth asking for.
     #[inline(always)]
-    pub fn likely(&self) -> Option<usize> {
+    pub fn likely_end(&self) -> Option<usize> {
         if self.trust < LEAST_TRUST {
             None
         } else {
-            Some(self.at)
+            Some(self.end)
         }
     }
 
@@ -50,13 +52,13 @@ impl Column {
         self.trust = self.trust.saturating_sub(1);
     }
 
-    /// In the line of a hit that was searched for, the first literal ends there.
+    /// In the line of a hit that was searched for, the first literal ends behind so many bytes.
     #[inline(always)]
-    pub fn note(&mut self, at: usize) {
-        if at == self.at {
+    pub fn note(&mut self, end: usize) {
+        if end == self.end {
             self.was_right();
         } else if self.trust < LEAST_TRUST {
-            self.at = at;
+            self.end = end;
             self.trust = 0;
         }
     }

@@ -1,5 +1,5 @@
 //! Where a text is cut into lines.
-ghost use Rattle.std.specs.Prelude.{◌≡◌, ◌≤◌, IfSome, MatchOption, length, take};
+ghost use Rattle.std.specs.Prelude.{◌≡◌, ◌<◌, ◌≤◌, IfSome, MatchOption, length, slice_index, take};
 ghost use Rattle.lit_base.specs.Lines.{IsOnePiece};
 ghost use Rattle.line_pick.specs.Cutting.{IsFirstLine, IsLastCut};
 
@@ -14,8 +14,20 @@ pub(crate) fn split_line(text: &[u8]) -> Option<(&[u8], &[u8])>
         (λ parts. IsFirstLine text.now parts.0.now parts.1.now) }
 {
     let end = memchr(b'\n', text)?;
+    Some(split_at_newline(text, end))
+}
+
+/// The text before the newline that stands behind so many bytes, and the text after it.
+#[inline(always)]
+fn split_at_newline(text: &[u8], end: usize) -> (&[u8], &[u8])
+    requires inside { end < length text.now }
+    requires newline { slice_index text.now end ≡ 10 }
+    requires apart { IsOnePiece (take end text.now) }
+    ensures line { IsFirstLine text.now result.0.now result.1.now }
+    ensures len { length result.0.now ≡ end }
+{
     let (line, behind) = text.split_at(end);
-    Some((line, &behind[1..]))
+    (line, &behind[1..])
 }
 
 /// The text before and after the first newline, if there is one, by one look where it is near: for some
@@ -33,8 +45,7 @@ pub(crate) fn split_near_line(text: &[u8]) -> Option<(&[u8], &[u8])>
     if text.len() >= 2 * LANES {
         let end = first_newline_of_two(text);
         if end < 2 * LANES {
-            let (line, behind) = text.split_at(end);
-            return Some((line, &behind[1..]));
+            return Some(split_at_newline(text, end));
         }
     }
     split_line(text)
@@ -54,8 +65,7 @@ pub(crate) fn split_line_behind(text: &[u8], place: usize) -> Option<(&[u8], &[u
     if end < place || end >= 2 * LANES {
         return None;
     }
-    let (line, behind) = text.split_at(end);
-    Some((line, &behind[1..]))
+    Some(split_at_newline(text, end))
 }
 
 /// The text up to its last newline, with it, and the text after it.

@@ -21,9 +21,26 @@ pub(crate) struct HitLine<'t> {
     pub behind: &'t [u8],
 }
 
+impl<'t> HitLine<'t> {
+    /// The first line of a text, with what stands after its newline.
+    #[inline(always)]
+    fn in_front(text: &'t [u8], line: &'t [u8], behind: &'t [u8]) -> HitLine<'t>
+        ensures missed { result.missed.now ≡ [] }
+        ensures line { result.line.now ≡ line.now }
+        ensures behind { result.behind.now ≡ behind.now }
+    {
+        let (missed, _) = text.split_at(0);
+        HitLine {
+            missed,
+            line,
+            behind,
+        }
+    }
+}
+
 /// The first line of a text of ended lines that holds a literal, if there is one. No line before it
-/// is split. The text stands in a whole behind other lines: the search is one of the whole, which looks back at
-/// them and goes on from where it stands.
+/// is split. The place where a literal is likely to end is asked first. The text stands in a whole behind other lines: the
+/// search is one of the whole, which looks back at them and goes on from where it stands.
 pub(crate) fn first_hit_line<'t>(
     compiled: &Compiled,
     finder: &mut Option<EndFinder<'_>>,
@@ -50,12 +67,7 @@ pub(crate) fn first_hit_line<'t>(
     let end = first_end(compiled, finder, search, whole, text)?;
     if let Some((line, behind)) = split_line_behind(text, end) {
         column.note(end);
-        let (missed, _) = text.split_at(0);
-        return Some(HitLine {
-            missed,
-            line,
-            behind,
-        });
+        return Some(HitLine::in_front(text, line, behind));
     }
     hit_line_round(compiled, column, text, end)
 }
@@ -73,7 +85,7 @@ fn likely_hit_line<'t>(
     ensures { IfSome result
         (λ hit. IsFirstHitLine compiled.now.literals text.now hit.missed.now hit.line.now hit.behind.now) }
 {
-    let at = column.likely()?;
+    let at = column.likely_end()?;
     let found = line_with_end(compiled, column, whole, text, at);
     match found {
         Some(_) => column.was_right(),
@@ -82,7 +94,7 @@ fn likely_hit_line<'t>(
     found
 }
 
-/// The first line of a text, if some literal ends in it so many bytes behind its front.
+/// The first line of a text, if some literal ends in it so many bytes behind its front. `None` tells nothing.
 #[inline(always)]
 fn line_with_end<'t>(
     compiled: &Compiled,
@@ -107,15 +119,10 @@ fn line_with_end<'t>(
     if line.len() < at {
         return None;
     }
-    let (missed, _) = text.split_at(0);
-    Some(HitLine {
-        missed,
-        line,
-        behind,
-    })
+    Some(HitLine::in_front(text, line, behind))
 }
 
-/// Whether some literal ends so many bytes behind the front of a text: the one that did last, or another.
+/// Whether some literal ends so many bytes behind the front of a text: the one that was found so last, or another.
 #[inline(always)]
 fn has_end(compiled: &Compiled, column: &mut Column, whole: &[u8], text: &[u8], at: usize) -> bool
     requires behind { IsBehindLines whole.now text.now }
@@ -137,7 +144,7 @@ fn has_end(compiled: &Compiled, column: &mut Column, whole: &[u8], text: &[u8], 
     }
 }
 
-/// Whether the literal at a place of the list is spelled before a place of a text. Where case is ignored this is not told.
+/// Whether the literal at a place of the list is spelled before a place of a text. Where case is ignored it answers no.
 #[inline(always)]
 fn is_spelled_before(list: &LitList, place: usize, text: &[u8], end: usize) -> bool
     requires { end ≤ length text.now }

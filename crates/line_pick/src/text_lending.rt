@@ -25,12 +25,13 @@ const HIT_COST: usize = 256;
 /// of a text is split line by line. With 1,000 words, one in most lines, that is 16 times as fast.
 const CREDIT: usize = 16 * HIT_COST;
 
-/// A list of at most so many literals is searched for by two bytes of each, in whatever text faster than
+/// A list of at most so many literals is searched for by two or three bytes of each, in whatever text faster than
 /// its lines are split. A search for more may take several times as long, where they are words of the text
 /// (30 words in English text: 4.5 ns a byte, and 0.6 to split and compare each line).
 const FEW_LITERALS: usize = 3;
 
-/// Lines of fewer bytes take longer to split than any search: an empty one some 30 ns.
+/// Lines of fewer bytes took longer to split than any search: an empty one some 30 ns, before it was cut by its first byte. The bound
+/// was not chosen anew.
 const SHORT_LINE: usize = 16;
 
 /// So much of a text tells whether its lines are short.

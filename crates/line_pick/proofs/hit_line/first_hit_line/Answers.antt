@@ -13,5 +13,6 @@ pub returns-in-Some-split_line_behind-clause-hit : goal.returns-in-Some-split_li
 returns-in-Some-split_line_behind-clause-hit c =
     let normal = subst IsNormal c.list.ensures c.normal_law.ensures in
     let near = c.in-Some-split_line_behind in
-    first-line-hit c.args.compiled.now.literals normal c.requires.apart c.args.text.now c.split_at.result.0.now near.line.now near.behind.now c.in_ok-end.end
-    c.in_ok-end.ensures.next.after c.in_ok-end.ensures.next.here c.split_at.ensures.front near.ensures.line near.ensures.behind
+    rw (c.in_front.ensures.line, c.in_front.ensures.behind)
+    (first-line-hit c.args.compiled.now.literals normal c.requires.apart c.args.text.now c.in_front.result.missed.now near.line.now near.behind.now c.in_ok-end.end
+    c.in_ok-end.ensures.next.after c.in_ok-end.ensures.next.here c.in_front.ensures.missed near.ensures.line near.ensures.behind)

@@ -8,5 +8,6 @@ pub returns : goal.returns
 returns c =
     let normal = subst IsNormal c.list.ensures c.normal_law.ensures in
     let some : 0 < c.args.at = omega (arith, c.if-at-eq0.false) in
-    first-line-hit c.args.compiled.now.literals normal c.requires.apart c.args.text.now c.split_at.result.0.now c.in_ok-line.line.now c.in_ok-line.behind.now c.args.at
-    some (c.has_end.ensures c.if-not-has_end.false) c.split_at.ensures.front c.in_ok-line.ensures c.if-line-at.false
+    rw (c.in_front.ensures.line, c.in_front.ensures.behind)
+    (first-line-hit c.args.compiled.now.literals normal c.requires.apart c.args.text.now c.in_front.result.missed.now c.in_ok-line.line.now c.in_ok-line.behind.now c.args.at
+    some (c.has_end.ensures c.if-not-has_end.false) c.in_front.ensures.missed c.in_ok-line.ensures c.if-line-at.false)
