@@ -4,7 +4,8 @@
     python3 bench/programs.py [--size MB] [--turns N] [--only WORD] [--litgrep NAME=PATH ..] [--write]
 
 Each row is one search. Each program runs it in turn, N times over, its output read through a pipe;
-the figures are medians: processor time (user and system), wall time and peak memory of the process.
+the figures are medians: processor time (user and system) and wall time of the process. The peak memory of litgrep is that of one
+more run.
 Output bytes and status are compared with GNU grep's in the same run. With --write the table goes to
 bench/PROGRAMS.md and the plot to bench/programs.svg. The texts are made anew by a seeded generator.
 """
@@ -204,12 +205,12 @@ def litgreps(given):
 class Run:
     def __init__(self, status, digest, size, cpu, wall):
         self.status, self.digest, self.size, self.cpu, self.wall = status, digest, size, cpu, wall
-        self.memory = 0
+        self.memory = 0     # told by a run of its own, of litgrep alone
 
 
 def run(words, stdin):
-    """One process, its output read through a pipe. It is spawned without a fork of this script, whose pages would be copied on its
-    account."""
+    """One process, its output read through a pipe. It is spawned without a fork of this script, whose page tables would be
+    copied on its account."""
     reading, writing = os.pipe()
     actions = [(os.POSIX_SPAWN_OPEN, 0, stdin or os.devnull, os.O_RDONLY, 0), (os.POSIX_SPAWN_DUP2, writing, 1),
                (os.POSIX_SPAWN_OPEN, 2, os.devnull, os.O_WRONLY, 0)]

@@ -23,7 +23,7 @@ use lit_base::LitList;
 use lit_cert::{Certificate, certified_law, check};
 use std::marker::Model;
 
-/// Literals with a plan that was checked: who holds one needs no other check.
+/// Literals with a certified plan: who holds one needs no check.
 #[derive(Debug, Drop)]
 pub struct Compiled {
     list: LitList,

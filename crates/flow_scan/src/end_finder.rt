@@ -70,7 +70,7 @@ impl<'p> EndFinder<'p> {
         })
     }
 
-    /// Such a search, unless the plan has at most three literals: these are searched for by two bytes of each, whatever the text.
+    /// Such a search, unless the plan has at most three literals: these are searched for by two or three bytes of each, whatever the text.
     pub fn new_unless_few(
         alloc: Global,
         compiled: &'p Compiled,

@@ -32,8 +32,8 @@ const LEAST_READ_SIZE: usize = 1024;
 /// The lines themselves take no more than the piece.
 const MOST_HELD: usize = 4 * 1024 * 1024;
 
-/// Behind so many inputs a run is long: to search them took about as long as it takes to make what learns, which inputs of 16 KiB
-/// and more gain by as well.
+/// Behind so many inputs a run is long: to search them took about as long as it took to make what learns when its tables were written
+/// at once. Inputs of 16 KiB and more gain by it as well.
 const MANY_INPUTS: usize = 16;
 
 /// What a line takes beside its name and itself: a number, a colon behind each, and its newline.

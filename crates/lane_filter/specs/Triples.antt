@@ -15,7 +15,7 @@ pub record IsTripleEnd (triple : ByteTriple) (text : List ℕ) (end : ℕ) : Typ
 abbrev pub AreExact : ByteTriple → Type 0
 AreExact triple = IsExact triple.pair × (triple.third.case_bit ≡ 0)
 
--- a pair of bytes of the literal at a place of the list, and one more byte of it
+-- a pair of bytes of the literal at a place of the list, and a third byte of it, which may be one of these
 pub record IsTripleOf (l : Literals) (place : ℕ) (triple : ByteTriple) : Type 0 where
   pub pair : IsPairOf l place triple.pair
   pub literal : List ℕ

@@ -1,5 +1,5 @@
 //! The filter of a packed search over many places at once, by vectors of 32 bytes, and the search
-//! for one byte, or for two bytes of each of a few literals.
+//! for one byte or three bytes of an only literal, or for two bytes of each of two or three.
 //!
 //! Theorems: `filter` and `filter_wide` write the plain filter byte at each place, for every length;
 //! no occurrence goes past the `Sieve` of its literals; `Candidates` hands out exactly the places of a

@@ -11,7 +11,7 @@ use lit_base::{Fold, LitList};
 use memchr::arch::all::packedpair::{DefaultFrequencyRank, HeuristicFrequencyRank};
 use std::simd::prelude::*;
 
-/// From how many of a literal's last bytes the pair is chosen: the ends nearer to a text's start are
+/// From how many of a literal's last bytes a pair, and a third byte, are chosen: the ends nearer to a text's start are
 /// looked at one by one.
 pub(crate) const CHOSEN_FROM: usize = 256;
 

@@ -12,9 +12,8 @@ use std::simd::prelude::*;
 
 /// A pair of bytes of a literal, and the rarest one beside these. Where the literal has no third byte, the third is one of the pair.
 ///
-/// Of some pairs of bytes a text has eight in a kilobyte, each of which takes some 20 ns, where three bytes stand together less than
-/// once: of sixteen rare words of each of four texts, three pairs stood more often than five times. A search of a file by three bytes
-/// took 0.55 to 0.97 of the time so where a pair tells little, and up to 1.07 where it tells all.
+/// Of some pairs of bytes a text has eight in a kilobyte, where three bytes stand together less than once: of sixteen rare words of
+/// each of four texts, four pairs stood more often than five times. `docs/DECISIONS.md` has what a search takes by three bytes and by two.
 #[derive(Clone, Copy, Debug, PartialEq, Eq)]
 pub struct ByteTriple {
     pair: BytePair,

@@ -1,4 +1,4 @@
-//! From a list of literals to its compiled plan: planned, checked, and ready for a scanner.
+//! From a list of literals to its compiled plan: planned, and ready for a scanner.
 #![tactic(auto)]
 
 mod compiling;

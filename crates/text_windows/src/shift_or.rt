@@ -43,7 +43,7 @@ enum Stride {
 /// For the two bytes before a place an entry that tells which ends they rule out: bit `8 * ahead + bucket` is set if no literal of
 /// a bucket ends `ahead` places behind such bytes. The entries of all or of every second place, each shifted by how far it stands
 /// before an end, leave few ends that are not ruled out. All memory is taken when it is made, but the entries are written only
-/// when it first learns: to write half a megabyte takes longer than many a search that never learns.
+/// when it first learns: a search that never learns need not write half a megabyte.
 #[derive(Debug, Drop)]
 pub struct ShiftOr<'p> {
     list: &'p LitList,
