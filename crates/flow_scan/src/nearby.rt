@@ -71,7 +71,8 @@ pub(crate) fn next_nearby(
     }
 }
 
-/// Whether a list that is not searched by a few bytes of each literal has some so short that marks, which are then by as few bytes, tell little.
+/// Whether a list that is not searched by a few bytes of each literal has some so short that marks, which are then by as few bytes,
+/// tell little.
 fn has_short(list: &LitList) -> bool {
     list.len() > PAIRED && list.shortest() < TOLD_LEN
 }
