@@ -1,4 +1,6 @@
 //! Pickers by a search that learns from the text, beside those by the plan alone.
+ghost use Rattle.std.specs.Prelude.{◌≡◌, IfSome};
+
 use super::*;
 
 /// Literals of which the text below has some, and pieces of the others.
@@ -48,6 +50,13 @@ fn lent_plainly(
     lent_by(alloc, &mut picker, text)
 }
 
+/// What learns from texts for a plan.
+fn finder_by<'p>(alloc: Global, compiled: &'p Compiled) -> Option<EndFinder<'p>>
+    ensures { IfSome result (λ finder. finder ≡ compiled.now) }
+{
+    EndFinder::new(alloc, compiled).ok()
+}
+
 /// What one by a search that learns lends.
 fn lent_by_finder(
     alloc: Global,
@@ -58,7 +67,7 @@ fn lent_by_finder(
     if !is_in_lines(compiled) {
         return None;
     }
-    let finder = EndFinder::new(alloc, compiled).ok()?;
+    let finder = finder_by(alloc, compiled)?;
     let mut picker = Picker::by_finder(alloc, finder, false, rule);
     lent_by(alloc, &mut picker, text)
 }
@@ -77,7 +86,7 @@ fn lent_by_late_finder(
     let mut picker = Picker::new(alloc, Some(compiled), false, rule);
     let mut sink = Kept::new(alloc, Mood::Takes);
     picker.feed(front, &mut sink).ok()?;
-    picker.learn_by(EndFinder::new(alloc, compiled).ok()?);
+    picker.learn_by(finder_by(alloc, compiled)?);
     picker.feed(rest, &mut sink).ok()?;
     picker.finish(&mut sink).ok()?;
     if picker.learns() {
@@ -113,7 +122,7 @@ fn hands_back_by(alloc: Global, compiled: &Compiled) -> Option<bool> {
     if !is_in_lines(compiled) {
         return None;
     }
-    let finder = EndFinder::new(alloc, compiled).ok()?;
+    let finder = finder_by(alloc, compiled)?;
     let picker = Picker::by_finder(alloc, finder, false, PARTS);
     Some(picker.learns() && picker.into_finder().is_some())
 }
