@@ -1,14 +1,16 @@
 -- Three bytes of a literal: their marks, and that they stand before each end of it.
-use Rattle.std.proofs.Common.{◌≡◌, ℕ, ◌<◌, List, [], bit_and, sym, subst, ◌∙◌, arith}
+use Rattle.std.proofs.Common.{◌≡◌, ◌≢◌, ◌-◌, inl, inr, ℕ, ◌<◌, List, [], bit_and, sym, subst, ◌∙◌, arith, ◌+◌, ◌≤◌}
 use Rattle.std.specs.Int.{bit_at}
+use Rattle.std.proofs.lemmas.Bool.{cases_eq}
 use Rattle.std.proofs.lemmas.Nat.Bits.{bit_at_and, bit_at-lt}
 use Rattle.std.proofs.lemmas.Option.{get_or_from_slice_get}
 use Rattle.lit_base.specs.Literals.{Literals}
 use Rattle.lit_base.specs.Occurrences.{Occurs}
 use Rattle.lane_filter.proofs.PairLemmas.{pair_stands, rare_stands}
 use Rattle.lane_filter.specs.Lanes.{TellsBits}
-use Rattle.lane_filter.specs.Pairs.{IsPairEnd, IsRareByteOf, StandsBefore}
+use Rattle.lane_filter.specs.Pairs.{IsOneOf, IsPairEnd, IsRareByteOf, StandsBefore}
 use Rattle.lane_filter.specs.Triples.{IsTripleEnd, IsTripleOf}
+use Rattle.lane_filter.specs.declared.pair.BytePair.{BytePair}
 use Rattle.lane_filter.specs.declared.triple.ByteTriple.{ByteTriple}
 
 -- the bits that both masks have tell the ends before which the pair and the third byte stand
@@ -37,3 +39,28 @@ triple_stands l place triple of text end occurs =
     sym (get_or_from_slice_get l.texts place of.literal [] of.stands) ∙ get_or_from_slice_get l.texts place occurs.literal [] occurs.stands in
     let of_third = rare_stands l text place end of.third_place triple.third occurs (subst (λ t. IsRareByteOf l.folding t of.third_place triple.third) same of.third) in
     record { pair = pair_stands l place triple.pair of.pair text end occurs; after_third = of_third.0; third = of_third.1 }
+
+-- of the places from start up to `place`, the one found costs `least`: 256 or more if the pair has its byte, and less if another was looked at
+pub record IsBesidePair (pair : BytePair) (len start place found least : ℕ) : Type 0 where
+  pub here : IsOneOf pair (len - 1 - found) → 256 ≤ least
+  pub apart : (q : ℕ) → start ≤ q → q < place → ¬ IsOneOf pair (len - 1 - q) → least < 256
+
+-- where three or more were looked at, the place found is not one of the pair
+pub third_apart : (pair : BytePair) (len start found least : ℕ) → IsBesidePair pair len start len found least → start + 3 ≤ len → ¬ IsOneOf pair (len - 1 - found)
+third_apart pair len start found least is three taken =
+    let much = is.here taken in
+    let none : (q : ℕ) → start ≤ q → q < len → pair.first.behind ≢ len - 1 - q → pair.second.behind ≢ len - 1 - q → ⊥ =
+    λ q from below one two. omega (arith, much, is.apart q from below (λ e. elim e [ inl a ↦ one a | inr b ↦ two b ])) in
+    elim (cases_eq pair.first.behind (len - 1 - start)) [
+      | inl a ↦ elim (cases_eq pair.second.behind (len - 1 - (start + 1))) [
+        | inl b ↦ none (start + 2) (omega arith) (omega arith) (λ e. omega (arith, a, e)) (λ e. omega (arith, b, e))
+        | inr b ↦ none (start + 1) (omega arith) (omega arith) (λ e. omega (arith, a, e)) b
+      ]
+      | inr a ↦ elim (cases_eq pair.second.behind (len - 1 - start)) [
+        | inl b ↦ elim (cases_eq pair.first.behind (len - 1 - (start + 1))) [
+          | inl c ↦ none (start + 2) (omega arith) (omega arith) (λ e. omega (arith, c, e)) (λ e. omega (arith, b, e))
+          | inr c ↦ none (start + 1) (omega arith) (omega arith) c (λ e. omega (arith, b, e))
+        ]
+        | inr b ↦ none start (omega arith) (omega arith) a b
+      ]
+    ]

@@ -1,5 +1,5 @@
 -- Two bytes of a literal, and the places of a text before which they stand.
-use Rattle.std.specs.Prelude.{◌≡◌, ◌≢◌, ℕ, ◌+◌, ◌-◌, ◌<◌, ◌≤◌, ◌&&◌, nat_le, if◌then◌else◌, List, Some, length, slice_index, bit_or}
+use Rattle.std.specs.Prelude.{◌≡◌, ◌≢◌, ℕ, ◌+◌, ◌-◌, ◌<◌, ◌≤◌, ◌&&◌, ◌⊎◌, nat_le, if◌then◌else◌, List, Some, length, slice_index, bit_or}
 use Rattle.std.specs.List.{slice_get}
 use Rattle.lit_base.specs.declared.fold.Fold.{Fold}
 use Rattle.lit_base.specs.declared.fold.Fold.TheVariants.{No, Ascii}
@@ -30,6 +30,10 @@ pub record IsPairEnd (pair : BytePair) (text : List ℕ) (end : ℕ) : Type 0 wh
   pub within : end ≤ length text
   pub first : StandsBefore pair.first text end
   pub second : StandsBefore pair.second text end
+
+-- one of both bytes has so many bytes behind it
+abbrev pub IsOneOf : BytePair → ℕ → Type 0
+IsOneOf pair behind = (pair.first.behind ≡ behind) ⊎ (pair.second.behind ≡ behind)
 
 -- the case of both bytes counts
 abbrev pub IsExact : BytePair → Type 0

@@ -1,7 +1,7 @@
 //! Two bytes of a literal that are rare in usual text: where not both stand, it does not end.
 ghost use Rattle.std.specs.Prelude.{◌≡◌, ◌≢◌, ℕ, ◌+◌, ◌-◌, ◌^◌, ◌<◌, ◌≤◌, ◌↔◌, IfSome, IsTrue, List, length, slice_index, slice_index_or, max};
 ghost use Rattle.lane_filter.specs.Lanes.{HoldsBelow, TellsBits, TellsLanes};
-ghost use Rattle.lane_filter.specs.Pairs.{AreUnlike, IsExact, IsPairEnd, IsPairOf, IsRareByteOf, StandsBefore, case_bit};
+ghost use Rattle.lane_filter.specs.Pairs.{AreUnlike, IsExact, IsOneOf, IsPairEnd, IsPairOf, IsRareByteOf, StandsBefore, case_bit};
 ghost use Rattle.lit_base.specs.declared.fold.Fold.{Fold};
 ghost use Rattle.lit_base.specs.Occurrences.{Occurs};
 
@@ -138,7 +138,9 @@ impl BytePair {
     }
 
     /// Whether one of them has so many bytes behind it.
-    pub(crate) fn has_byte_at(&self, behind: usize) -> bool {
+    pub(crate) fn has_byte_before(&self, behind: usize) -> bool
+        ensures { IsTrue result ↔ IsOneOf self.now behind }
+    {
         usize::from(self.first.behind) == behind || usize::from(self.second.behind) == behind
     }
 

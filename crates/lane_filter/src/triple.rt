@@ -1,6 +1,7 @@
 //! Three bytes of a literal that are rare in usual text: where not all of them stand, it does not end.
-ghost use Rattle.std.specs.Prelude.{◌≡◌, ◌↔◌, ℕ, ◌+◌, ◌<◌, ◌≤◌, IsTrue, List, length, max};
+ghost use Rattle.std.specs.Prelude.{◌≡◌, ◌↔◌, ℕ, ◌+◌, ◌-◌, ◌^◌, ◌<◌, ◌≤◌, IsTrue, List, length, max};
 ghost use Rattle.lane_filter.specs.Lanes.{TellsLanes};
+ghost use Rattle.lane_filter.specs.Pairs.{IsOneOf};
 ghost use Rattle.lane_filter.specs.Triples.{AreExact, IsTripleEnd, IsTripleOf};
 ghost use Rattle.lit_base.specs.Occurrences.{Occurs};
 
@@ -109,19 +110,30 @@ fn rarest_beside(fold: Fold, literal: &[u8], pair: &BytePair) -> usize
     requires some { 0 < length literal.now }
     ensures within { result < length literal.now }
     ensures near { length literal.now ≤ result + 256 }
+    ensures apart { 3 ≤ length literal.now → ¬ IsOneOf pair.now (length literal.now - 1 - result) }
 {
     let start = literal.len().saturating_sub(CHOSEN_FROM);
     let (mut least, mut found) = (u16::MAX, start);
     for place in start..literal.len() {
-        let rank = usual_rank(fold, literal[place]);
-        let cost = if pair.has_byte_at(literal.len() - 1 - place) {
-            256 + rank
-        } else {
-            rank
-        };
+        let cost = cost_beside(fold, literal, place, pair);
         if cost < least {
             (least, found) = (cost, place);
         }
     }
     found
+}
+
+/// How little a byte tells beside a pair.
+fn cost_beside(fold: Fold, literal: &[u8], place: usize, pair: &BytePair) -> u16
+    requires { place < length literal.now }
+    ensures short { result < 2 ^ 16 - 1 }
+    ensures here { IsOneOf pair.now (length literal.now - 1 - place) → 256 ≤ result }
+    ensures apart { ¬ IsOneOf pair.now (length literal.now - 1 - place) → result < 256 }
+{
+    let rank = usual_rank(fold, literal[place]);
+    if pair.has_byte_before(literal.len() - 1 - place) {
+        256 + rank
+    } else {
+        rank
+    }
 }

@@ -1,9 +1,11 @@
--- The place found is one of the last.
+-- The place found is one of the last, and beside the pair where one looked at is.
 use Rattle.std.proofs.Common.{◌+◌, ◌<◌, ◌≤◌, length}
+use Rattle.lane_filter.proofs.TripleLemmas.{IsBesidePair}
 use Rattle.lane_filter.proofs.triple.rarest_beside.Given as goal
 
 abbrev pub invariant-loop-place : goal.invariant-loop-place
 invariant-loop-place l = record {
   inside : l.found < length l.literal;
   near : length l.literal ≤ l.found + 256;
+  beside : IsBesidePair l.pair (length l.literal) l.start l.place l.found l.least;
 }

@@ -1,5 +1,6 @@
 use Rattle.std.proofs.lemmas.Option.{slice_get_read}
-use Rattle.std.proofs.Common.{refl}
+use Rattle.std.proofs.Common.{refl, subst, arith}
+use Rattle.lane_filter.specs.Pairs.{IsOneOf}
 use Rattle.lane_filter.proofs.TripleLemmas.{triple_stands}
 use Rattle.lane_filter.proofs.triple.ByteTriple.of.Goals as goal
 
@@ -11,6 +12,7 @@ returns-clause-triple c =
       stands = slice_get_read c.args.list.now.texts _ c.args.place c.get-literal.result.now refl c.requires c.get-literal.ensures.value;
       third_place = c.rarest_beside-third.result;
       third = rw c.fold-fold.ensures at c.at.ensures;
+      apart = λ three taken. c.rarest_beside-third.ensures.apart three (subst (λ behind. IsOneOf c.of-pair.result behind) (omega (arith, c.at.ensures.behind)) taken);
     }
 
 pub returns-clause-stands : goal.returns-clause-stands
