@@ -41,6 +41,11 @@ impl<A: EndTest, B: EndTest> EndTest for AnyOf<A, B> {
     }
 
     #[inline(always)]
+    fn may_hold_rarest(&self, text: &[u8], first: usize) -> bool {
+        self.one.may_hold_rarest(text, first) || self.other.may_hold_rarest(text, first)
+    }
+
+    #[inline(always)]
     fn marks(&self, text: &[u8], first: usize) -> u64 {
         self.one.marks(text, first) | self.other.marks(text, first)
     }

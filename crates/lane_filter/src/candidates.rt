@@ -8,6 +8,7 @@ use crate::bits::{from_bit, split_lowest};
 use crate::end_test::EndTest;
 use crate::nibbles::Nibbles;
 use crate::sieve::Sieve;
+use crate::skipping::skip_unmarked;
 use std::marker::Model;
 
 /// 64 ends in a row, up to `done`: bit k of `mask` is set where `first + k` is a candidate.
@@ -65,22 +66,6 @@ fn wide_bits<T: EndTest>(test: &T, text: &[u8], from: usize) -> EndBits
         seen = skip_unmarked(test, text, seen + 64);
     }
     last_bits(test, text, seen)
-}
-
-/// A place up to which there is no candidate after another, found by 128 ends at once.
-#[inline(always)]
-fn skip_unmarked<T: EndTest>(test: &T, text: &[u8], from: usize) -> usize
-    requires after { T.reaches test.now ≤ from + 1 }
-    requires within { from ≤ length text.now }
-    ensures after { from ≤ result }
-    ensures within { result ≤ length text.now }
-    ensures quiet { NoneWithin (T.candidate test.now text.now) from result }
-{
-    let mut seen = from;
-    while text.len() - seen >= 128 && !test.may_mark(text, seen + 1) {
-        seen += 128;
-    }
-    seen
 }
 
 /// The ends after a place, fewer than 64, as part of the last 64 ends.

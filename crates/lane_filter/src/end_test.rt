@@ -27,6 +27,12 @@ pub(crate) trait EndTest {
         requires within { first + 127 ≤ length text.now }
         ensures { (k : ℕ) → k < 128 → candidate self.now text.now (first + k) → IsTrue result };
 
+    /// As `may_mark`, by the rarest byte alone: it takes less, and answers yes more often. It is `may_mark` where that looks at no more.
+    fn may_hold_rarest(&self, text: &[u8], first: usize) -> bool
+        requires after { reaches self.now ≤ first }
+        requires within { first + 127 ≤ length text.now }
+        ensures { (k : ℕ) → k < 128 → candidate self.now text.now (first + k) → IsTrue result };
+
     /// At which of 64 places an occurrence may end.
     fn marks(&self, text: &[u8], first: usize) -> u64
         requires after { reaches self.now ≤ first }

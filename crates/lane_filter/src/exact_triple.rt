@@ -55,6 +55,11 @@ impl EndTest for ExactTriple {
     }
 
     #[inline(always)]
+    fn may_hold_rarest(&self, text: &[u8], first: usize) -> bool {
+        self.triple.rarest().may_stand_exactly(text, first)
+    }
+
+    #[inline(always)]
     fn marks(&self, text: &[u8], first: usize) -> u64 {
         self.triple.marks(text, first)
     }

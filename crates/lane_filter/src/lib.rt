@@ -22,6 +22,7 @@ mod one_byte;
 mod pair;
 mod plain;
 mod sieve;
+mod skipping;
 mod tables;
 mod triple;
 

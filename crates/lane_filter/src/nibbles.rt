@@ -48,6 +48,11 @@ impl<'a> EndTest for Nibbles<'a> {
     }
 
     #[inline(always)]
+    fn may_hold_rarest(&self, _text: &[u8], _first: usize) -> bool {
+        true
+    }
+
+    #[inline(always)]
     fn marks(&self, text: &[u8], first: usize) -> u64 {
         self.tables.marks(text, first - 3)
     }

@@ -75,6 +75,11 @@ impl EndTest for OneByte {
     }
 
     #[inline(always)]
+    fn may_hold_rarest(&self, text: &[u8], first: usize) -> bool {
+        self.may_mark(text, first)
+    }
+
+    #[inline(always)]
     fn marks(&self, text: &[u8], first: usize) -> u64 {
         equal_bits(load_64(text, first - 1), self.case_bit, self.byte)
     }
@@ -128,6 +133,11 @@ impl EndTest for ExactByte {
 
     #[inline(always)]
     fn may_mark(&self, text: &[u8], first: usize) -> bool {
+        self.plain().may_mark(text, first)
+    }
+
+    #[inline(always)]
+    fn may_hold_rarest(&self, text: &[u8], first: usize) -> bool {
         self.plain().may_mark(text, first)
     }
 

@@ -100,6 +100,37 @@ impl RareByte {
         value_where(bytes, self.byte, 255)
     }
 
+    /// Whether the text has the byte before one of 128 ends.
+    #[inline(always)]
+    pub(crate) fn may_stand(&self, text: &[u8], first: usize) -> bool
+        requires after { self.now.behind < first }
+        requires within { first + 127 ≤ length text.now }
+        ensures { (k : ℕ) → k < 128 → StandsBefore self.now text.now (first + k) → IsTrue result }
+    {
+        any_lane_of(
+            self.lanes(text, first),
+            self.lanes(text, first + 32),
+            self.lanes(text, first + 64),
+            self.lanes(text, first + 96),
+        )
+    }
+
+    /// The same of a byte of which the case counts.
+    #[inline(always)]
+    pub(crate) fn may_stand_exactly(&self, text: &[u8], first: usize) -> bool
+        requires exact { self.now.case_bit ≡ 0 }
+        requires after { self.now.behind < first }
+        requires within { first + 127 ≤ length text.now }
+        ensures { (k : ℕ) → k < 128 → StandsBefore self.now text.now (first + k) → IsTrue result }
+    {
+        any_lane_of(
+            self.exact_lanes(text, first),
+            self.exact_lanes(text, first + 32),
+            self.exact_lanes(text, first + 64),
+            self.exact_lanes(text, first + 96),
+        )
+    }
+
     /// Before which of 64 ends the text has the byte.
     #[inline(always)]
     pub(crate) fn marks(&self, text: &[u8], first: usize) -> u64
@@ -150,6 +181,14 @@ impl BytePair {
         ensures { IsTrue result ↔ IsExact self.now }
     {
         self.first.is_exact() && self.second.is_exact()
+    }
+
+    /// The rarer one.
+    #[inline(always)]
+    pub(crate) fn rarer(&self) -> RareByte
+        ensures { result ≡ self.now.first }
+    {
+        self.first
     }
 
     /// 255 in each of 32 lanes where both bytes stand before an end.
@@ -207,6 +246,11 @@ impl EndTest for BytePair {
             self.lanes(text, first + 64),
             self.lanes(text, first + 96),
         )
+    }
+
+    #[inline(always)]
+    fn may_hold_rarest(&self, text: &[u8], first: usize) -> bool {
+        self.first.may_stand(text, first)
     }
 
     #[inline(always)]

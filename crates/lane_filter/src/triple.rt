@@ -38,6 +38,14 @@ impl ByteTriple {
         }
     }
 
+    /// The rarest of them, by what is usual in text.
+    #[inline(always)]
+    pub(crate) fn rarest(&self) -> RareByte
+        ensures { result ≡ self.now.pair.first }
+    {
+        self.pair.rarer()
+    }
+
     /// Whether the case of all bytes counts.
     #[inline(always)]
     pub(crate) fn is_exact(&self) -> bool
@@ -97,6 +105,11 @@ impl EndTest for ByteTriple {
             self.lanes(text, first + 64),
             self.lanes(text, first + 96),
         )
+    }
+
+    #[inline(always)]
+    fn may_hold_rarest(&self, text: &[u8], first: usize) -> bool {
+        self.pair.may_hold_rarest(text, first)
     }
 
     #[inline(always)]

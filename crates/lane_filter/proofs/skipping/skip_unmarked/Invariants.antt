@@ -1,9 +1,10 @@
 use Rattle.std.proofs.Common.{◌≤◌, ◌-◌, length}
 use Rattle.lane_filter.specs.PlacesAfter.{NoneWithin}
-use Rattle.lane_filter.proofs.candidates.skip_unmarked.Given as goal
+use Rattle.lane_filter.proofs.skipping.skip_unmarked.Given as goal
 
 abbrev pub invariant-loop-seen : goal.invariant-loop-seen
-invariant-loop-seen g l = (l.from ≤ l.seen) × (l.seen ≤ length l.text) × NoneWithin (g.T.EndTest.candidate l.test l.text) l.from l.seen
+invariant-loop-seen g l =
+    (l.from ≤ l.seen) × (l.seen ≤ length l.text) × NoneWithin (g.T.EndTest.candidate l.test l.text) l.from l.seen × (1 ≤ l.blocks) × (l.blocks ≤ 256)
 
 abbrev pub decreases-loop-seen : goal.decreases-loop-seen
 decreases-loop-seen g l = length l.text - l.seen

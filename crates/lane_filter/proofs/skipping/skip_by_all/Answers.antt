@@ -2,7 +2,7 @@
 use Rattle.std.proofs.Common.{◌+◌, arith}
 use Rattle.std.proofs.lemmas.Bool.{both_ways}
 use Rattle.lane_filter.proofs.EndLemmas.{quiet_in_row, quiet_on}
-use Rattle.lane_filter.proofs.candidates.skip_unmarked.Goals as goal
+use Rattle.lane_filter.proofs.skipping.skip_by_all.Goals as goal
 
 pub loop-seen-preserved : goal.loop-seen-preserved
 loop-seen-preserved g c =

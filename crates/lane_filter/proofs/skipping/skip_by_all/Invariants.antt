@@ -1,0 +1,9 @@
+use Rattle.std.proofs.Common.{◌≤◌, ◌-◌}
+use Rattle.lane_filter.specs.PlacesAfter.{NoneWithin}
+use Rattle.lane_filter.proofs.skipping.skip_by_all.Given as goal
+
+abbrev pub invariant-loop-seen : goal.invariant-loop-seen
+invariant-loop-seen g l = (l.from ≤ l.seen) × (l.seen ≤ l.to) × NoneWithin (g.T.EndTest.candidate l.test l.text) l.from l.seen
+
+abbrev pub decreases-loop-seen : goal.decreases-loop-seen
+decreases-loop-seen g l = l.to - l.seen
