@@ -356,3 +356,41 @@ fn cursor_finds_a_word_at_any_place(rt: HostRuntime) -> Result<(), Fail> {
     }
     Ok(())
 }
+
+/// A text of so many bytes, with a word at a place, and its first letter alone before it at each so many bytes.
+fn text_with_word_at(
+    alloc: Global,
+    len: usize,
+    place: usize,
+    apart: usize,
+) -> Result<Vec<u8>, AllocError> {
+    let mut text = Vec::new(alloc);
+    for at in 0..len {
+        let byte = match at.checked_sub(place) {
+            Some(0) => b'c',
+            Some(1) => b'a',
+            Some(2) => b't',
+            None if at % apart.max(1) == 0 => b'c',
+            _ => b'-',
+        };
+        text.push(byte)?;
+    }
+    Ok(text)
+}
+
+#[test]
+fn cursor_finds_a_word_far_on(rt: HostRuntime) -> Result<(), Fail> {
+    for case in &word_cases(rt.alloc())? {
+        for apart in [1, 130, 2000, 9000] {
+            for step in 0..24 {
+                let place = 300 * step + step;
+                let text = text_with_word_at(rt.alloc(), 9000, place, apart)?;
+                let mut cursor = Candidates::new(&case.sieve, &text, 0);
+                let found = cursor.next();
+                assert_eq!(rt; found, Some(place + 3), "letters each {apart}");
+                assert!(rt; cursor.next().is_none(), "a second one behind {place}");
+            }
+        }
+    }
+    Ok(())
+}

@@ -1,5 +1,5 @@
 //! The first line of a text that holds a literal.
-ghost use Rattle.std.specs.Prelude.{◌≡◌, ◌<◌, ◌≤◌, ◌↔◌, [], All, IfSome, IsTrue, MatchOption, length};
+ghost use Rattle.std.specs.Prelude.{◌≡◌, ◌<◌, ◌≤◌, [], All, IfSome, IsTrue, MatchOption, length};
 ghost use Rattle.lit_base.specs.Lines.{IsOnePiece, open_rest};
 ghost use Rattle.lit_base.specs.Literals.{IsNormal};
 ghost use Rattle.lit_base.specs.Occurrences.{HasEnd};
@@ -9,7 +9,6 @@ ghost use Rattle.line_pick.specs.HitLines.{AllMiss, IsBehindLines, IsFirstHitLin
 use crate::column::Column;
 use crate::cutting::{split_front, split_line_behind, split_near_line};
 use flow_scan::{Compiled, EndFinder, TextSearch};
-use lit_base::{Fold, LitList};
 
 /// A line that holds a literal, with the text round it.
 #[derive(Clone, Copy)]
@@ -132,7 +131,7 @@ fn has_end(compiled: &Compiled, column: &mut Column, whole: &[u8], text: &[u8], 
     ensures { IsTrue result → HasEnd compiled.now.literals text.now at }
 {
     let list = compiled.list();
-    if is_spelled_before(list, column.literal, text, at) {
+    if column.literal < list.len() && list.ends_at(column.literal, text, at) {
         return true;
     }
     match list.first_ending(whole, whole.len() - text.len() + at) {
@@ -142,31 +141,6 @@ fn has_end(compiled: &Compiled, column: &mut Column, whole: &[u8], text: &[u8], 
         }
         None => false,
     }
-}
-
-/// Whether the literal at a place of the list is spelled before a place of a text. Where case is ignored it answers no.
-#[inline(always)]
-fn is_spelled_before(list: &LitList, place: usize, text: &[u8], end: usize) -> bool
-    requires { end ≤ length text.now }
-    ensures { IsTrue result → HasEnd list.now text.now end }
-{
-    match list.fold() {
-        Fold::Ascii => return false,
-        Fold::No => {}
-    }
-    if list.len() <= place {
-        return false;
-    }
-    let literal = list.get(place);
-    literal.len() <= end && is_same(&text[end - literal.len()..end], literal)
-}
-
-/// Whether two texts are one.
-#[inline(always)]
-fn is_same(text: &[u8], other: &[u8]) -> bool
-    ensures { IsTrue result ↔ (text.now ≡ other.now) }
-{
-    text == other
 }
 
 /// The line in which a literal ends, where it is the first end of one in a text of ended lines.

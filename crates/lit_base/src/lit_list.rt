@@ -210,6 +210,16 @@ impl LitList {
         }
     }
 
+    /// Whether the literal at a place ends at `end` in the text.
+    #[inline]
+    pub fn ends_at(&self, place: usize, text: &[u8], end: usize) -> bool
+        requires within { place < length self.now.texts }
+        requires inside { end ≤ length text.now }
+        ensures { IsTrue result ↔ Occurs self.now text.now place end }
+    {
+        self.literals.ends_at(place, text, end)
+    }
+
     /// How far apart the places are at which a search has to look that looks at the marks there: the
     /// longest stride of up to eight that leaves four bytes of the shortest literal.
     #[inline]

@@ -1,14 +1,12 @@
 -- One of the looks is by the bytes that a literal is checked by.
-use Rattle.std.proofs.Common.{◌≡◌, ℕ, ◌-◌, ◌*◌, ◌%◌, ◌^◌, ◌≤◌, get_or, min, inl, inr, sym, ap, ◌∙◌, subst, arith}
+use Rattle.std.proofs.Common.{◌≡◌, ℕ, ◌-◌, ◌*◌, ◌%◌, ◌^◌, ◌≤◌, min, inl, inr, sym, ap, ◌∙◌, subst, arith}
 use Rattle.std.specs.Int.{bit_at}
 use Rattle.std.specs.Int.RustNames.{bit_and, bit_or}
 use Rattle.std.proofs.lemmas.Bool.{cases_lt}
-use Rattle.std.proofs.lemmas.List.{get_or_read}
 use Rattle.std.proofs.lemmas.Option.{slice_get_within}
 use Rattle.lit_base.specs.Chains.{told_at}
 use Rattle.lit_base.specs.Checks.{IsChecked, last_key}
-use Rattle.lit_base.specs.Suffixes.{hash_of, last_bits}
-use Rattle.lit_base.specs.declared.suffixes.checks.TheConstants.{CHECK_BITS}
+use Rattle.lit_base.specs.Suffixes.{last_bits}
 use Rattle.lit_base.proofs.CheckLemmas.{bit_below, bit_highest, checked-occurs, more_stays, width_added, width_stays}
 use Rattle.lit_base.proofs.SuffixLemmas.{are_bytes}
 use Rattle.lit_base.proofs.suffixes.checks.SuffixChecks.widths_at.Goals as goal
