@@ -6,11 +6,11 @@ use Rattle.std.proofs.lemmas.Nat.Bits.{bit_at_or, bit_at_ones, bit_at_set_same, 
 use Rattle.lit_base.specs.declared.fold.Fold.{Fold}
 use Rattle.nib_mask.specs.declared.half.Half.{Half}
 use Rattle.nib_mask.specs.FilterSet.{capital, half_of, has_half, is_used, reaches, shares_half}
-use Rattle.nib_mask.specs.Tables.{Marks, allows}
+use Rattle.nib_mask.specs.Tables.{TellsHalves, allows}
 
 -- the number with one bit
-pub marks-one : (value : ℕ) → value < 16 → Marks (1 * 2 ^ value % 65536) (λ other. value == other)
-marks-one value small other less =
+pub tells-one : (value : ℕ) → value < 16 → TellsHalves (1 * 2 ^ value % 65536) (λ other. value == other)
+tells-one value small other less =
     let number = 1 * 2 ^ value % 65536 in
     elim (cases_eq other value) [
       | inl same ↦ omega (arith, ap (λ k. bit_at number k) same, bit_at_set_same w16 0 value small, bit_at_or 0 number value, bit_at-zero value) ∙ ap (λ b. cond b 1 0) (sym (eq-eqb value other (sym same)))
@@ -25,21 +25,21 @@ either false true = refl
 either false false = refl
 
 -- both numbers together tell what passes one of the tests
-pub marks-either : (a b : ℕ) (f g : ℕ → Bool) → Marks a f → Marks b g → Marks (bit_or a b) (λ value. f value || g value)
-marks-either a b f g of_a of_b value less =
+pub tells-either : (a b : ℕ) (f g : ℕ → Bool) → TellsHalves a f → TellsHalves b g → TellsHalves (bit_or a b) (λ value. f value || g value)
+tells-either a b f g of_a of_b value less =
     bit_at_or a b value ∙ (λ i. max (of_a value less i) (of_b value less i)) ∙ either (f value) (g value)
 
 -- a number that tells of one test tells of another with the same answers
-pub marks-same : (a : ℕ) (f g : ℕ → Bool) → ((value : ℕ) → f value ≡ g value) → Marks a f → Marks a g
-marks-same a f g same of_f value less = of_f value less ∙ ap (λ b. cond b 1 0) (same value)
+pub tells-same : (a : ℕ) (f g : ℕ → Bool) → ((value : ℕ) → f value ≡ g value) → TellsHalves a f → TellsHalves a g
+tells-same a f g same of_f value less = of_f value less ∙ ap (λ b. cond b 1 0) (same value)
 
 -- no bit where nothing passes
-pub marks-none : (f : ℕ → Bool) → ((value : ℕ) → f value ≡ false) → Marks 0 f
-marks-none f none value less = bit_at-zero value ∙ ap (λ b. cond b 1 0) (sym (none value))
+pub tells-none : (f : ℕ → Bool) → ((value : ℕ) → f value ≡ false) → TellsHalves 0 f
+tells-none f none value less = bit_at-zero value ∙ ap (λ b. cond b 1 0) (sym (none value))
 
 -- all bits where everything passes
-pub marks-all : (f : ℕ → Bool) → ((value : ℕ) → f value ≡ true) → Marks 65535 f
-marks-all f all value less = bit_at_ones 16 value less ∙ ap (λ b. cond b 1 0) (sym (all value))
+pub tells-all : (f : ℕ → Bool) → ((value : ℕ) → f value ≡ true) → TellsHalves 65535 f
+tells-all f all value less = bit_at_ones 16 value less ∙ ap (λ b. cond b 1 0) (sym (all value))
 
 module _ (fold : Fold) (position : ℕ) (half : Half) where
   -- a literal that reaches the position has the half of its byte there and that of the byte's capital

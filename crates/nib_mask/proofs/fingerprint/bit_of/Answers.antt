@@ -1,6 +1,6 @@
 -- One bit is set.
-use Rattle.nib_mask.proofs.HalfLemmas.{marks-one}
+use Rattle.nib_mask.proofs.HalfLemmas.{tells-one}
 use Rattle.nib_mask.proofs.fingerprint.bit_of.Goals as goal
 
 pub returns : goal.returns
-returns c = marks-one c.args.value c.requires
+returns c = tells-one c.args.value c.requires
