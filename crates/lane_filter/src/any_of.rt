@@ -2,6 +2,7 @@
 ghost use Rattle.std.specs.Prelude.{◌≡◌, max};
 
 use crate::end_test::EndTest;
+use crate::rare_look::Turn;
 
 /// Two tests of ends: it lets pass what one of them does.
 #[derive(Clone, Copy, Debug, PartialEq, Eq)]
@@ -41,8 +42,8 @@ impl<A: EndTest, B: EndTest> EndTest for AnyOf<A, B> {
     }
 
     #[inline(always)]
-    fn may_hold_rarest(&self, text: &[u8], first: usize) -> bool {
-        self.one.may_hold_rarest(text, first) || self.other.may_hold_rarest(text, first)
+    fn may_hold(&self, byte: Turn, text: &[u8], first: usize) -> bool {
+        self.one.may_hold(byte, text, first) || self.other.may_hold(byte, text, first)
     }
 
     #[inline(always)]

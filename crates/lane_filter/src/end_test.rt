@@ -2,6 +2,8 @@
 ghost use Rattle.std.specs.Prelude.{◌≡◌, ℕ, ◌+◌, ◌<◌, ◌≤◌, ◌↔◌, IsTrue, List, length};
 ghost use Rattle.lane_filter.specs.Lanes.{TellsBits};
 
+use crate::rare_look::Turn;
+
 /// A test of ends.
 pub(crate) trait EndTest {
     ghost candidate: { Self → List ℕ → ℕ → Type 0 };
@@ -27,8 +29,9 @@ pub(crate) trait EndTest {
         requires within { first + 127 ≤ length text.now }
         ensures { (k : ℕ) → k < 128 → candidate self.now text.now (first + k) → IsTrue result };
 
-    /// As `may_mark`, by the rarest byte alone: it takes less, and answers yes more often. It is `may_mark` where that looks at no more.
-    fn may_hold_rarest(&self, text: &[u8], first: usize) -> bool
+    /// As `may_mark`, by one of up to three bytes of each literal alone: it takes less, and answers yes more often. It is `may_mark`
+    /// where that looks at no more.
+    fn may_hold(&self, byte: Turn, text: &[u8], first: usize) -> bool
         requires after { reaches self.now ≤ first }
         requires within { first + 127 ≤ length text.now }
         ensures { (k : ℕ) → k < 128 → candidate self.now text.now (first + k) → IsTrue result };

@@ -5,6 +5,7 @@ ghost use Rattle.lane_filter.specs.Pairs.{IsExact};
 use crate::end_test::EndTest;
 use crate::lanes::any_lane_of;
 use crate::pair::BytePair;
+use crate::rare_look::Turn;
 
 /// A pair of bytes of which the case counts, compared without the bits of case.
 #[derive(Clone, Copy, Debug, PartialEq, Eq)]
@@ -55,8 +56,8 @@ impl EndTest for ExactPair {
     }
 
     #[inline(always)]
-    fn may_hold_rarest(&self, text: &[u8], first: usize) -> bool {
-        self.pair.rarer().may_stand_exactly(text, first)
+    fn may_hold(&self, byte: Turn, text: &[u8], first: usize) -> bool {
+        self.pair.may_hold_exactly(byte, text, first)
     }
 
     #[inline(always)]

@@ -4,6 +4,7 @@ ghost use Rattle.lane_filter.specs.Triples.{AreExact};
 
 use crate::end_test::EndTest;
 use crate::lanes::any_lane_of;
+use crate::rare_look::Turn;
 use crate::triple::ByteTriple;
 
 /// Three bytes of which the case counts, compared without the bits of case.
@@ -55,8 +56,8 @@ impl EndTest for ExactTriple {
     }
 
     #[inline(always)]
-    fn may_hold_rarest(&self, text: &[u8], first: usize) -> bool {
-        self.triple.rarest().may_stand_exactly(text, first)
+    fn may_hold(&self, byte: Turn, text: &[u8], first: usize) -> bool {
+        self.triple.may_hold_exactly(byte, text, first)
     }
 
     #[inline(always)]

@@ -21,6 +21,7 @@ mod nibbles;
 mod one_byte;
 mod pair;
 mod plain;
+mod rare_look;
 mod sieve;
 mod skipping;
 mod tables;

@@ -4,6 +4,7 @@ ghost use Rattle.lane_filter.specs.WideTables.{AreTablesOf};
 
 use crate::end_test::EndTest;
 use crate::plain;
+use crate::rare_look::Turn;
 use crate::tables::Tables;
 use nib_mask::Masks;
 
@@ -48,7 +49,7 @@ impl<'a> EndTest for Nibbles<'a> {
     }
 
     #[inline(always)]
-    fn may_hold_rarest(&self, _text: &[u8], _first: usize) -> bool {
+    fn may_hold(&self, _byte: Turn, _text: &[u8], _first: usize) -> bool {
         true
     }
 

@@ -8,6 +8,7 @@ ghost use Rattle.lit_base.specs.Occurrences.{Occurs};
 use crate::end_test::EndTest;
 use crate::lanes::{any_lane_of, equal_bits, load, load_64, value_where, with_bits};
 use crate::pair::case_bit;
+use crate::rare_look::Turn;
 use lit_base::LitList;
 use std::simd::prelude::*;
 
@@ -75,7 +76,7 @@ impl EndTest for OneByte {
     }
 
     #[inline(always)]
-    fn may_hold_rarest(&self, text: &[u8], first: usize) -> bool {
+    fn may_hold(&self, _byte: Turn, text: &[u8], first: usize) -> bool {
         self.may_mark(text, first)
     }
 
@@ -137,7 +138,7 @@ impl EndTest for ExactByte {
     }
 
     #[inline(always)]
-    fn may_hold_rarest(&self, text: &[u8], first: usize) -> bool {
+    fn may_hold(&self, _byte: Turn, text: &[u8], first: usize) -> bool {
         self.plain().may_mark(text, first)
     }
 

@@ -7,6 +7,7 @@ ghost use Rattle.lit_base.specs.Occurrences.{Occurs};
 
 use crate::end_test::EndTest;
 use crate::lanes::{any_lane_of, both, equal_bits, load, load_64, value_where, with_bits};
+use crate::rare_look::Turn;
 use lit_base::{Fold, LitList};
 use memchr::arch::all::packedpair::{DefaultFrequencyRank, HeuristicFrequencyRank};
 use std::simd::prelude::*;
@@ -183,12 +184,18 @@ impl BytePair {
         self.first.is_exact() && self.second.is_exact()
     }
 
-    /// The rarer one.
+    /// Whether one of both bytes, of which the case counts, stands before one of 128 ends: the second in the third turn too.
     #[inline(always)]
-    pub(crate) fn rarer(&self) -> RareByte
-        ensures { result ≡ self.now.first }
+    pub(crate) fn may_hold_exactly(&self, byte: Turn, text: &[u8], first: usize) -> bool
+        requires exact { IsExact self.now }
+        requires after { max self.now.first.behind self.now.second.behind < first }
+        requires within { first + 127 ≤ length text.now }
+        ensures { (k : ℕ) → k < 128 → IsPairEnd self.now text.now (first + k) → IsTrue result }
     {
-        self.first
+        match byte {
+            Turn::First => self.first.may_stand_exactly(text, first),
+            Turn::Second | Turn::Third => self.second.may_stand_exactly(text, first),
+        }
     }
 
     /// 255 in each of 32 lanes where both bytes stand before an end.
@@ -249,8 +256,11 @@ impl EndTest for BytePair {
     }
 
     #[inline(always)]
-    fn may_hold_rarest(&self, text: &[u8], first: usize) -> bool {
-        self.first.may_stand(text, first)
+    fn may_hold(&self, byte: Turn, text: &[u8], first: usize) -> bool {
+        match byte {
+            Turn::First => self.first.may_stand(text, first),
+            Turn::Second | Turn::Third => self.second.may_stand(text, first),
+        }
     }
 
     #[inline(always)]

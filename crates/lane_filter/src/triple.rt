@@ -8,6 +8,7 @@ ghost use Rattle.lit_base.specs.Occurrences.{Occurs};
 use crate::end_test::EndTest;
 use crate::lanes::{any_lane_of, both};
 use crate::pair::{BytePair, CHOSEN_FROM, RareByte, usual_rank};
+use crate::rare_look::Turn;
 use lit_base::{Fold, LitList};
 use std::simd::prelude::*;
 
@@ -36,14 +37,6 @@ impl ByteTriple {
             pair,
             third: RareByte::at(fold, literal, third),
         }
-    }
-
-    /// The rarest of them, by what is usual in text.
-    #[inline(always)]
-    pub(crate) fn rarest(&self) -> RareByte
-        ensures { result ≡ self.now.pair.first }
-    {
-        self.pair.rarer()
     }
 
     /// Whether the case of all bytes counts.
@@ -77,6 +70,20 @@ impl ByteTriple {
             self.third.exact_lanes(text, first),
         )
     }
+
+    /// Whether one of the bytes, of which the case counts, stands before one of 128 ends.
+    #[inline(always)]
+    pub(crate) fn may_hold_exactly(&self, byte: Turn, text: &[u8], first: usize) -> bool
+        requires exact { AreExact self.now }
+        requires after { max (max self.now.pair.first.behind self.now.pair.second.behind) self.now.third.behind < first }
+        requires within { first + 127 ≤ length text.now }
+        ensures { (k : ℕ) → k < 128 → IsTripleEnd self.now text.now (first + k) → IsTrue result }
+    {
+        match byte {
+            Turn::First | Turn::Second => self.pair.may_hold_exactly(byte, text, first),
+            Turn::Third => self.third.may_stand_exactly(text, first),
+        }
+    }
 }
 
 impl EndTest for ByteTriple {
@@ -108,8 +115,11 @@ impl EndTest for ByteTriple {
     }
 
     #[inline(always)]
-    fn may_hold_rarest(&self, text: &[u8], first: usize) -> bool {
-        self.pair.may_hold_rarest(text, first)
+    fn may_hold(&self, byte: Turn, text: &[u8], first: usize) -> bool {
+        match byte {
+            Turn::First | Turn::Second => self.pair.may_hold(byte, text, first),
+            Turn::Third => self.third.may_stand(text, first),
+        }
     }
 
     #[inline(always)]

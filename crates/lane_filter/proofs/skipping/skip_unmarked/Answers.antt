@@ -1,4 +1,4 @@
--- The stretch is longer by a block, by those behind it, and by what the rarest byte rules out.
+-- The stretch is longer by a block, by those behind it, and by what one byte rules out.
 use Rattle.std.proofs.Common.{arith}
 use Rattle.std.proofs.lemmas.Bool.{both_ways}
 use Rattle.lane_filter.proofs.EndLemmas.{quiet_on, quiet_past}
@@ -9,30 +9,14 @@ returns-then-to-stop-ge-BLOCK-clause-quiet g c =
     quiet_past (g.T.EndTest.candidate c.args.test.now c.args.text.now) c.args.from c.loop-seen.seen 128 _ c.loop-seen.invariant.2
     (λ k l holds. both_ways _ c.if-not-may_mark.true (c.may_mark.ensures k l holds)) c.skip_by_all-stop.ensures.quiet
 
-pub loop-seen-preserved-then-seen-stop-lt-FAR : goal.loop-seen-preserved-then-seen-stop-lt-FAR
-loop-seen-preserved-then-seen-stop-lt-FAR g c =
-    let P = g.T.EndTest.candidate c.args.test.now c.args.text.now in
-    let all = c.skip_by_all-stop.ensures in
-    let rarest = c.skip_without_rarest-seen.ensures in (
-      omega (arith, all.after, rarest.after),
-      rarest.within,
-      quiet_on P c.args.from _ _
-          (quiet_past P c.args.from c.loop-seen.seen 128 _ c.loop-seen.invariant.2 (λ k l holds. both_ways _ c.if-not-may_mark.true (c.may_mark.ensures k l holds)) all.quiet)
-          rarest.quiet,
-      omega arith,
-      omega arith,
-    )
-
 pub loop-seen-preserved : goal.loop-seen-preserved
 loop-seen-preserved g c =
     let P = g.T.EndTest.candidate c.args.test.now c.args.text.now in
     let all = c.skip_by_all-stop.ensures in
-    let rarest = c.skip_without_rarest-seen.ensures in (
-      omega (arith, all.after, rarest.after),
-      rarest.within,
+    let one = c.skip_without-seen.ensures in (
+      omega (arith, all.after, one.after),
+      one.within,
       quiet_on P c.args.from _ _
           (quiet_past P c.args.from c.loop-seen.seen 128 _ c.loop-seen.invariant.2 (λ k l holds. both_ways _ c.if-not-may_mark.true (c.may_mark.ensures k l holds)) all.quiet)
-          rarest.quiet,
-      omega arith,
-      omega arith,
+          one.quiet,
     )

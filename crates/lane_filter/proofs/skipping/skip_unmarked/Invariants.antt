@@ -4,7 +4,7 @@ use Rattle.lane_filter.proofs.skipping.skip_unmarked.Given as goal
 
 abbrev pub invariant-loop-seen : goal.invariant-loop-seen
 invariant-loop-seen g l =
-    (l.from ≤ l.seen) × (l.seen ≤ length l.text) × NoneWithin (g.T.EndTest.candidate l.test l.text) l.from l.seen × (1 ≤ l.blocks) × (l.blocks ≤ 256)
+    (l.from ≤ l.seen) × (l.seen ≤ length l.text) × NoneWithin (g.T.EndTest.candidate l.test l.text) l.from l.seen
 
 abbrev pub decreases-loop-seen : goal.decreases-loop-seen
 decreases-loop-seen g l = length l.text - l.seen
