@@ -59,4 +59,4 @@ pub(crate) const START_COST: usize = 100;
 pub(crate) const FALSE_COST: usize = 500;
 
 /// A list of at most so many literals is searched for by two or three bytes of each, which tell little that is false.
-pub(crate) const PAIRED: usize = 3;
+pub(crate) const BY_BYTES: usize = 3;

@@ -1,5 +1,5 @@
 -- Three bytes of a literal, and the places of a text before which they stand.
-use Rattle.std.specs.Prelude.{◌≡◌, ℕ, ◌<◌, ◌≤◌, List, Some, length}
+use Rattle.std.specs.Prelude.{◌≡◌, ℕ, ◌<◌, ◌≤◌, List, Some, length, max}
 use Rattle.std.specs.List.{slice_get}
 use Rattle.lit_base.specs.Literals.{Literals}
 use Rattle.lane_filter.specs.Pairs.{IsExact, IsOneOf, IsPairEnd, IsPairOf, IsRareByteOf, StandsBefore}
@@ -10,6 +10,10 @@ pub record IsTripleEnd (triple : ByteTriple) (text : List ℕ) (end : ℕ) : Typ
   pub pair : IsPairEnd triple.pair text end
   pub after_third : triple.third.behind < end
   pub third : StandsBefore triple.third text end
+
+-- how many bytes stand behind the first of them
+abbrev pub most_behind : ByteTriple → ℕ
+most_behind triple = max (max triple.pair.first.behind triple.pair.second.behind) triple.third.behind
 
 -- the case of all bytes counts
 abbrev pub AreExact : ByteTriple → Type 0

@@ -29,12 +29,12 @@ impl ExactTriple {
 }
 
 impl EndTest for ExactTriple {
-    ghost use Rattle.std.specs.Prelude.{max, ◌+◌};
-    ghost use Rattle.lane_filter.specs.Triples.{IsTripleEnd};
+    ghost use Rattle.std.specs.Prelude.{◌+◌};
+    ghost use Rattle.lane_filter.specs.Triples.{IsTripleEnd, most_behind};
 
     ghost candidate = { λ s. IsTripleEnd s.triple };
 
-    ghost reaches = { λ s. max (max s.triple.pair.first.behind s.triple.pair.second.behind) s.triple.third.behind + 1 };
+    ghost reaches = { λ s. most_behind s.triple + 1 };
 
     fn reach(&self) -> usize {
         self.triple.reach()

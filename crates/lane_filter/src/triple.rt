@@ -1,8 +1,8 @@
 //! Three bytes of a literal that are rare in usual text: where not all of them stand, it does not end.
-ghost use Rattle.std.specs.Prelude.{◌≡◌, ◌↔◌, ℕ, ◌+◌, ◌-◌, ◌^◌, ◌<◌, ◌≤◌, IsTrue, List, length, max};
+ghost use Rattle.std.specs.Prelude.{◌≡◌, ◌↔◌, ℕ, ◌+◌, ◌-◌, ◌^◌, ◌<◌, ◌≤◌, IsTrue, List, length};
 ghost use Rattle.lane_filter.specs.Lanes.{TellsLanes};
 ghost use Rattle.lane_filter.specs.Pairs.{IsOneOf};
-ghost use Rattle.lane_filter.specs.Triples.{AreExact, IsTripleEnd, IsTripleOf};
+ghost use Rattle.lane_filter.specs.Triples.{AreExact, IsTripleEnd, IsTripleOf, most_behind};
 ghost use Rattle.lit_base.specs.Occurrences.{Occurs};
 
 use crate::end_test::EndTest;
@@ -50,7 +50,7 @@ impl ByteTriple {
     /// 255 in each of 32 lanes where all bytes stand before an end.
     #[inline(always)]
     fn lanes(&self, text: &[u8], first: usize) -> u8x32
-        requires after { max (max self.now.pair.first.behind self.now.pair.second.behind) self.now.third.behind < first }
+        requires after { most_behind self.now < first }
         requires within { first + 31 ≤ length text.now }
         ensures { TellsLanes (IsTripleEnd self.now text.now) first result }
     {
@@ -61,7 +61,7 @@ impl ByteTriple {
     #[inline(always)]
     pub(crate) fn exact_lanes(&self, text: &[u8], first: usize) -> u8x32
         requires exact { AreExact self.now }
-        requires after { max (max self.now.pair.first.behind self.now.pair.second.behind) self.now.third.behind < first }
+        requires after { most_behind self.now < first }
         requires within { first + 31 ≤ length text.now }
         ensures { TellsLanes (IsTripleEnd self.now text.now) first result }
     {
@@ -75,7 +75,7 @@ impl ByteTriple {
     #[inline(always)]
     pub(crate) fn may_hold_exactly(&self, byte: Turn, text: &[u8], first: usize) -> bool
         requires exact { AreExact self.now }
-        requires after { max (max self.now.pair.first.behind self.now.pair.second.behind) self.now.third.behind < first }
+        requires after { most_behind self.now < first }
         requires within { first + 127 ≤ length text.now }
         ensures { (k : ℕ) → k < 128 → IsTripleEnd self.now text.now (first + k) → IsTrue result }
     {
@@ -87,12 +87,12 @@ impl ByteTriple {
 }
 
 impl EndTest for ByteTriple {
-    ghost use Rattle.std.specs.Prelude.{max, ◌+◌};
-    ghost use Rattle.lane_filter.specs.Triples.{IsTripleEnd};
+    ghost use Rattle.std.specs.Prelude.{◌+◌};
+    ghost use Rattle.lane_filter.specs.Triples.{IsTripleEnd, most_behind};
 
     ghost candidate = { IsTripleEnd };
 
-    ghost reaches = { λ triple. max (max triple.pair.first.behind triple.pair.second.behind) triple.third.behind + 1 };
+    ghost reaches = { λ triple. most_behind triple + 1 };
 
     fn reach(&self) -> usize {
         self.pair.reach().max(self.third.reach())
