@@ -40,10 +40,6 @@ module _ (P : ℕ → Type 0) where
       let place : end ≡ from + 1 + (end - (from + 1)) = omega arith in
       none (end - (from + 1)) (omega arith) (subst P place holds)
 
-  -- a stretch without places, so many behind it at which it does not hold, and another stretch
-  pub quiet_past : (from seen count to : ℕ) → NoneWithin P from seen → ((k : ℕ) → k < count → ¬ P (seen + 1 + k)) → NoneWithin P (seen + count) to → NoneWithin P from to
-  quiet_past from seen count to front none back = quiet_on from (seen + count) to (quiet_on from seen (seen + count) front (quiet_in_row seen count none)) back
-
   -- the mask 1 has its lowest bit alone
   bits_of_one : (k : ℕ) → bit_at 1 k ≡ 1 → k ≡ 0
   bits_of_one zero s = refl

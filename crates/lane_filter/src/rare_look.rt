@@ -8,18 +8,18 @@ pub(crate) enum Turn {
     Third,
 }
 
-/// So many bytes are looked at by all bytes of a literal first, so that what is near is found without more. Of a literal that stands
-/// each 1,300 bytes a search that looked so at 2,048 alone took 1.12 times as long as one by all bytes.
+/// So many bytes are looked at by all bytes of a literal where each of them was common, and twice as many each further time, up to the
+/// greatest number.
 const FIRST: usize = 8192;
 
-/// So many at most, behind bytes of which each was common.
+/// The greatest such number.
 const MOST: usize = 65536;
 
 /// A stop at a byte alone takes about as long as looking for it alone gains in so many blocks.
-const STOP_COST: usize = 4;
+const STOP_COST: usize = 8;
 
 /// So many blocks a byte is given before it is told to be common.
-const START_CREDIT: usize = 8;
+const START_CREDIT: usize = 16;
 
 /// What a rare byte has gained counts for so many blocks at most: where it gets common, that is soon told.
 const MOST_CREDIT: usize = 64;
@@ -31,7 +31,7 @@ pub(crate) struct RareLook {
     turn: Turn,
     /// How many blocks it has gained beyond what its stops took.
     credit: usize,
-    /// So many bytes are looked at by all bytes next.
+    /// So many bytes are looked at by all bytes beyond its block.
     whole: usize,
     /// So many the next time that no byte is rare.
     wait: usize,
@@ -44,7 +44,7 @@ impl RareLook {
         RareLook {
             turn: Turn::First,
             credit: START_CREDIT,
-            whole: FIRST,
+            whole: 0,
             wait: FIRST,
         }
     }
@@ -55,7 +55,7 @@ impl RareLook {
         self.turn
     }
 
-    /// How many bytes are to be looked at by all bytes before.
+    /// How many bytes are to be looked at by all bytes beyond the block that has it.
     #[inline(always)]
     pub fn whole(&self) -> usize {
         self.whole

@@ -8,8 +8,10 @@ use crate::rare_look::{RareLook, Turn};
 /// So many ends are looked at together.
 const BLOCK: usize = 128;
 
-/// A place up to which there is no candidate after another: by all bytes first, then from one block that has a rare byte to the
-/// next, where one is rare.
+/// What is near is found by all that the test looks at: so many ends are looked at before one byte of a literal is looked for alone.
+const NEAR: usize = 8192;
+
+/// A place up to which there is no candidate after another.
 #[inline(always)]
 pub(crate) fn skip_unmarked<T: EndTest>(test: &T, text: &[u8], from: usize) -> usize
     requires after { T.reaches test.now ≤ from + 1 }
@@ -18,17 +20,38 @@ pub(crate) fn skip_unmarked<T: EndTest>(test: &T, text: &[u8], from: usize) -> u
     ensures within { result ≤ length text.now }
     ensures quiet { NoneWithin (T.candidate test.now text.now) from result }
 {
+    let near = text.len().min(from.saturating_add(NEAR));
+    let seen = skip_by_all(test, text, from, near);
+    // The last question is for tests that answer yes everywhere: no call is left of them here.
+    if near - seen >= BLOCK || text.len() - seen < BLOCK || test.may_mark(text, seen + 1) {
+        return seen;
+    }
+    skip_far(test, text, seen)
+}
+
+/// A place up to which there is no candidate after another: from one block that has a rare byte to the next, where one is rare, and
+/// by all bytes where none is.
+#[inline(never)]
+fn skip_far<T: EndTest>(test: &T, text: &[u8], from: usize) -> usize
+    requires after { T.reaches test.now ≤ from + 1 }
+    requires within { from ≤ length text.now }
+    ensures after { from ≤ result }
+    ensures within { result ≤ length text.now }
+    ensures quiet { NoneWithin (T.candidate test.now text.now) from result }
+{
     let mut look = RareLook::new();
     let mut seen = from;
-    while text.len() - seen >= BLOCK && !test.may_mark(text, seen + 1) {
-        let next = seen + BLOCK;
-        let to = text.len().min(next.saturating_add(look.whole()));
-        let stop = skip_by_all(test, text, next, to);
-        if to - stop >= BLOCK {
+    while text.len() - seen >= BLOCK {
+        let stop = skip_without(test, look.turn(), text, seen);
+        if text.len() - stop < BLOCK {
             return stop;
         }
-        seen = skip_without(test, look.turn(), text, stop);
-        look.note((seen - stop) / BLOCK);
+        look.note((stop - seen) / BLOCK);
+        let to = text.len().min((stop + BLOCK).saturating_add(look.whole()));
+        seen = skip_by_all(test, text, stop, to);
+        if to - seen >= BLOCK {
+            return seen;
+        }
     }
     seen
 }
