@@ -8,8 +8,8 @@ pub(crate) enum Turn {
     Third,
 }
 
-/// So many bytes are looked at by all bytes of a literal where each of them was common, and twice as many each further time, up to the
-/// greatest number.
+/// So many bytes are looked at by all bytes of a literal where each of them was common, and four times as many each further time, up to
+/// the greatest number.
 const FIRST: usize = 8192;
 
 /// The greatest such number.
@@ -19,7 +19,7 @@ const MOST: usize = 65536;
 const STOP_COST: usize = 8;
 
 /// So many blocks a byte is given before it is told to be common.
-const START_CREDIT: usize = 16;
+const START_CREDIT: usize = STOP_COST;
 
 /// What a rare byte has gained counts for so many blocks at most: where it gets common, that is soon told.
 const MOST_CREDIT: usize = 64;
@@ -81,7 +81,7 @@ impl RareLook {
             Turn::Second => Turn::Third,
             Turn::Third => {
                 self.whole = self.wait;
-                self.wait = self.wait.saturating_mul(2).min(MOST);
+                self.wait = self.wait.saturating_mul(4).min(MOST);
                 Turn::First
             }
         };

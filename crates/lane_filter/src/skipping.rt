@@ -20,7 +20,11 @@ pub(crate) fn skip_unmarked<T: EndTest>(test: &T, text: &[u8], from: usize) -> u
     ensures within { result ≤ length text.now }
     ensures quiet { NoneWithin (T.candidate test.now text.now) from result }
 {
-    let near = text.len().min(from.saturating_add(NEAR));
+    let near = if text.len() - from > NEAR {
+        from + NEAR
+    } else {
+        text.len()
+    };
     let seen = skip_by_all(test, text, from, near);
     // The last question is for tests that answer yes everywhere: no call is left of them here.
     if near - seen >= BLOCK || text.len() - seen < BLOCK || test.may_mark(text, seen + 1) {
