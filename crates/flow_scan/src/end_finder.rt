@@ -12,7 +12,7 @@ use crate::hit::Hit;
 use crate::hit_search::HitSearch;
 use crate::learning::{FEW, Learning, Way, cost_by_windows};
 use crate::met::Met;
-use crate::pace::BY_BYTES;
+use crate::pace::MOST_BY_BYTES;
 use crate::searching::{add_hits, add_hits_at, skip_short_ends};
 use crate::shifted::{add_hits_by_shift_or, next_end_by_shift_or};
 use crate::text_search::TextSearch;
@@ -79,7 +79,7 @@ impl<'p> EndFinder<'p> {
         ensures few { IfOk result (λ finder. IfNone finder (length compiled.now.literals.texts ≤ 3)) }
         ensures many { IfOk result (λ finder. IfSome finder (λ _. 3 < length compiled.now.literals.texts)) }
     {
-        if compiled.list().len() <= BY_BYTES {
+        if compiled.list().len() <= MOST_BY_BYTES {
             return Ok(None);
         }
         Ok(Some(EndFinder::new(alloc, compiled)?))

@@ -4,7 +4,7 @@ ghost use Rattle.flow_scan.specs.NextEnds.{IsNextEnd, IsPassed};
 
 use crate::endings::Backoff;
 use crate::learning::cost_of_looks;
-use crate::pace::{BY_BYTES, NEAR_LOOKS, NEAR_PLACES, PLACE_COST, START_COST, TOLD_LEN};
+use crate::pace::{MOST_BY_BYTES, NEAR_LOOKS, NEAR_PLACES, PLACE_COST, START_COST, TOLD_LEN};
 use crate::strides::{first_marked, skip_unmarked};
 use lit_base::LitList;
 
@@ -25,7 +25,7 @@ pub(crate) fn is_near(
     if has_short(list) {
         return distance < NEAR_PLACES && distance.saturating_mul(PLACE_COST) < most;
     }
-    list.len() > BY_BYTES
+    list.len() > MOST_BY_BYTES
         && distance / list.stride() < NEAR_LOOKS
         && cost_of_looks(list.stride(), distance) < most
 }
@@ -74,7 +74,7 @@ pub(crate) fn next_nearby(
 /// Whether a list that is not searched by a few bytes of each literal has some so short that marks, which are then by as few bytes,
 /// tell little.
 fn has_short(list: &LitList) -> bool {
-    list.len() > BY_BYTES && list.shortest() < TOLD_LEN
+    list.len() > MOST_BY_BYTES && list.shortest() < TOLD_LEN
 }
 
 /// The place up to which a search near a place has come.

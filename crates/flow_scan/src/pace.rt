@@ -58,5 +58,5 @@ pub(crate) const START_COST: usize = 100;
 /// one, the next end is not looked for without the sieve.
 pub(crate) const FALSE_COST: usize = 500;
 
-/// A list of at most so many literals is searched for by two or three bytes of each, which tell little that is false.
-pub(crate) const BY_BYTES: usize = 3;
+/// So many literals at most are searched for by two or three bytes of each, which tell little that is false.
+pub(crate) const MOST_BY_BYTES: usize = 3;

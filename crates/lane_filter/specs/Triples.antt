@@ -11,7 +11,7 @@ pub record IsTripleEnd (triple : ByteTriple) (text : List ℕ) (end : ℕ) : Typ
   pub after_third : triple.third.behind < end
   pub third : StandsBefore triple.third text end
 
--- how many bytes stand behind the first of them
+-- how many bytes stand behind the foremost of them in the literal
 abbrev pub most_behind : ByteTriple → ℕ
 most_behind triple = max (max triple.pair.first.behind triple.pair.second.behind) triple.third.behind
 

@@ -42,8 +42,8 @@ impl<A: EndTest, B: EndTest> EndTest for AnyOf<A, B> {
     }
 
     #[inline(always)]
-    fn may_hold(&self, byte: Turn, text: &[u8], first: usize) -> bool {
-        self.one.may_hold(byte, text, first) || self.other.may_hold(byte, text, first)
+    fn may_hold(&self, turn: Turn, text: &[u8], first: usize) -> bool {
+        self.one.may_hold(turn, text, first) || self.other.may_hold(turn, text, first)
     }
 
     #[inline(always)]

@@ -29,9 +29,9 @@ pub(crate) trait EndTest {
         requires within { first + 127 ≤ length text.now }
         ensures { (k : ℕ) → k < 128 → candidate self.now text.now (first + k) → IsTrue result };
 
-    /// As `may_mark`, by one of up to three bytes of each literal alone: it takes less, and answers yes more often. It is `may_mark`
-    /// where that looks at no more.
-    fn may_hold(&self, byte: Turn, text: &[u8], first: usize) -> bool
+    /// As `may_mark`, by one of up to three bytes of each literal alone: quicker, but it may answer yes more often. Both are the same
+    /// where `may_mark` looks at one byte or none.
+    fn may_hold(&self, turn: Turn, text: &[u8], first: usize) -> bool
         requires after { reaches self.now ≤ first }
         requires within { first + 127 ≤ length text.now }
         ensures { (k : ℕ) → k < 128 → candidate self.now text.now (first + k) → IsTrue result };

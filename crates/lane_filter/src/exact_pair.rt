@@ -3,7 +3,6 @@ ghost use Rattle.std.specs.Prelude.{◌≡◌, ◌↔◌, IsSome, IfSome};
 ghost use Rattle.lane_filter.specs.Pairs.{IsExact};
 
 use crate::end_test::EndTest;
-use crate::lanes::any_lane_of;
 use crate::pair::BytePair;
 use crate::rare_look::Turn;
 
@@ -46,22 +45,16 @@ impl EndTest for ExactPair {
 
     #[inline(always)]
     fn may_mark(&self, text: &[u8], first: usize) -> bool {
-        let pair = &self.pair;
-        any_lane_of(
-            pair.exact_lanes(text, first),
-            pair.exact_lanes(text, first + 32),
-            pair.exact_lanes(text, first + 64),
-            pair.exact_lanes(text, first + 96),
-        )
+        self.pair.plain().may_mark(text, first)
     }
 
     #[inline(always)]
-    fn may_hold(&self, byte: Turn, text: &[u8], first: usize) -> bool {
-        self.pair.may_hold_exactly(byte, text, first)
+    fn may_hold(&self, turn: Turn, text: &[u8], first: usize) -> bool {
+        self.pair.plain().may_hold(turn, text, first)
     }
 
     #[inline(always)]
     fn marks(&self, text: &[u8], first: usize) -> u64 {
-        self.pair.marks(text, first)
+        self.pair.plain().marks(text, first)
     }
 }

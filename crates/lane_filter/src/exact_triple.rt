@@ -3,7 +3,6 @@ ghost use Rattle.std.specs.Prelude.{◌≡◌, ◌↔◌, IsSome, IfSome};
 ghost use Rattle.lane_filter.specs.Triples.{AreExact};
 
 use crate::end_test::EndTest;
-use crate::lanes::any_lane_of;
 use crate::rare_look::Turn;
 use crate::triple::ByteTriple;
 
@@ -46,22 +45,16 @@ impl EndTest for ExactTriple {
 
     #[inline(always)]
     fn may_mark(&self, text: &[u8], first: usize) -> bool {
-        let triple = &self.triple;
-        any_lane_of(
-            triple.exact_lanes(text, first),
-            triple.exact_lanes(text, first + 32),
-            triple.exact_lanes(text, first + 64),
-            triple.exact_lanes(text, first + 96),
-        )
+        self.triple.plain().may_mark(text, first)
     }
 
     #[inline(always)]
-    fn may_hold(&self, byte: Turn, text: &[u8], first: usize) -> bool {
-        self.triple.may_hold_exactly(byte, text, first)
+    fn may_hold(&self, turn: Turn, text: &[u8], first: usize) -> bool {
+        self.triple.plain().may_hold(turn, text, first)
     }
 
     #[inline(always)]
     fn marks(&self, text: &[u8], first: usize) -> u64 {
-        self.triple.marks(text, first)
+        self.triple.plain().marks(text, first)
     }
 }

@@ -49,7 +49,7 @@ impl<'a> EndTest for Nibbles<'a> {
     }
 
     #[inline(always)]
-    fn may_hold(&self, _byte: Turn, _text: &[u8], _first: usize) -> bool {
+    fn may_hold(&self, _turn: Turn, _text: &[u8], _first: usize) -> bool {
         true
     }
 

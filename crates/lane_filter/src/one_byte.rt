@@ -76,7 +76,7 @@ impl EndTest for OneByte {
     }
 
     #[inline(always)]
-    fn may_hold(&self, _byte: Turn, text: &[u8], first: usize) -> bool {
+    fn may_hold(&self, _turn: Turn, text: &[u8], first: usize) -> bool {
         self.may_mark(text, first)
     }
 
@@ -138,7 +138,7 @@ impl EndTest for ExactByte {
     }
 
     #[inline(always)]
-    fn may_hold(&self, _byte: Turn, text: &[u8], first: usize) -> bool {
+    fn may_hold(&self, _turn: Turn, text: &[u8], first: usize) -> bool {
         self.plain().may_mark(text, first)
     }
 

@@ -58,6 +58,18 @@ impl RareByte {
         self.case_bit == 0
     }
 
+    /// The byte, of which the case counts, with a bit of case that is known to be none, which costs nothing.
+    #[inline(always)]
+    pub(crate) fn plain(&self) -> RareByte
+        requires exact { self.now.case_bit ≡ 0 }
+        ensures { result ≡ self.now }
+    {
+        RareByte {
+            case_bit: 0,
+            ..*self
+        }
+    }
+
     /// Whether the text has the byte before an end.
     #[inline(always)]
     pub(crate) fn stands_before(&self, text: &[u8], end: usize) -> bool
@@ -89,18 +101,6 @@ impl RareByte {
         value_where(with_bits(bytes, self.case_bit), self.byte, 255)
     }
 
-    /// 255 in each of 32 lanes where the text has a byte of which the case counts before an end.
-    #[inline(always)]
-    pub(crate) fn exact_lanes(&self, text: &[u8], first: usize) -> u8x32
-        requires exact { self.now.case_bit ≡ 0 }
-        requires after { self.now.behind < first }
-        requires within { first + 31 ≤ length text.now }
-        ensures { TellsLanes (StandsBefore self.now text.now) first result }
-    {
-        let bytes = load(text, first - 1 - usize::from(self.behind));
-        value_where(bytes, self.byte, 255)
-    }
-
     /// Whether the text has the byte before one of 128 ends.
     #[inline(always)]
     pub(crate) fn may_stand(&self, text: &[u8], first: usize) -> bool
@@ -113,22 +113,6 @@ impl RareByte {
             self.lanes(text, first + 32),
             self.lanes(text, first + 64),
             self.lanes(text, first + 96),
-        )
-    }
-
-    /// The same of a byte of which the case counts.
-    #[inline(always)]
-    pub(crate) fn may_stand_exactly(&self, text: &[u8], first: usize) -> bool
-        requires exact { self.now.case_bit ≡ 0 }
-        requires after { self.now.behind < first }
-        requires within { first + 127 ≤ length text.now }
-        ensures { (k : ℕ) → k < 128 → StandsBefore self.now text.now (first + k) → IsTrue result }
-    {
-        any_lane_of(
-            self.exact_lanes(text, first),
-            self.exact_lanes(text, first + 32),
-            self.exact_lanes(text, first + 64),
-            self.exact_lanes(text, first + 96),
         )
     }
 
@@ -184,17 +168,16 @@ impl BytePair {
         self.first.is_exact() && self.second.is_exact()
     }
 
-    /// Whether one of both bytes, of which the case counts, stands before one of 128 ends: the second in the third turn too.
+    /// Both bytes, of which the case counts, with bits of case that are known to be none. Without these bits searching is a quarter
+    /// faster.
     #[inline(always)]
-    pub(crate) fn may_hold_exactly(&self, byte: Turn, text: &[u8], first: usize) -> bool
+    pub(crate) fn plain(&self) -> BytePair
         requires exact { IsExact self.now }
-        requires after { max self.now.first.behind self.now.second.behind < first }
-        requires within { first + 127 ≤ length text.now }
-        ensures { (k : ℕ) → k < 128 → IsPairEnd self.now text.now (first + k) → IsTrue result }
+        ensures { result ≡ self.now }
     {
-        match byte {
-            Turn::First => self.first.may_stand_exactly(text, first),
-            Turn::Second | Turn::Third => self.second.may_stand_exactly(text, first),
+        BytePair {
+            first: self.first.plain(),
+            second: self.second.plain(),
         }
     }
 
@@ -208,21 +191,6 @@ impl BytePair {
         both(
             self.first.lanes(text, first),
             self.second.lanes(text, first),
-        )
-    }
-
-    /// 255 in each of 32 lanes where both bytes, of which the case counts, stand before an end. Without
-    /// the bits of case searching is a quarter faster.
-    #[inline(always)]
-    pub(crate) fn exact_lanes(&self, text: &[u8], first: usize) -> u8x32
-        requires exact { IsExact self.now }
-        requires after { max self.now.first.behind self.now.second.behind < first }
-        requires within { first + 31 ≤ length text.now }
-        ensures { TellsLanes (IsPairEnd self.now text.now) first result }
-    {
-        both(
-            self.first.exact_lanes(text, first),
-            self.second.exact_lanes(text, first),
         )
     }
 }
@@ -256,8 +224,8 @@ impl EndTest for BytePair {
     }
 
     #[inline(always)]
-    fn may_hold(&self, byte: Turn, text: &[u8], first: usize) -> bool {
-        match byte {
+    fn may_hold(&self, turn: Turn, text: &[u8], first: usize) -> bool {
+        match turn {
             Turn::First => self.first.may_stand(text, first),
             Turn::Second | Turn::Third => self.second.may_stand(text, first),
         }

@@ -8,20 +8,22 @@ pub(crate) enum Turn {
     Third,
 }
 
-/// So many bytes are looked at by all bytes of a literal where each of them was common, and four times as many each further time, up to
-/// the greatest number.
-const FIRST: usize = 8192;
+/// Where each byte of a literal was common, so many bytes of the text are searched by all of them before the first has its turn again,
+/// and four times as many each further time. With twice as many, and three stops a turn, three literals of which some byte is always
+/// common took 1.1 times as long as without looks for one byte; else the number was not varied.
+const FIRST_WAIT: usize = 8192;
 
 /// The greatest such number.
-const MOST: usize = 65536;
+const MOST_WAIT: usize = 65536;
 
-/// A stop at a byte alone takes about as long as looking for it alone gains in so many blocks.
+/// A stop takes about as long as looking for one byte alone gains in so many blocks: two jumps foreseen wrongly, and all bytes compared,
+/// for some 3 ns a block. The number was reckoned so; by 4 nothing was told apart.
 const STOP_COST: usize = 8;
 
-/// So many blocks a byte is given before it is told to be common.
+/// So many blocks a byte is given before it is taken to be common.
 const START_CREDIT: usize = STOP_COST;
 
-/// What a rare byte has gained counts for so many blocks at most: where it gets common, that is soon told.
+/// What a byte has gained counts for so many blocks at most, so that it is soon given up where it gets common. The number was not varied.
 const MOST_CREDIT: usize = 64;
 
 /// Which byte is looked for alone, and what that has gained. The rarest of a text is mostly one of the three that are rare in usual text,
@@ -31,10 +33,10 @@ pub(crate) struct RareLook {
     turn: Turn,
     /// How many blocks it has gained beyond what its stops took.
     credit: usize,
-    /// So many bytes are looked at by all bytes beyond its block.
-    whole: usize,
-    /// So many the next time that no byte is rare.
+    /// So many bytes of the text are searched by all bytes of the literals next.
     wait: usize,
+    /// So many the next time that no byte is rare.
+    next_wait: usize,
 }
 
 impl RareLook {
@@ -44,8 +46,8 @@ impl RareLook {
         RareLook {
             turn: Turn::First,
             credit: START_CREDIT,
-            whole: 0,
-            wait: FIRST,
+            wait: 0,
+            next_wait: FIRST_WAIT,
         }
     }
 
@@ -55,16 +57,16 @@ impl RareLook {
         self.turn
     }
 
-    /// How many bytes are to be looked at by all bytes beyond the block that has it.
+    /// How many bytes of the text are to be searched by all bytes of the literals, beyond the block at which the last look stopped.
     #[inline(always)]
-    pub fn whole(&self) -> usize {
-        self.whole
+    pub fn wait(&self) -> usize {
+        self.wait
     }
 
-    /// The byte was found behind so many blocks without it, and nothing ended there.
+    /// The byte was found behind so many blocks without it. To be called at each stop: where a literal ends there, the look ends too.
     #[inline(always)]
     pub fn note(&mut self, blocks: usize) {
-        self.whole = 0;
+        self.wait = 0;
         self.credit = self.credit.saturating_add(blocks).min(MOST_CREDIT);
         if self.credit >= STOP_COST {
             self.credit -= STOP_COST;
@@ -73,15 +75,16 @@ impl RareLook {
         }
     }
 
-    /// The byte is common here: it is the turn of the next one, behind the last after a while.
+    /// The byte is common here: the next one has its turn, and after the last the first one again, once the text was searched for a
+    /// while by all of them.
     fn pass_on(&mut self) {
         self.credit = START_CREDIT;
         self.turn = match self.turn {
             Turn::First => Turn::Second,
             Turn::Second => Turn::Third,
             Turn::Third => {
-                self.whole = self.wait;
-                self.wait = self.wait.saturating_mul(4).min(MOST);
+                self.wait = self.next_wait;
+                self.next_wait = self.next_wait.saturating_mul(4).min(MOST_WAIT);
                 Turn::First
             }
         };

@@ -1,4 +1,4 @@
-//! Places of a text up to which nothing can end, found by 128 ends at once.
+//! Places of a text up to which no literal can end, found by 128 ends at once.
 ghost use Rattle.std.specs.Prelude.{◌+◌, ◌≤◌, length};
 ghost use Rattle.lane_filter.specs.PlacesAfter.{NoneWithin};
 
@@ -8,7 +8,8 @@ use crate::rare_look::{RareLook, Turn};
 /// So many ends are looked at together.
 const BLOCK: usize = 128;
 
-/// What is near is found by all that the test looks at: so many ends are looked at before one byte of a literal is looked for alone.
+/// A candidate that is at most so near is found by all that the test looks at: only behind so many ends is one byte of a literal looked
+/// for alone. With 2,048 a literal that stands each 1,300 bytes took 1.1 times as long.
 const NEAR: usize = 8192;
 
 /// A place up to which there is no candidate after another.
@@ -26,15 +27,15 @@ pub(crate) fn skip_unmarked<T: EndTest>(test: &T, text: &[u8], from: usize) -> u
         text.len()
     };
     let seen = skip_by_all(test, text, from, near);
-    // The last question is for tests that answer yes everywhere: no call is left of them here.
+    // Asked once more so that for a test that always answers yes, as that by tables does, the compiler drops the call.
     if near - seen >= BLOCK || text.len() - seen < BLOCK || test.may_mark(text, seen + 1) {
         return seen;
     }
     skip_far(test, text, seen)
 }
 
-/// A place up to which there is no candidate after another: from one block that has a rare byte to the next, where one is rare, and
-/// by all bytes where none is.
+/// A place up to which there is no candidate after another. One byte of each literal is looked for alone, and the block at which it
+/// stops is searched by all bytes; where each byte turns out to be common, so is a longer piece of the text.
 #[inline(never)]
 fn skip_far<T: EndTest>(test: &T, text: &[u8], from: usize) -> usize
     requires after { T.reaches test.now ≤ from + 1 }
@@ -51,7 +52,7 @@ fn skip_far<T: EndTest>(test: &T, text: &[u8], from: usize) -> usize
             return stop;
         }
         look.note((stop - seen) / BLOCK);
-        let to = text.len().min((stop + BLOCK).saturating_add(look.whole()));
+        let to = text.len().min((stop + BLOCK).saturating_add(look.wait()));
         seen = skip_by_all(test, text, stop, to);
         if to - seen >= BLOCK {
             return seen;
@@ -77,9 +78,9 @@ fn skip_by_all<T: EndTest>(test: &T, text: &[u8], from: usize, to: usize) -> usi
     seen
 }
 
-/// A place up to which one byte of each literal tells that there is no candidate after another.
+/// A place up to which one byte of each literal tells that there is no candidate after another. LLVM makes a loop of each turn.
 #[inline(always)]
-fn skip_without<T: EndTest>(test: &T, byte: Turn, text: &[u8], from: usize) -> usize
+fn skip_without<T: EndTest>(test: &T, turn: Turn, text: &[u8], from: usize) -> usize
     requires after { T.reaches test.now ≤ from + 1 }
     requires within { from ≤ length text.now }
     ensures after { from ≤ result }
@@ -87,7 +88,7 @@ fn skip_without<T: EndTest>(test: &T, byte: Turn, text: &[u8], from: usize) -> u
     ensures quiet { NoneWithin (T.candidate test.now text.now) from result }
 {
     let mut seen = from;
-    while text.len() - seen >= BLOCK && !test.may_hold(byte, text, seen + 1) {
+    while text.len() - seen >= BLOCK && !test.may_hold(turn, text, seen + 1) {
         seen += BLOCK;
     }
     seen

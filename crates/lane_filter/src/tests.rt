@@ -357,35 +357,51 @@ fn cursor_finds_a_word_at_any_place(rt: HostRuntime) -> Result<(), Fail> {
     Ok(())
 }
 
-/// A text of so many bytes, with a word at a place, and its first letter alone before it at each so many bytes.
+/// A text of so many bytes, with a word at a place, and one of its letters alone before it at each so many bytes.
 fn text_with_word_at(
     alloc: Global,
     len: usize,
     place: usize,
     apart: usize,
 ) -> Result<Vec<u8>, AllocError> {
+    let letters = b"cat";
     let mut text = Vec::new(alloc);
     for at in 0..len {
         let byte = match at.checked_sub(place) {
-            Some(0) => b'c',
-            Some(1) => b'a',
-            Some(2) => b't',
-            None if at % apart.max(1) == 0 => b'c',
-            _ => b'-',
+            Some(behind) => letters.get(behind).copied().unwrap_or(b'-'),
+            None if at % apart.max(1) == 0 => letters.get(at % 3).copied().unwrap_or(b'-'),
+            None => b'-',
         };
         text.push(byte)?;
     }
     Ok(text)
 }
 
+/// By three bytes of one word, and by two bytes of each of two or three words, of which `cat` alone stands in the text.
+fn far_sieves(alloc: Global) -> Result<Vec<Sieve>, Fault> {
+    let mut all = Vec::new(alloc);
+    for fold in [Fold::No, Fold::Ascii] {
+        for count in 1..=3 {
+            let mut raw = RawList::new(alloc);
+            for word in [b"cat", b"dog", b"emu"].iter().take(count) {
+                raw.push(word.as_slice())?;
+            }
+            let (list, _) = LitList::normal(alloc, &raw, fold)?;
+            all.push(sieve_of(&list))?;
+        }
+    }
+    Ok(all)
+}
+
 #[test]
 fn cursor_finds_a_word_far_on(rt: HostRuntime) -> Result<(), Fail> {
-    for case in &word_cases(rt.alloc())? {
-        for apart in [1, 130, 2000, 9000] {
-            for step in 0..24 {
-                let place = 300 * step + step;
-                let text = text_with_word_at(rt.alloc(), 9000, place, apart)?;
-                let mut cursor = Candidates::new(&case.sieve, &text, 0);
+    // Letters so far apart are met in each block, each second one, each tenth, and hardly ever; the word stands before and behind the
+    // places from which on one letter is looked for alone, and this is tried again.
+    for apart in [100, 250, 1300, 30_000] {
+        for place in [8100, 8300, 9000, 20_001, 50_000, 90_000, 131_000] {
+            let text = text_with_word_at(rt.alloc(), 131_100, place, apart)?;
+            for sieve in &far_sieves(rt.alloc())? {
+                let mut cursor = Candidates::new(sieve, &text, 0);
                 let found = cursor.next();
                 assert_eq!(rt; found, Some(place + 3), "letters each {apart}");
                 assert!(rt; cursor.next().is_none(), "a second one behind {place}");

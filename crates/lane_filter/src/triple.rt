@@ -47,6 +47,18 @@ impl ByteTriple {
         self.pair.is_exact() && self.third.is_exact()
     }
 
+    /// The bytes, of which the case counts, with bits of case that are known to be none.
+    #[inline(always)]
+    pub(crate) fn plain(&self) -> ByteTriple
+        requires exact { AreExact self.now }
+        ensures { result ≡ self.now }
+    {
+        ByteTriple {
+            pair: self.pair.plain(),
+            third: self.third.plain(),
+        }
+    }
+
     /// 255 in each of 32 lanes where all bytes stand before an end.
     #[inline(always)]
     fn lanes(&self, text: &[u8], first: usize) -> u8x32
@@ -55,34 +67,6 @@ impl ByteTriple {
         ensures { TellsLanes (IsTripleEnd self.now text.now) first result }
     {
         both(self.pair.lanes(text, first), self.third.lanes(text, first))
-    }
-
-    /// 255 in each of 32 lanes where all bytes, of which the case counts, stand before an end.
-    #[inline(always)]
-    pub(crate) fn exact_lanes(&self, text: &[u8], first: usize) -> u8x32
-        requires exact { AreExact self.now }
-        requires after { most_behind self.now < first }
-        requires within { first + 31 ≤ length text.now }
-        ensures { TellsLanes (IsTripleEnd self.now text.now) first result }
-    {
-        both(
-            self.pair.exact_lanes(text, first),
-            self.third.exact_lanes(text, first),
-        )
-    }
-
-    /// Whether one of the bytes, of which the case counts, stands before one of 128 ends.
-    #[inline(always)]
-    pub(crate) fn may_hold_exactly(&self, byte: Turn, text: &[u8], first: usize) -> bool
-        requires exact { AreExact self.now }
-        requires after { most_behind self.now < first }
-        requires within { first + 127 ≤ length text.now }
-        ensures { (k : ℕ) → k < 128 → IsTripleEnd self.now text.now (first + k) → IsTrue result }
-    {
-        match byte {
-            Turn::First | Turn::Second => self.pair.may_hold_exactly(byte, text, first),
-            Turn::Third => self.third.may_stand_exactly(text, first),
-        }
     }
 }
 
@@ -115,9 +99,9 @@ impl EndTest for ByteTriple {
     }
 
     #[inline(always)]
-    fn may_hold(&self, byte: Turn, text: &[u8], first: usize) -> bool {
-        match byte {
-            Turn::First | Turn::Second => self.pair.may_hold(byte, text, first),
+    fn may_hold(&self, turn: Turn, text: &[u8], first: usize) -> bool {
+        match turn {
+            Turn::First | Turn::Second => self.pair.may_hold(turn, text, first),
             Turn::Third => self.third.may_stand(text, first),
         }
     }

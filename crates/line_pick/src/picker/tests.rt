@@ -69,11 +69,16 @@ impl Sink for Kept {
     }
 }
 
-/// The plan of one literal.
+/// The plan of one literal, of which case counts.
 fn plan_of_one(alloc: Global, literal: &[u8]) -> Option<Compiled> {
+    plan_under(alloc, literal, Fold::No)
+}
+
+/// The plan of one literal under a fold.
+fn plan_under(alloc: Global, literal: &[u8], fold: Fold) -> Option<Compiled> {
     let mut raw = RawList::new(alloc);
     raw.push(literal).ok()?;
-    let (list, _) = LitList::normal(alloc, &raw, Fold::No).ok()?;
+    let (list, _) = LitList::normal(alloc, &raw, fold).ok()?;
     compile(alloc, list).ok()
 }
 

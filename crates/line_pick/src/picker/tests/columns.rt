@@ -27,3 +27,25 @@ fn takes_lines_by_their_own_columns(rt: HostRuntime) -> Result<(), Fail> {
     assert_eq!(rt; wrong, None);
     Ok(())
 }
+
+/// Lines with a literal in one column, in either case.
+static IN_EITHER_CASE: [Turn; 2] = [
+    (
+        Some(b"a cat\nA CAT\na Cat\nb CAT\na cot\nA CaT\nx CAR\ncat\n"),
+        Ok(Next::More),
+        b"1:a cat\n2:A CAT\n3:a Cat\n4:b CAT\n6:A CaT\n8:cat\n",
+    ),
+    (
+        None,
+        Ok(Next::More),
+        b"1:a cat\n2:A CAT\n3:a Cat\n4:b CAT\n6:A CaT\n8:cat\n",
+    ),
+];
+
+#[test]
+fn takes_lines_by_their_columns_in_either_case(rt: HostRuntime) -> Result<(), Fail> {
+    let compiled = plan_under(rt.alloc(), b"CAT", Fold::Ascii).ok_or(AllocError)?;
+    let wrong = first_wrong_by(rt.alloc(), &compiled, PARTS, Mood::Takes, &IN_EITHER_CASE)?;
+    assert_eq!(rt; wrong, None);
+    Ok(())
+}
