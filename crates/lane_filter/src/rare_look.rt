@@ -8,13 +8,10 @@ pub(crate) enum Turn {
     Third,
 }
 
-/// Where each byte of a literal was common, so many bytes of the text are searched by all of them before the first has its turn again,
-/// and four times as many each further time. With twice as many, and three stops a turn, three literals of which some byte is always
-/// common took 1.1 times as long as without looks for one byte; else the number was not varied.
-const FIRST_WAIT: usize = 8192;
-
-/// The greatest such number.
-const MOST_WAIT: usize = 65536;
+/// Where each byte of a literal was common, so many bytes of the text are searched by all of them before the first has its turn again:
+/// half of what a run of grep reads at once. With 8,192 at first and four times as many each further time, literals of common bytes took
+/// 1.05 to 1.13 times as long in 128 KiB as without looks for one byte.
+const WAIT: usize = 65536;
 
 /// A stop takes about as long as looking for one byte alone gains in so many blocks: two jumps foreseen wrongly, and all bytes compared,
 /// for some 3 ns a block. The number was reckoned so; by 4 nothing was told apart.
@@ -35,8 +32,6 @@ pub(crate) struct RareLook {
     credit: usize,
     /// So many bytes of the text are searched by all bytes of the literals next.
     wait: usize,
-    /// So many the next time that no byte is rare.
-    next_wait: usize,
 }
 
 impl RareLook {
@@ -47,7 +42,6 @@ impl RareLook {
             turn: Turn::First,
             credit: START_CREDIT,
             wait: 0,
-            next_wait: FIRST_WAIT,
         }
     }
 
@@ -83,8 +77,7 @@ impl RareLook {
             Turn::First => Turn::Second,
             Turn::Second => Turn::Third,
             Turn::Third => {
-                self.wait = self.next_wait;
-                self.next_wait = self.next_wait.saturating_mul(4).min(MOST_WAIT);
+                self.wait = WAIT;
                 Turn::First
             }
         };
