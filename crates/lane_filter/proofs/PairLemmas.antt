@@ -1,8 +1,8 @@
 -- Bytes of a literal, one or a pair: their marks, and that they stand before each end of it.
-use Rattle.std.proofs.Common.{◌≡◌, ℕ, ◌+◌, ◌-◌, ◌*◌, ◌<◌, ◌≤◌, ◌&&◌, leb, List, [], length, get_or, slice_range, bit_and, bit_or, ◌⊎◌, inl, inr, sym, ap, subst, ◌∙◌, ◌≢◌, cond, eqb, arith}
+use Rattle.std.proofs.Common.{◌≡◌, ℕ, ◌+◌, ◌-◌, ◌*◌, ◌<◌, ◌≤◌, ◌&&◌, leb, List, [], length, get_or, slice_range, bit_and, bit_or, ◌⊎◌, inl, inr, sym, ap, subst, ◌∙◌, ◌≢◌, arith}
 use Rattle.std.specs.Int.{bit_at}
 use Rattle.std.specs.Int.Bits.{or_zero_r}
-use Rattle.std.proofs.lemmas.Bool.{cases_Bool, cases_eq, cases_lt, and_parts, eq-eqb, leb-true, cond-true, cond-false}
+use Rattle.std.proofs.lemmas.Bool.{cases_Bool, cases_eq, cases_lt, and_parts, leb-true, cond-true, cond-false}
 use Rattle.std.proofs.lemmas.List.{get_or-map}
 use Rattle.std.proofs.lemmas.List.Edits.{length-between}
 use Rattle.std.proofs.lemmas.Nat.{or_block}
@@ -15,8 +15,7 @@ use Rattle.lit_base.specs.Literals.{Literals}
 use Rattle.lit_base.specs.Occurrences.{Occurs}
 use Rattle.nib_mask.proofs.LawLemmas.{cases_folded}
 use Rattle.nib_mask.proofs.Ranges.{get_or-range}
-use Rattle.lane_filter.proofs.LaneLemmas.{lanes_named}
-use Rattle.lane_filter.specs.Lanes.{HasLanes, SeesLanes, TellsBits, TellsLanes}
+use Rattle.lane_filter.specs.Lanes.{SeesLanes, TellsBits, TellsLanes}
 use Rattle.lane_filter.specs.OneBytes.{IsByteOf, IsEndOfByte}
 use Rattle.lane_filter.specs.Pairs.{IsPairEnd, IsPairOf, IsRareByteOf, StandsBefore, case_bit}
 use Rattle.lane_filter.specs.declared.pair.RareByte.{RareByte}
@@ -58,30 +57,6 @@ either_told P Q first one other of_one of_other k =
             | inr right ↦ let set = (of_other k).1 (l, right) in omega arith
           ],
     )
-
--- a lane of the bytes before 32 ends is the byte before its end
-byte_of_lane : (text : List ℕ) (behind first k : ℕ) → behind < first → get_or text (first - 1 - behind + k) 0 ≡ get_or text (first + k - 1 - behind) 0
-byte_of_lane text behind first k after =
-    let place : first - 1 - behind + k ≡ first + k - 1 - behind = omega arith in
-    ap (λ i. get_or text i 0) place
-
--- it is told by 255 where the byte is the rare one
-pub told_in_lane : (rare : RareByte) (text : List ℕ) (first k : ℕ) (bytes told : List ℕ) → rare.behind < first → k < 32
-    → HasLanes bytes (λ j. bit_or (get_or text (first - 1 - rare.behind + j) 0) rare.case_bit)
-    → HasLanes told (λ j. cond (eqb (get_or bytes j 0) rare.byte) 255 0) → StandsBefore rare text (first + k) → get_or told k 0 ≡ 255
-told_in_lane rare text first k bytes told after l lanes tests stands =
-    let same : get_or bytes k 0 ≡ rare.byte =
-    lanes.each k l ∙ ap (λ b. bit_or b rare.case_bit) (byte_of_lane text rare.behind first k after) ∙ stands in
-    tests.each k l ∙ cond-true _ 255 0 (eq-eqb _ rare.byte same)
-
--- it is told so without a bit of case, where the case counts
-pub told_in_exact_lane : (rare : RareByte) (text : List ℕ) (first k : ℕ) (bytes told : List ℕ) → rare.case_bit ≡ 0 → rare.behind < first → k < 32
-    → HasLanes bytes (λ j. get_or text (first - 1 - rare.behind + j) 0)
-    → HasLanes told (λ j. cond (eqb (get_or bytes j 0) rare.byte) 255 0) → StandsBefore rare text (first + k) → get_or told k 0 ≡ 255
-told_in_exact_lane rare text first k bytes told exact after l lanes tests stands =
-    let f : ℕ → ℕ = λ j. get_or text (first - 1 - rare.behind + j) 0 in
-    let same : (j : ℕ) → j < 32 → f j ≡ bit_or (f j) rare.case_bit = λ j _. sym (ap (bit_or (f j)) exact ∙ or_zero_r (f j)) in
-    told_in_lane rare text first k bytes told after l (lanes_named (λ j. bit_or (f j) rare.case_bit) lanes same) tests stands
 
 -- one of 128 ends is told by a lane of the four vectors of 32 ends
 pub told_in_four : (P : ℕ → Type 0) (answer : Type 0) (first : ℕ) (one two three four : List ℕ) → TellsLanes P first one → TellsLanes P (first + 32) two

@@ -9,8 +9,7 @@ pub(crate) enum Turn {
 }
 
 /// Where each byte of a literal was common, so many bytes of the text are searched by all of them before the first has its turn again:
-/// half of what a run of grep reads at once. With 8,192 at first and four times as many each further time, literals of common bytes took
-/// 1.05 to 1.13 times as long in 128 KiB as without looks for one byte.
+/// half of what a run of grep reads at once. With 8,192 at first and four times as many each further time nothing was told apart.
 const WAIT: usize = 65536;
 
 /// A stop takes about as long as looking for one byte alone gains in so many blocks: two jumps foreseen wrongly, and all bytes compared,

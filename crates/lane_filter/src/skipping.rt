@@ -9,7 +9,7 @@ use crate::rare_look::{RareLook, Turn};
 const BLOCK: usize = 128;
 
 /// A candidate that is at most so near is found by all that the test looks at: only behind so many ends is one byte of a literal looked
-/// for alone. With 2,048 a literal that stands each 1,300 bytes took 1.1 times as long.
+/// for alone. With 2,048 a literal that stands each 1,300 bytes took 1.12 times as long as without such looks, with this 1.01 to 1.05.
 const NEAR: usize = 8192;
 
 /// A place up to which there is no candidate after another.
