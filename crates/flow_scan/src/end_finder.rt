@@ -10,7 +10,7 @@ use crate::compiled::Compiled;
 use crate::fault::Fault;
 use crate::hit::Hit;
 use crate::hit_search::HitSearch;
-use crate::learning::{FEW, Learning, Way, cost_by_windows};
+use crate::learning::{FEW, Learning, PLAIN_HIT_COST, Way, cost_by_windows};
 use crate::met::Met;
 use crate::pace::MOST_BY_BYTES;
 use crate::searching::{add_hits, add_hits_at, skip_short_ends};
@@ -19,7 +19,7 @@ use crate::text_search::TextSearch;
 use crate::windowed::{Claims, next_end_by_windows};
 use std::alloc::{AllocError, Global};
 use std::marker::Model;
-use text_windows::{SHIFT_OR_COST, ShiftOr, Windows};
+use text_windows::{EndRate, SHIFT_OR_COST, ShiftOr, Windows};
 
 /// So many bytes of a text are learned from at most.
 const SAMPLE: usize = 65536;
@@ -183,7 +183,7 @@ impl<'p> EndFinder<'p> {
         self.learning.note(
             passed(search.text(), seen, found),
             search.spent().saturating_sub(before),
-            usize::from(found.is_some()),
+            rate_of(found),
         );
         found
     }
@@ -237,7 +237,9 @@ impl<'p> EndFinder<'p> {
         let before = out.len();
         let stop = add_hits(self.compiled, text, from, at, most, &mut spent, out)?;
         let gained = out.len().saturating_sub(before);
-        self.learning.note_scan(stop - from, spent, gained);
+        let spent = spent.saturating_add(gained.saturating_mul(PLAIN_HIT_COST));
+        self.learning
+            .note(stop - from, spent, EndRate::of_scan(gained));
         Ok(stop)
     }
 
@@ -258,8 +260,11 @@ impl<'p> EndFinder<'p> {
         ensures quiet { NoEndAfter self.old.literals text.now from → IsOk result }
     {
         let mut met = Met::nothing();
+        let before = out.len();
         let stop = self.add_hits_by_windows(text, from, at, most, &mut met, out)?;
-        self.note_windowed(stop - from, met, 0);
+        let found = EndRate::of_scan(out.len().saturating_sub(before));
+        let spent = self.cost_by_windows(stop - from, met, found);
+        self.learning.note(stop - from, spent, found);
         Ok(stop)
     }
 
@@ -298,12 +303,9 @@ impl<'p> EndFinder<'p> {
         Ok(text.len())
     }
 
-    /// Notes what a search by windows met in so many bytes, and how often it begins anew behind them.
-    fn note_windowed(&mut self, count: usize, met: Met, starts: usize)
-        ensures { self.new ≡ self.old }
-    {
-        let spent = cost_by_windows(&self.windows, self.compiled.list().len(), count, met);
-        self.learning.note(count, spent, starts);
+    /// What a search by windows took that met so much in so many bytes, and found so many ends.
+    fn cost_by_windows(&self, count: usize, met: Met, found: EndRate) -> usize {
+        cost_by_windows(&self.windows, self.compiled.list().len(), count, met, found)
     }
 
     /// The search of `next_end` by windows.
@@ -317,7 +319,9 @@ impl<'p> EndFinder<'p> {
         let list = self.compiled.list();
         let mut met = Met::nothing();
         let found = next_end_by_windows(&self.windows, list, text, from, &mut met);
-        self.note_windowed(passed(text, from, found), met, usize::from(found.is_some()));
+        let count = passed(text, from, found);
+        let spent = self.cost_by_windows(count, met, rate_of(found));
+        self.learning.note(count, spent, rate_of(found));
         found
     }
 
@@ -338,6 +342,7 @@ impl<'p> EndFinder<'p> {
         ensures quiet { NoEndAfter self.old.literals text.now from → IsOk result }
     {
         let mut met = Met::nothing();
+        let before = out.len();
         let stop = add_hits_by_shift_or(
             self.compiled,
             &self.shift_or,
@@ -348,16 +353,10 @@ impl<'p> EndFinder<'p> {
             &mut met,
             out,
         )?;
-        self.note_shifted(stop - from, met, 0);
+        let found = EndRate::of_scan(out.len().saturating_sub(before));
+        let spent = self.shift_or.cost_of(stop - from, met.marked, found);
+        self.learning.note(stop - from, spent, found);
         Ok(stop)
-    }
-
-    /// Notes what a search by shift-or met in so many bytes, and how often it begins anew behind them.
-    fn note_shifted(&mut self, count: usize, met: Met, starts: usize)
-        ensures { self.new ≡ self.old }
-    {
-        let spent = self.shift_or.cost_of(count, met.marked);
-        self.learning.note(count, spent, starts);
     }
 
     /// The search of `next_end` by shift-or.
@@ -371,7 +370,9 @@ impl<'p> EndFinder<'p> {
         let list = self.compiled.list();
         let mut met = Met::nothing();
         let found = next_end_by_shift_or(&self.shift_or, list, text, from, &mut met);
-        self.note_shifted(passed(text, from, found), met, usize::from(found.is_some()));
+        let count = passed(text, from, found);
+        let spent = self.shift_or.cost_of(count, met.marked, rate_of(found));
+        self.learning.note(count, spent, rate_of(found));
         found
     }
 
@@ -399,18 +400,15 @@ impl<'p> EndFinder<'p> {
             SAMPLE
         };
         let (sample, _) = behind.split_at(behind.len().min(most));
-        let by_windows = self.windows.learn(sample, self.learning.starts());
-        if by_windows <= SHIFT_OR_COST {
+        let rate = self.learning.rate();
+        let by_windows = self.windows.learn(sample, rate);
+        let by_shift_or = if by_windows <= SHIFT_OR_COST {
             // Shift-or is not likely to take less: its entries, half a megabyte, need not be made.
-            self.learning.choose(Way::Windows, by_windows);
-            return;
-        }
-        let by_shift_or = self.shift_or.learn(sample);
-        if by_shift_or < by_windows {
-            self.learning.choose(Way::ShiftOr, by_shift_or);
+            usize::MAX
         } else {
-            self.learning.choose(Way::Windows, by_windows);
-        }
+            self.shift_or.learn(sample, rate)
+        };
+        self.learning.choose(by_windows, by_shift_or);
     }
 }
 
@@ -432,6 +430,11 @@ impl<'p> HitSearch for EndFinder<'p> {
             Way::Plan => self.add_hits_plainly(text, from, at, most, out),
         }
     }
+}
+
+/// What a search for one end adds to how often literals end.
+fn rate_of(found: Option<(usize, usize)>) -> EndRate {
+    EndRate::of_searches(usize::from(found.is_some()))
 }
 
 /// How many bytes behind a place a search has passed.

@@ -1,7 +1,9 @@
 //! When a search learns from the text. Nothing here decides what is found, only how soon.
 
 use crate::met::Met;
-use text_windows::{LOOK_COST, MARK_COST, SIEVE_COST, Windows, cost_of_both};
+use text_windows::{
+    EndRate, LOOK_COST, MARK_COST, SIEVE_COST, START_COST, Windows, cost_of_blocks, cost_of_both,
+};
 
 /// A candidate of the sieve at which nothing ends counts for so many tenths of a nanosecond. What one takes was not measured: the number
 /// was chosen together with `LEAST_LOSS_OF_FEW`, by what both gain on one seed of log lines, English, JSON and source code. With 50 and
@@ -28,7 +30,7 @@ const LEARNED_COST: usize = 2048;
 
 /// A hit of a scan takes so much longer by the plan than by windows, which go on behind it with what their block has claimed. The
 /// number was not varied: with it 30 to 1,000 frequent literals in four texts are found 1.3 to 1.9 times as fast.
-const PLAIN_HIT_COST: usize = 500;
+pub(crate) const PLAIN_HIT_COST: usize = 500;
 
 /// To learn takes about so long: half a millisecond. It is worth while once as much was lost.
 const LEAST_LOSS: usize = 5_000_000;
@@ -43,13 +45,28 @@ pub(crate) const FEW: usize = 32;
 /// So many times the least loss is waited for at most, where learning gains little.
 const MOST_WAIT: usize = 32;
 
+/// So many bytes of a text are searched in one way before it is asked whether the other one that was learned is likely to take less.
+/// The number was not varied.
+const TRIAL: usize = 65536;
+
+/// What a search by what was learned may take for 1,024 bytes that are likely to take so long.
+fn allowed_for(cost: usize) -> usize {
+    cost.saturating_add(cost / 2).saturating_add(LEARNED_COST)
+}
+
 /// What `count` bytes take by looks that are a stride apart.
 pub(crate) fn cost_of_looks(stride: usize, count: usize) -> usize {
     count.saturating_mul(LOOK_COST) / stride.max(1)
 }
 
-/// What a search by windows took that passed so many bytes and met so much, for a list of `len` literals.
-pub(crate) fn cost_by_windows(windows: &Windows<'_>, len: usize, count: usize, met: Met) -> usize {
+/// What a search by windows took that passed so many bytes, met so much, and found so many ends, for a list of `len` literals.
+pub(crate) fn cost_by_windows(
+    windows: &Windows<'_>,
+    len: usize,
+    count: usize,
+    met: Met,
+    found: EndRate,
+) -> usize {
     let split = windows.split();
     let sieve = if split == 0 {
         0
@@ -59,24 +76,48 @@ pub(crate) fn cost_by_windows(windows: &Windows<'_>, len: usize, count: usize, m
     let looks = if split == len {
         0
     } else {
-        cost_of_looks(windows.stride(), count).saturating_mul(windows.widths())
+        let blocks = cost_of_blocks(found.ends, count, windows.stride(), windows.widths());
+        cost_of_looks(windows.stride(), count)
+            .saturating_mul(windows.widths())
+            .saturating_add(blocks)
     };
     let passes = windows.cost_of_passes(met.passed, count);
     let marks = met.marked.saturating_mul(MARK_COST);
-    if looks == 0 {
-        return sieve.saturating_add(passes).saturating_add(marks);
-    }
-    cost_of_both(looks.saturating_add(marks), sieve.saturating_add(passes))
+    let starts = found.starts.saturating_mul(START_COST);
+    let both = if looks == 0 {
+        sieve.saturating_add(passes).saturating_add(marks)
+    } else {
+        cost_of_both(looks.saturating_add(marks), sieve.saturating_add(passes))
+    };
+    both.saturating_add(starts)
 }
+
+/// A way, and what 1,024 bytes are likely to take in it, in tenths of a nanosecond.
+#[derive(Clone, Copy, Debug)]
+struct Promise {
+    way: Way,
+    cost: usize,
+}
+
+/// What no way is likely to take: no way is left for it.
+const NO_WAY: Promise = Promise {
+    way: Way::Plan,
+    cost: usize::MAX,
+};
 
 /// How a search has fared since it chose its way: what it took for how many bytes, and how much more that was than
 /// it may take.
 #[derive(Clone, Copy, Debug)]
 pub(crate) struct Learning {
     way: Way,
+    /// The way that was learned beside this one.
+    other: Promise,
     passed: usize,
     spent: usize,
+    ends: usize,
     starts: usize,
+    /// Once so many bytes have passed it is asked for the other way.
+    trial: usize,
     /// What it may take for 1,024 bytes.
     allowed: usize,
     lost: usize,
@@ -95,9 +136,12 @@ impl Learning {
         };
         Learning {
             way: Way::Plan,
+            other: NO_WAY,
             passed: 0,
             spent: 0,
+            ends: 0,
             starts: 0,
+            trial: TRIAL,
             allowed: PLAIN_COST,
             lost: 0,
             most_lost: least_lost,
@@ -125,20 +169,74 @@ impl Learning {
         self.lost >= self.most_lost
     }
 
-    /// Adds what so many bytes took, and how many ends were found in them behind which the search begins anew.
-    pub fn note(&mut self, passed: usize, spent: usize, starts: usize) {
+    /// Adds what so many bytes took, and how many ends were found in them. The way may be another one then.
+    #[inline]
+    pub fn note(&mut self, passed: usize, spent: usize, found: EndRate) {
         self.passed = self.passed.saturating_add(passed);
         self.spent = self.spent.saturating_add(spent);
-        self.starts = self.starts.saturating_add(starts);
+        self.ends = self.ends.saturating_add(found.ends);
+        self.starts = self.starts.saturating_add(found.starts);
         let allowed = passed.saturating_mul(self.allowed) / 1024;
         self.lost = self.lost.saturating_add(spent).saturating_sub(allowed);
+        if self.passed >= self.trial {
+            self.trial = self.passed.saturating_add(TRIAL);
+            self.reconsider();
+        }
     }
 
-    /// It has learned a way in which 1,024 bytes are likely to take so long: it goes on in it if that is less
-    /// than they took.
-    pub fn choose(&mut self, way: Way, cost: usize) {
-        let allowed = cost.saturating_add(cost / 2).saturating_add(LEARNED_COST);
-        let is_better = self.is_better(cost, allowed);
+    /// Goes on in the other way that was learned if that is likely to take less by a good part than this one took. The estimates of both
+    /// come from a small sample; what each took comes in their place once it was gone.
+    #[inline(never)]
+    fn reconsider(&mut self) {
+        let taken = self.taken();
+        if self.other.cost < taken - taken / 8 {
+            let left = Promise {
+                way: self.way,
+                cost: taken,
+            };
+            self.go(self.other);
+            self.other = left;
+        }
+    }
+
+    /// Goes on in a way.
+    fn go(&mut self, promise: Promise) {
+        self.way = promise.way;
+        self.allowed = allowed_for(promise.cost);
+        self.begin();
+    }
+
+    /// Counts from here on.
+    fn begin(&mut self) {
+        self.passed = 0;
+        self.spent = 0;
+        self.ends = 0;
+        self.starts = 0;
+        self.lost = 0;
+        self.trial = TRIAL;
+    }
+
+    /// It has learned two ways, in which 1,024 bytes are likely to take so long: it goes on in the one that takes less if that is less
+    /// than they took. A way that was not learned takes `usize::MAX`.
+    pub fn choose(&mut self, by_windows: usize, by_shift_or: usize) {
+        let windows = Promise {
+            way: Way::Windows,
+            cost: by_windows,
+        };
+        let shift_or = Promise {
+            way: Way::ShiftOr,
+            cost: by_shift_or,
+        };
+        if by_shift_or < by_windows {
+            self.choose_first(shift_or, windows);
+        } else {
+            self.choose_first(windows, shift_or);
+        }
+    }
+
+    /// The same of two ways of which the first is likely to take less.
+    fn choose_first(&mut self, best: Promise, other: Promise) {
+        let is_better = self.is_better(best.cost, allowed_for(best.cost));
         self.most_lost = if is_better {
             (self.most_lost / 2).max(self.least_lost)
         } else {
@@ -146,13 +244,11 @@ impl Learning {
             self.most_lost.saturating_mul(2).min(most)
         };
         if is_better || self.has_learned() {
-            self.way = way;
-            self.allowed = allowed;
+            self.go(best);
+            self.other = other;
+        } else {
+            self.begin();
         }
-        self.passed = 0;
-        self.spent = 0;
-        self.starts = 0;
-        self.lost = 0;
     }
 
     /// Whether what was learned is likely to take less by a good part: than the plan took, or than what was learned before
@@ -170,19 +266,18 @@ impl Learning {
     /// Counts one hit more, which a search of another kind found.
     #[inline(always)]
     pub fn count_start(&mut self) {
+        self.ends = self.ends.saturating_add(1);
         self.starts = self.starts.saturating_add(1);
     }
 
-    /// Adds what so many bytes took that were scanned by the plan, with so many hits.
-    pub fn note_scan(&mut self, passed: usize, spent: usize, hits: usize) {
-        let more = hits.saturating_mul(PLAIN_HIT_COST);
-        self.note(passed, spent.saturating_add(more), 0);
-    }
-
-    /// How often the search began anew behind a hit since the last choice, for 1,024 of the bytes that were noted: those in which
-    /// ends were found near are not among these, though the ends are.
-    pub fn starts(&self) -> usize {
-        self.starts.saturating_mul(1024) / self.passed.max(1)
+    /// How often literals ended since the last choice, and how often the search began anew behind them, for 1,024 of the bytes that
+    /// were noted: those in which ends were found near are not among these, though the ends are.
+    pub fn rate(&self) -> EndRate {
+        let passed = self.passed.max(1);
+        EndRate {
+            ends: self.ends.saturating_mul(1024) / passed,
+            starts: self.starts.saturating_mul(1024) / passed,
+        }
     }
 
     /// What 1,024 bytes took since the last choice.

@@ -6,6 +6,7 @@ mod scanned;
 mod single;
 mod spoilt;
 mod streamed;
+mod ways;
 
 use crate::compiled::{Compiled, least_law};
 use crate::fault::Fault;

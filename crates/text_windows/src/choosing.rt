@@ -4,6 +4,7 @@ ghost use Rattle.lit_base.specs.declared.suffixes.marks.TheConstants.{HASH_BITS}
 
 use crate::counts::{Counts, NEVER, PLACES};
 use crate::grouping::group;
+use crate::rate::EndRate;
 use crate::shape::{Shape, WIDTH};
 use lit_base::{HASH_BITS, LitList};
 use nib_mask::{Masks, plain_byte};
@@ -33,9 +34,14 @@ const BLOCK: usize = 56;
 /// number was not varied.
 const BOTH_SHARE: usize = 2;
 
-/// To begin to sieve takes so many, where looks at strides begin at once: a hundred frequent literals took 1.3 times as
+/// To begin anew behind an end takes so many: a block is looked at from there on, whose last looks are mostly in vain. With -c 100 to 1,000
+/// frequent literals of English text and source code took 0.6 to 0.85 of the time by shift-or, which begins with eight looks. The number
+/// was not varied.
+pub const START_COST: usize = 500;
+
+/// To begin to sieve takes so many more, where looks at strides begin at once: a hundred frequent literals took 1.3 times as
 /// long in English text and log lines where all were sieved.
-const START_COST: usize = 400;
+const SIEVE_START_COST: usize = 400;
 
 /// An estimate takes so many marks for each that a sample had: windows are chosen that the sample happens to lack,
 /// and so a text has more of them.
@@ -54,21 +60,21 @@ const HASHES: usize = 1 << HASH_BITS;
 const SPARSE: usize = 31;
 
 /// How many literals, the shortest of a list, are sieved, how far apart a search for the others looks, and what both
-/// take, in tenths of a nanosecond for 1,024 bytes.
+/// take, in tenths of a nanosecond for 1,024 bytes: with what marks take of it, if nothing ends at any.
 #[derive(Clone, Copy, Debug)]
 pub(crate) struct Choice {
     pub split: usize,
     pub stride: usize,
     pub cost: usize,
+    pub marks: usize,
 }
 
-/// The choice that is likely to cost least, where a search is begun anew for so many hits in 1,024 bytes. It leaves offsets and
-/// buckets as they come.
+/// The choice that is likely to cost least, where literals end so often. It leaves offsets and buckets as they come.
 pub(crate) fn best_choice(
     list: &LitList,
     counts: &Counts,
     sample: &[u8],
-    hits: usize,
+    rate: EndRate,
     offsets: &mut Vec<u8>,
     buckets: &mut Vec<u8>,
 ) -> Choice
@@ -81,21 +87,49 @@ pub(crate) fn best_choice(
     ensures buckets { vec_len buckets.new ≡ vec_len buckets.old }
 {
     let mut best = best_stride(list, 0, counts);
-    let starts = hits.saturating_mul(START_COST);
+    let sieve_starts = rate.starts.saturating_mul(SIEVE_START_COST);
     let mut last = 0;
     for number in 0..SIEVED_LENS.len() {
         let split = count_shorter(list, SIEVED_LENS[number]);
         if split > last && split <= MOST_SIEVED {
             let sieve = cost_of_sieve(list, split, counts, sample, offsets, buckets);
             let rest = best_stride(list, split, counts);
-            let cost = cost_of_both(rest.cost, sieve).saturating_add(starts);
+            let cost = cost_of_both(rest.cost, sieve).saturating_add(sieve_starts);
             if cost < best.cost {
                 best = Choice { cost, ..rest };
             }
         }
         last = split;
     }
-    best
+    Choice {
+        cost: with_ends(list, best, rate),
+        ..best
+    }
+}
+
+/// What a choice takes where literals end so often. It was made as if nothing ended at any mark, since each end has a mark by every choice.
+fn with_ends(list: &LitList, choice: Choice, rate: EndRate) -> usize
+    requires { choice.split ≤ length list.now.texts }
+{
+    let at_ends = rate.ends.saturating_mul(MARK_COST * BIAS);
+    let blocks = if choice.split == list.len() {
+        0
+    } else {
+        let widths = Shape::of(list, choice.split).widths();
+        cost_of_blocks(rate.ends, 1024, choice.stride, widths)
+    };
+    choice
+        .cost
+        .saturating_sub(at_ends.min(choice.marks))
+        .saturating_add(blocks)
+        .saturating_add(rate.starts.saturating_mul(START_COST))
+}
+
+/// What looks take more in `count` bytes of a text in which so many literals end: a block with an end is looked at as a whole, at half as
+/// much again for each look, and not passed two looks at a time.
+pub fn cost_of_blocks(ends: usize, count: usize, stride: usize, widths: usize) -> usize {
+    let looks = ends.min(count / BLOCK).saturating_mul(BLOCK) / stride.max(1);
+    looks.saturating_mul(LOOK_COST / 2).saturating_mul(widths)
 }
 
 /// What it takes to stride over a text for some literals and to sieve it for others, where each alone takes so many.
@@ -181,31 +215,20 @@ fn best_stride(list: &LitList, first: usize, counts: &Counts) -> Choice
             split: first,
             stride: shape.most_stride,
             cost: 0,
+            marks: 0,
         };
     }
     let totals = totals(list, first, shape.most_stride, counts);
     let rest = list.len() - first;
-    let mut best = Choice {
-        split: first,
-        stride: shape.most_stride,
-        cost: cost_of(
-            shape.most_stride,
-            shape.widths(),
-            totals[0],
-            counts.all,
-            rest,
-        ),
-    };
+    let marked = cost_of_marks(totals[0], counts);
+    let mut best = strided(first, shape.most_stride, shape.widths(), marked, rest);
     let mut stride = shape.most_stride;
     for step in 1..4usize {
         stride = (stride / 2).max(1);
-        let cost = cost_of(stride, shape.widths(), totals[step], counts.all, rest);
-        if cost < best.cost {
-            best = Choice {
-                split: first,
-                stride,
-                cost,
-            };
+        let marked = cost_of_marks(totals[step], counts);
+        let choice = strided(first, stride, shape.widths(), marked, rest);
+        if choice.cost < best.cost {
+            best = choice;
         }
     }
     best
@@ -232,16 +255,27 @@ fn totals(list: &LitList, first: usize, most_stride: usize, counts: &Counts) -> 
     totals
 }
 
-/// What a search takes that looks at every `stride`-th place, by so many widths, where of `all` places so many are marked,
-/// and others have the hash of a window of one of `count` literals.
-fn cost_of(stride: usize, widths: usize, marked: usize, all: usize, count: usize) -> usize {
+/// What the marks that so many of the places counted have take in 1,024 bytes, if at none of them a literal ends.
+fn cost_of_marks(marked: usize, counts: &Counts) -> usize {
+    (MARK_COST * BIAS * 1024).saturating_mul(marked) / counts.all.max(1)
+}
+
+/// The choice to look at every `stride`-th place, by so many widths, where the marks of all places take so long, and others have the
+/// hash of a window of one of `count` literals.
+fn strided(split: usize, stride: usize, widths: usize, marked: usize, count: usize) -> Choice
+    ensures { result.split ≡ split }
+{
     let alike = MARK_COST.saturating_mul(count).saturating_mul(stride) / HASHES;
     let looks = LOOK_COST
         .saturating_add(alike)
         .saturating_mul(widths)
         .saturating_mul(1024);
-    let marks = (MARK_COST * BIAS * 1024).saturating_mul(marked) / all.max(1);
-    looks.saturating_add(marks) / stride.max(1)
+    Choice {
+        split,
+        stride,
+        cost: looks.saturating_add(marked) / stride.max(1),
+        marks: marked / stride.max(1),
+    }
 }
 
 /// How far before its end a literal has the windows for a stride that occurred least, and how often they did.

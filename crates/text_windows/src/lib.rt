@@ -9,13 +9,15 @@ mod grouping;
 mod joining;
 mod looks;
 mod marking;
+mod rate;
 mod runs;
 mod shape;
 mod shift_or;
 mod windows;
 
-pub use choosing::{LOOK_COST, MARK_COST, SIEVE_COST, cost_of_both};
+pub use choosing::{LOOK_COST, MARK_COST, SIEVE_COST, START_COST, cost_of_blocks, cost_of_both};
 pub use looks::Looks;
+pub use rate::EndRate;
 pub use shift_or::{SHIFT_OR_COST, ShiftOr};
 pub use windows::Windows;
 

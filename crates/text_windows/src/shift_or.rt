@@ -9,6 +9,7 @@ use crate::confirming::{CONFIRM_BITS, Confirms};
 use crate::entries::{ENTRIES, PLACES, fill_all};
 use crate::joining::{first_word, joined, lanes_of, last_eight, one_ahead, two_ahead};
 use crate::looks::{Looks, Verified, bits_behind};
+use crate::rate::EndRate;
 use crate::runs::cut_runs;
 use lane_filter::split_lowest;
 use lit_base::{LitList, hash_of, is_marked, last_bits, last_word};
@@ -25,6 +26,13 @@ pub const SHIFT_OR_COST: usize = 3700;
 
 /// An end that is not ruled out takes so many, once for each bucket, if nothing ends there.
 const LEFT_COST: usize = 190;
+
+/// A scan takes so much longer for an end at which a literal does end than by windows, in tenths of a nanosecond: for 300 and 1,000
+/// frequent literals of four texts 7 to 24 ns a hit.
+const HIT_COST: usize = 160;
+
+/// To begin anew behind an end takes so many.
+const START_COST: usize = 190;
 
 /// One place of so many tells how often an end of a sample is not ruled out.
 const SPARSE: usize = 31;
@@ -90,8 +98,9 @@ impl<'p> ShiftOr<'p> {
     }
 
     /// Makes the entries, unless they are made, chooses how far apart it looks, and answers what a search is likely to take for
-    /// 1,024 bytes of a text with such a sample, in tenths of a nanosecond.
-    pub fn learn(&mut self, sample: &[u8]) -> usize
+    /// 1,024 bytes of a text with such a sample, in tenths of a nanosecond, if literals end so often in these: beside what is
+    /// done at each of the ends by windows too.
+    pub fn learn(&mut self, sample: &[u8], rate: EndRate) -> usize
         ensures { self.new ≡ self.old }
     {
         self.fill();
@@ -99,8 +108,8 @@ impl<'p> ShiftOr<'p> {
             // It does not come to this: they are made.
             return usize::MAX;
         };
-        let by_one = self.cost(entries, sample, Stride::One);
-        let by_two = self.cost(entries, sample, Stride::Two);
+        let by_one = self.cost(entries, sample, Stride::One, rate);
+        let by_two = self.cost(entries, sample, Stride::Two, rate);
         self.stride = if by_two < by_one {
             Stride::Two
         } else {
@@ -129,18 +138,20 @@ impl<'p> ShiftOr<'p> {
         Some(self.entries.as_slice())
     }
 
-    /// What a search takes for so many bytes of which so many ends are left, in tenths of a nanosecond.
-    pub fn cost_of(&self, count: usize, left: usize) -> usize {
-        cost_of(count, left, self.stride)
+    /// What a search takes for so many bytes, in which it left so many ends in vain and found so many, in tenths of a nanosecond:
+    /// beside what is done at each of these by windows too.
+    pub fn cost_of(&self, count: usize, left: usize, found: EndRate) -> usize {
+        cost_of(count, left, found, self.stride)
     }
 
-    /// What a search by looks that are so far apart is likely to take for 1,024 bytes of a text with such a sample.
-    fn cost(&self, entries: &[u64], sample: &[u8], stride: Stride) -> usize
+    /// What a search by looks that are so far apart is likely to take for 1,024 bytes of a text with such a sample, where literals end
+    /// so often in these.
+    fn cost(&self, entries: &[u64], sample: &[u8], stride: Stride, rate: EndRate) -> usize
         requires entries { AreEntriesOf self.now.literals self.now.buckets entries.now }
     {
         let (left, all) = self.count_left(entries, sample, stride);
         let ends = left.saturating_mul(1024) / all.max(1);
-        cost_of(1024, ends, stride)
+        cost_of(1024, ends.saturating_sub(rate.ends), rate, stride)
     }
 
     /// How many of some ends in a sample are not ruled out by looks that are so far apart, once for each bucket, and how many ends
@@ -394,7 +405,7 @@ impl<'p> ShiftOr<'p> {
             let (bit, others) = split_lowest(unruled);
             let end = looks.at + bit / 8;
             if self.may_end(text, end, bit % 8) {
-                if let Some(first) = self.list.first_ending(text, end) {
+                if let Some(first) = self.list.next_ending(text, end, 0) {
                     let unruled = bits_behind(others, bit / 8);
                     return Some(Verified {
                         end,
@@ -437,12 +448,16 @@ impl<'p> ShiftOr<'p> {
     }
 }
 
-/// What a search by looks that are so far apart takes for so many bytes of which so many ends are left.
-fn cost_of(count: usize, left: usize, stride: Stride) -> usize {
+/// What a search by looks that are so far apart takes for so many bytes, in which it left so many ends in vain and found so many.
+fn cost_of(count: usize, left: usize, found: EndRate, stride: Stride) -> usize {
     let cost = match stride {
         Stride::One => EACH_COST,
         Stride::Two => SHIFT_OR_COST,
     };
     let looks = count.saturating_mul(cost) / 1024;
-    looks.saturating_add(left.saturating_mul(LEFT_COST))
+    let scanned = found.ends.saturating_sub(found.starts);
+    looks
+        .saturating_add(left.saturating_mul(LEFT_COST))
+        .saturating_add(scanned.saturating_mul(HIT_COST))
+        .saturating_add(found.starts.saturating_mul(START_COST))
 }

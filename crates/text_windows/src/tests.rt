@@ -1,4 +1,5 @@
 //! Windows of lists with short literals and with long ones, and of literals whose last bytes a text is full of.
+use crate::rate::EndRate;
 use crate::runs::cut_runs;
 use crate::shift_or::ShiftOr;
 use crate::windows::Windows;
@@ -130,7 +131,7 @@ fn meets(
     let sample = sample_of(alloc, bytes)?;
     let mut windows = Windows::new(alloc, list).ok()?;
     let before = are_met(&windows, text, ends);
-    windows.learn(&sample, 0);
+    windows.learn(&sample, EndRate::nothing());
     Some((before, are_met(&windows, text, ends)))
 }
 
@@ -193,7 +194,7 @@ fn learned(alloc: Global, list: &LitList, sample: &[u8]) -> Option<[(usize, usiz
         windows.stride(),
         count_marked(&windows, sample),
     );
-    windows.learn(sample, 0);
+    windows.learn(sample, EndRate::nothing());
     let behind = (
         windows.split(),
         windows.stride(),
@@ -268,7 +269,7 @@ fn found_by(
 ) -> Option<(usize, usize, usize)> {
     let list = list_of(alloc, fold, literals)?;
     let mut shift_or = ShiftOr::new(alloc, &list).ok()?;
-    shift_or.learn(&sample_of(alloc, bytes)?);
+    shift_or.learn(&sample_of(alloc, bytes)?, EndRate::nothing());
     let mut looks = shift_or.looks_behind(text, 0);
     let (mut found, mut met, mut seen, mut left) = (0usize, 0usize, 0, 0);
     for _ in 0..text.len() {
@@ -350,7 +351,7 @@ fn finds_what_ends_before_it_has_learned(rt: HostRuntime) {
 fn cost_of(alloc: Global, literals: &[&[u8]], bytes: [u8; 4]) -> Option<usize> {
     let list = list_of(alloc, Fold::No, literals)?;
     let mut shift_or = ShiftOr::new(alloc, &list).ok()?;
-    Some(shift_or.learn(&sample_of(alloc, bytes)?))
+    Some(shift_or.learn(&sample_of(alloc, bytes)?, EndRate::nothing()))
 }
 
 #[test]

@@ -13,6 +13,7 @@ use crate::choosing::{best_choice, choose_offsets, cost_of_passes};
 use crate::counts::Counts;
 use crate::grouping::group;
 use crate::marking::mark_all;
+use crate::rate::EndRate;
 use crate::shape::{Shape, WIDTH};
 use lit_base::{Fold, HASH_BITS, LitList, case_bits, hash_of, last_bits, suffix_key};
 use nib_mask::Masks;
@@ -99,9 +100,9 @@ impl<'p> Windows<'p> {
     }
 
     /// Chooses windows that are rare in a sample of the text to come, and which literals are sieved, and answers what a
-    /// search by them is likely to take, in tenths of a nanosecond for 1,024 bytes, if it is begun anew for so many hits in
-    /// these. Earlier samples count half as much.
-    pub fn learn(&mut self, sample: &[u8], hits: usize) -> usize
+    /// search by them is likely to take, in tenths of a nanosecond for 1,024 bytes, if literals end so often in these: beside
+    /// what is done at each of the ends. Earlier samples count half as much.
+    pub fn learn(&mut self, sample: &[u8], rate: EndRate) -> usize
         ensures { self.new.literals ≡ self.old.literals }
     {
         self.counts.count(self.list, sample);
@@ -109,7 +110,7 @@ impl<'p> Windows<'p> {
             self.list,
             &self.counts,
             sample,
-            hits,
+            rate,
             &mut self.offsets,
             &mut self.buckets,
         );

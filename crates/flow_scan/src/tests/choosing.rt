@@ -11,7 +11,7 @@ use crate::tests::finding::{
 use crate::windowed::next_end_by_windows;
 use lit_base::Fold;
 use std::alloc::Global;
-use text_windows::{ShiftOr, Windows};
+use text_windows::{EndRate, ShiftOr, Windows};
 
 /// How far a search has come in a text, and what it has found up to there.
 type Progress = (usize, Told);
@@ -61,7 +61,7 @@ fn by_windows(
 ) -> Option<Progress> {
     let list = compiled.list();
     let mut windows = Windows::new(alloc, list).ok()?;
-    windows.learn(sample, 0);
+    windows.learn(sample, EndRate::nothing());
     let (mut from, mut told) = progress;
     let mut met = Met::nothing();
     for _ in 0..count {
@@ -85,7 +85,7 @@ fn by_shift_or(
 ) -> Option<Progress> {
     let list = compiled.list();
     let mut shift_or = ShiftOr::new(alloc, list).ok()?;
-    shift_or.learn(sample);
+    shift_or.learn(sample, EndRate::nothing());
     let (mut from, mut told) = progress;
     let mut met = Met::nothing();
     for _ in 0..count {

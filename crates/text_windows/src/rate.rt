@@ -1,0 +1,26 @@
+//! How often literals end in a text.
+
+/// How many literals ended in some bytes of a text, and behind how many of these ends the search began anew: behind each, if one end is
+/// looked for after the other, and behind none in a scan.
+#[derive(Clone, Copy, Debug)]
+pub struct EndRate {
+    pub ends: usize,
+    pub starts: usize,
+}
+
+impl EndRate {
+    /// That of a text of which nothing is known.
+    pub fn nothing() -> EndRate {
+        EndRate { ends: 0, starts: 0 }
+    }
+
+    /// That of a scan that found so many.
+    pub fn of_scan(ends: usize) -> EndRate {
+        EndRate { ends, starts: 0 }
+    }
+
+    /// That of searches that found so many, each begun anew.
+    pub fn of_searches(ends: usize) -> EndRate {
+        EndRate { ends, starts: ends }
+    }
+}
