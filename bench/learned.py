@@ -1,14 +1,15 @@
 #!/usr/bin/env python3
 """Measures scans in memory that learn from their text beside scans by the plan alone and Hyperscan.
 
-    python3 bench/learned.py [--size MB] [--turns N] [--seed S] [--only WORD] [--scanner NAME=PATH ..] [--write]
+    python3 bench/learned.py [--size MB] [--turns N] [--rounds N] [--seed S] [--only WORD] [--scanner NAME=PATH ..] [--write]
 
 The texts and lists are those of lists.py: literals made of a text's own words or syllables, rare and frequent ones, and such
-lists of which every tenth literal is short. Random bytes, with literals of random bytes, stand beside them. The text is at hand, beside Hyperscan's block mode, and then a stream in pieces of
-64 KiB, beside its streaming mode. Each program is started in turn, scans the text three times over and gives the
-median; the figure is the least of the turns. Hit counts are compared. --scanner, more than once, measures builds for different
-processors, each beside the others. With --write the tables go to bench/LEARNED.md, and a plot to
-bench/learned.svg.
+lists of which every tenth literal is short. Random bytes, with literals of random bytes, stand beside them. The text is at
+hand, beside Hyperscan's block mode, and then a stream in pieces of 64 KiB, beside its streaming mode. Each program is started
+in turn, scans the text three times over and gives the median; the figure is the least of the turns. --rounds goes over all
+rows so often, one round after the other, so that what slows a shared machine for some minutes meets no row in each. Hit
+counts are compared. --scanner, more than once, measures builds for different processors, each beside the others. With --write
+the tables go to bench/LEARNED.md, and a plot to bench/learned.svg.
 """
 import argparse
 import os
@@ -98,16 +99,15 @@ def ratio(value):
     return "" if value is None else "%.2f" % value
 
 
-def measured(tools, turns, row):
-    group, name, text, literals = row
-    result = Result(group, name)
+def measure(result, tools, turns, row):
+    """Adds the times of one row to its result."""
+    _, name, text, literals = row
     for _ in range(turns):
         for program, (words, mode) in tools.items():
             answer = scan(words, text, literals, mode, SCANS)
             if answer is None:
                 sys.exit("%s gives nothing for %s" % (words[0], name))
             result.add(program, answer)
-    return result
 
 
 def as_groups(results):
@@ -127,7 +127,8 @@ def as_rows(results):
 
 
 def report(results, options):
-    lines = ["# Scans that learn", "", machine(options.size), "Seed %d, %d turns." % (options.seed, options.turns), "",
+    turns = "Seed %d, %d turns in each of %d rounds." % (options.seed, options.turns, options.rounds)
+    lines = ["# Scans that learn", "", machine(options.size), turns, "",
              "A ratio is the time of another scan by that of the one that learns, each the least of the turns: above 1, it pays to",
              "learn, and the scan is ahead of Hyperscan. `least` is that of one list. A text is at hand, or a stream that comes",
              "in pieces of 64 KiB.", ""]
@@ -142,6 +143,7 @@ def main():
     parser = argparse.ArgumentParser(description=__doc__, formatter_class=argparse.RawDescriptionHelpFormatter)
     parser.add_argument("--size", type=int, default=16, metavar="MB")
     parser.add_argument("--turns", type=int, default=3)
+    parser.add_argument("--rounds", type=int, default=1)
     parser.add_argument("--seed", type=int, default=1)
     parser.add_argument("--only", default="", metavar="WORD")
     parser.add_argument("--ways", nargs="+", choices=WAYS, default=list(WAYS), metavar="WAY")
@@ -149,14 +151,15 @@ def main():
     parser.add_argument("--write", action="store_true")
     options = parser.parse_args()
     scanners = [scanner.split("=", 1) for scanner in options.scanner or ["bench_scan=" + os.path.join(HERE, "../bin/bench_scan")]]
-    results = {(build, way): [] for build, _ in scanners for way in options.ways}
     with tempfile.TemporaryDirectory(prefix="learned-bench-") as folder:
-        for row in rows(folder, options.size * MB, options.seed):
-            if options.only in row[1]:
+        chosen = [row for row in rows(folder, options.size * MB, options.seed) if options.only in row[1]]
+        results = {(build, way): [Result(*row[:2]) for row in chosen] for build, _ in scanners for way in options.ways}
+        for _ in range(options.rounds):
+            for place, row in enumerate(chosen):
                 for build, path in scanners:
                     for way in options.ways:
-                        found = measured(programs(path, way), options.turns, row)
-                        results[build, way].append(found)
+                        found = results[build, way][place]
+                        measure(found, programs(path, way), options.turns, row)
                         print(build, way, found.line(), flush=True)
     if options.write:
         with open(os.path.join(HERE, "LEARNED.md"), "w") as out:

@@ -1,14 +1,15 @@
 #!/usr/bin/env python3
 """Measures litgrep beside other greps with the lists and texts that users have, side by side in one run.
 
-    python3 bench/lists.py [--size MB] [--turns N] [--lists N] [--seed S] [--only WORD] [--litgrep NAME=PATH ..] [--write]
+    python3 bench/lists.py [--size MB] [--turns N] [--rounds N] [--lists N] [--seed S] [--only WORD] [--litgrep NAME=PATH ..] [--write]
 
 The literals are made of one to three of a text's own words or syllables. --seed draws other literals and other texts,
-on which no constant of the search was chosen; --lists says how many lists are drawn for each row. The runs are those of
-programs.py, without busybox, which tries each literal in turn. Output and status are compared with GNU grep's. Prints
-the least processor time of each program over the turns in milliseconds, since whatever else a shared machine does only
-adds to it, and how far litgrep is ahead of the best other one; with --write the tables go to bench/LISTS.md, and a plot to
-bench/lists.svg.
+on which no constant of the search was chosen; --lists says how many lists are drawn for each row. --rounds goes over all
+rows so often, one round after the other, so that what slows a shared machine for some minutes meets no row in each. The runs
+are those of programs.py, without busybox, which tries each literal in turn. Output and status are compared with GNU grep's.
+Prints the least processor time of each program over the turns in milliseconds, since whatever else a shared machine does
+only adds to it, and how far litgrep is ahead of the best other one; with --write the tables go to bench/LISTS.md, and a plot
+to bench/lists.svg.
 """
 import argparse
 import itertools
@@ -340,13 +341,27 @@ class Searches:
 class Result:
     """The times of one search in milliseconds, how far each litgrep is ahead, and the greatest memory of each in MiB."""
 
-    def __init__(self, search, found, ours, turns):
-        self.name, self.group = search.name, search.group
-        self.times = {name: least(runs) for name, runs in found.items() if runs}
-        self.best = min(time for name, time in self.times.items() if name not in ours)
-        self.ahead = {name: self.best / self.times[name] for name in ours}
-        self.memory = {name: max(done.memory for done in found[name]) / 1024 for name in ours}
-        self.reading = reading(search.files[0], turns) if search.reads else None
+    def __init__(self, search, ours):
+        self.name, self.group, self.ours = search.name, search.group, ours
+        self.times, self.memory, self.reading = {}, {}, None
+
+    def add(self, search, found, turns):
+        """Adds the runs of one round."""
+        for name, runs in found.items():
+            if runs:
+                self.times[name] = min(self.times.get(name, float("inf")), least(runs))
+        for name in self.ours:
+            self.memory[name] = max(self.memory.get(name, 0), max(done.memory for done in found[name]) / 1024)
+        if search.reads:
+            self.reading = min(self.reading or float("inf"), reading(search.files[0], turns))
+
+    @property
+    def best(self):
+        return min(time for name, time in self.times.items() if name not in self.ours)
+
+    @property
+    def ahead(self):
+        return {name: self.best / self.times[name] for name in self.ours}
 
     def line(self):
         return "%-44s %s  ahead %s" % (self.name, "  ".join("%s %.0f" % pair for pair in self.times.items()),
@@ -410,7 +425,7 @@ def as_reading(results, ours):
 HEAD = """# litgrep beside other greps, with lists of a text's own words
 
 %s
-Seed %d, %d lists of each kind and length, %d turns; the source code is the standard library of Python %s.
+Seed %d, %d lists of each kind and length, %d turns in each of %d rounds; the source code is the standard library of Python %s.
 The greatest memory in MiB: %s.
 
 `ahead` is the processor time of the best other grep by litgrep's, each the least of the turns, and the median over the lists:
@@ -422,7 +437,7 @@ EACH = "Processor time in milliseconds (user and system), the least of the turns
 def as_tables(results, names, options):
     ours = [name for name in names if name.startswith("litgrep")]
     memory = ["%.1f (%s)" % (max((result.memory[name] for result in results), default=0), name) for name in ours]
-    head = HEAD % (machine(options.size), options.seed, options.lists, options.turns, sysconfig.get_python_version(),
+    head = HEAD % (machine(options.size), options.seed, options.lists, options.turns, options.rounds, sysconfig.get_python_version(),
                    ", ".join(memory))
     lines = [head, "", "## By kind", ""] + as_groups(results, ours)
     lines += ["", "## Beside reading alone", "", READING, ""] + as_reading(results, ours)
@@ -434,6 +449,7 @@ def options_given():
     parser = argparse.ArgumentParser(description=__doc__, formatter_class=argparse.RawDescriptionHelpFormatter)
     parser.add_argument("--size", type=int, default=64, help="megabytes of each text")
     parser.add_argument("--turns", type=int, default=3)
+    parser.add_argument("--rounds", type=int, default=1)
     parser.add_argument("--lists", type=int, default=3, help="lists of each kind and length, and single literals of each kind")
     parser.add_argument("--seed", type=int, default=0)
     parser.add_argument("--only", default="", help="rows whose name holds this")
@@ -446,19 +462,22 @@ def main():
     options = options_given()
     ours, size = litgreps(options.litgrep), options.size * MB
     programs = ours + [peer for peer in peers() if peer[0] != "busybox"]
-    results, wrong = [], []
+    results, wrong = {}, []
     with tempfile.TemporaryDirectory(prefix="lists-bench-") as folder:
-        searches = Searches(folder, make_texts(folder, size, options.seed), options.seed, options.lists)
-        for search in searches.rows(size):
-            if options.only not in search.name:
-                continue
-            found = measure(search, programs, options.turns)
-            gnu = found["GNU grep"][0]
-            wrong += ["%s: %s" % (search.name, name) for name, _ in ours if not found[name] or differs(search, found[name][0], gnu)]
-            if all(found[name] for name, _ in ours):
-                results.append(Result(search, found, [name for name, _ in ours], options.turns))
-                print(results[-1].line(), flush=True)
-    tables = as_tables(results, [name for name, _ in programs], options)
+        texts = make_texts(folder, size, options.seed)
+        for _ in range(options.rounds):
+            # Drawn anew by the same seed: the same searches in the same order.
+            for place, search in enumerate(Searches(folder, texts, options.seed, options.lists).rows(size)):
+                if options.only not in search.name:
+                    continue
+                found = measure(search, programs, options.turns)
+                gnu = found["GNU grep"][0]
+                wrong += ["%s: %s" % (search.name, name) for name, _ in ours if not found[name] or differs(search, found[name][0], gnu)]
+                if all(found[name] for name, _ in ours):
+                    result = results.setdefault(place, Result(search, [name for name, _ in ours]))
+                    result.add(search, found, options.turns)
+                    print(result.line(), flush=True)
+    tables = as_tables(list(results.values()), [name for name, _ in programs], options)
     print("\n" + tables)
     if options.write:
         with open(os.path.join(HERE, "LISTS.md"), "w") as out:
