@@ -27,8 +27,12 @@ const SAMPLE: usize = 65536;
 /// So many are where literals are few: their rare windows are told by less of a text.
 const SAMPLE_OF_FEW: usize = 32768;
 
-/// A scan goes on in the way that was chosen for so many bytes: as many as a run of grep reads at once.
-const SPAN: usize = 131_072;
+/// A scan goes on in the way that was chosen for as many bytes as it has gone over, and for no fewer than so many: a plan that does not
+/// suit a text is found out early, by what is enough to learn from.
+const LEAST_SPAN: usize = SAMPLE;
+
+/// It does so for no more bytes than a run of grep reads at once.
+const MOST_SPAN: usize = 131_072;
 
 /// Fewer bytes tell too little of a text: of a shorter text, or a shorter piece of a stream, nothing is learned.
 pub const LEAST_SAMPLE: usize = 16384;
@@ -209,7 +213,8 @@ impl<'p> EndFinder<'p> {
         let mut hits = Vec::new(alloc);
         let mut place = from;
         'spans: while place < text.len() {
-            let stop = text.len().min(place.saturating_add(SPAN));
+            let span = (place - from).clamp(LEAST_SPAN, MOST_SPAN);
+            let stop = text.len().min(place.saturating_add(span));
             let (front, _) = text.split_at(stop);
             self.add_hits(front, place, place as u64, usize::MAX, &mut hits)?;
             place = stop;

@@ -122,8 +122,8 @@ fn feed<'a, W: ByteOut>(
     feed_piece(picker, piece, block, out)
 }
 
-/// Lets a picker's search learn from now on, if the input is long: to make what learns takes half a millisecond, as much as a whole
-/// run over a small input.
+/// Lets a picker's search learn from now on, if the input is long: to make what learns took half a millisecond when its tables were
+/// written at once, as much as a whole run over a small input.
 fn learn_if<'a>(
     is_long: bool,
     request: &Request<'a>,

@@ -1,14 +1,10 @@
--- The certificate that a list is planned with. There is one alone.
-use Rattle.std.specs.Prelude.{◌≡◌, length}
+-- The certificate that a list is planned with.
+use Rattle.std.specs.Prelude.{length}
 use Rattle.lit_base.specs.Costs.{run_cost}
-use Rattle.lit_base.specs.Cuts.{cut_price}
 use Rattle.lit_base.specs.Literals.{Literals, lengths}
 use Rattle.lit_cert.specs.Certificates.{CertificateParts}
-use Rattle.run_planner.specs.FirstCut.{IsFirstCut}
-use Rattle.run_planner.specs.TailCosts.{AreTailCosts}
+use Rattle.run_planner.specs.Plans.{IsPlan}
 
--- the first of the cheapest cuts into at most eight runs, its price, and the least prices of cutting what is left
-pub record IsPlanned (list : Literals) (c : CertificateParts) : Type 0 where
-  pub first : IsFirstCut (run_cost (lengths list)) 8 (length list.texts) c.ends
-  pub cost : c.cost ≡ cut_price (run_cost (lengths list)) 0 c.ends
-  pub potentials : AreTailCosts (run_cost (lengths list)) (length list.texts) 8 c.potentials
+-- it is the plan of the list's literals, in order, by the costs of their runs, for at most eight runs: there is one alone
+abbrev pub IsPlanned : Literals → CertificateParts → Type 0
+IsPlanned list c = IsPlan (run_cost (lengths list)) 8 (length list.texts) c

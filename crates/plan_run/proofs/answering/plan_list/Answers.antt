@@ -11,5 +11,5 @@ tell_certificate-requires g c = record { shape = shaped c.args.list.now c.in-Ok.
 pub returns-in-Ok-clause-answer : goal.returns-in-Ok-clause-answer
 returns-in-Ok-clause-answer g c =
     tells-text (IsPlanAnswer c.args.list.now) _ Done c.tell_certificate.result _ _
-    (Planned c.in-Ok.certificate (record { first = c.in-Ok.ensures.first; cost = c.in-Ok.ensures.cost; potentials = c.in-Ok.ensures.potentials }) refl)
+    (Planned c.in-Ok.certificate (record { first = c.in-Ok.ensures.first; cost = c.in-Ok.ensures.cost; potentials = c.in-Ok.ensures.potentials; len = c.in-Ok.ensures.len }) refl)
     c.tell_certificate.ensures.text
