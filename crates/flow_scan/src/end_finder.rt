@@ -10,7 +10,7 @@ use crate::compiled::Compiled;
 use crate::fault::Fault;
 use crate::hit::Hit;
 use crate::hit_search::HitSearch;
-use crate::learning::{FEW, Learning, PLAIN_HIT_COST, Way, cost_by_windows};
+use crate::learning::{Learning, PLAIN_HIT_COST, Way, cost_by_windows};
 use crate::met::Met;
 use crate::pace::MOST_BY_BYTES;
 use crate::searching::{add_hits, add_hits_at, skip_short_ends};
@@ -26,6 +26,9 @@ const SAMPLE: usize = 65536;
 
 /// So many are where literals are few: their rare windows are told by less of a text.
 const SAMPLE_OF_FEW: usize = 32768;
+
+/// So many literals at most are few.
+const FEW: usize = 32;
 
 /// A scan goes on in the way that was chosen for as many bytes as it has gone over, and for no fewer than so many: a plan that does not
 /// suit a text is found out early, by what is enough to learn from.
@@ -70,7 +73,7 @@ impl<'p> EndFinder<'p> {
             compiled,
             windows,
             shift_or,
-            learning: Learning::new(compiled.list().len()),
+            learning: Learning::new(),
         })
     }
 

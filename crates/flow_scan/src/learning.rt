@@ -6,7 +6,7 @@ use text_windows::{
 };
 
 /// A candidate of the sieve at which nothing ends counts for so many tenths of a nanosecond. What one takes was not measured: the number
-/// was chosen together with `LEAST_LOSS_OF_FEW`, by what both gain on one seed of log lines, English, JSON and source code. With 50 and
+/// was chosen together with `LEAST_LOSS`, by what both gain on one seed of log lines, English, JSON and source code. With 50 and
 /// 2,500,000 lists of 5 to 30 rare literals learned later or not at all, and took 0.98 to 1.23 times as long; with 600 as long as so.
 pub(crate) const CANDIDATE_COST: usize = 400;
 
@@ -32,18 +32,12 @@ const LEARNED_COST: usize = 2048;
 /// number was not varied: with it 30 to 1,000 frequent literals in four texts are found 1.3 to 1.9 times as fast.
 pub(crate) const PLAIN_HIT_COST: usize = 500;
 
-/// To learn takes about so long: half a millisecond. It is worth while once as much was lost.
-const LEAST_LOSS: usize = 5_000_000;
-
-/// To learn for few literals takes less: their windows are chosen from half as much text, and mostly shift-or is not asked. The number
-/// was chosen as `CANDIDATE_COST` says, and is not a measured time.
-const LEAST_LOSS_OF_FEW: usize = 1_500_000;
-
-/// So many literals at most are few.
-pub(crate) const FEW: usize = 32;
+/// It learns once so much was lost. To learn takes two to four times as long, but what was lost in a part of a text is lost in the rest of
+/// it too. The number was chosen as `CANDIDATE_COST` says for lists of at most 32 literals, and taken for longer ones.
+const LEAST_LOSS: usize = 1_500_000;
 
 /// So many times the least loss is waited for at most, where learning gains little.
-const MOST_WAIT: usize = 32;
+const MOST_WAIT: usize = 128;
 
 /// So many bytes of a text are searched in one way before it is asked whether the other one that was learned is likely to take less.
 /// The number was not varied.
@@ -121,19 +115,13 @@ pub(crate) struct Learning {
     /// What it may take for 1,024 bytes.
     allowed: usize,
     lost: usize,
-    /// The loss at which it learns, and the least such loss.
+    /// The loss at which it learns.
     most_lost: usize,
-    least_lost: usize,
 }
 
 impl Learning {
-    /// That of a list of so many literals, before any text.
-    pub fn new(len: usize) -> Learning {
-        let least_lost = if len <= FEW {
-            LEAST_LOSS_OF_FEW
-        } else {
-            LEAST_LOSS
-        };
+    /// That of a search before any text.
+    pub fn new() -> Learning {
         Learning {
             way: Way::Plan,
             other: NO_WAY,
@@ -144,8 +132,7 @@ impl Learning {
             trial: TRIAL,
             allowed: PLAIN_COST,
             lost: 0,
-            most_lost: least_lost,
-            least_lost,
+            most_lost: LEAST_LOSS,
         }
     }
 
@@ -238,10 +225,11 @@ impl Learning {
     fn choose_first(&mut self, best: Promise, other: Promise) {
         let is_better = self.is_better(best.cost, allowed_for(best.cost));
         self.most_lost = if is_better {
-            (self.most_lost / 2).max(self.least_lost)
+            (self.most_lost / 2).max(LEAST_LOSS)
         } else {
-            let most = self.least_lost.saturating_mul(MOST_WAIT);
-            self.most_lost.saturating_mul(2).min(most)
+            self.most_lost
+                .saturating_mul(2)
+                .min(LEAST_LOSS * MOST_WAIT)
         };
         if is_better || self.has_learned() {
             self.go(best);

@@ -27,9 +27,10 @@ pub const SHIFT_OR_COST: usize = 3700;
 /// An end that is not ruled out takes so many, once for each bucket, if nothing ends there.
 const LEFT_COST: usize = 190;
 
-/// A scan takes so much longer for an end at which a literal does end than by windows, in tenths of a nanosecond: for 300 and 1,000
-/// frequent literals of four texts 7 to 24 ns a hit.
-const HIT_COST: usize = 160;
+/// A scan takes so much longer for an end at which a literal does end than by windows, in tenths of a nanosecond. With either way forced,
+/// 30 to 1,000 frequent literals of four texts on two seeds took by the way that is chosen so at most 1.03 times as long as by the other;
+/// with 160 a hundred took 1.05 to 1.1 times as long in three of eight lists.
+const HIT_COST: usize = 300;
 
 /// To begin anew behind an end takes so many.
 const START_COST: usize = 190;

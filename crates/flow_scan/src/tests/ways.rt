@@ -7,7 +7,7 @@ const BYTES: usize = 65536;
 
 /// A search that has learned, and was promised so much for 1,024 bytes by windows and by shift-or, where the plan took far more.
 fn promised(by_windows: usize, by_shift_or: usize) -> Learning {
-    let mut learning = Learning::new(100);
+    let mut learning = Learning::new();
     learning.note(BYTES, 1 << 30, EndRate::nothing());
     learning.choose(by_windows, by_shift_or);
     learning
