@@ -30,12 +30,9 @@ const SAMPLE_OF_FEW: usize = 32768;
 /// So many literals at most are few.
 const FEW: usize = 32;
 
-/// A scan goes on in the way that was chosen for as many bytes as it has gone over, and for no fewer than so many: a plan that does not
-/// suit a text is found out early, by what is enough to learn from.
-const LEAST_SPAN: usize = SAMPLE;
-
-/// It does so for no more bytes than a run of grep reads at once.
-const MOST_SPAN: usize = 131_072;
+/// A scan goes on in the way that was chosen for so many bytes: no more than are learned from, so that a plan that does not suit a text
+/// is found out early.
+const SPAN: usize = SAMPLE;
 
 /// Fewer bytes tell too little of a text: of a shorter text, or a shorter piece of a stream, nothing is learned.
 pub const LEAST_SAMPLE: usize = 16384;
@@ -216,8 +213,7 @@ impl<'p> EndFinder<'p> {
         let mut hits = Vec::new(alloc);
         let mut place = from;
         'spans: while place < text.len() {
-            let span = (place - from).clamp(LEAST_SPAN, MOST_SPAN);
-            let stop = text.len().min(place.saturating_add(span));
+            let stop = text.len().min(place.saturating_add(SPAN));
             let (front, _) = text.split_at(stop);
             self.add_hits(front, place, place as u64, usize::MAX, &mut hits)?;
             place = stop;

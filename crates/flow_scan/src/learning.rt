@@ -34,7 +34,7 @@ pub(crate) const PLAIN_HIT_COST: usize = 500;
 
 /// It learns once so much was lost: less than to learn takes, since what a part of a text loses the rest of it is likely to lose as well.
 /// The number was chosen as `CANDIDATE_COST` says for at most 32 literals. For more it was 5,000,000 before: with this
-/// one, and with spans of 64 KiB where a scan begins, scans for 30 to 1,000 rare literals take 0.92 to 0.98 of the time (medians, one seed).
+/// one, and with spans of 64 KiB in a scan, scans for 30 to 1,000 rare literals take 0.92 to 0.98 of the time (medians, one seed).
 const LEAST_LOSS: usize = 1_500_000;
 
 /// So many times the least loss is waited for at most, where learning gains little.
