@@ -15,7 +15,7 @@ mod telling;
 pub use alone::serve_alone;
 pub use connections::{Connections, MAX_CONNECTIONS, connections_law};
 pub use listening::listen;
-pub use loading::{load_named, load_plans, load_tickets};
+pub use loading::{load_named, load_tickets};
 pub use plan_file::Fault;
 pub use scan_serve::Ended;
 pub use serving::{serve, serve_session};

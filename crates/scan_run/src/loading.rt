@@ -1,10 +1,9 @@
 //! Plans published from a plan file, before anything is served.
-ghost use Rattle.std.specs.Prelude.{◌≡◌, ◌≢◌, ◌++◌, ◌∷◌, ◌||◌, [], List, IfSome, IsTrue, OnErr, OnOk, is_err};
+ghost use Rattle.std.specs.Prelude.{◌≡◌, ◌≢◌, ◌++◌, ◌∷◌, ◌||◌, [], IfSome, IsTrue, OnErr, OnOk, is_err};
 ghost use Rattle.std.specs.Io.KnownBytes.{Appends};
 ghost use Rattle.byte_io.specs.Devices.{Told};
 ghost use Rattle.byte_io.specs.Sources.{Named, after};
 ghost use Rattle.byte_io.specs.Transfers.{AppendsPrefix};
-ghost use Rattle.plan_store.specs.Tickets as tickets;
 ghost use Rattle.scan_run.specs.Loading.{Judges, Loads, LoadsFile, LoadsNamed, PublishesFront, IsMessage, is_write_fault, message_on, plan_line};
 
 use byte_io::{ByteIn, ByteOut, Failed, Missing, Opener, write_all};
@@ -16,7 +15,8 @@ use std::alloc::Global;
 use std::sync::Wait;
 
 /// Publishes the plans of a file in order, and tells the number of each on `err`, a line for each. The
-/// file is read whole first. It may wait as the store's `publish` does.
+/// file is read whole first. `tickets` gains those of the plans, in order. It may wait as the store's
+/// `publish` does.
 ///
 /// # Errors
 /// - `ReadFault`, where a read failed, and `BadPlanFile`, where the file is none: nothing was published.
@@ -25,27 +25,6 @@ use std::sync::Wait;
 ///   the plan of such a line no other is.
 ///
 /// All but the last are told on `err`, by the name of the file.
-pub fn load_plans<R: Wait, I: ByteIn, E: ByteOut>(
-    rt: &R,
-    alloc: Global,
-    store: &PlanStore,
-    input: &mut I,
-    name: &str,
-    err: &mut E,
-) -> Result<(), Fault>
-    ensures loads { (tickets : List tickets.Told) × Loads store.now name.now (I.coming input.old) (I.coming input.new)
-        [] tickets (E.written err.old) (E.written err.new) result }
-    ensures judged { IfSome (I.coming input.old) (λ x. Judges x result) }
-
-    // A fault is told only where a read or a write failed.
-    ensures fault { result ≡ Err Fault.ReadFault → IsTrue (I.has_failed input.new) }
-    ensures broken { result ≡ Err Fault.WriteFault → IsTrue (E.has_failed err.new) }
-    ensures flag { result ≢ Err Fault.WriteFault → E.has_failed err.new ≡ E.has_failed err.old }
-{
-    load_tickets(rt, alloc, store, input, name, &mut Vec::new(alloc), err)
-}
-
-/// The same, for a caller that keeps the tickets of the plans: `tickets` gains them in order.
 pub fn load_tickets<R: Wait, I: ByteIn, E: ByteOut>(
     rt: &R,
     alloc: Global,
@@ -75,7 +54,7 @@ pub fn load_tickets<R: Wait, I: ByteIn, E: ByteOut>(
 /// plans, in order.
 ///
 /// # Errors
-/// Those of `load_plans`.
+/// Those of `load_tickets`.
 pub fn load_named<R: Wait, F: Opener, E: ByteOut>(
     rt: &R,
     alloc: Global,
