@@ -3,24 +3,29 @@ use Rattle.std.proofs.Common.{◌≡◌, ℕ, Bool, List, Option, refl}
 use Rattle.std.proofs.KnownBytes.{Appends-nil}
 use Rattle.byte_io.specs.Devices.{Told}
 use Rattle.byte_io.specs.Sources.{AreShort, Sources}
+use Rattle.byte_io.specs.Transfers.{Says}
 use Rattle.byte_io.proofs.ToldLemmas.{Told-none, Told-weaker}
 use Rattle.plan_run.specs.declared.request.Request.{Request}
 use Rattle.plan_run.specs.declared.status.Status.{Status}
 use Rattle.plan_run.specs.declared.status.Status.TheVariants.{Trouble}
+use Rattle.plan_run.specs.Messages.{out_of_memory}
 use Rattle.plan_run.specs.Running.{Ends}
-use Rattle.litplan.specs.Commands.{EndsSomehow, IsUnserved, Served, Unserved}
+use Rattle.program_words.specs.declared.fault.Fault.{Fault}
+use Rattle.program_words.specs.Words.{message_on}
+use Rattle.litplan.specs.Commands.{EndsSomehow, Served, Unserved}
 
 -- a request was served
-pub served : (r : Request) (known left : Option Sources) (status : Status) (out_failed err_failed : Bool) (out_old out_new err_old err_new : Option (List ℕ))
-    → Told known left (λ s l. AreShort s → Ends r s l status out_failed err_failed out_old out_new err_old err_new)
-    → Told known left (λ s l. AreShort s → EndsSomehow s l status out_failed err_failed out_old out_new err_old err_new)
-served r known left status out_failed err_failed out_old out_new err_old err_new p =
-    Told-weaker known left _ (λ s l. AreShort s → EndsSomehow s l status out_failed err_failed out_old out_new err_old err_new) p (λ s l h short.
+pub served : (r : Request) (known left : Option Sources) (status : Status) (had_failed out_failed err_failed : Bool) (out_old out_new err_old err_new : Option (List ℕ))
+    → Told known left (λ s l. AreShort s → Ends r s l status had_failed out_failed err_failed out_old out_new err_old err_new)
+    → Told known left (λ s l. AreShort s → EndsSomehow s l status had_failed out_failed err_failed out_old out_new err_old err_new)
+served r known left status had_failed out_failed err_failed out_old out_new err_old err_new p =
+    Told-weaker known left _ (λ s l. AreShort s → EndsSomehow s l status had_failed out_failed err_failed out_old out_new err_old err_new) p (λ s l h short.
     Served r (h short))
 
--- a text was said alone
-pub unserved : (known : Option Sources) (status : Status) (out_failed err_failed : Bool) (out err_old err_new : Option (List ℕ)) → status ≡ Trouble → IsUnserved err_failed err_old err_new
-    → Told known known (λ s l. AreShort s → EndsSomehow s l status out_failed err_failed out out err_old err_new)
-unserved known status out_failed err_failed out err_old err_new trouble said =
-    Told-none known (λ s l. AreShort s → EndsSomehow s l status out_failed err_failed out out err_old err_new) (λ s short.
-    Unserved trouble refl (Appends-nil out) said)
+-- a message was said alone
+pub unserved : (fault : Fault) (known : Option Sources) (status : Status) (out_failed err_failed : Bool) (out err_old err_new : Option (List ℕ)) → status ≡ Trouble
+    → Says err_failed err_old err_new (message_on out_of_memory fault)
+    → Told known known (λ s l. AreShort s → EndsSomehow s l status out_failed out_failed err_failed out out err_old err_new)
+unserved fault known status out_failed err_failed out err_old err_new trouble said =
+    Told-none known (λ s l. AreShort s → EndsSomehow s l status out_failed out_failed err_failed out out err_old err_new) (λ s short.
+    Unserved fault trouble refl refl (Appends-nil out) said)

@@ -6,14 +6,15 @@ use Rattle.byte_io.specs.Sources.{Sources}
 use Rattle.plan_run.specs.declared.request.Request.{Request}
 use Rattle.plan_run.specs.declared.status.Status.{Status}
 use Rattle.plan_run.specs.declared.status.Status.TheVariants.{Trouble}
+use Rattle.plan_run.specs.Messages.{out_of_memory}
 use Rattle.plan_run.specs.Running.{Ends}
+use Rattle.program_words.specs.declared.fault.Fault.{Fault}
+use Rattle.program_words.specs.Words.{message_on}
 
--- some text was said
-pub record IsUnserved (has_failed : Bool) (old new : Option (List ℕ)) : Type 0 where
-  pub text : List ℕ
-  pub said : Says has_failed old new text
-
--- some request was served, or a text was said and nothing else was done
-pub data EndsSomehow (s left : Sources) (status : Status) (out_failed err_failed : Bool) (out_old out_new err_old err_new : Option (List ℕ)) : Type 0 where
-  Served : (r : Request) → Ends r s left status out_failed err_failed out_old out_new err_old err_new → EndsSomehow s left status out_failed err_failed out_old out_new err_old err_new
-  Unserved : status ≡ Trouble → left ≡ s → Appends out_old out_new [] → IsUnserved err_failed err_old err_new → EndsSomehow s left status out_failed err_failed out_old out_new err_old err_new
+-- some request was served, or the message on some words was said and nothing else was done
+pub data EndsSomehow (s left : Sources) (status : Status) (had_failed out_failed err_failed : Bool) (out_old out_new err_old err_new : Option (List ℕ)) : Type 0 where
+  Served : (r : Request) → Ends r s left status had_failed out_failed err_failed out_old out_new err_old err_new
+      → EndsSomehow s left status had_failed out_failed err_failed out_old out_new err_old err_new
+  Unserved : (fault : Fault) → status ≡ Trouble → left ≡ s → out_failed ≡ had_failed → Appends out_old out_new []
+      → Says err_failed err_old err_new (message_on out_of_memory fault)
+      → EndsSomehow s left status had_failed out_failed err_failed out_old out_new err_old err_new

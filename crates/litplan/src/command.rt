@@ -2,7 +2,10 @@
 ghost use Rattle.std.specs.Prelude.{◌≡◌, ◌≢◌, ◌||◌};
 ghost use Rattle.byte_io.specs.Devices.{Told};
 ghost use Rattle.byte_io.specs.Sources.{AreShort};
-ghost use Rattle.litplan.specs.Commands.{EndsSomehow, IsUnserved};
+ghost use Rattle.byte_io.specs.Transfers.{Says};
+ghost use Rattle.litplan.specs.Commands.{EndsSomehow};
+ghost use Rattle.plan_run.specs.Messages.{out_of_memory};
+ghost use Rattle.program_words.specs.Words.{message_on};
 
 use crate::words::requested;
 use byte_io::{ByteOut, Files, say_text};
@@ -20,7 +23,12 @@ pub fn serve<R: Env + Threads + Sync + AllocGlobal, F: Files, W: ByteOut, E: Byt
     out: &mut W,
     err: &mut E,
 ) -> Status
-    ensures { result ≢ Status.Trouble
+    ensures ends { Told (F.sources files.old) (F.sources files.new) (λ s left. AreShort s
+        → EndsSomehow s left result (W.has_failed out.old) (W.has_failed out.new) (E.has_failed err.new)
+        (W.written out.old) (W.written out.new) (E.written err.old) (E.written err.new)) }
+
+    // Whatever the files tell, a write that failed is told.
+    ensures fault { result ≢ Status.Trouble
         → (W.has_failed out.new || E.has_failed err.new) ≡ (W.has_failed out.old || E.has_failed err.old) }
 {
     match words(rt, "litplan") {
@@ -29,7 +37,7 @@ pub fn serve<R: Env + Threads + Sync + AllocGlobal, F: Files, W: ByteOut, E: Byt
     }
 }
 
-/// Serves the words after the program's name: some request is served, or a text says why there is
+/// Serves the words after the program's name: some request is served, or a message says why there is
 /// none. A scan waits for the workers that it starts.
 pub fn command<R: Threads + Sync, F: Files, W: ByteOut, E: ByteOut>(
     rt: &R,
@@ -40,7 +48,7 @@ pub fn command<R: Threads + Sync, F: Files, W: ByteOut, E: ByteOut>(
     err: &mut E,
 ) -> Status
     ensures ends { Told (F.sources files.old) (F.sources files.new) (λ s left. AreShort s
-        → EndsSomehow s left result (W.has_failed out.new) (E.has_failed err.new)
+        → EndsSomehow s left result (W.has_failed out.old) (W.has_failed out.new) (E.has_failed err.new)
         (W.written out.old) (W.written out.new) (E.written err.old) (E.written err.new)) }
 
     // Whatever the files tell, a write that failed is told.
@@ -56,14 +64,14 @@ pub fn command<R: Threads + Sync, F: Files, W: ByteOut, E: ByteOut>(
 /// Says what is wrong with the words. Where that cannot be written, the status alone tells it.
 fn refuse<E: ByteOut>(alloc: Global, fault: &Fault, err: &mut E) -> Status
     ensures status { result ≡ Status.Trouble }
-    ensures said { IsUnserved (E.has_failed err.new) (E.written err.old) (E.written err.new) }
+    ensures said { Says (E.has_failed err.new) (E.written err.old) (E.written err.new) (message_on out_of_memory fault.now) }
 {
     explain(alloc, fault, err);
     Status::Trouble
 }
 
 fn explain<E: ByteOut>(alloc: Global, fault: &Fault, err: &mut E)
-    ensures { IsUnserved (E.has_failed err.new) (E.written err.old) (E.written err.new) }
+    ensures { Says (E.has_failed err.new) (E.written err.old) (E.written err.new) (message_on out_of_memory fault.now) }
 {
     match fault {
         Fault::Usage { text } => say_text(text.as_str(), err),

@@ -132,11 +132,11 @@ pub record Answers (r : Request) (s left : Sources) (result : Result Status Stop
   pub asks : Asks result (asks_of r s) s left
   pub tells : Tells (IsAnswerTo r s) result out_old out_new
 
--- how a run ends: with its answer, at a write to standard output that failed, or for want of memory
-pub data Ends (r : Request) (s left : Sources) (status : Status) (out_failed err_failed : Bool) (out_old out_new err_old err_new : Option (List ℕ)) : Type 0 where
-  Whole : (a : Answer) → IsAnswerTo r s a → left ≡ after_all (asks_of r s) s → a.status ≡ status → Appends out_old out_new a.output
-      → Says err_failed err_old err_new a.message → Ends r s left status out_failed err_failed out_old out_new err_old err_new
+-- how a run ends: with its answer or for want of memory, where no write to standard output failed, or at one that did
+pub data Ends (r : Request) (s left : Sources) (status : Status) (had_failed out_failed err_failed : Bool) (out_old out_new err_old err_new : Option (List ℕ)) : Type 0 where
+  Whole : (a : Answer) → IsAnswerTo r s a → out_failed ≡ had_failed → left ≡ after_all (asks_of r s) s → a.status ≡ status → Appends out_old out_new a.output
+      → Says err_failed err_old err_new a.message → Ends r s left status had_failed out_failed err_failed out_old out_new err_old err_new
   Broken : out_failed ≡ true → status ≡ Trouble → left ≡ after_all (asks_of r s) s → IsFront (IsAnswerTo r s) out_old out_new
-      → Says err_failed err_old err_new write_fault → Ends r s left status out_failed err_failed out_old out_new err_old err_new
-  Starved : status ≡ Trouble → AsksFront (asks_of r s) s left → IsUnfinished (IsAnswerTo r s) out_old out_new
-      → Says err_failed err_old err_new out_of_memory → Ends r s left status out_failed err_failed out_old out_new err_old err_new
+      → Says err_failed err_old err_new write_fault → Ends r s left status had_failed out_failed err_failed out_old out_new err_old err_new
+  Starved : out_failed ≡ had_failed → status ≡ Trouble → AsksFront (asks_of r s) s left → IsUnfinished (IsAnswerTo r s) out_old out_new
+      → Says err_failed err_old err_new out_of_memory → Ends r s left status had_failed out_failed err_failed out_old out_new err_old err_new

@@ -30,7 +30,7 @@ pub fn run<R: Threads + Sync, F: Files, W: ByteOut, E: ByteOut>(
     err: &mut E,
 ) -> Status
     ensures ends { Told (F.sources files.old) (F.sources files.new) (λ s left. AreShort s
-        → Ends request.now s left result (W.has_failed out.new) (E.has_failed err.new)
+        → Ends request.now s left result (W.has_failed out.old) (W.has_failed out.new) (E.has_failed err.new)
         (W.written out.old) (W.written out.new) (E.written err.old) (E.written err.new)) }
 
     // Whatever the files tell, a write that failed is told.

@@ -1,8 +1,5 @@
--- What is said is some text.
+-- There was no memory.
 use Rattle.litplan.proofs.command.explain.Goals as goal
 
-pub returns-in-Usage : goal.returns-in-Usage
-returns-in-Usage g c = record { text = _; said = c.say_text.ensures }
-
 pub returns-in-OutOfMemory : goal.returns-in-OutOfMemory
-returns-in-OutOfMemory g c = record { text = _; said = c.say.ensures }
+returns-in-OutOfMemory g c = rw c.in-OutOfMemory.is c.say.ensures
