@@ -1,5 +1,9 @@
 //! The program: words in, a status out.
-ghost use Rattle.std.specs.Prelude.{◌≡◌, ◌≢◌, ◌||◌};
+ghost use Rattle.std.specs.Prelude.{◌≡◌, ◌≢◌, ◌||◌, OnErr, OnOk};
+ghost use Rattle.byte_io.specs.Transfers.{Says};
+ghost use Rattle.grep_run.specs.Messages.{out_of_memory};
+ghost use Rattle.grep_run.specs.Writers.{Writes, WritesFront, is_write_fault, writer};
+ghost use Rattle.program_words.specs.Words.{message_on};
 
 use crate::words::options;
 use byte_io::{ByteOut, SystemFiles};
@@ -61,13 +65,20 @@ fn files_for<'a, R: Files, S: Read + Copy + Drop>(
 
 /// Says what is wrong with the words. Where that cannot be written, the status alone tells it.
 fn refuse<E: ByteOut>(fault: &Fault, err: &mut E) -> Status
-    ensures { result ≡ Status.Trouble }
+    ensures status { result ≡ Status.Trouble }
+    ensures said { Says (E.has_failed err.new) (E.written err.old) (E.written err.new) (message_on out_of_memory fault.now) }
 {
     let _ = say_fault(fault, err);
     Status::Trouble
 }
 
-fn say_fault<E: ByteOut>(fault: &Fault, err: &mut E) -> Result<(), Stop> {
+/// The message on that. After an error some of it may be written, from its front.
+fn say_fault<E: ByteOut>(fault: &Fault, err: &mut E) -> Result<(), Stop>
+    ensures ok { OnOk result (Writes (writer E.written E.has_failed err.old) (writer E.written E.has_failed err.new) (message_on out_of_memory fault.now)) }
+    ensures err { OnErr result (WritesFront (writer E.written E.has_failed err.old) (writer E.written E.has_failed err.new) (message_on out_of_memory fault.now)) }
+    ensures fault { OnErr result (result ≡ Err Stop.WriteFault) }
+    ensures flag { E.has_failed err.new ≡ (E.has_failed err.old || is_write_fault result) }
+{
     match fault {
         Fault::Usage { text } => write_whole(text.as_bytes(), err),
         Fault::OutOfMemory => say_out_of_memory(err),
