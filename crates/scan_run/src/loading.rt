@@ -38,8 +38,10 @@ pub fn load_tickets<R: Wait, I: ByteIn, E: ByteOut>(
         tickets.old.items tickets.new.items (E.written err.old) (E.written err.new) result }
     ensures judged { IfSome (I.coming input.old) (λ x. Judges x result) }
 
-    // A fault is told only where a read or a write failed.
+    // A fault is told only where a read or a write failed; where none is told, none failed.
     ensures fault { result ≡ Err Fault.ReadFault → IsTrue (I.has_failed input.new) }
+    ensures unread { result ≢ Err Fault.ReadFault → result ≢ Err Fault.WriteFault
+        → I.has_failed input.new ≡ I.has_failed input.old }
     ensures broken { result ≡ Err Fault.WriteFault → IsTrue (E.has_failed err.new) }
     ensures flag { result ≢ Err Fault.WriteFault → E.has_failed err.new ≡ E.has_failed err.old }
 {
@@ -108,6 +110,7 @@ fn publish_file<R: Wait, I: ByteIn, E: ByteOut>(
         tickets.old.items tickets.new.items (E.written err.old) (E.written err.new) result }
     ensures judged { IfSome (I.coming input.old) (λ x. Judges x result) }
     ensures fault { result ≡ Err Fault.ReadFault → IsTrue (I.has_failed input.new) }
+    ensures unread { result ≢ Err Fault.ReadFault → I.has_failed input.new ≡ I.has_failed input.old }
     ensures flag { E.has_failed err.new ≡ (E.has_failed err.old || is_write_fault result) }
 {
     let plans = read_plans(alloc, input)?;
