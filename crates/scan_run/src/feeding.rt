@@ -1,5 +1,5 @@
 //! Answering a Feed as its hits are found, so that they are never all held.
-ghost use Rattle.std.specs.Prelude.{◌≡◌, ◌<◌, length, IfErr, IfOk, IsTrue, None, OnErr, OnOk};
+ghost use Rattle.std.specs.Prelude.{◌≡◌, ◌≢◌, ◌<◌, length, IfErr, IfOk, IsTrue, None, OnErr, OnOk};
 ghost use Rattle.scan_wire.specs.Messages.{Feed};
 ghost use Rattle.scan_wire.specs.declared.message.TheConstants.{MAX_HITS};
 ghost use Rattle.scan_serve.specs.Answering.{Answered, Stopped};
@@ -34,6 +34,7 @@ fn feed_on<W: ByteOut>(
     ensures err { OnErr result (StopsFeeding session.old stream piece.now hits.old.items
         (W.written out.old) (W.written out.new) outbox.old) }
     ensures fault { result ≡ Err Stop.WriteFault → IsTrue (W.has_failed out.new) }
+    ensures flag { result ≢ Err Stop.WriteFault → W.has_failed out.new ≡ W.has_failed out.old }
 {
     let most = MAX_HITS - hits.len();
     let Ok(count) = session.feed_front(alloc, stream, piece, most, hits) else {
@@ -60,6 +61,7 @@ fn feed_whole<W: ByteOut>(
     ensures err { OnErr result (Stopped IsEvent session.old (Feed stream piece.now)
         (W.written out.old) (W.written out.new) outbox.old) }
     ensures fault { result ≡ Err Stop.WriteFault → IsTrue (W.has_failed out.new) }
+    ensures flag { result ≢ Err Stop.WriteFault → W.has_failed out.new ≡ W.has_failed out.old }
 {
     hits.clear();
     let mut rest = piece;
@@ -87,6 +89,7 @@ pub(crate) fn answer_feed<W: ByteOut>(
     ensures err { OnErr result (Stopped IsEvent session.old (Feed stream piece.now)
         (W.written out.old) (W.written out.new) outbox.old) }
     ensures fault { result ≡ Err Stop.WriteFault → IsTrue (W.has_failed out.new) }
+    ensures flag { result ≢ Err Stop.WriteFault → W.has_failed out.new ≡ W.has_failed out.old }
 {
     match session.place_behind(stream, piece) {
         Ok(place) => feed_whole(alloc, session, hits, stream, piece, place, outbox, out),

@@ -100,6 +100,8 @@ pub fn serve_session<'s, R: Wait, I: ByteIn, O: ByteOut>(
     ensures read_fault { result.0 ≡ Ended.ReadFault
         → IsTrue (I.has_failed input.new) ⊎ (I.given input.old + 2 ^ 40 ≤ I.given input.new) }
     ensures write_fault { result.0 ≡ Ended.WriteFault → IsTrue (O.has_failed out.new) }
+    ensures unread { result.0 ≢ Ended.ReadFault → I.has_failed input.new ≡ I.has_failed input.old }
+    ensures unwritten { result.0 ≢ Ended.WriteFault → O.has_failed out.new ≡ O.has_failed out.old }
 {
     let mut served = Served {
         rt,
@@ -139,6 +141,8 @@ pub fn serve<R: Wait, I: ByteIn, O: ByteOut>(
     ensures read_fault { result ≡ Ended.ReadFault
         → IsTrue (I.has_failed input.new) ⊎ (I.given input.old + 2 ^ 40 ≤ I.given input.new) }
     ensures write_fault { result ≡ Ended.WriteFault → IsTrue (O.has_failed out.new) }
+    ensures unread { result ≢ Ended.ReadFault → I.has_failed input.new ≡ I.has_failed input.old }
+    ensures unwritten { result ≢ Ended.WriteFault → O.has_failed out.new ≡ O.has_failed out.old }
 {
     let (ended, _session) = serve_session(rt, alloc, Session::new(store), input, out);
     ended

@@ -1,5 +1,5 @@
 //! Telling hits in frames, as they are found.
-ghost use Rattle.std.specs.Prelude.{◌≡◌, ◌<◌, ◌≤◌, drop, length, map, IsTrue, OnErr, OnOk};
+ghost use Rattle.std.specs.Prelude.{◌≡◌, ◌≢◌, ◌<◌, ◌≤◌, drop, length, map, IsTrue, OnErr, OnOk};
 ghost use Rattle.scan_wire.specs.Frames.{replies_text};
 ghost use Rattle.scan_wire.specs.Messages.{Hits};
 ghost use Rattle.scan_wire.specs.declared.message.TheConstants.{MAX_HITS};
@@ -37,6 +37,7 @@ pub(crate) fn tell_full<W: ByteOut>(
     ensures err { OnErr result (TellsFullFront stream hits.old.items
         (W.written out.old) (W.written out.new) outbox.old) }
     ensures fault { result ≡ Err Stop.WriteFault → IsTrue (W.has_failed out.new) }
+    ensures flag { result ≢ Err Stop.WriteFault → W.has_failed out.new ≡ W.has_failed out.old }
 {
     while hits.len() >= MAX_HITS {
         let (block, _) = hits.split_at(MAX_HITS);
@@ -59,6 +60,7 @@ fn tell_rest<W: ByteOut>(
     ensures err { OnErr result (SendsFront (W.written out.old) (W.written out.new)
         outbox.old (replies_text (map (Hits stream) (last_block hits.now)))) }
     ensures fault { result ≡ Err Stop.WriteFault → IsTrue (W.has_failed out.new) }
+    ensures flag { result ≢ Err Stop.WriteFault → W.has_failed out.new ≡ W.has_failed out.old }
 {
     if hits.is_empty() {
         return Ok(());
@@ -82,6 +84,7 @@ pub(crate) fn tell_last<W: ByteOut>(
     ensures err { OnErr result (SendsFront (W.written out.old) (W.written out.new)
         outbox.old (replies_text (fed_replies stream (last_block hits.now) place))) }
     ensures fault { result ≡ Err Stop.WriteFault → IsTrue (W.has_failed out.new) }
+    ensures flag { result ≢ Err Stop.WriteFault → W.has_failed out.new ≡ W.has_failed out.old }
 {
     tell_rest(stream, hits, outbox, out)?;
     outbox.push(out, &Reply::Fed { stream, place })

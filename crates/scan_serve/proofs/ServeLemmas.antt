@@ -1,5 +1,5 @@
 -- Turns of serving, one after the other, and how they end.
-use Rattle.std.proofs.Common.{◌≡◌, ℕ, List, [], ◌∷◌, ◌++◌, length, Option, refl, sym, ap, subst, ◌∙◌, inl, append_assoc, arith}
+use Rattle.std.proofs.Common.{◌≡◌, ◌≢◌, ℕ, List, [], ◌∷◌, ◌++◌, length, Option, None, Some, Result, Ok, refl, sym, ap, subst, ◌∙◌, inl, append_assoc, arith}
 use Rattle.std.proofs.lemmas.List.{append-nil, length-append, nil_from_length}
 use Rattle.std.proofs.lemmas.List.Elements.{All-append, All-nil}
 use Rattle.std.proofs.lemmas.List.Concat.{flat_map-append}
@@ -158,6 +158,14 @@ serving_none step s c v held none = record {
   short = omega (arith, ap length none);
   served = served_none step s c c v held held (ReadsInto-none c held);
 }
+
+-- what a turn answers
+abbrev turned : Option Ended → Result (Option Ended) Stop
+turned ended = Ok ended
+
+-- a stream that goes on has not ended
+pub has_no_end : (now : Option Ended) (ended : Ended) → now ≡ None → turned now ≢ turned (Some ended)
+has_no_end now ended on = λ e. cc
 
 -- serving stops before the first turn
 pub stops_first : {S : Type 0} (step : Step S) (s : S) (c : Option Coming) (v : Option (List ℕ)) → IsServedFront step s c c v v []

@@ -1,5 +1,5 @@
 //! What answers requests.
-ghost use Rattle.std.specs.Prelude.{◌≡◌, ℕ, List, IsTrue, OnErr, OnOk};
+ghost use Rattle.std.specs.Prelude.{◌≡◌, ◌≢◌, ℕ, List, IsTrue, OnErr, OnOk};
 ghost use Rattle.scan_wire.specs.Messages.{ReplyParts, RequestParts, lent_parts};
 ghost use Rattle.scan_serve.specs.Answering.{Answered, Stopped};
 
@@ -27,5 +27,6 @@ pub trait Answer {
             (W.written out.old) (W.written out.new) outbox.old outbox.new) }
         ensures err { OnErr result (Stopped step self.old (lent_parts request.entry)
             (W.written out.old) (W.written out.new) outbox.old) }
-        ensures fault { result ≡ Err Stop.WriteFault → IsTrue (W.has_failed out.new) };
+        ensures fault { result ≡ Err Stop.WriteFault → IsTrue (W.has_failed out.new) }
+        ensures flag { result ≢ Err Stop.WriteFault → W.has_failed out.new ≡ W.has_failed out.old };
 }

@@ -51,6 +51,7 @@ fn answer_one<S: Answer, W: ByteOut>(
         (AnswersFront S.step session.old bytes.now place
         (W.written out.old) (W.written out.new) outbox.old)) }
     ensures fault { result ≡ Err (Halt.Stopped Stop.WriteFault) → IsTrue (W.has_failed out.new) }
+    ensures flag { result ≢ Err (Halt.Stopped Stop.WriteFault) → W.has_failed out.new ≡ W.has_failed out.old }
 {
     let (_, rest) = bytes.split_at(place);
     let Some((request, len)) = request_at(alloc, rest)? else {
@@ -82,6 +83,7 @@ pub fn answer_all<S: Answer, W: ByteOut>(
         (AnswersFront S.step session.old bytes.now place.old
         (W.written out.old) (W.written out.new) outbox.old)) }
     ensures fault { result ≡ Err (Halt.Stopped Stop.WriteFault) → IsTrue (W.has_failed out.new) }
+    ensures flag { result ≢ Err (Halt.Stopped Stop.WriteFault) → W.has_failed out.new ≡ W.has_failed out.old }
 {
     while let Some(len) = answer_one(alloc, session, bytes, *place, outbox, out)? {
         *place += len;

@@ -1,5 +1,5 @@
 //! Replies on their way.
-ghost use Rattle.std.specs.Prelude.{◌≡◌, ◌<◌, [], length, IsTrue, OnErr, OnOk};
+ghost use Rattle.std.specs.Prelude.{◌≡◌, ◌≢◌, ◌<◌, [], length, IsTrue, OnErr, OnOk};
 ghost use Rattle.std.specs.Io.KnownBytes.{Appends};
 ghost use Rattle.scan_wire.specs.Frames.{FitsReply, IsBlock, reply_text};
 ghost use Rattle.scan_wire.specs.Messages.{Hits, reply_parts};
@@ -49,6 +49,7 @@ impl Outbox {
         ensures err { OnErr result (SendsFront (W.written out.old) (W.written out.new)
             self.old (reply_text (reply_parts reply.now))) }
         ensures fault { result ≡ Err Stop.WriteFault → IsTrue (W.has_failed out.new) }
+        ensures flag { result ≢ Err Stop.WriteFault → W.has_failed out.new ≡ W.has_failed out.old }
         ensures few { OnOk result (length self.new < 65536) }
     {
         let Ok(()) = append_reply(&mut self.bytes, reply) else {
@@ -72,6 +73,7 @@ impl Outbox {
         ensures err { OnErr result (SendsFront (W.written out.old) (W.written out.new)
             self.old (reply_text (Hits stream hits.now))) }
         ensures fault { result ≡ Err Stop.WriteFault → IsTrue (W.has_failed out.new) }
+        ensures flag { result ≢ Err Stop.WriteFault → W.has_failed out.new ≡ W.has_failed out.old }
         ensures few { OnOk result (length self.new < 65536) }
     {
         let Ok(()) = append_hits(&mut self.bytes, stream, hits) else {
@@ -85,6 +87,7 @@ impl Outbox {
         ensures ok { OnOk result (Sends (W.written out.old) (W.written out.new) self.old self.new []) }
         ensures err { OnErr result (SendsFront (W.written out.old) (W.written out.new) self.old []) }
         ensures fault { result ≡ Err Stop.WriteFault → IsTrue (W.has_failed out.new) }
+        ensures flag { result ≢ Err Stop.WriteFault → W.has_failed out.new ≡ W.has_failed out.old }
         ensures few { OnOk result (length self.new < 65536) }
     {
         if self.bytes.len() < FULL {
@@ -101,6 +104,7 @@ impl Outbox {
         ensures ok { OnOk result (Sends (W.written out.old) (W.written out.new) self.old self.new []) }
         ensures err { OnErr result (SendsFront (W.written out.old) (W.written out.new) self.old []) }
         ensures fault { result ≡ Err Stop.WriteFault → IsTrue (W.has_failed out.new) }
+        ensures flag { result ≢ Err Stop.WriteFault → W.has_failed out.new ≡ W.has_failed out.old }
     {
         match write_all(out, &self.bytes) {
             Ok(()) => {

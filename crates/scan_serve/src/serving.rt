@@ -39,6 +39,8 @@ fn turn<S: Answer, R: ByteIn, W: ByteOut>(
     ensures no_stop { result ≢ Ok (Some WriteFault) }
     ensures read_fault { result ≡ Ok (Some ReadFault) → IsTrue (R.has_failed input.new) }
     ensures write_fault { result ≡ Err Stop.WriteFault → IsTrue (W.has_failed out.new) }
+    ensures unread { result ≢ Ok (Some ReadFault) → R.has_failed input.new ≡ R.has_failed input.old }
+    ensures unwritten { result ≢ Err Stop.WriteFault → W.has_failed out.new ≡ W.has_failed out.old }
 {
     let Ok(count) = window.read_from(input) else {
         return Ok(Some(Ended::ReadFault));
@@ -76,6 +78,8 @@ fn turns<S: Answer, R: ByteIn, W: ByteOut>(
     ensures read_fault { result ≡ Ok ReadFault
         → IsTrue (R.has_failed input.new) ⊎ (R.given input.old + 2 ^ 40 ≤ R.given input.new) }
     ensures write_fault { result ≡ Err Stop.WriteFault → IsTrue (W.has_failed out.new) }
+    ensures unread { result ≢ Ok ReadFault → R.has_failed input.new ≡ R.has_failed input.old }
+    ensures unwritten { result ≢ Err Stop.WriteFault → W.has_failed out.new ≡ W.has_failed out.old }
 {
     let mut outbox = Outbox::new(alloc);
     for _turn in 0..MAX_TURNS {
@@ -106,6 +110,10 @@ pub fn serve<S: Answer, R: ByteIn, W: ByteOut>(
     ensures read_fault { result ≡ ReadFault
         → IsTrue (R.has_failed input.new) ⊎ (R.given input.old + 2 ^ 40 ≤ R.given input.new) }
     ensures write_fault { result ≡ WriteFault → IsTrue (W.has_failed out.new) }
+
+    // Where no read fault is told, no read failed, and so of writes.
+    ensures unread { result ≢ ReadFault → R.has_failed input.new ≡ R.has_failed input.old }
+    ensures unwritten { result ≢ WriteFault → W.has_failed out.new ≡ W.has_failed out.old }
 {
     let Ok(mut window) = Window::new(alloc) else {
         return Ended::OutOfMemory;

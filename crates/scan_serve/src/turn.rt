@@ -1,5 +1,5 @@
 //! One turn of serving: the answers to all frames that are whole, once they are written.
-ghost use Rattle.std.specs.Prelude.{◌≡◌, [], IfOk, IsTrue, MatchOption, OnErr, OnOk};
+ghost use Rattle.std.specs.Prelude.{◌≡◌, ◌≢◌, [], IfOk, IsTrue, MatchOption, OnErr, OnOk};
 ghost use Rattle.scan_wire.specs.Frames.{FitsReply, reply_text};
 ghost use Rattle.scan_wire.specs.Messages.{reply_parts};
 ghost use Rattle.scan_serve.specs.Answering.{AnswersTextFront, GoesOn, MeetsBad, bad_frame};
@@ -34,6 +34,7 @@ fn refuse<W: ByteOut>(cause: Cause, outbox: &mut Outbox, out: &mut W) -> Result<
     ensures err { OnErr result (SendsFront (W.written out.old) (W.written out.new)
         outbox.old (reply_text (bad_frame cause))) }
     ensures fault { result ≡ Err Stop.WriteFault → IsTrue (W.has_failed out.new) }
+    ensures flag { result ≢ Err Stop.WriteFault → W.has_failed out.new ≡ W.has_failed out.old }
 {
     outbox.push(out, &refusal(cause))?;
     outbox.flush(out)
@@ -58,6 +59,7 @@ pub fn answer_window<S: Answer, W: ByteOut>(
     ensures stop { OnErr result (AnswersTextFront S.step session.old
         (W.written out.old) (W.written out.new) window.old) }
     ensures fault { result ≡ Err Stop.WriteFault → IsTrue (W.has_failed out.new) }
+    ensures flag { result ≢ Err Stop.WriteFault → W.has_failed out.new ≡ W.has_failed out.old }
 {
     let mut place = 0;
     match answer_all(alloc, session, window.bytes(), &mut place, outbox, out) {

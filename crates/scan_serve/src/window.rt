@@ -1,5 +1,5 @@
 //! What was read and not yet answered.
-ghost use Rattle.std.specs.Prelude.{◌≡◌, ◌<◌, ◌≤◌, ◌+◌, ◌*◌, [], drop, length, min, take, vec_capacity, IfOk, IsTrue, OnErr, OnOk};
+ghost use Rattle.std.specs.Prelude.{◌≡◌, ◌<◌, ◌≤◌, ◌+◌, ◌*◌, ◌||◌, [], drop, length, min, take, vec_capacity, IfOk, IsTrue, OnErr, OnOk, is_err};
 ghost use Rattle.byte_io.specs.Devices.{EndsHere, Told, count_of};
 ghost use Rattle.byte_io.specs.Transfers.{ReadsInto};
 ghost use Rattle.scan_serve.specs.declared.window.TheConstants.{ROOM};
@@ -88,6 +88,7 @@ impl Window {
             → Told (R.coming input.old) (R.coming input.new) (λ _ c. EndsHere c) }
         ensures err { OnErr result (self.new ≡ self.old) }
         ensures fault { OnErr result (IsTrue (R.has_failed input.new)) }
+        ensures flag { R.has_failed input.new ≡ (R.has_failed input.old || is_err result) }
     {
         match input.read_some(&mut self.buffer[self.len..]) {
             Ok(count) => {

@@ -9,11 +9,14 @@ returns-in_err-push_hits-clause-err g c =
     let front = c.split_at.ensures.front ∙ ap (λ hs. take MAX_HITS hs) c.deref.ensures.value in
     let many : MAX_HITS ≤ length now = omega (arith, c.loop-hits-test.true, c.len.ensures) in
     on_err c.from_residual.result
-    (tells_front c.args.stream c.args.hits.now.items now c.split_at.result.0.now _ _ _ _ _ many front c.loop-hits.invariant c.in_err-push_hits.ensures.err)
+    (tells_front c.args.stream c.args.hits.now.items now c.split_at.result.0.now _ _ _ _ _ many front c.loop-hits.invariant.told c.in_err-push_hits.ensures.err)
 
 pub loop-hits-preserved : goal.loop-hits-preserved
 loop-hits-preserved g c =
     let now = c.loop-hits.hits.items in
     let front = c.split_at.ensures.front ∙ ap (λ hs. take MAX_HITS hs) c.deref.ensures.value in
     let many : MAX_HITS ≤ length now = omega (arith, c.loop-hits-test.true, c.len.ensures) in
-    tells_more c.args.stream c.args.hits.now.items now c.split_at.result.0.now c.drop_front.new.hits.items _ _ _ _ _ _ many front c.drop_front.ensures c.loop-hits.invariant c.in_ok-push_hits.ensures.ok
+    record {
+      told = tells_more c.args.stream c.args.hits.now.items now c.split_at.result.0.now c.drop_front.new.hits.items _ _ _ _ _ _ many front c.drop_front.ensures c.loop-hits.invariant.told c.in_ok-push_hits.ensures.ok;
+      flag = c.in_ok-push_hits.ensures.flag (λ e. cc) ∙ c.loop-hits.invariant.flag;
+    }

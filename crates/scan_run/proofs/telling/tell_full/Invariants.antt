@@ -1,10 +1,13 @@
-use Rattle.std.proofs.Common.{length}
+use Rattle.std.proofs.Common.{◌≡◌, length}
 use Rattle.scan_run.specs.Feeding.{TellsFull}
 use Rattle.scan_run.proofs.telling.tell_full.Given as goal
 
--- the first hits were told, and these are left
+-- the first hits were told, and these are left; no write failed
 abbrev pub invariant-loop-hits : goal.invariant-loop-hits
-invariant-loop-hits g l = TellsFull l.stream l.fn.hits.items l.hits.items (g.W.ByteOut.written l.fn.out) (g.W.ByteOut.written l.out) l.fn.outbox l.outbox
+invariant-loop-hits g l = record {
+  told : TellsFull l.stream l.fn.hits.items l.hits.items (g.W.ByteOut.written l.fn.out) (g.W.ByteOut.written l.out) l.fn.outbox l.outbox;
+  flag : g.W.ByteOut.has_failed l.out ≡ g.W.ByteOut.has_failed l.fn.out;
+}
 
 abbrev pub decreases-loop-hits : goal.decreases-loop-hits
 decreases-loop-hits g l = length l.hits.items

@@ -1,6 +1,6 @@
-use Rattle.std.proofs.Common.{arith}
+use Rattle.std.proofs.Common.{◌∙◌, arith, refl}
 use Rattle.std.proofs.lemmas.Result.{err_from_is_err_and}
-use Rattle.scan_serve.proofs.ServeLemmas.{served_then_ends, served_then_front, serving_none, serving_then}
+use Rattle.scan_serve.proofs.ServeLemmas.{has_no_end, served_then_ends, served_then_front, serving_none, serving_then}
 use Rattle.scan_serve.proofs.serving.turns.Goals as goal
 
 pub loop-turn-init : goal.loop-turn-init
@@ -8,6 +8,8 @@ loop-turn-init g c = record {
   goes = serving_none g.S.Answer.step c.args.session.now (g.R.ByteIn.coming c.args.input.now) (g.W.ByteOut.written c.args.out.now) c.args.window.now c.requires;
   empty = c.new-outbox.ensures;
   turns = omega arith;
+  unread = refl;
+  unwritten = refl;
 }
 
 pub returns-in_err-ended-clause-stop : goal.returns-in_err-ended-clause-stop
@@ -31,4 +33,6 @@ loop-turn-preserved g c =
       goes = serving_then g.S.Answer.step c.args.session.now c.loop-turn.session c.turn.new.session (g.R.ByteIn.coming c.args.input.now) (g.R.ByteIn.coming c.loop-turn.input) (g.R.ByteIn.coming c.turn.new.input) (g.W.ByteOut.written c.args.out.now) (g.W.ByteOut.written c.loop-turn.out) (g.W.ByteOut.written c.turn.new.out) c.args.window.now c.loop-turn.window c.turn.new.window c.loop-turn.invariant.goes.served goes;
       empty = c.in_ok-ended.ensures.empty;
       turns = omega (arith, more, c.loop-turn.invariant.turns);
+      unread = c.in_ok-ended.ensures.unread (has_no_end _ _ c.in_default.is) ∙ c.loop-turn.invariant.unread;
+      unwritten = c.in_ok-ended.ensures.unwritten (λ e. cc) ∙ c.loop-turn.invariant.unwritten;
     }
