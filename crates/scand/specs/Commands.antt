@@ -11,7 +11,7 @@ use Rattle.byte_io.specs.Transfers.{Says}
 use Rattle.plan_file.specs.declared.fault.Fault as plan_fault
 use Rattle.plan_store.specs.Tickets as tickets
 use Rattle.program_words.specs.declared.fault.Fault.{Fault}
-use Rattle.program_words.specs.declared.fault.Fault.TheVariants.{OutOfMemory, Usage}
+use Rattle.program_words.specs.Words.{message_on}
 use Rattle.scan_run.specs.declared.status.Status.{Status}
 use Rattle.scan_run.specs.declared.status.Status.TheVariants.{Trouble}
 use Rattle.scan_run.specs.Alone.{EndsAlone}
@@ -21,11 +21,6 @@ use Rattle.scan_run.specs.Reports.{ReportsSome}
 use Rattle.scand.specs.declared.words.Request.{Request}
 use Rattle.scand.specs.declared.words.Service.{Service}
 use Rattle.scand.specs.declared.words.Service.TheVariants.{Alone, Listen}
-
--- what is said of words that are no command
-abbrev pub message_on : Fault → List ℕ
-message_on (Usage text) = string_bytes text
-message_on OutOfMemory = out_of_memory
 
 -- what is said where a port cannot be listened on
 abbrev pub cannot_listen : ℕ → List ℕ
@@ -71,5 +66,5 @@ pub data EndsSomehow (status : Status) (files_old files_new : Option Sources) (o
   Ran : (request : Request) → Runs request status files_old files_new out_failed err_failed coming_old coming_new out_old out_new err_old err_new
       → EndsSomehow status files_old files_new out_failed err_failed coming_old coming_new out_old out_new err_old err_new
   Unread : (fault : Fault) → status ≡ Trouble → files_new ≡ files_old → coming_new ≡ coming_old → Appends out_old out_new []
-      → Says err_failed err_old err_new (message_on fault)
+      → Says err_failed err_old err_new (message_on out_of_memory fault)
       → EndsSomehow status files_old files_new out_failed err_failed coming_old coming_new out_old out_new err_old err_new

@@ -1,7 +1,9 @@
 //! What a command does.
 ghost use Rattle.std.specs.Prelude.{◌≡◌, IfOk, string_bytes};
 ghost use Rattle.byte_io.specs.Transfers.{Says};
-ghost use Rattle.scand.specs.Commands.{EndsSomehow, Runs, Serves, ServesPort, cannot_listen, message_on};
+ghost use Rattle.program_words.specs.Words.{message_on};
+ghost use Rattle.scan_run.specs.Messages.{out_of_memory};
+ghost use Rattle.scand.specs.Commands.{EndsSomehow, Runs, Serves, ServesPort, cannot_listen};
 
 use crate::words::{Request, Service, requested};
 use byte_io::{ByteIn, ByteOut, Opener, say_text};
@@ -121,14 +123,14 @@ fn cannot_listen(alloc: Global, port: u16) -> Result<String, AllocError>
 /// Says what is wrong with the words. Where that cannot be written, the status alone tells it.
 fn refuse<E: ByteOut>(fault: &Fault, err: &mut E) -> Status
     ensures trouble { result ≡ Status.Trouble }
-    ensures said { Says (E.has_failed err.new) (E.written err.old) (E.written err.new) (message_on fault.now) }
+    ensures said { Says (E.has_failed err.new) (E.written err.old) (E.written err.new) (message_on out_of_memory fault.now) }
 {
     explain(fault, err);
     Status::Trouble
 }
 
 fn explain<E: ByteOut>(fault: &Fault, err: &mut E)
-    ensures { Says (E.has_failed err.new) (E.written err.old) (E.written err.new) (message_on fault.now) }
+    ensures { Says (E.has_failed err.new) (E.written err.old) (E.written err.new) (message_on out_of_memory fault.now) }
 {
     match fault {
         Fault::Usage { text } => say_text(text.as_str(), err),
