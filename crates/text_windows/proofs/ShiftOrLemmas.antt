@@ -1,14 +1,20 @@
 -- Shift-or: what is ruled out, block by block, and where nothing ends.
-use Rattle.std.proofs.Common.{◌≡◌, ◌↔◌, ℕ, zero, suc, ◌+◌, ◌-◌, ◌*◌, ◌/◌, ◌%◌, ◌^◌, ◌<◌, ◌≤◌, ◌++◌, List, [], ◌∷◌, Option, None, Some, drop, length, max, min, replicate, take, inl, inr, refl, sym, ap, ◌∙◌, subst, arith, shr-shr, w64}
+use Rattle.std.proofs.Common.{◌≡◌, ◌↔◌, ℕ, zero, suc, ◌+◌, ◌-◌, ◌*◌, ◌/◌, ◌%◌, ◌^◌, ◌<◌, ◌≤◌, ◌++◌, List, [], ◌∷◌, Option, None, Some, get_or, length, max, min, replicate, inl, inr, sym, ap, ◌∙◌, subst, arith, shr-shr, w64}
 use Rattle.std.specs.Prelude.{IfSome, MatchOption}
 use Rattle.std.specs.Int.{bit_at, bit_not}
 use Rattle.std.specs.List.{slice_index, slice_range}
 use Rattle.std.specs.Int.RustNames.{bit_and, bit_or}
 use Rattle.std.proofs.lemmas.Bool.{cases_lt}
-use Rattle.std.proofs.lemmas.Nat.Bits.{bit_at_above, bit_at_and, bit_at_not, bit_at_or, bit_at-zero}
-use Rattle.std.proofs.lemmas.List.{take-take}
-use Rattle.std.proofs.lemmas.Nat.{or_mod, or_shr}
+use Rattle.std.proofs.lemmas.Nat.Bits.{bit_at_above, bit_at_and, bit_at_cat_high, bit_at_cat_low, bit_at_not, bit_at_ones, bit_at_or, bit_at-zero, same_from_bits}
+use Rattle.std.proofs.lemmas.Nat.{or_lt, or_shr, pow_pos}
 use Rattle.std.proofs.lemmas.Option.{slice_get_within}
+use Rattle.std.specs.Simd.Lanes.{Each1}
+use Rattle.std.proofs.Common.{Fits}
+use Rattle.std.proofs.Math.Facts.{Fits-lt-pow}
+use Rattle.std.proofs.Math.ListN.{get_or-eq_default}
+use Rattle.std.proofs.lemmas.List.Edits.{length-between}
+use Rattle.std.proofs.lemmas.Simd.{Each1-get_or}
+use Rattle.nib_mask.proofs.Ranges.{get_or-range}
 use Rattle.lane_filter.specs.Bits.{SplitsLowest}
 use Rattle.lit_base.specs.declared.fold.Fold.{Fold}
 use Rattle.lit_base.specs.declared.fold.Fold.TheVariants.{No, Ascii}
@@ -17,9 +23,9 @@ use Rattle.lit_base.specs.Literals.{Literals}
 use Rattle.lit_base.specs.Occurrences.{HasEnd, IsFirstEnding, NoneEnds, Occurs}
 use Rattle.lit_base.specs.Suffixes.{case_bits, hash_of, last_bits, spelled, suffix_key}
 use Rattle.lit_base.proofs.SuffixLemmas.{AreBytes, drop-range, key-occurs, key-occurs_inside, masked, range_bytes, spelled-drop, spelled_fits, zeros_bytes}
-use Rattle.text_windows.specs.Looks.{AreLooks, AreUnruled, IsVerified}
+use Rattle.text_windows.specs.Looks.{AreLeft, AreLooks, IsVerified}
 use Rattle.text_windows.specs.NoEnds.{Finds, IsFirstFound, NoEndUpTo}
-use Rattle.text_windows.specs.ShiftOr.{AreConfirmsOf, Bucketing, LetThrough, NoneOf, RulesOut, RulesOutLanes, bucket_at, last_number_at, number_at}
+use Rattle.text_windows.specs.ShiftOr.{AreConfirmsOf, AreEntriesOf, Bucketing, LetThrough, NoneOf, RulesOut, RulesOutWords, bucket_at, last_number_at, number_at, pair_case_bits}
 use Rattle.text_windows.specs.declared.confirming.Confirms.{Confirms}
 use Rattle.text_windows.specs.declared.confirming.TheConstants.{CONFIRM_BITS}
 use Rattle.text_windows.specs.declared.entries.TheConstants.{ENTRIES}
@@ -29,71 +35,149 @@ use Rattle.text_windows.specs.declared.looks.Looks.{Looks}
 pub few_buckets : (buckets : List ℕ) (place : ℕ) → bucket_at buckets place < 8
 few_buckets buckets place = omega arith
 
--- a word without bits rules nothing out
-pub ruled_by_none : (b : Bucketing) (text : List ℕ) (at : ℕ) → RulesOut b text at 0
-ruled_by_none b text at place ahead near occurs = bit_at-zero (8 * ahead + bucket_at b.buckets place)
+-- the low bits of a number are those of its remainder
+low_bit : (n k i : ℕ) → i < k → bit_at (n % 2 ^ k) i ≡ bit_at n i
+low_bit n k i small =
+    let whole : n ≡ n / 2 ^ k * 2 ^ k + n % 2 ^ k = omega arith in
+    sym (ap (λ x. bit_at x i) whole ∙ bit_at_cat_low (n / 2 ^ k) k (n % 2 ^ k) i small)
 
--- the bytes of a word rule out what it does
-pub ruled_by_bytes : (b : Bucketing) (text : List ℕ) (at word : ℕ) (lanes : List ℕ) → word < 2 ^ 64 → ((k bit : ℕ) → k < 16 → bit < 8 → bit_at (slice_index lanes k) bit ≡ bit_at word (8 * k + bit)) → RulesOut b text at word → RulesOutLanes b text at lanes
-ruled_by_bytes b text at word lanes fits bits rules place ahead near occurs =
-    let bucket : ℕ = bucket_at b.buckets place in
-    bits ahead bucket near (few_buckets b.buckets place) ∙ elim (cases_lt ahead 8) [
-      | inl within ↦ rules place ahead within occurs
-      | inr past ↦ bit_at_above word 64 (8 * ahead + bucket) fits (omega (arith, past))
-    ]
+-- moved up by whole bytes, a word has no bits below these, and its own above
+moved_low : (word count bit : ℕ) → bit < 64 → bit < count → bit_at (word * 2 ^ count % 2 ^ 64) bit ≡ 0
+moved_low word count bit small below =
+    let plain : word * 2 ^ count ≡ word * 2 ^ count + 0 = omega arith in
+    low_bit (word * 2 ^ count) 64 bit small ∙ ap (λ n. bit_at n bit) plain ∙ bit_at_cat_low word count 0 bit below ∙ bit_at-zero bit
 
--- what is ruled out from a place further ahead on, moved by as many bytes, is ruled out from the first on
-pub ruled_moved : (b : Bucketing) (text : List ℕ) (at further : ℕ) (lanes moved : List ℕ) → ((k : ℕ) → k < further → slice_index moved k ≡ 0) → ((k : ℕ) → k + further < 16 → slice_index moved (k + further) ≡ slice_index lanes k) → RulesOutLanes b text (at + further) lanes
-    → RulesOutLanes b text at moved
-ruled_moved b text at further lanes moved zeros same rules place ahead near occurs =
+moved_high : (word count bit : ℕ) → bit < 64 → count ≤ bit → bit_at (word * 2 ^ count % 2 ^ 64) bit ≡ bit_at word (bit - count)
+moved_high word count bit small above =
+    let plain : word * 2 ^ count ≡ word * 2 ^ count + 0 = omega arith in
+    low_bit (word * 2 ^ count) 64 bit small ∙ ap (λ n. bit_at n bit) plain ∙ bit_at_cat_high word count 0 bit (pow_pos count) above
+
+-- what a word rules out from a place further ahead on, moved up by as many bytes, is ruled out from the first place on
+pub ruled_here : (b : Bucketing) (text : List ℕ) (at further word : ℕ) → further < 8 → RulesOut b text (at + further) word → RulesOut b text at (word * 2 ^ (8 * further) % 2 ^ 64)
+ruled_here b text at further word close rules place ahead near occurs =
     let bucket : ℕ = bucket_at b.buckets place in
+    let bit : ℕ = 8 * ahead + bucket in
+    let small : bit < 64 = omega (arith, near, few_buckets b.buckets place) in
     elim (cases_lt ahead further) [
-      | inl before ↦ ap (λ x. bit_at x bucket) (zeros ahead before) ∙ bit_at-zero bucket
+      | inl before ↦ moved_low word (8 * further) bit small (omega (arith, before, few_buckets b.buckets place))
       | inr behind ↦
-          let k : ℕ = ahead - further in
-          let back : ahead ≡ k + further = omega (arith, behind) in
-          let there : at + ahead ≡ at + further + k = omega (arith, behind) in
-          ap (λ j. bit_at (slice_index moved j) bucket) back ∙ ap (λ x. bit_at x bucket) (same k (omega (arith, near, behind))) ∙ rules place k (omega (arith, near)) (subst (Occurs b.literals text place) there occurs)
+          let back : bit - 8 * further ≡ 8 * (ahead - further) + bucket = omega (arith, behind) in
+          let there : at + ahead ≡ at + further + (ahead - further) = omega (arith, behind) in
+          moved_high word (8 * further) bit small (omega (arith, behind)) ∙ ap (bit_at word) back ∙ rules place (ahead - further) (omega (arith, near)) (subst (Occurs b.literals text place) there occurs)
     ]
 
--- what two vectors rule out from a place on, both together rule out
-pub ruled_joined : (b : Bucketing) (text : List ℕ) (at : ℕ) (lanes others both : List ℕ) → ((k : ℕ) → k < 16 → slice_index both k ≡ bit_or (slice_index lanes k) (slice_index others k)) → RulesOutLanes b text at lanes → RulesOutLanes b text at others → RulesOutLanes b text at both
-ruled_joined b text at lanes others both is one two place ahead near occurs =
+-- and what is moved past its last byte so is ruled out from eight places further on
+pub ruled_behind : (b : Bucketing) (text : List ℕ) (at further word : ℕ) → further < 8 → word < 2 ^ 64 → RulesOut b text (at + further) word → RulesOut b text (at + 8) (word / 2 ^ (64 - 8 * further))
+ruled_behind b text at further word close fits rules place ahead near occurs =
     let bucket : ℕ = bucket_at b.buckets place in
-    let none : bit_at (bit_or (slice_index lanes ahead) (slice_index others ahead)) bucket ≡ 0 =
-    omega (arith, bit_at_or (slice_index lanes ahead) (slice_index others ahead) bucket, one place ahead near occurs, two place ahead near occurs) in
-    ap (λ x. bit_at x bucket) (is ahead near) ∙ none
-
--- the first eight bytes as a word rule out what they do
-pub ruled_by_first : (b : Bucketing) (text : List ℕ) (at first : ℕ) (lanes : List ℕ) → ((k bit : ℕ) → k < 8 → bit < 8 → bit_at first (8 * k + bit) ≡ bit_at (slice_index lanes k) bit) → RulesOutLanes b text at lanes → RulesOut b text at first
-ruled_by_first b text at first lanes bits rules place ahead near occurs = bits ahead (bucket_at b.buckets place) near (few_buckets b.buckets place) ∙ rules place ahead (omega (arith, near)) occurs
-
--- the last eight bytes, in front of zeros, rule out what they do from eight places further ahead on
-pub ruled_by_last : (b : Bucketing) (text : List ℕ) (at : ℕ) (lanes last : List ℕ) → ((k : ℕ) → k < 8 → slice_index last k ≡ slice_index lanes (8 + k)) → ((k : ℕ) → k < 8 → slice_index last (8 + k) ≡ 0) → RulesOutLanes b text at lanes → RulesOutLanes b text (at + 8) last
-ruled_by_last b text at lanes last same zeros rules place ahead near occurs =
-    let bucket : ℕ = bucket_at b.buckets place in
-    let there : at + 8 + ahead ≡ at + (8 + ahead) = omega arith in
-    elim (cases_lt ahead 8) [
-      | inl within ↦ ap (λ x. bit_at x bucket) (same ahead within) ∙ rules place (8 + ahead) (omega (arith, within)) (subst (Occurs b.literals text place) there occurs)
-      | inr past ↦
-          let behind : ahead ≡ 8 + (ahead - 8) = omega (arith, past) in
-          ap (λ j. bit_at (slice_index last j) bucket) behind ∙ ap (λ x. bit_at x bucket) (zeros (ahead - 8) (omega (arith, near, past))) ∙ bit_at-zero bucket
+    let count : ℕ = 64 - 8 * further in
+    let bit : ℕ = 8 * ahead + bucket in
+    ap (λ x. x % 2) (shr-shr word count bit) ∙ elim (cases_lt ahead further) [
+      | inl before ↦
+          let back : count + bit ≡ 8 * (8 - further + ahead) + bucket = omega (arith, close) in
+          let there : at + 8 + ahead ≡ at + further + (8 - further + ahead) = omega (arith, close) in
+          ap (bit_at word) back ∙ rules place (8 - further + ahead) (omega (arith, before, close)) (subst (Occurs b.literals text place) there occurs)
+      | inr past ↦ bit_at_above word 64 (count + bit) fits (omega (arith, past, close))
     ]
 
--- a word of zeros rules nothing out, byte by byte
-pub ruled_by_zeros : (b : Bucketing) (text : List ℕ) (at : ℕ) (lanes : List ℕ) → ((k bit : ℕ) → k < 16 → bit < 8 → bit_at (slice_index lanes k) bit ≡ bit_at 0 (8 * k + bit)) → RulesOutLanes b text at lanes
-ruled_by_zeros b text at lanes bits = ruled_by_bytes b text at 0 lanes (omega arith) bits (ruled_by_none b text at)
+-- what two words rule out from a place on, both together rule out
+pub ruled_joined : (b : Bucketing) (text : List ℕ) (at word other : ℕ) → RulesOut b text at word → RulesOut b text at other → RulesOut b text at (bit_or word other)
+ruled_joined b text at word other one two place ahead near occurs =
+    let bit : ℕ = 8 * ahead + bucket_at b.buckets place in
+    omega (arith, bit_at_or word other bit, one place ahead near occurs, two place ahead near occurs)
+
+-- each of four words fits in 64 bits
+pub word_fits : (words : List ℕ) → length words ≡ 4 → Each1 (Fits w64) words → (i : ℕ) → i < 4 → slice_index words i < 2 ^ 64
+word_fits words long fits i four = Fits-lt-pow (Each1-get_or (Fits w64) words i 0 (omega (arith, long, four)) fits)
+
+-- so with four words
+pub words_joined : (b : Bucketing) (text : List ℕ) (at : ℕ) (words others both : List ℕ) → ((i : ℕ) → i < 4 → slice_index both i ≡ bit_or (slice_index words i) (slice_index others i)) → RulesOutWords b text at words → RulesOutWords b text at others → RulesOutWords b text at both
+words_joined b text at words others both is one two i four = subst (RulesOut b text (at + 8 * i)) (sym (is i four)) (ruled_joined b text (at + 8 * i) (slice_index words i) (slice_index others i) (one i four) (two i four))
+
+pub words_here : (b : Bucketing) (text : List ℕ) (at further : ℕ) (words moved : List ℕ) → further < 8 → ((i : ℕ) → i < 4 → slice_index moved i ≡ slice_index words i * 2 ^ (8 * further) % 2 ^ 64) → RulesOutWords b text (at + further) words → RulesOutWords b text at moved
+words_here b text at further words moved close is rules i four =
+    let there : at + further + 8 * i ≡ at + 8 * i + further = omega arith in
+    subst (RulesOut b text (at + 8 * i)) (sym (is i four)) (ruled_here b text (at + 8 * i) further (slice_index words i) close (subst (λ p. RulesOut b text p (slice_index words i)) there (rules i four)))
+
+pub words_behind : (b : Bucketing) (text : List ℕ) (at further : ℕ) (words moved : List ℕ) → further < 8 → ((i : ℕ) → i < 4 → slice_index words i < 2 ^ 64) → ((i : ℕ) → i < 4 → slice_index moved i ≡ slice_index words i / 2 ^ (64 - 8 * further)) → RulesOutWords b text (at + further) words → RulesOutWords b text (at + 8) moved
+words_behind b text at further words moved close fits is rules i four =
+    let there : at + further + 8 * i ≡ at + 8 * i + further = omega arith in
+    let eight : at + 8 * i + 8 ≡ at + 8 + 8 * i = omega arith in
+    subst (RulesOut b text (at + 8 + 8 * i)) (sym (is i four)) (subst (λ p. RulesOut b text p (slice_index words i / 2 ^ (64 - 8 * further))) eight
+    (ruled_behind b text (at + 8 * i) further (slice_index words i) close (fits i four) (subst (λ p. RulesOut b text p (slice_index words i)) there (rules i four))))
+
+-- the words that are ruled out behind those of which they are each the next, and the first of them
+pub words_next : (b : Bucketing) (text : List ℕ) (at : ℕ) (before behind next : List ℕ) → slice_index next 0 ≡ slice_index before 3 → ((i : ℕ) → i < 3 → slice_index next (i + 1) ≡ slice_index behind i) → RulesOut b text at (slice_index before 3) → RulesOutWords b text (at + 8) behind → RulesOutWords b text at next
+words_next b text at before behind next first others rules later zero four =
+    let here : at ≡ at + 8 * 0 = omega arith in
+    subst (λ p. RulesOut b text p (slice_index next 0)) here (subst (RulesOut b text at) (sym first) rules)
+words_next b text at before behind next first others rules later (suc i) four =
+    let there : at + 8 + 8 * i ≡ at + 8 * suc i = omega arith in
+    let place : i + 1 ≡ suc i = omega arith in
+    let is : slice_index next (suc i) ≡ slice_index behind i = ap (slice_index next) (sym place) ∙ others i (omega (arith, four)) in
+    subst (RulesOut b text (at + 8 * suc i)) (sym is) (subst (λ p. RulesOut b text p (slice_index behind i)) there (later i (omega (arith, four))))
+
+-- four words that rule out from places eight apart
+pub words_of : (b : Bucketing) (text : List ℕ) (at first second third fourth : ℕ) → RulesOut b text at first → RulesOut b text (at + 8) second → RulesOut b text (at + 16) third → RulesOut b text (at + 24) fourth → RulesOutWords b text at (first ∷ second ∷ third ∷ fourth ∷ [])
+words_of b text at first second third fourth one two three four zero below = let here : at ≡ at + 8 * 0 = omega arith in subst (λ p. RulesOut b text p first) here one
+words_of b text at first second third fourth one two three four (suc zero) below = two
+words_of b text at first second third fourth one two three four (suc (suc zero)) below = three
+words_of b text at first second third fourth one two three four (suc (suc (suc zero))) below = four
+words_of b text at first second third fourth one two three four (suc (suc (suc (suc i)))) below = absurd (omega (arith, below))
+
+-- four words and one behind them
+abbrev pub with_one_behind : List ℕ → ℕ → List ℕ
+with_one_behind words behind = slice_index words 0 ∷ slice_index words 1 ∷ slice_index words 2 ∷ slice_index words 3 ∷ behind ∷ []
+
+-- rule out from places eight apart
+five_words : (b : Bucketing) (text : List ℕ) (at behind : ℕ) (words : List ℕ) → RulesOutWords b text at words → RulesOut b text (at + 32) behind → (i : ℕ) → i ≤ 4
+    → RulesOut b text (at + 8 * i) (slice_index (with_one_behind words behind) i)
+five_words b text at behind words rules last zero upto = rules 0 (omega arith)
+five_words b text at behind words rules last (suc zero) upto = rules 1 (omega arith)
+five_words b text at behind words rules last (suc (suc zero)) upto = rules 2 (omega arith)
+five_words b text at behind words rules last (suc (suc (suc zero))) upto = rules 3 (omega arith)
+five_words b text at behind words rules last (suc (suc (suc (suc zero)))) upto = last
+five_words b text at behind words rules last (suc (suc (suc (suc (suc i))))) upto = absurd (omega (arith, upto))
+
+-- and the first four of the five fit in 64 bits if they do as four
+few_of_five : (words : List ℕ) (behind : ℕ) → ((i : ℕ) → i < 4 → slice_index words i < 2 ^ 64) → (i : ℕ) → i < 4 → slice_index (with_one_behind words behind) i < 2 ^ 64
+few_of_five words behind fits zero below = fits 0 below
+few_of_five words behind fits (suc zero) below = fits 1 below
+few_of_five words behind fits (suc (suc zero)) below = fits 2 below
+few_of_five words behind fits (suc (suc (suc zero))) below = fits 3 below
+few_of_five words behind fits (suc (suc (suc (suc i)))) below = absurd (omega (arith, below))
+
+-- a bit of a number of four bits
+pub low_of_four : (n low : ℕ) → n < 16 → bit_at n low ≡ 1 → low < 4
+low_of_four n low small set = elim (cases_lt low 4) [
+  | inl below ↦ below
+  | inr above ↦ absurd (omega (arith, set, bit_at_above n 4 low (omega (arith, small)) above))
+]
+
+-- where a word has all its bits, nothing ends at its places
+pub none_of_word : (b : Bucketing) (text : List ℕ) (at word : ℕ) → 8 ≤ at → RulesOut b text at word → word ≡ 2 ^ 64 - 1 → NoEndUpTo b.literals text (at - 1) (at + 7)
+none_of_word b text at word some rules full end after within here =
+    let ahead : ℕ = end - at in
+    let near : ahead < 8 = omega (arith, within, after, some) in
+    let there : end ≡ at + ahead = omega (arith, after, some) in
+    let bit : ℕ = 8 * ahead + bucket_at b.buckets here.0 in
+    let unset : bit_at (2 ^ 64 - 1) bit ≡ 0 = ap (λ w. bit_at w bit) (sym full) ∙ rules here.0 ahead near (subst (Occurs b.literals text here.0) there here.1) in
+    absurd (omega (arith, unset, bit_at_ones 64 bit (omega (arith, near, few_buckets b.buckets here.0))))
+
+-- where nothing ends at the places of the first words, nothing ends up to the next one
+pub none_of_words : (l : Literals) (text : List ℕ) (from at count : ℕ) → 8 ≤ at → NoEndUpTo l text from (at - 1) → ((i : ℕ) → i < count → NoEndUpTo l text (at + 8 * i - 1) (at + 8 * i + 7)) → NoEndUpTo l text from (at + 8 * count - 1)
+none_of_words l text from at count some before none end after within here = elim (cases_lt end at) [
+  | inl upto ↦ before end after (omega (arith, upto)) here
+  | inr past ↦
+      let i : ℕ = (end - at) / 8 in
+      none i (omega (arith, within, past)) end (omega (arith, past, some)) (omega (arith, past)) here
+]
 
 -- the bits that a word lacks are those of the ends that it does not rule out
-pub all_unruled : (b : Bucketing) (text : List ℕ) (at word : ℕ) → word < 2 ^ 64 → RulesOut b text at word → AreUnruled b text at (bit_not w64 word)
+pub all_unruled : (b : Bucketing) (text : List ℕ) (at word : ℕ) → word < 2 ^ 64 → RulesOut b text at word → (place ahead : ℕ) → ahead < 8 → Occurs b.literals text place (at + ahead) → bit_at (bit_not w64 word) (8 * ahead + bucket_at b.buckets place) ≡ 1
 all_unruled b text at word fits rules place ahead near occurs =
     let bit : ℕ = 8 * ahead + bucket_at b.buckets place in
     omega (arith, bit_at_not w64 word bit fits (omega (arith, near, few_buckets b.buckets place)), rules place ahead near occurs)
-
--- the bits of some looks that are left: each of a literal that ends there, and no others than were
-pub record AreLeft (b : Bucketing) (text : List ℕ) (looks : Looks) (unruled : ℕ) : Type 0 where
-  pub kept : (place ahead : ℕ) → ahead < 8 → Occurs b.literals text place (looks.at + ahead) → bit_at looks.unruled (8 * ahead + bucket_at b.buckets place) ≡ 1 → bit_at unruled (8 * ahead + bucket_at b.buckets place) ≡ 1
-  pub less : (bit : ℕ) → bit_at unruled bit ≡ 1 → bit_at looks.unruled bit ≡ 1
 
 -- all of them are at first
 pub all_left : (b : Bucketing) (text : List ℕ) (looks : Looks) → AreLeft b text looks looks.unruled
@@ -174,25 +258,44 @@ lowest_verified b text from looks unruled low rest behind first inside are left 
 pub none_joined : (l : Literals) (text : List ℕ) (from at start last : ℕ) → start ≤ at → NoEndUpTo l text from at → NoEndUpTo l text start last → NoEndUpTo l text from last
 none_joined l text from at start last near before behind end after within here = elim (cases_lt at end) [ inl later ↦ behind end (omega (arith, near, later)) within here | inr sooner ↦ before end after sooner here ]
 
--- looks at the eight places behind those that were passed are those of a search behind any place passed
-pub looks_next : (b : Bucketing) (text : List ℕ) (from start at unruled carried : ℕ) → from ≤ start → start ≤ at + 7 → 8 ≤ at → at + 15 ≤ length text → NoEndUpTo b.literals text from (at + 7) → AreUnruled b text (at + 8) unruled → RulesOut b text (at + 8 + 8) carried
-    → AreLooks b text start (record { at = at + 8; unruled = unruled; carried = carried })
-looks_next b text from start at unruled carried ahead near some inside none are rules = record {
-  some = omega (arith, some);
+-- what is not ruled out at eight places, up to the first of which nothing ends, are the looks of a search behind any place before them
+pub looks_here : (b : Bucketing) (text : List ℕ) (from start at ruled carried : ℕ) → from ≤ start → start < at → 8 ≤ at → at + 7 ≤ length text → ruled < 2 ^ 64 → NoEndUpTo b.literals text from (at - 1) → RulesOut b text at ruled → RulesOut b text (at + 8) carried
+    → AreLooks b text start (record { at = at; unruled = bit_not w64 ruled; carried = carried })
+looks_here b text from start at ruled carried ahead near some inside fits none rules behind = record {
+  some = some;
   near = omega (arith, near);
-  inside = λ _. omega (arith, inside);
+  inside = λ _. inside;
   within = omega (arith, inside);
   later = λ bit _. omega (arith, near);
-  none = λ end past within. none end (omega (arith, past, ahead)) (omega (arith, within));
-  unruled = λ place further close _ occurs. are place further close occurs;
-  carried = rules;
+  none = λ end past within. none end (omega (arith, past, ahead)) within;
+  unruled = λ place further close _ occurs. all_unruled b text at ruled fits rules place further close occurs;
+  carried = behind;
 }
 
--- where such looks leave nothing, nothing ends at their places
-pub none_next : (b : Bucketing) (text : List ℕ) (from start at unruled carried : ℕ) → start ≤ at + 7 → NoEndUpTo b.literals text from (at + 7) → AreLooks b text start (record { at = at + 8; unruled = unruled; carried = carried }) → unruled ≡ 0 → NoEndUpTo b.literals text from (at + 8 + 7)
-none_next b text from start at unruled carried near before are none =
-    let looks : Looks = record { at = at + 8; unruled = unruled; carried = carried } in
-    none_joined b.literals text from (at + 7) start (at + 8 + 7) near before (none_left b text start looks unruled are (all_left b text looks) none)
+-- of the looks of a search bits may be dropped at which none ends
+pub looks_left : (b : Bucketing) (text : List ℕ) (from : ℕ) (looks : Looks) (unruled : ℕ) → looks.at + 7 ≤ length text → AreLooks b text from looks → AreLeft b text looks unruled → AreLooks b text from (record { at = looks.at; unruled = unruled; carried = looks.carried })
+looks_left b text from looks unruled inside are left = record {
+  some = are.some;
+  near = are.near;
+  inside = λ _. inside;
+  within = are.within;
+  later = λ bit set. are.later bit (left.less bit set);
+  none = are.none;
+  unruled = λ place ahead close after occurs. left.kept place ahead close occurs (are.unruled place ahead close after occurs);
+  carried = are.carried;
+}
+
+-- so are those at the eight places of a word of four, with the next one as what is ruled out behind it
+pub looks_of_word : (b : Bucketing) (text : List ℕ) (start at behind : ℕ) (words : List ℕ) (word : ℕ) → start < at + 8 * word → 8 ≤ at → at + 31 ≤ length text → length words ≡ 4 → Each1 (Fits w64) words → word < 4
+    → RulesOutWords b text at words → RulesOut b text (at + 32) behind → NoEndUpTo b.literals text start (at + 8 * word - 1)
+    → AreLooks b text start (record { at = at + 8 * word; unruled = bit_not w64 (slice_index (with_one_behind words behind) word); carried = slice_index (with_one_behind words behind) (word + 1) })
+looks_of_word b text start at behind words word before some inside long fits four rules last none =
+    let here : ℕ = at + 8 * word in
+    let all : List ℕ = with_one_behind words behind in
+    let next : at + 8 * (word + 1) ≡ here + 8 = omega arith in
+    looks_here b text start start here (slice_index all word) (slice_index all (word + 1)) (omega arith) (omega (arith, before)) (omega (arith, some)) (omega (arith, inside, four))
+    (few_of_five words behind (word_fits words long fits) word four) none
+    (five_words b text at behind words rules last word (omega (arith, four))) (subst (λ p. RulesOut b text p (slice_index all (word + 1))) next (five_words b text at behind words rules last (word + 1) (omega (arith, four))))
 
 -- the first that is found behind a place no further than one up to which nothing ends is the first that is found
 pub found_further : (l : Literals) (text : List ℕ) (from at start end place : ℕ) → from ≤ start → start ≤ at → NoEndUpTo l text from at → IsFirstFound l text start end place → IsFirstFound l text from end place
@@ -234,51 +337,79 @@ last_alone fold text at bytes some inside =
     ∙ ap (λ n. bit_or n (case_bits fold / 2 ^ 56)) last
     ∙ sym (or_shr (spelled (replicate 7 0 ++ one)) (case_bits fold) 56)
 
--- of what bytes spell the first two are left by the remainder
-spelled-take : (bytes : List ℕ) → AreBytes bytes → spelled bytes % 2 ^ 16 ≡ spelled (take 2 bytes)
-spelled-take [] small = omega arith
-spelled-take (a ∷ []) small = omega (arith, small.small 0)
-spelled-take (a ∷ b ∷ rest) small = omega (arith, small.small 0, small.small 1)
+-- the bits of case in two bytes make a small number
+pub pair_case_small : (fold : Fold) → pair_case_bits fold < 2 ^ 16
+pair_case_small No = omega arith
+pair_case_small Ascii = omega arith
 
--- the bits of case are the same in each two bytes
-case_of_pair : (fold : Fold) (pairs : ℕ) → pairs < 4 → case_bits fold / 2 ^ (16 * pairs) % 2 ^ 16 ≡ case_bits fold / 2 ^ 48
-case_of_pair No zero below = refl
-case_of_pair No (suc zero) below = refl
-case_of_pair No (suc (suc zero)) below = refl
-case_of_pair No (suc (suc (suc zero))) below = refl
-case_of_pair Ascii zero below = refl
-case_of_pair Ascii (suc zero) below = refl
-case_of_pair Ascii (suc (suc zero)) below = refl
-case_of_pair Ascii (suc (suc (suc zero))) below = refl
-case_of_pair fold (suc (suc (suc (suc n)))) below = absurd (omega (arith, below))
+-- to leave the bits of case out once more changes nothing
+or_twice : (a c : ℕ) → bit_or (bit_or a c) c ≡ bit_or a c
+or_twice a c = same_from_bits (bit_or (bit_or a c) c) (bit_or a c) (λ i. omega (arith, bit_at_or (bit_or a c) c i, bit_at_or a c i))
 
--- in what the bytes round a place spell, without the case of letters, the numbers of every second place follow each other
-pub pair_number : (fold : Fold) (text : List ℕ) (at pairs word case : ℕ) → AreBytes text → 2 ≤ at → at + 6 ≤ length text → pairs < 4 → word ≡ spelled (slice_range text (at + 6 - 8) (at + 6)) → case ≡ case_bits fold
-    → bit_or word case / 2 ^ (16 * pairs) % 65536 ≡ number_at fold text (at + 2 * pairs)
+-- the number of two bytes has them
+number_has_case : (fold : Fold) (text : List ℕ) (at : ℕ) → bit_or (number_at fold text at) (pair_case_bits fold) ≡ number_at fold text at
 unfolding suffix_key
-pair_number fold text at pairs word case bytes some inside few is case_is =
-    let k : ℕ = 2 * pairs in
-    let from : ℕ = at + k - 2 in
-    let eight : List ℕ = slice_range text (at + 6 - 8) (at + 6) in
-    let rest : List ℕ = slice_range text from (at + 6) in
-    let two : List ℕ = slice_range text from (at + k) in
-    let eights : AreBytes eight = range_bytes text (at + 6 - 8) (at + 6) inside bytes in
-    let rests : AreBytes rest = range_bytes text from (at + 6) inside bytes in
-    let twos : AreBytes (replicate 6 0 ++ two) = zeros_bytes 6 two (range_bytes text from (at + k) (omega (arith, inside, few)) bytes) in
-    let shift : 16 * pairs ≡ 8 * k = omega arith in
-    let count : 2 ≡ at + k - from = omega (arith, some) in
-    let front : take 2 rest ≡ two = take-take 2 (at + 6 - from) (drop from text) (omega (arith, few, some)) ∙ ap (λ n. take n (drop from text)) count in
-    let there : word / 2 ^ (16 * pairs) % 2 ^ 16 ≡ spelled two =
-    (λ i. is i / 2 ^ (shift i) % 2 ^ 16)
-    ∙ ap (λ w. w % 2 ^ 16) (spelled-drop k eight eights ∙ ap spelled (drop-range text (at + 6 - 8) from k (at + 6) (omega (arith, some))))
-    ∙ spelled-take rest rests
-    ∙ ap spelled front in
-    let spell : spelled two ≡ spelled (replicate 6 0 ++ two) / 2 ^ 48 = sym (spelled-drop 6 (replicate 6 0 ++ two) twos) in
-    let same : case / 2 ^ (16 * pairs) % 2 ^ 16 ≡ case_bits fold / 2 ^ 48 = ap (λ c. c / 2 ^ (16 * pairs) % 2 ^ 16) case_is ∙ case_of_pair fold pairs few in
-    ap (λ w. w % 2 ^ 16) (or_shr word case (16 * pairs))
-    ∙ or_mod (word / 2 ^ (16 * pairs)) (case / 2 ^ (16 * pairs)) 16
-    ∙ (λ i. bit_or ((there ∙ spell) i) (same i))
-    ∙ sym (or_shr (spelled (replicate 6 0 ++ two)) (case_bits fold) 48)
+number_has_case fold text at =
+    let two : ℕ = spelled (replicate 6 0 ++ slice_range text (at - 2) at) in
+    let split : number_at fold text at ≡ bit_or (two / 2 ^ 48) (pair_case_bits fold) = or_shr two (case_bits fold) 48 in
+    ap (λ n. bit_or n (pair_case_bits fold)) split ∙ or_twice (two / 2 ^ 48) (pair_case_bits fold) ∙ sym split
+
+-- and that of the last byte too, whatever stands before it
+last_has_case : (fold : Fold) (text : List ℕ) (at number : ℕ) → number / 256 ≡ last_number_at fold text at → bit_or number (pair_case_bits fold) / 256 ≡ last_number_at fold text at
+unfolding suffix_key
+last_has_case fold text at number is =
+    let one : ℕ = spelled (replicate 7 0 ++ slice_range text (at - 1) at) in
+    let case : ℕ = case_bits fold / 2 ^ 56 in
+    let split : last_number_at fold text at ≡ bit_or (one / 2 ^ 56) case = or_shr one (case_bits fold) 56 in
+    or_shr number (pair_case_bits fold) 8
+    ∙ (λ i. bit_or (is i) (shr-shr (case_bits fold) 48 8 i))
+    ∙ ap (λ n. bit_or n case) split ∙ or_twice (one / 2 ^ 56) case ∙ sym split
+
+-- where each entry is that of its bytes without case, literals are let through as they were
+pub entries_alike : (l : Literals) (buckets old entries : List ℕ) → length entries ≡ ENTRIES → LetThrough l buckets old (length l.texts) → ((number : ℕ) → number < ENTRIES → slice_index entries number ≡ slice_index old (bit_or number (pair_case_bits l.folding))) → AreEntriesOf l buckets entries
+entries_alike l buckets old entries all through alike =
+    let fold = l.folding in
+    let case : ℕ = pair_case_bits fold in
+    let further : (number : ℕ) → number < ENTRIES → bit_or number case < ENTRIES = λ number small. or_lt 16 number case small (pair_case_small fold) in
+    record {
+      all = all;
+      through = λ place below within.
+          let was = through place below within in
+          let literal : List ℕ = literal_at l place in
+          let bucket : ℕ = bucket_at buckets place in record {
+            pairs = λ ahead near long.
+                let number : ℕ = number_at fold literal (length literal - ahead) in
+                let bit : ℕ = 8 * ahead + bucket in
+                elim (cases_lt number ENTRIES) [
+                  | inl small ↦ ap (λ e. bit_at e bit) (alike number small) ∙ ap (λ n. bit_at (slice_index old n) bit) (number_has_case fold literal (length literal - ahead)) ∙ was.pairs ahead near long
+                  | inr past ↦ ap (λ e. bit_at e bit) (get_or-eq_default entries 0 (omega (arith, all, past))) ∙ bit_at-zero bit
+                ];
+            first = λ ahead number near long small is. ap (λ e. bit_at e (8 * ahead + bucket)) (alike number small) ∙ was.first ahead (bit_or number case) near long (further number small) (last_has_case fold literal 1 number is);
+            short = λ ahead number near long small. ap (λ e. bit_at e (8 * ahead + bucket)) (alike number small) ∙ was.short ahead (bit_or number case) near long (further number small);
+          };
+      alike = λ number small. alike number small ∙ ap (slice_index old) (sym (or_twice number case)) ∙ sym (alike (bit_or number case) (further number small));
+    }
+
+-- what two bytes spell
+spelled_two : (bytes : List ℕ) → length bytes ≡ 2 → spelled bytes ≡ get_or bytes 0 0 + get_or bytes 1 0 * 256
+spelled_two [] two = absurd (omega (arith, two))
+spelled_two (a ∷ []) two = absurd (omega (arith, two))
+spelled_two (a ∷ b ∷ []) two = omega arith
+spelled_two (a ∷ b ∷ c ∷ rest) two = absurd (omega (arith, two))
+
+-- the number of the two bytes before a place, without the bits of case
+pub pair_number : (fold : Fold) (text : List ℕ) (at : ℕ) → AreBytes text → 2 ≤ at → at ≤ length text → bit_or (get_or text (at - 2) 0 + get_or text (at - 1) 0 * 256) (pair_case_bits fold) ≡ number_at fold text at
+unfolding suffix_key
+pair_number fold text at bytes some inside =
+    let two : List ℕ = slice_range text (at - 2) at in
+    let twos : AreBytes (replicate 6 0 ++ two) = zeros_bytes 6 two (range_bytes text (at - 2) at inside bytes) in
+    let gap : at - (at - 2) ≡ 2 = omega (arith, some) in
+    let long : length two ≡ 2 = length-between text (at - 2) at inside ∙ gap in
+    let first : get_or two 0 0 ≡ get_or text (at - 2) 0 = ap (λ i. get_or two i 0) (omega arith) ∙ get_or-range text (at - 2) at (at - 2) 0 (omega arith) (omega (arith, some)) in
+    let place : at - 1 - (at - 2) ≡ 1 = omega (arith, some) in
+    let second : get_or two 1 0 ≡ get_or text (at - 1) 0 = ap (λ i. get_or two i 0) (sym place) ∙ get_or-range text (at - 2) at (at - 1) 0 (omega arith) (omega (arith, some)) in
+    let spell : get_or text (at - 2) 0 + get_or text (at - 1) 0 * 256 ≡ spelled two = omega (arith, spelled_two two long, first, second) in
+    ap (λ n. bit_or n (pair_case_bits fold)) (spell ∙ sym (spelled-drop 6 (replicate 6 0 ++ two) twos)) ∙ sym (or_shr (spelled (replicate 6 0 ++ two)) (case_bits fold) 48)
 
 -- the entry of the two bytes before a place rules ends out from there on
 pub ruled_by_entry : (l : Literals) (text buckets entries : List ℕ) (at number entry : ℕ) → AreBytes text → 2 ≤ at → at ≤ length text → LetThrough l buckets entries (length l.texts) → number ≡ number_at l.folding text at → number < ENTRIES → entry ≡ slice_index entries number
@@ -302,6 +433,16 @@ ruled_by_entry l text buckets entries at number entry bytes some inside through 
             through_here.first ahead number near len small (ap (λ n. n / 256) number_is ∙ last_alone l.folding text at bytes some inside ∙ ap (λ k. k / 2 ^ 56) key)
       ]
     ]
+
+-- so does the entry of both bytes as they stand
+pub ruled_by_pair : (b : Bucketing) (text entries : List ℕ) (at entry : ℕ) → AreBytes text → 2 ≤ at → at ≤ length text → AreEntriesOf b.literals b.buckets entries → entry ≡ slice_index entries (get_or text (at - 2) 0 + get_or text (at - 1) 0 * 256) → RulesOut b text at entry
+ruled_by_pair b text entries at entry bytes some inside are is =
+    let fold = b.literals.folding in
+    let pair : ℕ = get_or text (at - 2) 0 + get_or text (at - 1) 0 * 256 in
+    let number : ℕ = bit_or pair (pair_case_bits fold) in
+    let fits : pair < 2 ^ 16 = omega (arith, bytes.small (at - 2), bytes.small (at - 1)) in
+    let small : number < ENTRIES = or_lt 16 pair (pair_case_bits fold) fits (pair_case_small fold) in
+    ruled_by_entry b.literals text b.buckets entries at number entry bytes some inside are.through (pair_number fold text at bytes some inside) small (is ∙ are.alike pair (omega (arith, fits)))
 
 -- a bit that one of two words lacks both lack
 pub and_zero : (a b i : ℕ) → bit_at a i ≡ 0 → bit_at (bit_and a b) i ≡ 0

@@ -8,10 +8,6 @@ use Rattle.text_windows.specs.declared.looks.Looks.{Looks}
 use Rattle.text_windows.specs.declared.looks.Verified.{Verified}
 use Rattle.text_windows.specs.declared.shift_or.TheConstants.{FRONT}
 
--- each end of a literal among the eight from a place on has its bit
-abbrev pub AreUnruled : Bucketing → List ℕ → ℕ → ℕ → Type 0
-AreUnruled b text at unruled = (place ahead : ℕ) → ahead < 8 → Occurs b.literals text place (at + ahead) → bit_at unruled (8 * ahead + bucket_at b.buckets place) ≡ 1
-
 -- the looks of a search for ends behind a place: none of the ends behind it lies before them, those among their eight have their bits, and no others have, and what is carried is ruled out behind them
 pub record AreLooks (b : Bucketing) (text : List ℕ) (from : ℕ) (looks : Looks) : Type 0 where
   pub some : 8 ≤ looks.at
@@ -22,6 +18,11 @@ pub record AreLooks (b : Bucketing) (text : List ℕ) (from : ℕ) (looks : Look
   pub none : NoEndUpTo b.literals text from (looks.at - 1)
   pub unruled : (place ahead : ℕ) → ahead < 8 → from < looks.at + ahead → Occurs b.literals text place (looks.at + ahead) → bit_at looks.unruled (8 * ahead + bucket_at b.buckets place) ≡ 1
   pub carried : RulesOut b text (looks.at + 8) looks.carried
+
+-- bits that some looks leave: each of a literal that ends there, and no others than were
+pub record AreLeft (b : Bucketing) (text : List ℕ) (looks : Looks) (unruled : ℕ) : Type 0 where
+  pub kept : (place ahead : ℕ) → ahead < 8 → Occurs b.literals text place (looks.at + ahead) → bit_at looks.unruled (8 * ahead + bucket_at b.buckets place) ≡ 1 → bit_at unruled (8 * ahead + bucket_at b.buckets place) ≡ 1
+  pub less : (bit : ℕ) → bit_at unruled bit ≡ 1 → bit_at looks.unruled bit ≡ 1
 
 -- those of a search behind a place of which a text's front, which is gone through without looks, is no part
 abbrev pub AreLooksBehind : Bucketing → List ℕ → ℕ → Looks → Type 0

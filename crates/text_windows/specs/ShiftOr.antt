@@ -1,6 +1,7 @@
 -- Which ends of literals are ruled out by the bytes before each of some places, bucket by bucket: shift-or over buckets of literals.
 use Rattle.std.specs.Prelude.{◌≡◌, ℕ, ◌+◌, ◌-◌, ◌*◌, ◌%◌, ◌<◌, ◌≤◌, List, length, slice_index, ◌/◌, ◌^◌}
 use Rattle.std.specs.Int.{bit_at}
+use Rattle.std.specs.Int.RustNames.{bit_or}
 use Rattle.lit_base.specs.Chains.{literal_at}
 use Rattle.lit_base.specs.Literals.{Literals}
 use Rattle.lit_base.specs.Marks.{IsMarked}
@@ -10,6 +11,8 @@ use Rattle.lit_base.specs.declared.fold.Fold.{Fold}
 use Rattle.text_windows.specs.declared.confirming.Confirms.{Confirms}
 use Rattle.text_windows.specs.declared.confirming.TheConstants.{CONFIRM_BITS}
 use Rattle.text_windows.specs.declared.entries.TheConstants.{ENTRIES}
+use Rattle.text_windows.specs.declared.joining.FourRuled.{FourRuled}
+use Rattle.text_windows.specs.declared.joining.Ruled.{Ruled}
 
 -- what a contract sees of `ShiftOr`: the literals, and the bucket of each
 pub record Bucketing : Type 0 where
@@ -24,6 +27,10 @@ bucket_at buckets place = slice_index buckets place % 8
 abbrev pub number_at : Fold → List ℕ → ℕ → ℕ
 number_at fold text at = suffix_key fold text at 2 / 2 ^ 48
 
+-- the bits of case in two bytes
+abbrev pub pair_case_bits : Fold → ℕ
+pair_case_bits fold = case_bits fold / 2 ^ 48
+
 -- that of the last one alone
 abbrev pub last_number_at : Fold → List ℕ → ℕ → ℕ
 last_number_at fold text at = suffix_key fold text at 1 / 2 ^ 56
@@ -32,9 +39,19 @@ last_number_at fold text at = suffix_key fold text at 1 / 2 ^ 56
 abbrev pub RulesOut : Bucketing → List ℕ → ℕ → ℕ → Type 0
 RulesOut b text at word = (place ahead : ℕ) → ahead < 8 → Occurs b.literals text place (at + ahead) → bit_at word (8 * ahead + bucket_at b.buckets place) ≡ 0
 
--- so do sixteen bytes: byte k speaks of the end k places further on
-abbrev pub RulesOutLanes : Bucketing → List ℕ → ℕ → List ℕ → Type 0
-RulesOutLanes b text at lanes = (place ahead : ℕ) → ahead < 16 → Occurs b.literals text place (at + ahead) → bit_at (slice_index lanes ahead) (bucket_at b.buckets place) ≡ 0
+-- four words in a row do so, each from eight places further on than the one before
+abbrev pub RulesOutWords : Bucketing → List ℕ → ℕ → List ℕ → Type 0
+RulesOutWords b text at words = (i : ℕ) → i < 4 → RulesOut b text (at + 8 * i) (slice_index words i)
+
+-- what looks rule out from a place on, and from eight places further on
+pub record IsRuled (b : Bucketing) (text : List ℕ) (at : ℕ) (ruled : Ruled) : Type 0 where
+  pub here : RulesOut b text at ruled.here
+  pub behind : RulesOut b text (at + 8) ruled.behind
+
+-- the same of four words in a row
+pub record AreRuled (b : Bucketing) (text : List ℕ) (at : ℕ) (ruled : FourRuled) : Type 0 where
+  pub here : RulesOutWords b text at ruled.here
+  pub behind : RulesOutWords b text (at + 8) ruled.behind
 
 -- none of the literals of a bucket ends at a place
 abbrev pub NoneOf : Bucketing → List ℕ → ℕ → ℕ → Type 0
@@ -50,10 +67,11 @@ pub record IsLetThrough (fold : Fold) (entries literal : List ℕ) (bucket : ℕ
 abbrev pub LetThrough : Literals → List ℕ → List ℕ → ℕ → Type 0
 LetThrough l buckets entries count = (place : ℕ) → place < count → place < length l.texts → IsLetThrough l.folding entries (literal_at l place) (bucket_at buckets place)
 
--- a table has an entry for each two bytes, by which each literal is let through
+-- a table has an entry for each two bytes, by which each literal is let through, and which are alike whatever the case of letters
 pub record AreEntriesOf (l : Literals) (buckets entries : List ℕ) : Type 0 where
   pub all : length entries ≡ ENTRIES
   pub through : LetThrough l buckets entries (length l.texts)
+  pub alike : (number : ℕ) → number < ENTRIES → slice_index entries number ≡ slice_index entries (bit_or number (pair_case_bits l.folding))
 
 -- a table confirms a literal of a bucket: by the bucket's bit at the hash of so many of its last bytes
 abbrev pub IsConfirmed : Fold → List ℕ → ℕ → List ℕ → ℕ → Type 0

@@ -1,11 +1,11 @@
 //! The entries of shift-or: which ends the two bytes before a place rule out.
-ghost use Rattle.std.specs.Prelude.{◌≡◌, ℕ, ◌+◌, ◌-◌, ◌*◌, ◌/◌, ◌^◌, ◌<◌, ◌≤◌, IsTrue, length, slice_index, vec_capacity, vec_len};
+ghost use Rattle.std.specs.Prelude.{◌≡◌, ℕ, ◌+◌, ◌-◌, ◌*◌, ◌/◌, ◌^◌, ◌<◌, ◌≤◌, IsTrue, bit_or, length, slice_index, vec_capacity, vec_len};
 ghost use Rattle.std.specs.Int.{bit_at};
 ghost use Rattle.lit_base.specs.Chains.{literal_at};
-ghost use Rattle.text_windows.specs.ShiftOr.{LetThrough, bucket_at, number_at, last_number_at};
+ghost use Rattle.text_windows.specs.ShiftOr.{AreEntriesOf, LetThrough, bucket_at, number_at, last_number_at};
 ghost use Rattle.text_windows.specs.declared.entries.TheConstants.{ENTRIES};
 
-use lit_base::{Fold, LitList, suffix_key};
+use lit_base::{Fold, LitList, case_bits, suffix_key};
 
 /// So many entries there are, one for each two bytes: 512 KiB, of which a text uses few. A hash of three bytes spreads them, and
 /// its looks took 1.6 times as long in C.
@@ -33,14 +33,38 @@ pub(crate) fn fill_all(list: &LitList, buckets: &Vec<u8>, entries: &mut Vec<u64>
     requires buckets { vec_len buckets.now ≡ length list.now.texts }
     requires none { vec_len entries.old ≡ 0 }
     requires room { ENTRIES ≤ vec_capacity entries.old }
+    ensures { AreEntriesOf list.now buckets.now.items entries.new.items }
+{
+    fill_with(entries, base_of(list, buckets));
+    let_all_through(list, buckets, entries);
+    leave_case_out(entries, (case_bits(list.fold()) >> 48) as usize);
+}
+
+/// Lets the literals of a list through where they reach.
+fn let_all_through(list: &LitList, buckets: &Vec<u8>, entries: &mut Vec<u64>)
+    requires buckets { vec_len buckets.now ≡ length list.now.texts }
+    requires room { vec_len entries.old ≡ ENTRIES }
+    requires short { (place ahead number : ℕ) → place < length list.now.texts → ahead < 8 → length (literal_at list.now place) ≤ ahead → number < ENTRIES → bit_at (slice_index entries.old.items number) (8 * ahead + bucket_at buckets.now.items place) ≡ 0 }
     ensures len { vec_len entries.new ≡ ENTRIES }
     ensures through { LetThrough list.now buckets.now.items entries.new.items (length list.now.texts) }
 {
-    let base = base_of(list, buckets);
-    fill_with(entries, base);
     for place in 0..list.len() {
         let bucket = bucket_of(buckets, place);
         let_through(entries, list.fold(), list.get(place), bucket);
+    }
+}
+
+/// Makes each entry that of its two bytes without the bits of case, so that looks need not leave these out.
+fn leave_case_out(entries: &mut Vec<u64>, case_bits: usize)
+    requires room { vec_len entries.old ≡ ENTRIES }
+    requires small { case_bits < ENTRIES }
+    ensures len { vec_len entries.new ≡ ENTRIES }
+    ensures alike { (number : ℕ) → number < ENTRIES → slice_index entries.new.items number ≡ slice_index entries.old.items (bit_or number case_bits) }
+{
+    if case_bits != 0 {
+        for number in 0..ENTRIES {
+            entries[number] = entries[number | case_bits];
+        }
     }
 }
 

@@ -1,66 +1,143 @@
-//! Vectors of sixteen bytes, in which what looks rule out is moved and joined.
-ghost use Rattle.std.specs.Prelude.{◌≡◌, ℕ, ◌+◌, ◌*◌, ◌<◌, ◌≤◌, bit_or, slice_index};
+//! What looks rule out, moved and joined: in one word of eight bytes, or in four words in a row.
+ghost use Rattle.std.specs.Prelude.{◌≡◌, ℕ, ◌+◌, ◌-◌, ◌*◌, ◌/◌, ◌%◌, ◌^◌, ◌<◌, ◌≤◌, List, bit_or, slice_index};
 ghost use Rattle.std.specs.Int.{bit_at};
+ghost use Rattle.text_windows.specs.ShiftOr.{AreRuled, Bucketing, IsRuled, RulesOut, RulesOutWords};
 
 use std::simd::prelude::*;
 
-/// The bytes of a word, the lowest first, in front of zeros.
-#[inline(always)]
-pub(crate) fn lanes_of(word: u64) -> u8x16
-    ensures { (k bit : ℕ) → k < 16 → bit < 8 → bit_at (slice_index result k) bit ≡ bit_at word (8 * k + bit) }
-{
-    u64x2::from_array([word, 0]).to_le_bytes()
+/// What looks rule out of the ends at eight places in a row, and at the eight behind these: byte k of a word speaks of the place k
+/// places further on.
+#[derive(Clone, Copy)]
+pub(crate) struct Ruled {
+    pub here: u64,
+    pub behind: u64,
 }
 
-/// A zero in front of all bytes but the last.
-#[inline(always)]
-pub(crate) fn one_ahead(lanes: u8x16) -> u8x16
-    ensures zero { slice_index result 0 ≡ 0 }
-    ensures moved { (k : ℕ) → k < 15 → slice_index result (k + 1) ≡ slice_index lanes k }
-{
-    lanes.shuffle(
-        u8x16::splat(0),
-        [16, 0, 1, 2, 3, 4, 5, 6, 7, 8, 9, 10, 11, 12, 13, 14],
-    )
+impl Ruled {
+    /// What the entry of the first of the places does.
+    #[inline(always)]
+    pub fn by(entry: u64) -> Ruled
+        ensures { (b : Bucketing) (text : List ℕ) (at : ℕ) → RulesOut b text at entry → IsRuled b text at result }
+    {
+        Ruled {
+            here: entry,
+            behind: 0,
+        }
+    }
+
+    /// What that of another one, so many places further on, does besides.
+    #[inline(always)]
+    pub fn and_by(self, entry: u64, ahead: u64) -> Ruled
+        requires some { 0 < ahead }
+        requires near { ahead < 8 }
+        ensures { (b : Bucketing) (text : List ℕ) (at : ℕ) → IsRuled b text at self → RulesOut b text (at + ahead) entry → IsRuled b text at result }
+    {
+        Ruled {
+            here: self.here | entry << (8 * ahead),
+            behind: self.behind | entry >> (64 - 8 * ahead),
+        }
+    }
 }
 
-/// Two zeros in front of all bytes but the last two.
-#[inline(always)]
-pub(crate) fn two_ahead(lanes: u8x16) -> u8x16
-    ensures zeros { (k : ℕ) → k < 2 → slice_index result k ≡ 0 }
-    ensures moved { (k : ℕ) → k < 14 → slice_index result (k + 2) ≡ slice_index lanes k }
-{
-    lanes.shuffle(
-        u8x16::splat(0),
-        [16, 17, 0, 1, 2, 3, 4, 5, 6, 7, 8, 9, 10, 11, 12, 13],
-    )
+/// The same of four words in a row, each of which speaks of eight places.
+#[derive(Clone, Copy)]
+pub(crate) struct FourRuled {
+    pub here: u64x4,
+    pub behind: u64x4,
+}
+
+impl FourRuled {
+    /// What the entries of the first places of the words do.
+    #[inline(always)]
+    pub fn by(entries: u64x4) -> FourRuled
+        ensures { (b : Bucketing) (text : List ℕ) (at : ℕ) → RulesOutWords b text at entries → AreRuled b text at result }
+    {
+        FourRuled {
+            here: entries,
+            behind: u64x4::splat(0),
+        }
+    }
+
+    /// What those of others, so many places further on, do besides.
+    #[inline(always)]
+    pub fn and_by(self, entries: u64x4, ahead: u64) -> FourRuled
+        requires some { 0 < ahead }
+        requires near { ahead < 8 }
+        ensures { (b : Bucketing) (text : List ℕ) (at : ℕ) → AreRuled b text at self → RulesOutWords b text (at + ahead) entries → AreRuled b text at result }
+    {
+        FourRuled {
+            here: joined(self.here, moved_on(entries, 8 * ahead)),
+            behind: joined(self.behind, moved_back(entries, 64 - 8 * ahead)),
+        }
+    }
+
+    /// What they rule out at their own places, each joined with what the word before it rules out behind its own, and the first one
+    /// with the last word of those before.
+    #[inline(always)]
+    pub fn with_those_before(self, before: u64x4) -> u64x4
+        ensures { (b : Bucketing) (text : List ℕ) (at : ℕ) → AreRuled b text at self → RulesOut b text at (slice_index before 3) → RulesOutWords b text at result }
+    {
+        joined(self.here, next_of(before, self.behind))
+    }
 }
 
 /// The bits that either has.
 #[inline(always)]
-pub(crate) fn joined(lanes: u8x16, others: u8x16) -> u8x16
-    ensures { (k : ℕ) → k < 16 → slice_index result k ≡ bit_or (slice_index lanes k) (slice_index others k) }
+fn joined(words: u64x4, others: u64x4) -> u64x4
+    ensures { (i : ℕ) → i < 4 → slice_index result i ≡ bit_or (slice_index words i) (slice_index others i) }
 {
-    lanes | others
+    words | others
 }
 
-/// The last eight bytes in front of zeros.
+/// Each word with its bits moved up by so many places.
 #[inline(always)]
-pub(crate) fn last_eight(lanes: u8x16) -> u8x16
-    ensures moved { (k : ℕ) → k < 8 → slice_index result k ≡ slice_index lanes (8 + k) }
-    ensures zeros { (k : ℕ) → k < 8 → slice_index result (8 + k) ≡ 0 }
+fn moved_on(words: u64x4, count: u64) -> u64x4
+    requires { count < 64 }
+    ensures { (i : ℕ) → i < 4 → slice_index result i ≡ slice_index words i * 2 ^ count % 2 ^ 64 }
 {
-    lanes.shuffle(
-        u8x16::splat(0),
-        [8, 9, 10, 11, 12, 13, 14, 15, 16, 17, 18, 19, 20, 21, 22, 23],
-    )
+    words << u64x4::splat(count)
 }
 
-/// The word of the first eight bytes.
+/// Each word with its bits moved down by so many places.
 #[inline(always)]
-pub(crate) fn first_word(lanes: u8x16) -> u64
-    ensures { (k bit : ℕ) → k < 8 → bit < 8 → bit_at result (8 * k + bit) ≡ bit_at (slice_index lanes k) bit }
+fn moved_back(words: u64x4, count: u64) -> u64x4
+    requires { count < 64 }
+    ensures { (i : ℕ) → i < 4 → slice_index result i ≡ slice_index words i / 2 ^ count }
 {
-    let [first, _] = u64x2::from_le_bytes(lanes).to_array();
-    first
+    words >> u64x4::splat(count)
+}
+
+/// The last of four words in front of the first three of others.
+#[inline(always)]
+fn next_of(before: u64x4, words: u64x4) -> u64x4
+    ensures first { slice_index result 0 ≡ slice_index before 3 }
+    ensures others { (i : ℕ) → i < 3 → slice_index result (i + 1) ≡ slice_index words i }
+{
+    before.shuffle(words, [3, 4, 5, 6])
+}
+
+/// Four words of which the last one is this, and the others are zeros.
+#[inline(always)]
+pub(crate) fn last_alone(word: u64) -> u64x4
+    ensures { slice_index result 3 ≡ word }
+{
+    u64x4::from_array([0, 0, 0, word])
+}
+
+/// The last of four words.
+#[inline(always)]
+pub(crate) fn last_of(words: u64x4) -> u64
+    ensures { result ≡ slice_index words 3 }
+{
+    let [_, _, _, last] = words.to_array();
+    last
+}
+
+/// Which of four words lack a bit: bit k stands for word k.
+#[inline(always)]
+pub(crate) fn lacking(words: u64x4) -> u64
+    ensures few { result < 16 }
+    ensures full { (i : ℕ) → i < 4 → bit_at result i ≡ 0 → slice_index words i ≡ 2 ^ 64 - 1 }
+{
+    words.simd_ne(u64x4::splat(u64::MAX)).to_bitmask()
 }

@@ -7,6 +7,7 @@ mod counts;
 mod entries;
 mod grouping;
 mod joining;
+mod looking;
 mod looks;
 mod marking;
 mod rate;

@@ -1,13 +1,14 @@
 //! Shift-or over buckets of literals, as Hyperscan's FDR has it: which ends are ruled out by the bytes before them.
-ghost use Rattle.std.specs.Prelude.{◌≡◌, ℕ, ◌+◌, ◌<◌, ◌≤◌, IfOk, IfSome, MatchOption, length, max, false};
+ghost use Rattle.std.specs.Prelude.{◌≡◌, ℕ, ◌+◌, ◌-◌, ◌<◌, ◌≤◌, IfOk, IfSome, MatchOption, length, max, false};
 ghost use Rattle.text_windows.specs.NoEnds.{Finds, IsFirstFound, NoEndUpTo};
-ghost use Rattle.text_windows.specs.ShiftOr.{AreEntriesOf, NoneOf, RulesOut, RulesOutLanes};
-ghost use Rattle.text_windows.specs.Looks.{AreLooks, AreLooksBehind, AreUnruled, IsVerified};
+ghost use Rattle.text_windows.specs.ShiftOr.{AreEntriesOf, NoneOf, RulesOut, RulesOutWords};
+ghost use Rattle.text_windows.specs.Looks.{AreLeft, AreLooks, AreLooksBehind, IsVerified};
 ghost use Rattle.text_windows.specs.declared.shift_or.TheConstants.{FRONT};
 
 use crate::confirming::{CONFIRM_BITS, Confirms};
 use crate::entries::{ENTRIES, PLACES, fill_all};
-use crate::joining::{first_word, joined, lanes_of, last_eight, one_ahead, two_ahead};
+use crate::joining::{lacking, last_alone, last_of};
+use crate::looking::{Stride, four_looks, looks_by};
 use crate::looks::{Looks, Verified, bits_behind};
 use crate::rate::EndRate;
 use crate::runs::cut_runs;
@@ -18,11 +19,11 @@ use std::marker::Model;
 use std::simd::prelude::*;
 
 /// To look at each place of 1,024 takes so many tenths of a nanosecond, where all ends are ruled out.
-const EACH_COST: usize = 5400;
+const EACH_COST: usize = 4300;
 
 /// What looks at every second place of 1,024 take, in tenths of a nanosecond, where all ends are ruled out: no search by shift-or is
 /// estimated at less.
-pub const SHIFT_OR_COST: usize = 3700;
+pub const SHIFT_OR_COST: usize = 2900;
 
 /// An end that is not ruled out takes so many, once for each bucket, if nothing ends there.
 const LEFT_COST: usize = 190;
@@ -41,13 +42,6 @@ const SPARSE: usize = 31;
 /// So many bytes of a text are gone through without looks: behind them there are eight places to look at before the first end that
 /// is sought, and eight bytes before each of these.
 const FRONT: usize = 15;
-
-/// How far apart the places are at which a search looks.
-#[derive(Clone, Copy, Debug)]
-enum Stride {
-    One,
-    Two,
-}
 
 /// For the two bytes before a place an entry that tells which ends they rule out: bit `8 * ahead + bucket` is set if no literal of
 /// a bucket ends `ahead` places behind such bytes. The entries of all or of every second place, each shifted by how far it stands
@@ -168,79 +162,13 @@ impl<'p> ShiftOr<'p> {
         for stretch in sample.chunks(SPARSE) {
             if stretch.len() == SPARSE {
                 let at = SPARSE - (PLACES - 1);
-                let looks = self.looks_at(entries, stretch, at, lanes_of(0), stride);
-                let unruled = !first_word(looks) >> (64 - 8 * told);
+                let looks = looks_by(entries, stretch, at, stride);
+                let unruled = !looks.here >> (64 - 8 * told);
                 left = left.saturating_add(unruled.count_ones() as usize);
                 all = all.saturating_add(told);
             }
         }
         (left, all)
-    }
-
-    /// What looks at a place and at every second one of the next six rule out from it on. The bytes before them are read as one
-    /// word: of pairs that are read one by one the compiler makes a vector, from which it takes each by itself.
-    #[inline(always)]
-    fn every_second_look(&self, entries: &[u64], text: &[u8], at: usize) -> u8x16
-        requires entries { AreEntriesOf self.now.literals self.now.buckets entries.now }
-        requires two { 2 ≤ at }
-        requires inside { at + 6 ≤ length text.now }
-        ensures { RulesOutLanes self.now text.now at result }
-    {
-        let word = last_word(text, at + 6) | self.confirms.case_bits;
-        let mut lanes = lanes_of(0);
-        let mut pairs = 4usize;
-        'pairs: while pairs > 0 {
-            pairs -= 1;
-            let number = (word >> (16 * pairs)) % ENTRIES as u64;
-            let entry = lanes_of(entries[number as usize]);
-            lanes = joined(two_ahead(lanes), entry);
-        }
-        lanes
-    }
-
-    /// What looks at a place and at the next seven rule out from it on.
-    #[inline(always)]
-    fn each_look(&self, entries: &[u64], text: &[u8], at: usize) -> u8x16
-        requires entries { AreEntriesOf self.now.literals self.now.buckets entries.now }
-        requires two { 2 ≤ at }
-        requires inside { at + 7 ≤ length text.now }
-        ensures { RulesOutLanes self.now text.now at result }
-    {
-        let others = one_ahead(self.every_second_look(entries, text, at + 1));
-        joined(others, self.every_second_look(entries, text, at))
-    }
-
-    /// What looks so far apart at the eight places from one on rule out from there on.
-    #[inline(always)]
-    fn looks_by(&self, entries: &[u64], text: &[u8], at: usize, stride: Stride) -> u8x16
-        requires entries { AreEntriesOf self.now.literals self.now.buckets entries.now }
-        requires two { 2 ≤ at }
-        requires inside { at + 7 ≤ length text.now }
-        ensures { RulesOutLanes self.now text.now at result }
-    {
-        match stride {
-            Stride::One => self.each_look(entries, text, at),
-            Stride::Two => self.every_second_look(entries, text, at),
-        }
-    }
-
-    /// The same, joined with what looks before rule out.
-    #[inline(always)]
-    fn looks_at(
-        &self,
-        entries: &[u64],
-        text: &[u8],
-        at: usize,
-        carried: u8x16,
-        stride: Stride,
-    ) -> u8x16
-        requires entries { AreEntriesOf self.now.literals self.now.buckets entries.now }
-        requires two { 2 ≤ at }
-        requires inside { at + 7 ≤ length text.now }
-        requires carried { RulesOutLanes self.now text.now at carried }
-        ensures { RulesOutLanes self.now text.now at result }
-    {
-        joined(carried, self.looks_by(entries, text, at, stride))
     }
 
     /// The looks with which a search for ends behind a place begins.
@@ -270,8 +198,7 @@ impl<'p> ShiftOr<'p> {
         let Some(entries) = self.made_entries() else {
             return 0;
         };
-        let looks = self.looks_at(entries, text, at - PLACES, lanes_of(0), self.stride);
-        first_word(last_eight(looks))
+        looks_by(entries, text, at - PLACES, self.stride).behind
     }
 
     /// The first place of the text behind `from` at which some literal ends, wherever it begins, with the first literal
@@ -293,8 +220,8 @@ impl<'p> ShiftOr<'p> {
             return self.next_plainly(text, from, looks);
         };
         match self.stride {
-            Stride::One => self.next_by_stride(entries, text, from, Stride::One, looks, left),
-            Stride::Two => self.next_by_stride(entries, text, from, Stride::Two, looks, left),
+            Stride::One => self.next_by_step::<1>(entries, text, from, looks, left),
+            Stride::Two => self.next_by_step::<2>(entries, text, from, looks, left),
         }
     }
 
@@ -311,14 +238,13 @@ impl<'p> ShiftOr<'p> {
         found
     }
 
-    /// The same by looks that are so far apart.
+    /// The same by looks that are so many places apart.
     #[inline(always)]
-    fn next_by_stride(
+    fn next_by_step<const STEP: usize>(
         &self,
         entries: &[u64],
         text: &[u8],
         from: usize,
-        stride: Stride,
         looks: &mut Looks,
         left: &mut usize,
     ) -> Option<(usize, usize)>
@@ -336,25 +262,65 @@ impl<'p> ShiftOr<'p> {
         }
         // The looks are held by single variables, and handed on as new ones: else they are stored at each turn.
         let mut at = looks.at;
-        let mut carried = lanes_of(looks.carried);
-        let last = text.len().saturating_sub(2 * PLACES - 1);
-        'eights: while at <= last {
-            at += PLACES;
-            let now = self.looks_at(entries, text, at, carried, stride);
-            carried = last_eight(now);
-            let ruled = first_word(now);
-            let unruled = !ruled;
-            if unruled != 0 {
-                let behind = first_word(carried);
-                let left_here = Looks {
-                    at,
-                    unruled,
-                    carried: behind,
-                };
-                if let Some(found) = self.verify(text, left_here, left) {
+        let mut before = last_alone(looks.carried);
+        let last_four = text.len().saturating_sub(5 * PLACES - 1);
+        'fours: while at <= last_four {
+            let ahead = at + PLACES;
+            let now = four_looks::<STEP>(entries, text, ahead);
+            let ruled = now.with_those_before(before);
+            before = now.behind;
+            if lacking(ruled) != 0 {
+                if let Some(found) = self.verify_four(text, ahead, ruled, last_of(before), left) {
                     *looks = found.looks;
                     return Some((found.end, found.first));
                 }
+            }
+            at += 4 * PLACES;
+        }
+        let rest = Looks {
+            at,
+            unruled: 0,
+            carried: last_of(before),
+        };
+        self.next_by_eights(entries, text, from, rest, looks, left)
+    }
+
+    /// The same behind such looks, of whose ends none is left, by eight places at a time: the last ones of a text.
+    #[inline(never)]
+    fn next_by_eights(
+        &self,
+        entries: &[u64],
+        text: &[u8],
+        from: usize,
+        rest: Looks,
+        looks: &mut Looks,
+        left: &mut usize,
+    ) -> Option<(usize, usize)>
+        requires entries { AreEntriesOf self.now.literals self.now.buckets entries.now }
+        requires some { 8 ≤ rest.at }
+        requires near { max from FRONT ≤ rest.at + 7 }
+        requires within { rest.at + 7 ≤ max (max from FRONT) (length text.now) }
+        requires none { NoEndUpTo self.now.literals text.now from (rest.at + 7) }
+        requires carried { RulesOut self.now text.now (rest.at + 8) rest.carried }
+        ensures next { Finds self.now.literals text.now from (length text.now) result }
+        ensures looks { IfSome result (λ found. AreLooksBehind self.now text.now found.0 looks.new) }
+    {
+        let mut at = rest.at;
+        let mut carried = rest.carried;
+        let last = text.len().saturating_sub(2 * PLACES - 1);
+        'eights: while at <= last {
+            at += PLACES;
+            let now = looks_by(entries, text, at, self.stride);
+            let unruled = !(now.here | carried);
+            carried = now.behind;
+            let left_here = Looks {
+                at,
+                unruled,
+                carried,
+            };
+            if let Some(found) = self.end_left(text, left_here, left) {
+                *looks = found.looks;
+                return Some((found.end, found.first));
             }
         }
         let found = self.first_between(text, at + (PLACES - 1), text.len());
@@ -419,6 +385,63 @@ impl<'p> ShiftOr<'p> {
             unruled = others;
         }
         None
+    }
+
+    /// The same among the ends that four words leave, each at eight places in a row, of which these bits are ruled out, and behind the
+    /// last of which these are.
+    #[inline(never)]
+    fn verify_four(
+        &self,
+        text: &[u8],
+        at: usize,
+        ruled: u64x4,
+        behind: u64,
+        left: &mut usize,
+    ) -> Option<Verified>
+        requires eight { 8 ≤ at }
+        requires inside { at + 31 ≤ length text.now }
+        requires ruled { RulesOutWords self.now text.now at ruled }
+        requires behind { RulesOut self.now text.now (at + 32) behind }
+        ensures { (start : ℕ) → start < at → NoEndUpTo self.now.literals text.now start (at - 1) → MatchOption result
+            (NoEndUpTo self.now.literals text.now start (at + 31))
+            (IsVerified self.now text.now start) }
+    {
+        let [first, second, third, fourth] = ruled.to_array();
+        let words = [first, second, third, fourth, behind];
+        let mut unseen = lacking(ruled);
+        'words: while unseen != 0 {
+            let (word, others) = split_lowest(unseen);
+            let looks = Looks {
+                at: at + PLACES * word,
+                unruled: !words[word],
+                carried: words[word + 1],
+            };
+            let unruled = self.confirmed(text, looks, left);
+            if let Some(found) = self.end_left(text, Looks { unruled, ..looks }, left) {
+                return Some(found);
+            }
+            unseen = others;
+        }
+        None
+    }
+
+    /// The bits of looks from the first one on at which the bytes before an end confirm its bucket.
+    #[inline(always)]
+    fn confirmed(&self, text: &[u8], looks: Looks, left: &mut usize) -> u64
+        requires eight { 8 ≤ looks.at }
+        requires inside { looks.at + 7 ≤ length text.now }
+        ensures { AreLeft self.now text.now looks result }
+    {
+        let mut kept = looks.unruled;
+        'ends: while kept != 0 {
+            let (bit, others) = split_lowest(kept);
+            if self.may_end(text, looks.at + bit / 8, bit % 8) {
+                return kept;
+            }
+            *left = left.saturating_add(1);
+            kept = others;
+        }
+        0
     }
 
     /// Whether a literal of a bucket may end at a place, by a hash of as many bytes before it as each of them has.

@@ -330,6 +330,81 @@ fn finds_short_literals_in_any_case(rt: HostRuntime) {
     );
 }
 
+/// Whether a search by shift-or finds one end in a text, which is this.
+fn finds_only(shift_or: &ShiftOr<'_>, text: &[u8], end: usize) -> bool {
+    let mut looks = shift_or.looks_behind(text, 0);
+    let mut left = 0;
+    let Some((found, _)) = shift_or.next_by(text, 0, &mut looks, &mut left) else {
+        return false;
+    };
+    found == end
+        && shift_or
+            .next_by(text, found, &mut looks, &mut left)
+            .is_none()
+}
+
+/// So many dots, a word, and as many more as make a text of a hundred and twenty bytes and the word.
+fn dots_round(alloc: Global, word: &[u8], before: usize) -> Option<Vec<u8>> {
+    let mut text = Vec::from_elem(alloc, b'.', before).ok()?;
+    text.extend_from_slice(word).ok()?;
+    text.resize(120 + word.len(), b'.').ok()?;
+    Some(text)
+}
+
+/// At how many places of such texts a search by shift-or misses a word, for which it looks beside another one, and which has learned
+/// from a sample of these bytes.
+fn count_missed(
+    alloc: Global,
+    fold: Fold,
+    literal: &[u8],
+    word: &[u8],
+    bytes: [u8; 4],
+) -> Option<usize> {
+    let list = list_of(alloc, fold, &[literal, b"abcd"])?;
+    let mut shift_or = ShiftOr::new(alloc, &list).ok()?;
+    shift_or.learn(&sample_of(alloc, bytes)?, EndRate::nothing());
+    let mut missed = 0usize;
+    for before in 0..120usize {
+        let text = dots_round(alloc, word, before)?;
+        if !finds_only(&shift_or, text.as_slice(), before + word.len()) {
+            missed = missed.saturating_add(1);
+        }
+    }
+    Some(missed)
+}
+
+#[test]
+fn finds_literals_at_each_place_by_looks_at_every_second_one(rt: HostRuntime) {
+    assert_eq!(rt;
+        count_missed(rt.alloc(), Fold::No, b"wxyz", b"wxyz", *b"...."),
+        Some(0)
+    );
+    assert_eq!(rt;
+        count_missed(rt.alloc(), Fold::No, b"wxyzuvwxyz", b"wxyzuvwxyz", *b"...."),
+        Some(0)
+    );
+    assert_eq!(rt;
+        count_missed(rt.alloc(), Fold::Ascii, b"wxyz", b"WxYZ", *b"...."),
+        Some(0)
+    );
+}
+
+#[test]
+fn finds_literals_at_each_place_by_looks_at_each(rt: HostRuntime) {
+    assert_eq!(rt;
+        count_missed(rt.alloc(), Fold::No, b"wxyz", b"wxyz", *b"wxy."),
+        Some(0)
+    );
+    assert_eq!(rt;
+        count_missed(rt.alloc(), Fold::No, b"wx", b"wx", *b"w..."),
+        Some(0)
+    );
+    assert_eq!(rt;
+        count_missed(rt.alloc(), Fold::Ascii, b"wxyz", b"wXyZ", *b"wxy."),
+        Some(0)
+    );
+}
+
 /// Where a search by shift-or finds the second of them that has learned from nothing.
 fn second_unlearned(alloc: Global) -> Option<usize> {
     let list = list_of(alloc, Fold::No, &FOURS)?;
@@ -356,16 +431,16 @@ fn cost_of(alloc: Global, literals: &[&[u8]], bytes: [u8; 4]) -> Option<usize> {
 
 #[test]
 fn costs_more_where_ends_are_many(rt: HostRuntime) {
-    assert_eq!(rt; cost_of(rt.alloc(), &FOURS, *b"...."), Some(3700));
-    assert_eq!(rt; cost_of(rt.alloc(), &FOURS, *b"wxyz"), Some(52150));
+    assert_eq!(rt; cost_of(rt.alloc(), &FOURS, *b"...."), Some(2900));
+    assert_eq!(rt; cost_of(rt.alloc(), &FOURS, *b"wxyz"), Some(51350));
 }
 
 #[test]
 fn costs_more_where_literals_are_short(rt: HostRuntime) {
-    assert_eq!(rt; cost_of(rt.alloc(), &FOURS, *b"w..."), Some(3700));
+    assert_eq!(rt; cost_of(rt.alloc(), &FOURS, *b"w..."), Some(2900));
     assert_eq!(rt;
         cost_of(rt.alloc(), &[b"wx", b"abcd"], *b"w..."),
-        Some(5400)
+        Some(4300)
     );
 }
 

@@ -1,4 +1,4 @@
-use Rattle.text_windows.proofs.ShiftOrLemmas.{AreLeft}
+use Rattle.text_windows.specs.Looks.{AreLeft}
 use Rattle.text_windows.proofs.shift_or.ShiftOr.verify.Given as goal
 
 -- each end of a literal that was not ruled out has its bit yet

@@ -1,0 +1,98 @@
+-- The front is verified place by place, then what is left of the looks at hand, then of thirty-two places after the other.
+use Rattle.std.proofs.Common.{◌≡◌, ℕ, ◌+◌, ◌-◌, ◌*◌, max, slice_index, sym, ap, ◌∙◌, subst, arith}
+use Rattle.std.specs.Int.{bit_at}
+use Rattle.std.proofs.lemmas.Nat.Bits.{bit_at-zero}
+use Rattle.text_windows.specs.Looks.{AreLooks, IsVerified}
+use Rattle.text_windows.specs.NoEnds.{NoEndUpTo}
+use Rattle.text_windows.specs.ShiftOr.{AreRuled, RulesOut}
+use Rattle.text_windows.proofs.ShiftOrLemmas.{found_further, none_joined, none_of_word, none_of_words}
+use Rattle.text_windows.proofs.shift_or.ShiftOr.next_by_step.Goals as goal
+use Rattle.text_windows.proofs.shift_or.ShiftOr.next_by_step.Goals.{then-lacking-ne0+in_default-verify_four, else-lacking-ne0}
+
+pub returns-in-Some-end_left-clause-next : goal.returns-in-Some-end_left-clause-next
+returns-in-Some-end_left-clause-next g c =
+    let start : ℕ = max c.args.from 15 in
+    let found = c.in-Some-end_left.found in
+    let verified : IsVerified c.args.self.now c.args.text.now start found = c.in-Some-end_left.ensures start c.requires.looks in
+    found_further c.args.self.now.literals c.args.text.now c.args.from start start found.end found.first (omega arith) (omega arith) c.in_default.ensures verified.first
+
+pub returns-in-Some-end_left-clause-looks : goal.returns-in-Some-end_left-clause-looks
+returns-in-Some-end_left-clause-looks g c =
+    let start : ℕ = max c.args.from 15 in
+    let found = c.in-Some-end_left.found in
+    let verified : IsVerified c.args.self.now c.args.text.now start found = c.in-Some-end_left.ensures start c.requires.looks in
+    subst (λ s. AreLooks c.args.self.now c.args.text.now s found.looks) (omega (arith, verified.first.after)) verified.looks
+
+pub fours-init : goal.fours-init
+fours-init g c =
+    let b = c.args.self.now in
+    let text = c.args.text.now in
+    let start : ℕ = max c.args.from 15 in
+    let looks = c.requires.looks in
+    record {
+      some = looks.some;
+      near = looks.near;
+      within = looks.within;
+      none = none_joined b.literals text c.args.from start start (c.args.looks.now.at + 7) (omega arith) c.in_default.ensures (c.in_default-end_left.ensures start looks);
+      before = subst (RulesOut b text (c.args.looks.now.at + 8)) (sym c.last_alone-before.ensures) looks.carried;
+    }
+
+pub verify_four-requires-clause-ruled : goal.verify_four-requires-clause-ruled
+verify_four-requires-clause-ruled g c =
+    let b = c.args.self.now in
+    c.with_those_before-ruled.ensures b c.args.text.now (c.fours.at + 8) (c.four_looks-now.ensures b c.requires.entries) c.fours.invariant.before
+
+pub verify_four-requires-clause-behind : goal.verify_four-requires-clause-behind
+verify_four-requires-clause-behind g c =
+    let b = c.args.self.now in
+    let are : AreRuled b c.args.text.now (c.fours.at + 8) c.four_looks-now.result = c.four_looks-now.ensures b c.requires.entries in
+    let there : c.fours.at + 8 + 8 + 8 * 3 ≡ c.fours.at + 8 + 32 = omega arith in
+    subst (RulesOut b c.args.text.now (c.fours.at + 8 + 32)) (sym c.last_of.ensures) (subst (λ p. RulesOut b c.args.text.now p (slice_index c.four_looks-now.result.behind 3)) there (are.behind 3 (omega arith)))
+
+pub returns-in-Some-verify_four-clause-next : goal.returns-in-Some-verify_four-clause-next
+returns-in-Some-verify_four-clause-next g c =
+    let b = c.args.self.now in
+    let text = c.args.text.now in
+    let start : ℕ = max c.args.from 15 in
+    let before = c.fours.invariant in
+    let at : ℕ = c.fours.at + 8 in
+    let none : NoEndUpTo b.literals text start (at - 1) = λ end after within. before.none end (omega (arith, after)) (omega (arith, within)) in
+    let found = c.in-Some-verify_four.found in
+    found_further b.literals text c.args.from (c.fours.at + 7) start found.end found.first (omega arith) before.near before.none (c.in-Some-verify_four.ensures start (omega (arith, before.near)) none).first
+
+pub returns-in-Some-verify_four-clause-looks : goal.returns-in-Some-verify_four-clause-looks
+returns-in-Some-verify_four-clause-looks g c =
+    let b = c.args.self.now in
+    let text = c.args.text.now in
+    let start : ℕ = max c.args.from 15 in
+    let before = c.fours.invariant in
+    let at : ℕ = c.fours.at + 8 in
+    let none : NoEndUpTo b.literals text start (at - 1) = λ end after within. before.none end (omega (arith, after)) (omega (arith, within)) in
+    let found = c.in-Some-verify_four.found in
+    let verified : IsVerified b text start found = c.in-Some-verify_four.ensures start (omega (arith, before.near)) none in
+    subst (λ s. AreLooks b text s found.looks) (omega (arith, verified.first.after)) verified.looks
+
+pub fours-preserved : goal.fours-preserved
+fours-preserved g c =
+    let b = c.args.self.now in
+    let text = c.args.text.now in
+    let start : ℕ = max c.args.from 15 in
+    let before = c.fours.invariant in
+    let at : ℕ = c.fours.at + 8 in
+    let none : NoEndUpTo b.literals text start (at - 1) = λ end after within. before.none end (omega (arith, after)) (omega (arith, within)) in
+    let are : AreRuled b text at c.four_looks-now.result = c.four_looks-now.ensures b c.requires.entries in
+    let there : c.fours.at + 8 + 8 + 8 * 3 ≡ c.fours.at + 32 + 8 = omega arith in
+    record {
+      some = omega (arith, before.some);
+      near = omega (arith, before.near);
+      within = omega (arith, c.fours-test.true, before.some, c.saturating_sub-last_four.ensures);
+      none = elim c.if-lacking-ne0.branch [
+        | then-lacking-ne0+in_default-verify_four w ↦ none_joined b.literals text c.args.from (c.fours.at + 7) start (c.fours.at + 32 + 7) before.near before.none (λ end after within. w.in_default-verify_four.ensures start (omega (arith, before.near)) none end after (omega (arith, within)))
+        | else-lacking-ne0 w ↦
+            let gone : c.lacking.result ≡ 0 = omega (arith, w.if-lacking-ne0.false) in
+            let ruled = c.with_those_before-ruled.ensures b text at are before.before in
+            λ end after within. none_of_words b.literals text c.args.from at 4 (omega arith) (λ end after within. before.none end after (omega (arith, within)))
+            (λ i below. none_of_word b text (at + 8 * i) (slice_index c.with_those_before-ruled.result i) (omega arith) (ruled i below) (c.lacking.ensures.full i below (ap (λ m. bit_at m i) gone ∙ bit_at-zero i))) end after (omega (arith, within))
+      ];
+      before = subst (λ p. RulesOut b text p (slice_index c.four_looks-now.result.behind 3)) there (are.behind 3 (omega arith));
+    }
