@@ -23,7 +23,7 @@ use Rattle.lit_base.specs.Literals.{Literals}
 use Rattle.lit_base.specs.Occurrences.{HasEnd, IsFirstEnding, NoneEnds, Occurs}
 use Rattle.lit_base.specs.Suffixes.{case_bits, hash_of, last_bits, spelled, suffix_key}
 use Rattle.lit_base.proofs.SuffixLemmas.{AreBytes, drop-range, key-occurs, key-occurs_inside, masked, range_bytes, spelled-drop, spelled_fits, zeros_bytes}
-use Rattle.text_windows.specs.Looks.{AreLeft, AreLooks, IsVerified}
+use Rattle.text_windows.specs.Looks.{AreLooks, IsVerified}
 use Rattle.text_windows.specs.NoEnds.{Finds, IsFirstFound, NoEndUpTo}
 use Rattle.text_windows.specs.ShiftOr.{AreConfirmsOf, AreEntriesOf, Bucketing, LetThrough, NoneOf, RulesOut, RulesOutWords, bucket_at, last_number_at, number_at, pair_case_bits}
 use Rattle.text_windows.specs.declared.confirming.Confirms.{Confirms}
@@ -179,6 +179,11 @@ all_unruled b text at word fits rules place ahead near occurs =
     let bit : ℕ = 8 * ahead + bucket_at b.buckets place in
     omega (arith, bit_at_not w64 word bit fits (omega (arith, near, few_buckets b.buckets place)), rules place ahead near occurs)
 
+-- bits that some looks leave: each of a literal that ends there, and no others than were
+pub record AreLeft (b : Bucketing) (text : List ℕ) (looks : Looks) (unruled : ℕ) : Type 0 where
+  pub kept : (place ahead : ℕ) → ahead < 8 → Occurs b.literals text place (looks.at + ahead) → bit_at looks.unruled (8 * ahead + bucket_at b.buckets place) ≡ 1 → bit_at unruled (8 * ahead + bucket_at b.buckets place) ≡ 1
+  pub less : (bit : ℕ) → bit_at unruled bit ≡ 1 → bit_at looks.unruled bit ≡ 1
+
 -- all of them are at first
 pub all_left : (b : Bucketing) (text : List ℕ) (looks : Looks) → AreLeft b text looks looks.unruled
 all_left b text looks = record { kept = λ place ahead near occurs set. set; less = λ bit set. set }
@@ -270,19 +275,6 @@ looks_here b text from start at ruled carried ahead near some inside fits none r
   none = λ end past within. none end (omega (arith, past, ahead)) within;
   unruled = λ place further close _ occurs. all_unruled b text at ruled fits rules place further close occurs;
   carried = behind;
-}
-
--- of the looks of a search bits may be dropped at which none ends
-pub looks_left : (b : Bucketing) (text : List ℕ) (from : ℕ) (looks : Looks) (unruled : ℕ) → looks.at + 7 ≤ length text → AreLooks b text from looks → AreLeft b text looks unruled → AreLooks b text from (record { at = looks.at; unruled = unruled; carried = looks.carried })
-looks_left b text from looks unruled inside are left = record {
-  some = are.some;
-  near = are.near;
-  inside = λ _. inside;
-  within = are.within;
-  later = λ bit set. are.later bit (left.less bit set);
-  none = are.none;
-  unruled = λ place ahead close after occurs. left.kept place ahead close occurs (are.unruled place ahead close after occurs);
-  carried = are.carried;
 }
 
 -- so are those at the eight places of a word of four, with the next one as what is ruled out behind it

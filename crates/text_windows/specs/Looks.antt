@@ -19,11 +19,6 @@ pub record AreLooks (b : Bucketing) (text : List ℕ) (from : ℕ) (looks : Look
   pub unruled : (place ahead : ℕ) → ahead < 8 → from < looks.at + ahead → Occurs b.literals text place (looks.at + ahead) → bit_at looks.unruled (8 * ahead + bucket_at b.buckets place) ≡ 1
   pub carried : RulesOut b text (looks.at + 8) looks.carried
 
--- bits that some looks leave: each of a literal that ends there, and no others than were
-pub record AreLeft (b : Bucketing) (text : List ℕ) (looks : Looks) (unruled : ℕ) : Type 0 where
-  pub kept : (place ahead : ℕ) → ahead < 8 → Occurs b.literals text place (looks.at + ahead) → bit_at looks.unruled (8 * ahead + bucket_at b.buckets place) ≡ 1 → bit_at unruled (8 * ahead + bucket_at b.buckets place) ≡ 1
-  pub less : (bit : ℕ) → bit_at unruled bit ≡ 1 → bit_at looks.unruled bit ≡ 1
-
 -- those of a search behind a place of which a text's front, which is gone through without looks, is no part
 abbrev pub AreLooksBehind : Bucketing → List ℕ → ℕ → Looks → Type 0
 AreLooksBehind b text from looks = AreLooks b text (max from FRONT) looks

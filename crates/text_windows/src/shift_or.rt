@@ -2,7 +2,7 @@
 ghost use Rattle.std.specs.Prelude.{◌≡◌, ℕ, ◌+◌, ◌-◌, ◌<◌, ◌≤◌, IfOk, IfSome, MatchOption, length, max, false};
 ghost use Rattle.text_windows.specs.NoEnds.{Finds, IsFirstFound, NoEndUpTo};
 ghost use Rattle.text_windows.specs.ShiftOr.{AreEntriesOf, NoneOf, RulesOut, RulesOutWords};
-ghost use Rattle.text_windows.specs.Looks.{AreLeft, AreLooks, AreLooksBehind, IsVerified};
+ghost use Rattle.text_windows.specs.Looks.{AreLooks, AreLooksBehind, IsVerified};
 ghost use Rattle.text_windows.specs.declared.shift_or.TheConstants.{FRONT};
 
 use crate::confirming::{CONFIRM_BITS, Confirms};
@@ -263,6 +263,7 @@ impl<'p> ShiftOr<'p> {
         // The looks are held by single variables, and handed on as new ones: else they are stored at each turn.
         let mut at = looks.at;
         let mut before = last_alone(looks.carried);
+        // Behind a block of eight places there are to be four more, for one turn.
         let last_four = text.len().saturating_sub(5 * PLACES - 1);
         'fours: while at <= last_four {
             let ahead = at + PLACES;
@@ -358,9 +359,21 @@ impl<'p> ShiftOr<'p> {
         self.verify(text, looks, left)
     }
 
-    /// The same, where some are left.
+    /// The same, in a function of its own.
     #[inline(never)]
     fn verify(&self, text: &[u8], looks: Looks, left: &mut usize) -> Option<Verified>
+        requires eight { 8 ≤ looks.at }
+        requires inside { looks.at + 7 ≤ length text.now }
+        ensures { (start : ℕ) → AreLooks self.now text.now start looks → MatchOption result
+            (NoEndUpTo self.now.literals text.now start (looks.at + 7))
+            (IsVerified self.now text.now start) }
+    {
+        self.first_verified(text, looks, left)
+    }
+
+    /// The first of the ends that looks leave at eight places at which a literal does end, with the first one that does, if there is one.
+    #[inline(always)]
+    fn first_verified(&self, text: &[u8], looks: Looks, left: &mut usize) -> Option<Verified>
         requires eight { 8 ≤ looks.at }
         requires inside { looks.at + 7 ≤ length text.now }
         ensures { (start : ℕ) → AreLooks self.now text.now start looks → MatchOption result
@@ -416,32 +429,12 @@ impl<'p> ShiftOr<'p> {
                 unruled: !words[word],
                 carried: words[word + 1],
             };
-            let unruled = self.confirmed(text, looks, left);
-            if let Some(found) = self.end_left(text, Looks { unruled, ..looks }, left) {
+            if let Some(found) = self.first_verified(text, looks, left) {
                 return Some(found);
             }
             unseen = others;
         }
         None
-    }
-
-    /// The bits of looks from the first one on at which the bytes before an end confirm its bucket.
-    #[inline(always)]
-    fn confirmed(&self, text: &[u8], looks: Looks, left: &mut usize) -> u64
-        requires eight { 8 ≤ looks.at }
-        requires inside { looks.at + 7 ≤ length text.now }
-        ensures { AreLeft self.now text.now looks result }
-    {
-        let mut kept = looks.unruled;
-        'ends: while kept != 0 {
-            let (bit, others) = split_lowest(kept);
-            if self.may_end(text, looks.at + bit / 8, bit % 8) {
-                return kept;
-            }
-            *left = left.saturating_add(1);
-            kept = others;
-        }
-        0
     }
 
     /// Whether a literal of a bucket may end at a place, by a hash of as many bytes before it as each of them has.

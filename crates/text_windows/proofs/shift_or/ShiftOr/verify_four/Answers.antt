@@ -4,7 +4,7 @@ use Rattle.std.specs.Int.{bit_at}
 use Rattle.std.proofs.lemmas.Bool.{cases_lt}
 use Rattle.std.proofs.lemmas.Nat.Bits.{bit_at-lt, bit_at-zero}
 use Rattle.text_windows.specs.NoEnds.{NoEndUpTo}
-use Rattle.text_windows.proofs.ShiftOrLemmas.{looks_left, looks_of_word, low_of_four, none_of_word, none_of_words}
+use Rattle.text_windows.proofs.ShiftOrLemmas.{looks_of_word, low_of_four, none_of_word, none_of_words}
 use Rattle.text_windows.proofs.shift_or.ShiftOr.verify_four.Goals as goal
 
 pub words-init : goal.words-init
@@ -19,11 +19,8 @@ bounds-words-word c = omega (arith, low_of_four c.words.unseen c.split_lowest-wo
 pub bounds-words-word-in-words : goal.bounds-words-word-in-words
 bounds-words-word-in-words c = omega (arith, low_of_four c.words.unseen c.split_lowest-word.result.0 c.words.invariant.few c.split_lowest-word.ensures.set)
 
-pub confirmed-unruled-requires-clause-inside : goal.confirmed-unruled-requires-clause-inside
-confirmed-unruled-requires-clause-inside c = omega (arith, c.requires.inside, low_of_four c.words.unseen c.split_lowest-word.result.0 c.words.invariant.few c.split_lowest-word.ensures.set)
-
-pub end_left-requires-clause-inside : goal.end_left-requires-clause-inside
-end_left-requires-clause-inside c = λ _. omega (arith, c.requires.inside, low_of_four c.words.unseen c.split_lowest-word.result.0 c.words.invariant.few c.split_lowest-word.ensures.set)
+pub first_verified-requires-clause-inside : goal.first_verified-requires-clause-inside
+first_verified-requires-clause-inside c = omega (arith, c.requires.inside, low_of_four c.words.unseen c.split_lowest-word.result.0 c.words.invariant.few c.split_lowest-word.ensures.set)
 
 pub returns-in-Some : goal.returns-in-Some
 returns-in-Some c = λ start before none.
@@ -36,7 +33,7 @@ returns-in-Some c = λ start before none.
     let four : word < 4 = low_of_four unseen word c.words.invariant.few split.set in
     let passed : NoEndUpTo b.literals text start (at + 8 * word - 1) = none_of_words b.literals text start at word c.requires.eight none (λ i below. c.words.invariant.none i (omega (arith, below, four)) (split.lowest i below)) in
     let looks = looks_of_word b text start at c.args.behind c.args.ruled word (omega (arith, before)) c.requires.eight c.requires.inside c.fits-ruled.0 c.fits-ruled.1 four c.requires.ruled c.requires.behind passed in
-    c.in-Some.ensures start (looks_left b text start _ c.confirmed-unruled.result (omega (arith, c.requires.inside, four)) looks c.confirmed-unruled.ensures)
+    c.in-Some.ensures start looks
 
 pub words-preserved : goal.words-preserved
 words-preserved c =
@@ -50,7 +47,7 @@ words-preserved c =
     let here : ℕ = at + 8 * word in
     let rest = c.split_lowest-word.result.1 in
     let looks = looks_of_word b text (here - 1) at c.args.behind c.args.ruled word (omega (arith, c.requires.eight)) c.requires.eight c.requires.inside c.fits-ruled.0 c.fits-ruled.1 four c.requires.ruled c.requires.behind (λ end after within. absurd (omega (arith, after, within))) in
-    let own : NoEndUpTo b.literals text (here - 1) (here + 7) = c.in_default.ensures (here - 1) (looks_left b text (here - 1) _ c.confirmed-unruled.result (omega (arith, c.requires.inside, four)) looks c.confirmed-unruled.ensures) in
+    let own : NoEndUpTo b.literals text (here - 1) (here + 7) = c.in_default.ensures (here - 1) looks in
     record {
       few = omega (arith, split.less, c.words.invariant.few);
       none = λ i below unset. elim (cases_lt i word) [

@@ -3,8 +3,8 @@ use Rattle.std.proofs.Common.{ℕ, ◌+◌, ◌/◌, ◌%◌, ap, arith}
 use Rattle.lit_base.specs.Occurrences.{NoneEnds}
 use Rattle.text_windows.specs.ShiftOr.{Bucketing, NoneOf}
 use Rattle.text_windows.proofs.ShiftOrLemmas.{all_left, lowest_verified, none_left, others_left}
-use Rattle.text_windows.proofs.shift_or.ShiftOr.verify.Goals as goal
-use Rattle.text_windows.proofs.shift_or.ShiftOr.verify.Goals.{then-may_end+in_default, else-may_end}
+use Rattle.text_windows.proofs.shift_or.ShiftOr.first_verified.Goals as goal
+use Rattle.text_windows.proofs.shift_or.ShiftOr.first_verified.Goals.{then-may_end+in_default, else-may_end}
 
 pub ends-init : goal.ends-init
 ends-init c = all_left c.args.self.now c.args.text.now c.args.looks

@@ -1,5 +1,5 @@
-use Rattle.text_windows.specs.Looks.{AreLeft}
-use Rattle.text_windows.proofs.shift_or.ShiftOr.verify.Given as goal
+use Rattle.text_windows.proofs.ShiftOrLemmas.{AreLeft}
+use Rattle.text_windows.proofs.shift_or.ShiftOr.first_verified.Given as goal
 
 -- each end of a literal that was not ruled out has its bit yet
 abbrev pub invariant-ends : goal.invariant-ends

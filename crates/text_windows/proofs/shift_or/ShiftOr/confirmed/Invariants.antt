@@ -1,9 +1,0 @@
-use Rattle.text_windows.specs.Looks.{AreLeft}
-use Rattle.text_windows.proofs.shift_or.ShiftOr.confirmed.Given as goal
-
--- each end of a literal that was not ruled out has its bit yet
-abbrev pub invariant-ends : goal.invariant-ends
-invariant-ends l = AreLeft l.self l.text l.looks l.kept
-
-abbrev pub decreases-ends : goal.decreases-ends
-decreases-ends l = l.kept
