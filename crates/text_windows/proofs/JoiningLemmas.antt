@@ -10,11 +10,11 @@ use Rattle.std.proofs.lemmas.Simd.{bit_mask_l, bitmask_splat, mask_l-lt}
 abbrev pub lacking_mask : List ℕ → ℕ
 lacking_mask words = mask_l (map (top 63) (zip2 (λ m n. cond (not (eqb m n)) (2 ^ 64 - 1) 0) words (replicate 4 (2 ^ 64 - 1)))) % 2 ^ 64
 
--- is that of the test word by word
+-- it is that of the test word by word
 lacking_tests : (words : List ℕ) → length words ≡ 4 → lacking_mask words ≡ mask_l (map (λ x. not (eqb x (2 ^ 64 - 1))) words)
 lacking_tests words four = bitmask_splat w64 (λ m n. not (eqb m n)) words 4 (2 ^ 64 - 1) four (omega arith)
 
--- has no bit beside those of the words
+-- it has no bit beside those of the words
 pub lacking_few : (words : List ℕ) → length words ≡ 4 → lacking_mask words < 16
 lacking_few words four =
     let tests : List Bool = map (λ x. not (eqb x (2 ^ 64 - 1))) words in

@@ -41,12 +41,13 @@ low_bit n k i small =
     let whole : n ≡ n / 2 ^ k * 2 ^ k + n % 2 ^ k = omega arith in
     sym (ap (λ x. bit_at x i) whole ∙ bit_at_cat_low (n / 2 ^ k) k (n % 2 ^ k) i small)
 
--- moved up by whole bytes, a word has no bits below these, and its own above
+-- moved up by so many places, a word has no bits below these
 moved_low : (word count bit : ℕ) → bit < 64 → bit < count → bit_at (word * 2 ^ count % 2 ^ 64) bit ≡ 0
 moved_low word count bit small below =
     let plain : word * 2 ^ count ≡ word * 2 ^ count + 0 = omega arith in
     low_bit (word * 2 ^ count) 64 bit small ∙ ap (λ n. bit_at n bit) plain ∙ bit_at_cat_low word count 0 bit below ∙ bit_at-zero bit
 
+-- and its own above
 moved_high : (word count bit : ℕ) → bit < 64 → count ≤ bit → bit_at (word * 2 ^ count % 2 ^ 64) bit ≡ bit_at word (bit - count)
 moved_high word count bit small above =
     let plain : word * 2 ^ count ≡ word * 2 ^ count + 0 = omega arith in
@@ -86,19 +87,17 @@ ruled_joined b text at word other one two place ahead near occurs =
     let bit : ℕ = 8 * ahead + bucket_at b.buckets place in
     omega (arith, bit_at_or word other bit, one place ahead near occurs, two place ahead near occurs)
 
--- each of four words fits in 64 bits
-pub word_fits : (words : List ℕ) → length words ≡ 4 → Each1 (Fits w64) words → (i : ℕ) → i < 4 → slice_index words i < 2 ^ 64
-word_fits words long fits i four = Fits-lt-pow (Each1-get_or (Fits w64) words i 0 (omega (arith, long, four)) fits)
-
--- so with four words
+-- so do four words with four others
 pub words_joined : (b : Bucketing) (text : List ℕ) (at : ℕ) (words others both : List ℕ) → ((i : ℕ) → i < 4 → slice_index both i ≡ bit_or (slice_index words i) (slice_index others i)) → RulesOutWords b text at words → RulesOutWords b text at others → RulesOutWords b text at both
 words_joined b text at words others both is one two i four = subst (RulesOut b text (at + 8 * i)) (sym (is i four)) (ruled_joined b text (at + 8 * i) (slice_index words i) (slice_index others i) (one i four) (two i four))
 
+-- and four words that are moved so, at their own places
 pub words_here : (b : Bucketing) (text : List ℕ) (at further : ℕ) (words moved : List ℕ) → further < 8 → ((i : ℕ) → i < 4 → slice_index moved i ≡ slice_index words i * 2 ^ (8 * further) % 2 ^ 64) → RulesOutWords b text (at + further) words → RulesOutWords b text at moved
 words_here b text at further words moved close is rules i four =
     let there : at + further + 8 * i ≡ at + 8 * i + further = omega arith in
     subst (RulesOut b text (at + 8 * i)) (sym (is i four)) (ruled_here b text (at + 8 * i) further (slice_index words i) close (subst (λ p. RulesOut b text p (slice_index words i)) there (rules i four)))
 
+-- and behind these
 pub words_behind : (b : Bucketing) (text : List ℕ) (at further : ℕ) (words moved : List ℕ) → further < 8 → ((i : ℕ) → i < 4 → slice_index words i < 2 ^ 64) → ((i : ℕ) → i < 4 → slice_index moved i ≡ slice_index words i / 2 ^ (64 - 8 * further)) → RulesOutWords b text (at + further) words → RulesOutWords b text (at + 8) moved
 words_behind b text at further words moved close fits is rules i four =
     let there : at + further + 8 * i ≡ at + 8 * i + further = omega arith in
@@ -106,7 +105,7 @@ words_behind b text at further words moved close fits is rules i four =
     subst (RulesOut b text (at + 8 + 8 * i)) (sym (is i four)) (subst (λ p. RulesOut b text p (slice_index words i / 2 ^ (64 - 8 * further))) eight
     (ruled_behind b text (at + 8 * i) further (slice_index words i) close (fits i four) (subst (λ p. RulesOut b text p (slice_index words i)) there (rules i four))))
 
--- the words that are ruled out behind those of which they are each the next, and the first of them
+-- what four words rule out behind their places, each at those of the next one, and the last of four others at those of the first
 pub words_next : (b : Bucketing) (text : List ℕ) (at : ℕ) (before behind next : List ℕ) → slice_index next 0 ≡ slice_index before 3 → ((i : ℕ) → i < 3 → slice_index next (i + 1) ≡ slice_index behind i) → RulesOut b text at (slice_index before 3) → RulesOutWords b text (at + 8) behind → RulesOutWords b text at next
 words_next b text at before behind next first others rules later zero four =
     let here : at ≡ at + 8 * 0 = omega arith in
@@ -125,11 +124,15 @@ words_of b text at first second third fourth one two three four (suc (suc zero))
 words_of b text at first second third fourth one two three four (suc (suc (suc zero))) below = four
 words_of b text at first second third fourth one two three four (suc (suc (suc (suc i)))) below = absurd (omega (arith, below))
 
+-- each of four words fits in 64 bits
+pub word_fits : (words : List ℕ) → length words ≡ 4 → Each1 (Fits w64) words → (i : ℕ) → i < 4 → slice_index words i < 2 ^ 64
+word_fits words long fits i four = Fits-lt-pow (Each1-get_or (Fits w64) words i 0 (omega (arith, long, four)) fits)
+
 -- four words and one behind them
 abbrev pub with_one_behind : List ℕ → ℕ → List ℕ
 with_one_behind words behind = slice_index words 0 ∷ slice_index words 1 ∷ slice_index words 2 ∷ slice_index words 3 ∷ behind ∷ []
 
--- rule out from places eight apart
+-- they rule out from places eight apart
 five_words : (b : Bucketing) (text : List ℕ) (at behind : ℕ) (words : List ℕ) → RulesOutWords b text at words → RulesOut b text (at + 32) behind → (i : ℕ) → i ≤ 4
     → RulesOut b text (at + 8 * i) (slice_index (with_one_behind words behind) i)
 five_words b text at behind words rules last zero upto = rules 0 (omega arith)
@@ -334,7 +337,7 @@ pub pair_case_small : (fold : Fold) → pair_case_bits fold < 2 ^ 16
 pair_case_small No = omega arith
 pair_case_small Ascii = omega arith
 
--- to leave the bits of case out once more changes nothing
+-- to set the bits of case once more changes nothing
 or_twice : (a c : ℕ) → bit_or (bit_or a c) c ≡ bit_or a c
 or_twice a c = same_from_bits (bit_or (bit_or a c) c) (bit_or a c) (λ i. omega (arith, bit_at_or (bit_or a c) c i, bit_at_or a c i))
 

@@ -27,13 +27,13 @@ bucket_at buckets place = slice_index buckets place % 8
 abbrev pub number_at : Fold → List ℕ → ℕ → ℕ
 number_at fold text at = suffix_key fold text at 2 / 2 ^ 48
 
--- the bits of case in two bytes
-abbrev pub pair_case_bits : Fold → ℕ
-pair_case_bits fold = case_bits fold / 2 ^ 48
-
 -- that of the last one alone
 abbrev pub last_number_at : Fold → List ℕ → ℕ → ℕ
 last_number_at fold text at = suffix_key fold text at 1 / 2 ^ 56
+
+-- the bits of case in two bytes
+abbrev pub pair_case_bits : Fold → ℕ
+pair_case_bits fold = case_bits fold / 2 ^ 48
 
 -- a word rules ends out from a place of a text on: byte k speaks of the end k places further on, and lacks the bit of each bucket of which a literal ends there
 abbrev pub RulesOut : Bucketing → List ℕ → ℕ → ℕ → Type 0

@@ -43,7 +43,7 @@ const SPARSE: usize = 31;
 /// is sought, and eight bytes before each of these.
 const FRONT: usize = 15;
 
-/// For the two bytes before a place an entry that tells which ends they rule out: bit `8 * ahead + bucket` is set if no literal of
+/// For the two bytes before a place, in either case where case does not count, an entry that tells which ends they rule out: bit `8 * ahead + bucket` is set if no literal of
 /// a bucket ends `ahead` places behind such bytes. The entries of all or of every second place, each shifted by how far it stands
 /// before an end, leave few ends that are not ruled out. All memory is taken when it is made, but the entries are written only
 /// when it first learns: a search that never learns need not write half a megabyte.
@@ -238,7 +238,7 @@ impl<'p> ShiftOr<'p> {
         found
     }
 
-    /// The same by looks that are so many places apart.
+    /// The same by looks that are so many places apart, by thirty-two places at a time.
     #[inline(always)]
     fn next_by_step<const STEP: usize>(
         &self,
@@ -359,7 +359,7 @@ impl<'p> ShiftOr<'p> {
         self.verify(text, looks, left)
     }
 
-    /// The same, in a function of its own.
+    /// The search of `first_verified`, in a function of its own.
     #[inline(never)]
     fn verify(&self, text: &[u8], looks: Looks, left: &mut usize) -> Option<Verified>
         requires eight { 8 ≤ looks.at }
@@ -400,8 +400,8 @@ impl<'p> ShiftOr<'p> {
         None
     }
 
-    /// The same among the ends that four words leave, each at eight places in a row, of which these bits are ruled out, and behind the
-    /// last of which these are.
+    /// The same among the ends that four words in a row leave, each at eight places: `ruled` has the bits that are ruled out there, and
+    /// `behind` those behind the last of them.
     #[inline(never)]
     fn verify_four(
         &self,

@@ -300,6 +300,31 @@ fn looks_at_every_second_place_where_they_are_few(rt: HostRuntime) {
     assert_eq!(rt; found_fours(rt.alloc(), *b"...."), Some((5, 5, 1)));
 }
 
+/// The same three times over, so that thirty-two places are looked at for one test.
+const WITH_MANY_FOURS: &[u8] =
+    b"..wxyz.abcd..wxyz..wxy..abcdwxyz..wxyz.abcd..wxyz..wxy..abcdwxyz..wxyz.abcd..wxyz..wxy..abcdwxyz";
+
+/// Where they end there.
+const MANY_FOUR_ENDS: [usize; 15] = [6, 11, 17, 28, 32, 38, 43, 49, 60, 64, 70, 75, 81, 92, 96];
+
+/// That in the longer text.
+fn found_many_fours(alloc: Global, bytes: [u8; 4]) -> Option<(usize, usize, usize)> {
+    found_by(
+        alloc,
+        Fold::No,
+        &FOURS,
+        bytes,
+        WITH_MANY_FOURS,
+        &MANY_FOUR_ENDS,
+    )
+}
+
+#[test]
+fn counts_each_front_that_it_verifies_in_vain(rt: HostRuntime) {
+    assert_eq!(rt; found_many_fours(rt.alloc(), *b"wxy."), Some((15, 15, 0)));
+    assert_eq!(rt; found_many_fours(rt.alloc(), *b"...."), Some((15, 15, 3)));
+}
+
 #[test]
 fn finds_long_literals_and_verifies_few_ends(rt: HostRuntime) {
     assert_eq!(rt;
