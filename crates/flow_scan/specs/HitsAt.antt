@@ -1,8 +1,8 @@
 -- The hits at a place of a text at which some literal ends.
-use Rattle.std.specs.Prelude.{◌≡◌, ℕ, ◌+◌, ◌↔◌, List, ◌++◌, Contains, Bool, false, slice_index_or}
+use Rattle.std.specs.Prelude.{◌≡◌, ℕ, ◌↔◌, List, ◌++◌, Contains}
 use Rattle.std.specs.List.Sorted.{IsStrictlySortedBy}
 use Rattle.lit_base.specs.Literals.{Literals}
-use Rattle.lit_base.specs.Occurrences.{NoneEnds, Occurs, hit_cmp}
+use Rattle.lit_base.specs.Occurrences.{Occurs, hit_cmp}
 
 -- the hits at one place of the text, which is counted as `at`
 pub record AreHitsAt (l : Literals) (text : List ℕ) (end at : ℕ) (found : List (ℕ × ℕ)) : Type 0 where
@@ -18,11 +18,3 @@ pub record GainsHitsAt (l : Literals) (text : List ℕ) (end at : ℕ) (old new 
 -- a list of hits has gained some, at its end
 abbrev pub Extends : List (ℕ × ℕ) → List (ℕ × ℕ) → Type 0
 Extends old new = (more : List (ℕ × ℕ)) × (new ≡ old ++ more)
-
--- wherever a literal ends, none of those behind it in the list does
-abbrev pub EndsAlone : Literals → ℕ → Type 0
-EndsAlone l place = (text : List ℕ) (end : ℕ) → Occurs l text place end → NoneEnds l text (place + 1) end
-
--- of flags, one for each literal, those that are clear tell that it ends alone
-abbrev pub AreSuffixFlags : Literals → List Bool → Type 0
-AreSuffixFlags l flags = (place : ℕ) → slice_index_or flags place false ≡ false → EndsAlone l place

@@ -1,3 +1,4 @@
+pub mod Extensions
 pub mod Faults
 pub mod HitsAt
 pub mod NextEnds

@@ -1,5 +1,5 @@
 -- What a contract sees of a `Compiled`.
-use Rattle.std.specs.Prelude.{◌≡◌, List, Bool}
+use Rattle.std.specs.Prelude.{◌≡◌, IfSome, Option}
 use Rattle.lit_base.specs.Literals.{Literals}
 use Rattle.lit_cert.specs.Certificates.{CertificateParts}
 use Rattle.lit_cert.specs.Certified.{IsCertified, IsFirstFailure}
@@ -7,7 +7,8 @@ use Rattle.lit_cert.specs.declared.reason.Reason.{Reason}
 use Rattle.nib_mask.specs.Candidates.{CoversBy}
 use Rattle.lane_filter.specs.Sieves.{Passes}
 use Rattle.lane_filter.specs.declared.sieve.Sieve.{Sieve}
-use Rattle.flow_scan.specs.HitsAt.{AreSuffixFlags}
+use Rattle.flow_scan.specs.declared.extensions.Extensions.{Extensions}
+use Rattle.flow_scan.specs.Extensions.{AreExtensions}
 use Rattle.flow_scan.specs.declared.fault.Fault.{Fault}
 use Rattle.flow_scan.specs.declared.fault.Fault.TheVariants.{NotCertified}
 
@@ -16,11 +17,11 @@ pub record Plan : Type 0 where
   pub literals : Literals
   pub certificate : CertificateParts
 
--- what its fields keep: the certificate holds, no occurrence goes past the sieve, and what has no flag ends alone
-pub record IsCompiled (list : Literals) (certificate : CertificateParts) (sieve : Sieve) (flags : List Bool) : Type 0 where
+-- what its fields keep: the certificate holds, no occurrence goes past the sieve, and the extensions, where they are told, are the list's
+pub record IsCompiled (list : Literals) (certificate : CertificateParts) (sieve : Sieve) (extensions : Option Extensions) : Type 0 where
   pub certified : IsCertified 8 list certificate
   pub covers : CoversBy list (Passes sieve)
-  pub alone : AreSuffixFlags list flags
+  pub extended : IfSome extensions (λ found. AreExtensions list found.heads found.links)
 
 -- the answer where a list and a certificate are no plan: the first condition that fails, and both as they were
 pub record IsRefusalOf (list : Literals) (certificate : CertificateParts) (fault : Fault) (old_list : Literals) (old_certificate : CertificateParts) : Type 0 where

@@ -1,5 +1,5 @@
 //! Literals with a certified plan.
-ghost use Rattle.std.specs.Prelude.{◌≡◌, ℕ, ◌<◌, ◌↔◌, IfErr, IfOk, IsOk, IsTrue, List, MatchOption, None, OnOk, Some, length};
+ghost use Rattle.std.specs.Prelude.{◌≡◌, ℕ, ◌<◌, ◌↔◌, IfErr, IfOk, IfSome, IsOk, List, MatchOption, None, OnOk, Some, length};
 ghost use Rattle.std.specs.List.{slice_get};
 ghost use Rattle.std.specs.Option.{IsSome};
 ghost use Rattle.lit_base.specs.Literals.{lengths};
@@ -9,15 +9,15 @@ ghost use Rattle.lit_cert.specs.Certified.{IsCertified};
 ghost use Rattle.lit_base.specs.declared.limits.TheConstants.{MAX_LITERAL_LEN};
 ghost use Rattle.nib_mask.specs.Candidates.{CoversBy};
 ghost use Rattle.lane_filter.specs.Sieves.{Passes};
-ghost use Rattle.flow_scan.specs.HitsAt.{EndsAlone};
+ghost use Rattle.flow_scan.specs.Extensions.{AreExtensions};
 ghost use Rattle.flow_scan.specs.Plans.{IsRefusalOf, Plan};
 ghost use Rattle.flow_scan.specs.Starts.{StartsAt};
 ghost use Rattle.flow_scan.specs.Tails.{HasBounds, carry_of};
 
 use crate::carry::carry;
+use crate::extensions::Extensions;
 use crate::fault::Fault;
 use crate::hit::Hit;
-use crate::suffix_flags::SuffixFlags;
 use lane_filter::Sieve;
 use lit_base::LitList;
 use lit_cert::{Certificate, certified_law, check};
@@ -29,7 +29,7 @@ pub struct Compiled {
     list: LitList,
     certificate: Certificate,
     sieve: Sieve,
-    suffixes: SuffixFlags,
+    extensions: Option<Extensions>,
 }
 
 impl Model for Compiled {
@@ -39,7 +39,7 @@ impl Model for Compiled {
 
     ghost view = { λ p. record { literals = p.list; certificate = p.certificate } };
 
-    ghost invariant = { λ p. IsCompiled p.list p.certificate p.sieve p.suffixes.flags };
+    ghost invariant = { λ p. IsCompiled p.list p.certificate p.sieve p.extensions };
 }
 
 impl Compiled {
@@ -67,12 +67,12 @@ impl Compiled {
         ensures { result ≡ record { literals = list; certificate = certificate } }
     {
         let sieve = Sieve::of(&list, &certificate.ends);
-        let suffixes = SuffixFlags::of(&list);
+        let extensions = Extensions::of(&list);
         Compiled {
             list,
             certificate,
             sieve,
-            suffixes,
+            extensions,
         }
     }
 
@@ -125,14 +125,12 @@ impl Compiled {
         &self.sieve
     }
 
-    /// Whether it is known that wherever a literal ends, none of those behind it in the list does.
+    /// The literals that extend others at their fronts, if they are told.
     #[inline]
-    pub(crate) fn ends_alone(&self, place: usize) -> bool
-        requires { place < length self.now.literals.texts }
-        ensures { IsTrue result → EndsAlone self.now.literals place }
+    pub(crate) fn extensions(&self) -> Option<&Extensions>
+        ensures { IfSome result (λ found. AreExtensions self.now.literals found.now.heads found.now.links) }
     {
-        let _count = self.list.len();
-        self.suffixes.ends_alone(place)
+        self.extensions.as_ref()
     }
 
     /// How many bytes a literal may have before a piece in which it ends.

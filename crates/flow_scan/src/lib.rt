@@ -7,6 +7,7 @@ mod claiming;
 mod compiled;
 mod end_finder;
 mod endings;
+mod extensions;
 mod fault;
 mod hit;
 mod hit_search;
@@ -21,7 +22,6 @@ mod seam;
 mod searching;
 mod shifted;
 mod strides;
-mod suffix_flags;
 mod text_search;
 mod windowed;
 

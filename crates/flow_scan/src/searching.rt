@@ -1,6 +1,7 @@
 //! Where literals end in a text, and the hits there.
 ghost use Rattle.std.specs.Prelude.{◌≡◌, ℕ, ◌+◌, ◌-◌, ◌^◌, ◌<◌, ◌≤◌, IfOk, IsOk, MatchOption, OnOk, List, length};
 ghost use Rattle.lit_base.specs.Occurrences.{IsFirstEnding};
+ghost use Rattle.flow_scan.specs.Extensions.{AreExtensions};
 ghost use Rattle.flow_scan.specs.NextEnds.{IsNextEnd, NoEndAfter};
 ghost use Rattle.text_windows.specs.NoEnds.{NoEndUpTo};
 ghost use Rattle.flow_scan.specs.HitsAt.{Extends, GainsHitsAt};
@@ -8,6 +9,7 @@ ghost use Rattle.flow_scan.specs.Tails.{StopsAt};
 
 use crate::compiled::Compiled;
 use crate::endings::{Backoff, next_verified};
+use crate::extensions::Extensions;
 use crate::hit::Hit;
 use lane_filter::Candidates;
 use lit_base::LitList;
@@ -97,6 +99,7 @@ pub(crate) fn add_hits(
 
 /// Adds the hits at one place of the text, which counts as `at`, `first` being the first literal
 /// that ends there. Where memory is refused the hits before were added.
+#[inline]
 pub(crate) fn add_hits_at(
     compiled: &Compiled,
     text: &[u8],
@@ -112,14 +115,41 @@ pub(crate) fn add_hits_at(
     ensures kept { Extends out.old.items out.new.items }
 {
     let list = compiled.list();
-    if compiled.ends_alone(first) {
-        out.push(hit_of(list, first, at))?;
-        return Ok(());
+    match compiled.extensions() {
+        Some(extensions) => add_extending(list, extensions, text, end, first, at, out),
+        None => add_all_at(list, text, end, first, at, out),
     }
-    add_all_at(list, text, end, first, at, out)
 }
 
-/// The same where it is not known that no other literal ends there.
+/// The same by what is told of literals that extend others.
+#[inline]
+fn add_extending(
+    list: &LitList,
+    extensions: &Extensions,
+    text: &[u8],
+    end: usize,
+    first: usize,
+    at: u64,
+    out: &mut Vec<Hit>,
+) -> Result<(), AllocError>
+    requires of { AreExtensions list.now extensions.now.heads extensions.now.links }
+    requires inside { end ≤ length text.now }
+    requires first { IsFirstEnding list.now text.now 0 end first }
+    ensures ok { OnOk result (GainsHitsAt list.now text.now end at out.old.items out.new.items) }
+    ensures few { OnOk result (length out.new.items ≤ length out.old.items + length list.now.texts) }
+    ensures kept { Extends out.old.items out.new.items }
+{
+    out.push(hit_of(list, first, at))?;
+    let mut last = first;
+    while let Some(place) = extensions.next_ending(list, text, end, last) {
+        out.push(hit_of(list, place, at))?;
+        last = place;
+    }
+    Ok(())
+}
+
+/// The same where that is not told.
+#[inline(never)]
 fn add_all_at(
     list: &LitList,
     text: &[u8],

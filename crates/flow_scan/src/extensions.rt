@@ -1,0 +1,124 @@
+//! Which literals of a list extend others at their fronts.
+//!
+//! Literals that end together are suffixes of each other. So each extends the longest of the others that is a suffix of it,
+//! what Aho and Corasick's automaton reaches by its output links, and where a literal ends, at most one of those that extend
+//! it does.
+ghost use Rattle.std.specs.Prelude.{◌≡◌, ℕ, ◌+◌, ◌<◌, ◌≤◌, IfSome, MatchOption, length, slice_index};
+ghost use Rattle.lit_base.specs.Chains.{IsChained};
+ghost use Rattle.lit_base.specs.Occurrences.{IsFirstEnding, NoneEnds, Occurs};
+ghost use Rattle.lit_base.specs.declared.limits.TheConstants.{MAX_LITERALS};
+ghost use Rattle.flow_scan.specs.Extensions.{AreExtensions, IsLongestSuffix};
+
+use lit_base::{LitList, MAX_LITERALS};
+
+/// So many suffixes of a literal are looked for among the others. In lists of words a literal has one or two; of a list in which
+/// one has more nothing is told, so that a list of literals each of which is a suffix of the next takes no long time.
+const MOST_SUFFIXES: usize = 16;
+
+/// So many of the literals that extend one are compared with a text; the others are looked for as literals are that
+/// begin anywhere. In lists of 1,000 of a text's own words a literal is extended by up to nine.
+const MOST_COMPARED: usize = 16;
+
+/// Stands for no literal.
+const NONE: usize = MAX_LITERALS;
+
+/// A place for each literal, and one for none.
+const PLACES: usize = MAX_LITERALS + 1;
+
+/// The literals that extend each literal, in order. The number of literals stands for no more.
+#[derive(Debug, Drop)]
+pub(crate) struct Extensions {
+    /// The first that extends a literal, and behind these the first that extends none.
+    pub heads: [u16; PLACES],
+    /// The next that extends the same as a literal does.
+    pub links: [u16; MAX_LITERALS],
+}
+
+impl Extensions {
+    /// Those of a list, unless a literal has too many suffixes in it.
+    pub(crate) fn of(list: &LitList) -> Option<Extensions>
+        ensures { IfSome result (λ found. AreExtensions list.now found.heads found.links) }
+    {
+        list.normal_law();
+        let count = list.len();
+        let mut suffixes = [0; MAX_LITERALS];
+        'literals: for place in 0..count {
+            suffixes[place] = longest_suffix(list, place)? as u16;
+        }
+        Some(Extensions::chained(&suffixes, count))
+    }
+
+    /// The chains of so many literals that extend these, made from the last to the first.
+    fn chained(suffixes: &[u16; MAX_LITERALS], count: usize) -> Extensions
+        requires few { count ≤ MAX_LITERALS }
+        requires within { (place : ℕ) → place < count → slice_index suffixes.now place ≤ MAX_LITERALS }
+        ensures room { count ≤ length result.heads }
+        ensures chained { IsChained (slice_index suffixes.now) count 0 result.heads result.links }
+    {
+        let mut heads = [count as u16; PLACES];
+        let mut links = [count as u16; MAX_LITERALS];
+        let mut low = count;
+        while 0 < low {
+            low -= 1;
+            let suffix = suffixes[low] as usize;
+            links[low] = heads[suffix];
+            heads[suffix] = low as u16;
+        }
+        Extensions { heads, links }
+    }
+
+    /// The first of the literals behind the one at a place, which ends at `end` in the text, that ends there too, if there is one.
+    #[inline]
+    pub(crate) fn next_ending(
+        &self,
+        list: &LitList,
+        text: &[u8],
+        end: usize,
+        place: usize,
+    ) -> Option<usize>
+        requires of { AreExtensions list.now self.now.heads self.now.links }
+        requires here { Occurs list.now text.now place end }
+        requires inside { end ≤ length text.now }
+        ensures { MatchOption result
+            (NoneEnds list.now text.now (place + 1) end)
+            (IsFirstEnding list.now text.now (place + 1) end) }
+    {
+        let count = list.len();
+        let mut next = self.heads[place] as usize;
+        let mut left = MOST_COMPARED;
+        while next < count {
+            if left == 0 {
+                return list.next_ending(text, end, next);
+            }
+            if list.ends_at(next, text, end) {
+                return Some(next);
+            }
+            left -= 1;
+            next = self.links[next] as usize;
+        }
+        None
+    }
+}
+
+/// The longest of the literals before a place that is a suffix of the one there, or `NONE`, unless it has too many.
+fn longest_suffix(list: &LitList, place: usize) -> Option<usize>
+    requires { place < length list.now.texts }
+    ensures longest { IfSome result (IsLongestSuffix list.now place) }
+    ensures within { IfSome result (λ suffix. suffix ≤ MAX_LITERALS) }
+{
+    list.normal_law();
+    let literal = list.get(place);
+    let mut longest = NONE;
+    let mut from = 0;
+    'suffixes: for _ in 0..MOST_SUFFIXES {
+        let Some(other) = list.next_ending(literal, literal.len(), from) else {
+            return Some(longest);
+        };
+        if other >= place {
+            return Some(longest);
+        }
+        longest = other;
+        from = other + 1;
+    }
+    None
+}
