@@ -7,10 +7,11 @@ ghost use Rattle.flow_scan.specs.NextEnds.{IsNextEnd, NoEndAfter};
 ghost use Rattle.flow_scan.specs.Tails.{AreHitsBehind, Continues, StopsAt};
 
 use crate::compiled::Compiled;
+use crate::endings::Backoff;
 use crate::fault::Fault;
 use crate::hit::Hit;
 use crate::hit_search::HitSearch;
-use crate::learning::{Learning, PLAIN_HIT_COST, Way, cost_by_windows};
+use crate::learning::{Learning, Way, cost_by_windows, cost_of_plain_ends};
 use crate::met::Met;
 use crate::pace::MOST_BY_BYTES;
 use crate::searching::{add_hits, add_hits_at, skip_short_ends};
@@ -237,13 +238,13 @@ impl<'p> EndFinder<'p> {
         ensures kept { Extends out.old.items out.new.items }
         ensures quiet { NoEndAfter self.old.literals text.now from → IsOk result }
     {
-        let mut spent = 0;
-        let before = out.len();
-        let stop = add_hits(self.compiled, text, from, at, most, &mut spent, out)?;
-        let gained = out.len().saturating_sub(before);
-        let spent = spent.saturating_add(gained.saturating_mul(PLAIN_HIT_COST));
+        let mut backoff = Backoff::new();
+        let stop = add_hits(self.compiled, text, from, at, most, &mut backoff, out)?;
+        let passed = stop - from;
+        let cost = cost_of_plain_ends(backoff.ends(), passed);
+        let spent = backoff.spent().saturating_add(cost);
         self.learning
-            .note(stop - from, spent, EndRate::of_scan(gained));
+            .note(passed, spent, EndRate::of_scan(backoff.ends()));
         Ok(stop)
     }
 
@@ -264,9 +265,8 @@ impl<'p> EndFinder<'p> {
         ensures quiet { NoEndAfter self.old.literals text.now from → IsOk result }
     {
         let mut met = Met::nothing();
-        let before = out.len();
         let stop = self.add_hits_by_windows(text, from, at, most, &mut met, out)?;
-        let found = EndRate::of_scan(out.len().saturating_sub(before));
+        let found = EndRate::of_scan(met.ends);
         let spent = self.cost_by_windows(stop - from, met, found);
         self.learning.note(stop - from, spent, found);
         Ok(stop)
@@ -346,7 +346,6 @@ impl<'p> EndFinder<'p> {
         ensures quiet { NoEndAfter self.old.literals text.now from → IsOk result }
     {
         let mut met = Met::nothing();
-        let before = out.len();
         let stop = add_hits_by_shift_or(
             self.compiled,
             &self.shift_or,
@@ -357,7 +356,7 @@ impl<'p> EndFinder<'p> {
             &mut met,
             out,
         )?;
-        let found = EndRate::of_scan(out.len().saturating_sub(before));
+        let found = EndRate::of_scan(met.ends);
         let spent = self.shift_or.cost_of(stop - from, met.marked, found);
         self.learning.note(stop - from, spent, found);
         Ok(stop)

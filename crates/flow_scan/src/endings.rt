@@ -19,6 +19,8 @@ pub(crate) struct Backoff {
     delay: usize,
     /// What was met that ended nothing took about so long, in tenths of a nanosecond.
     spent: usize,
+    /// So many ends were found.
+    ends: usize,
 }
 
 impl Backoff {
@@ -28,12 +30,24 @@ impl Backoff {
             retry_at: 0,
             delay: SHORTEST_DELAY,
             spent: 0,
+            ends: 0,
         }
     }
 
     /// What the search spent on candidates and marks at which nothing ended, and on looks, in tenths of a nanosecond.
     pub(crate) fn spent(&self) -> usize {
         self.spent
+    }
+
+    /// How many ends were found, where they are counted.
+    pub(crate) fn ends(&self) -> usize {
+        self.ends
+    }
+
+    /// An end was found.
+    #[inline(always)]
+    pub(crate) fn count_end(&mut self) {
+        self.ends = self.ends.saturating_add(1);
     }
 
     fn spend(&mut self, cost: usize) {

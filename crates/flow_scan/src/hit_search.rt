@@ -6,6 +6,7 @@ ghost use Rattle.flow_scan.specs.Plans.{Plan};
 ghost use Rattle.flow_scan.specs.Tails.{StopsAt};
 
 use crate::compiled::Compiled;
+use crate::endings::Backoff;
 use crate::hit::Hit;
 use crate::searching::add_hits;
 use std::alloc::AllocError;
@@ -51,6 +52,7 @@ impl<'p> HitSearch for PlainSearch<'p> {
         most: usize,
         out: &mut Vec<Hit>,
     ) -> Result<usize, AllocError> {
-        add_hits(self.compiled, text, from, at, most, &mut 0, out)
+        let mut backoff = Backoff::new();
+        add_hits(self.compiled, text, from, at, most, &mut backoff, out)
     }
 }

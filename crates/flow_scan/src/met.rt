@@ -1,10 +1,11 @@
-//! What a search by windows met at which nothing ended.
+//! What a search met.
 
-/// Places that passed the sieve, and ends that marks claimed, at which nothing ended.
+/// Places that passed the sieve, and ends that marks claimed, at which nothing ended; and ends at which a literal did.
 #[derive(Clone, Copy, Debug)]
 pub(crate) struct Met {
     pub passed: usize,
     pub marked: usize,
+    pub ends: usize,
 }
 
 impl Met {
@@ -13,6 +14,7 @@ impl Met {
         Met {
             passed: 0,
             marked: 0,
+            ends: 0,
         }
     }
 
@@ -37,5 +39,12 @@ impl Met {
     #[inline(always)]
     pub fn hit(&mut self) {
         self.marked = self.marked.saturating_sub(1);
+        self.end();
+    }
+
+    /// A literal ended somewhere.
+    #[inline(always)]
+    pub fn end(&mut self) {
+        self.ends = self.ends.saturating_add(1);
     }
 }

@@ -9,6 +9,7 @@ ghost use Rattle.flow_scan.specs.Tails.{AreHitsBehind, Continues, PiecesLaw, byt
 
 use crate::carry::carry;
 use crate::compiled::{Compiled, least_law};
+use crate::endings::Backoff;
 use crate::fault::Fault;
 use crate::hit::Hit;
 use crate::scanner::Scanner;
@@ -48,7 +49,16 @@ pub fn scan_behind(
     let _carry = compiled.carry();
     let mut hits = Vec::new(alloc);
     let at = from as u64;
-    add_hits(compiled, text, from, at, usize::MAX, &mut 0, &mut hits)?;
+    let mut backoff = Backoff::new();
+    add_hits(
+        compiled,
+        text,
+        from,
+        at,
+        usize::MAX,
+        &mut backoff,
+        &mut hits,
+    )?;
     Ok(hits)
 }
 

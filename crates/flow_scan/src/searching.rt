@@ -64,8 +64,8 @@ pub(crate) fn skip_short_ends(list: &LitList, from: usize) -> usize
 }
 
 /// Adds the hits that end in the text behind `from`, where this place counts as `at`, up to the first
-/// end by which `out` gained at least `most` of them. The answer is that end, or the text's length, and `spent` is told what
-/// the search spent on what ended nothing.
+/// end by which `out` gained at least `most` of them. The answer is that end, or the text's length. `backoff` is one that
+/// has not searched yet, and tells behind it what was spent on what ended nothing, and how many ends were found.
 /// Memory is refused only after a hit was found, and then the hits before it were added.
 pub(crate) fn add_hits(
     compiled: &Compiled,
@@ -73,7 +73,7 @@ pub(crate) fn add_hits(
     from: usize,
     at: u64,
     most: usize,
-    spent: &mut usize,
+    backoff: &mut Backoff,
     out: &mut Vec<Hit>,
 ) -> Result<usize, AllocError>
     requires inside { from ≤ length text.now }
@@ -84,16 +84,14 @@ pub(crate) fn add_hits(
 {
     let list = compiled.list();
     let mut candidates = Candidates::new(compiled.sieve(), text, from);
-    let mut backoff = Backoff::new();
     let before = out.len();
-    while let Some((end, first)) = next_verified(list, text, &mut candidates, &mut backoff) {
+    while let Some((end, first)) = next_verified(list, text, &mut candidates, backoff) {
+        backoff.count_end();
         add_hits_at(compiled, text, end, first, at + (end - from) as u64, out)?;
         if out.len() - before >= most {
-            *spent = backoff.spent();
             return Ok(end);
         }
     }
-    *spent = backoff.spent();
     Ok(text.len())
 }
 

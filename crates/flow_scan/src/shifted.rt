@@ -58,7 +58,7 @@ fn next_end_by_looks(
     found
 }
 
-/// Adds the hits that end in the text behind `from`, as `add_hits` of a plan does, and to `met` what is met at which nothing ends.
+/// Adds the hits that end in the text behind `from`, as `add_hits` of a plan does, and to `met` what is met.
 pub(crate) fn add_hits_by_shift_or(
     compiled: &Compiled,
     shift_or: &ShiftOr<'_>,
@@ -81,6 +81,7 @@ pub(crate) fn add_hits_by_shift_or(
     let mut looks = shift_or.looks_behind(text, from);
     let mut place = from;
     while let Some((end, first)) = next_end_by_looks(shift_or, list, text, place, &mut looks, met) {
+        met.end();
         add_hits_at(compiled, text, end, first, at + (end - from) as u64, out)?;
         if out.len() - before >= most {
             return Ok(end);

@@ -1,5 +1,6 @@
 //! Worked scans, and what no clause says.
 mod choosing;
+mod extending;
 mod finding;
 mod going_on;
 mod scanned;

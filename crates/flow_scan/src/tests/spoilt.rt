@@ -59,7 +59,7 @@ fn plain_hits(alloc: Global, list: &LitList, text: &[u8]) -> Option<Vec<Hit>> {
 }
 
 /// Whether a scan finds the same.
-fn finds_the_same(alloc: Global, compiled: &Compiled, text: &[u8]) -> Option<bool> {
+pub(super) fn finds_the_same(alloc: Global, compiled: &Compiled, text: &[u8]) -> Option<bool> {
     let wanted = plain_hits(alloc, compiled.list(), text)?;
     are_of_text(alloc, compiled, text, wanted.as_slice())
 }
