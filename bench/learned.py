@@ -5,7 +5,8 @@
 
 The texts and lists are those of lists.py: literals made of a text's own words or syllables, rare and frequent ones, and such
 lists of which every tenth literal is short. Random bytes, with literals of random bytes, stand beside them. The text is at
-hand, beside Hyperscan's block mode, and then a stream in pieces of 64 KiB, beside its streaming mode. Each program is started
+hand, beside Hyperscan's block mode, and then a stream in pieces of 64 KiB, beside its streaming mode: once it counts the hits,
+and once it keeps them, as the scans do, all of a text or those of one piece after the other. Each program is started
 in turn, scans the text three times over and gives the median; the figure is the least of the turns. --rounds goes over all
 rows so often, one round after the other, so that what slows a shared machine for some minutes meets no row in each. Hit
 counts are compared. --scanner, more than once, measures builds for different processors, each beside the others. With --write
@@ -26,9 +27,9 @@ from scanning import PEERS, scan
 
 KINDS = (("rare", COUNTS), ("rare, some short", FEWER), ("frequent", COUNTS))
 SCANS = 3
-PLAN, LEARNED, HYPERSCAN = "plan", "learned", "Hyperscan"
-# How a text is given, with the modes of the three.
-WAYS = {"at hand": ("all", "learned", "block"), "in pieces": ("stream", "learned-stream", "stream")}
+PLAN, LEARNED, HYPERSCAN, KEEPING = "plan", "learned", "Hyperscan", "keeping"
+# How a text is given, with the modes of the four.
+WAYS = {"at hand": ("all", "learned", "block", "block-kept"), "in pieces": ("stream", "learned-stream", "stream", "stream-kept")}
 
 
 def group_of(name, kind, count):
@@ -66,11 +67,12 @@ def rows(folder, size, seed):
 
 def programs(scanner, way):
     """The words that start each program, and its mode, where the text is given in this way."""
-    plan, learned, block = WAYS[way]
+    plan, learned, counting, keeping = WAYS[way]
     found = {PLAN: ([scanner], plan), LEARNED: ([scanner], learned)}
     peer = os.path.join(PEERS, "hyperscan")
     if os.path.exists(peer):
-        found[HYPERSCAN] = ([peer], block)
+        found[HYPERSCAN] = ([peer], counting)
+        found[KEEPING] = ([peer], keeping)
     return found
 
 
@@ -91,8 +93,8 @@ class Result:
 
     def line(self):
         return "| %s | %d | %s |" % (self.name, max(self.hits), " | ".join(
-            ["%.1f" % self.times[name] if name in self.times else "" for name in (PLAN, LEARNED, HYPERSCAN)]
-            + [ratio(self.over_learned(name)) for name in (PLAN, HYPERSCAN)]))
+            ["%.1f" % self.times[name] if name in self.times else "" for name in (PLAN, LEARNED, HYPERSCAN, KEEPING)]
+            + [ratio(self.over_learned(name)) for name in (PLAN, HYPERSCAN, KEEPING)]))
 
 
 def ratio(value):
@@ -111,10 +113,10 @@ def measure(result, tools, turns, row):
 
 
 def as_groups(results):
-    lines = ["| lists | rows | plan / learned | least | Hyperscan / learned | least |", "|---" * 6 + "|"]
+    lines = ["| lists | rows | plan / learned | least | Hyperscan / learned | least | keeping / learned | least |", "|---" * 8 + "|"]
     for group, like in gathered(results, "group"):
         cells = []
-        for program in (PLAN, HYPERSCAN):
+        for program in (PLAN, HYPERSCAN, KEEPING):
             values = [value for value in (result.over_learned(program) for result in like) if value is not None]
             cells += [ratio(statistics.median(values)), ratio(min(values))] if values else ["", ""]
         lines.append("| %s | %d | %s |" % (group, len(like), " | ".join(cells)))
@@ -122,7 +124,8 @@ def as_groups(results):
 
 
 def as_rows(results):
-    heads = ["text and list", "hits", "plan, ms", "learned, ms", "Hyperscan, ms", "plan / learned", "Hyperscan / learned"]
+    heads = ["text and list", "hits", "plan, ms", "learned, ms", "Hyperscan, ms", "keeping, ms", "plan / learned", "Hyperscan / learned",
+             "keeping / learned"]
     return ["| %s |" % " | ".join(heads), "|---" * len(heads) + "|"] + [result.line() for result in results]
 
 
@@ -131,7 +134,7 @@ def report(results, options):
     lines = ["# Scans that learn", "", machine(options.size), turns, "",
              "A ratio is the time of another scan by that of the one that learns, each the least of the turns: above 1, it pays to",
              "learn, and the scan is ahead of Hyperscan. `least` is that of one list. A text is at hand, or a stream that comes",
-             "in pieces of 64 KiB.", ""]
+             "in pieces of 64 KiB. Hyperscan counts the hits, and keeps them as the scans do where it says `keeping`.", ""]
     for (build, way), like in results.items():
         lines += ["## By kind, %s, %s" % (way, build), ""] + as_groups(like) + [""]
     for (build, way), like in results.items():

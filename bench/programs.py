@@ -197,9 +197,10 @@ def peers():
 
 
 def litgreps(given):
-    """The builds of litgrep that are measured, of words NAME=PATH: without any, the one in bin/."""
+    """The builds of litgrep that are measured, of words NAME=PATH: without any, the one in bin/. Tables tell them by names that
+    begin with `litgrep`, whatever they are called."""
     named = [words.split("=", 1) for words in given] or [["litgrep", os.path.join(HERE, "../bin/litgrep")]]
-    return [(name, [os.path.abspath(path), "-F"]) for name, path in named]
+    return [(name if name.startswith("litgrep") else "litgrep " + name, [os.path.abspath(path), "-F"]) for name, path in named]
 
 
 class Run:

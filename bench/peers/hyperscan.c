@@ -1,9 +1,10 @@
 // Times Hyperscan on a text: all occurrences of the literals of a file, one a line.
 //
-//   hyperscan TEXT LITERALS block|stream|WORKERS TURNS
+//   hyperscan TEXT LITERALS block|stream|block-kept|stream-kept|WORKERS TURNS
 //
-// So many workers, at most 16, are threads that share the text; a hit that two parts share is lost. It prints the median
-// seconds of a scan and the number of hits.
+// So many workers, at most 16, are threads that share the text; a hit that two parts share is lost. Hits are counted, or kept in
+// an array that grows: those of the text, or of one piece of a stream after the other. It prints the median seconds of a scan and the
+// number of hits.
 #include <hs/hs.h>
 #include <pthread.h>
 #include <stdio.h>
@@ -34,6 +35,43 @@ static int count_hit(unsigned id, unsigned long long from, unsigned long long to
     (void)id; (void)from; (void)to; (void)flags;
     ++*(unsigned long long *)hits;
     return 0;
+}
+
+struct hit { unsigned short literal; unsigned long long end; };
+
+struct kept { struct hit *hits; size_t length, room; };
+
+static int keep_hit(unsigned id, unsigned long long from, unsigned long long to, unsigned flags, void *context) {
+    (void)from; (void)flags;
+    struct kept *kept = context;
+    if (kept->length == kept->room) {
+        kept->room = kept->room ? 2 * kept->room : 4;
+        kept->hits = realloc(kept->hits, kept->room * sizeof *kept->hits);
+        if (!kept->hits) { perror("hits"); exit(2); }
+    }
+    kept->hits[kept->length++] = (struct hit){ .literal = id, .end = to };
+    return 0;
+}
+
+// Scans a text, at once or in pieces, and keeps the hits of the text or of a piece; the answer is how many there were.
+static unsigned long long scan_keeping(const char *text, size_t length, int streams, hs_scratch_t *scratch) {
+    struct kept kept = { 0 };
+    unsigned long long hits = 0;
+    if (streams) {
+        hs_stream_t *stream;
+        hs_open_stream(database, 0, &stream);
+        for (size_t at = 0; at < length; at += PIECE) {
+            hs_scan_stream(stream, text + at, length - at < PIECE ? length - at : PIECE, 0, scratch, keep_hit, &kept);
+            hits += kept.length;
+            kept.length = 0;
+        }
+        hs_close_stream(stream, scratch, keep_hit, &kept);
+    } else {
+        hs_scan(database, text, length, 0, scratch, keep_hit, &kept);
+    }
+    hits += kept.length;
+    free(kept.hits);
+    return hits;
 }
 
 static double now(void) {
@@ -67,10 +105,10 @@ static unsigned long long scan_parts(struct part *parts, int workers) {
 }
 
 int main(int count, char **words) {
-    if (count != 5) { fprintf(stderr, "hyperscan TEXT LITERALS block|stream|WORKERS TURNS\n"); return 2; }
+    if (count != 5) { fprintf(stderr, "hyperscan TEXT LITERALS block|stream|block-kept|stream-kept|WORKERS TURNS\n"); return 2; }
     size_t length, list_length;
     char *text = read_file(words[1], &length), *list = read_file(words[2], &list_length);
-    int streams = !strcmp(words[3], "stream"), turns = atoi(words[4]);
+    int streams = !strncmp(words[3], "stream", 6), keeps = strstr(words[3], "-kept") != NULL, turns = atoi(words[4]);
     int workers = atoi(words[3]) > WORKERS ? WORKERS : atoi(words[3]);
     const char **literals = malloc(sizeof *literals * (list_length + 1));
     unsigned *flags = calloc(list_length + 1, sizeof *flags), *ids = malloc(sizeof *ids * (list_length + 1));
@@ -102,6 +140,8 @@ int main(int count, char **words) {
         double before = now();
         if (workers) {
             hits = scan_parts(parts, workers);
+        } else if (keeps) {
+            hits = scan_keeping(text, length, streams, scratch);
         } else if (streams) {
             hs_stream_t *stream;
             hs_open_stream(database, 0, &stream);

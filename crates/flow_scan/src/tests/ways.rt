@@ -1,5 +1,5 @@
 //! In which way a search goes on that has learned two.
-use crate::learning::{Learning, Way};
+use crate::learning::{Learning, Way, cost_of_plain_ends};
 use text_windows::EndRate;
 
 /// Bytes of a text in which a search may change its way.
@@ -75,4 +75,12 @@ fn takes_no_way_that_was_not_learned(rt: HostRuntime) {
         ways_behind(promised(8_000, usize::MAX), 1 << 30, 1 << 30),
         [(true, false), (true, false)]
     );
+}
+
+#[test]
+fn counts_nothing_for_ends_that_stand_close_together(rt: HostRuntime) {
+    assert_eq!(rt; cost_of_plain_ends(100, 1024), 50_000);
+    assert_eq!(rt; cost_of_plain_ends(340, 1024), 170_000);
+    assert_eq!(rt; cost_of_plain_ends(341, 1024), 0);
+    assert_eq!(rt; cost_of_plain_ends(1024, 1024), 0);
 }
