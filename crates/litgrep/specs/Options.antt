@@ -2,10 +2,11 @@
 use Rattle.std.specs.Prelude.{◌≡◌, ℕ, ◌||◌, Bool, true, false, List, [], map, length, take, drop, nat_lt, if◌then◌else◌, codes, string_bytes}
 use Rattle.std.specs.Option.{option_map_or}
 use Rattle.std.specs.Borrow.{Bor}
-use Rattle.clap.specs.Words.{count_of, found_of, matched_of, raw_values, rows_of}
+use Rattle.clap.specs.Words.{found_of, matched_of, raw_values}
 use Rattle.clap.specs.declared.parser.matches.ArgMatches.{ArgMatches}
 use Rattle.lit_base.specs.declared.fold.Fold.TheVariants.{No, Ascii}
 use Rattle.grep_run.specs.declared.options.GrepOptions.{GrepOptions}
+use Rattle.program_words.specs.Matches.{is_used}
 use Rattle.program_words.specs.declared.fault.Fault.{Fault}
 use Rattle.program_words.specs.declared.fault.Fault.TheVariants.{Usage, OutOfMemory}
 
@@ -16,10 +17,6 @@ texts = map (λ text. text.now)
 -- the texts given for an argument, none where it was not used
 abbrev pub texts_of : ArgMatches → List ℕ → List (List ℕ)
 texts_of m id = option_map_or raw_values (matched_of (found_of m) id) []
-
--- the flag was used, once or more
-abbrev pub is_used : ArgMatches → List ℕ → Bool
-is_used m id = nat_lt 0 (count_of id (rows_of (found_of m)))
 
 -- -e or -f was used, so that no operand is a pattern list
 abbrev pub names_patterns : ArgMatches → Bool

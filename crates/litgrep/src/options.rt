@@ -1,7 +1,8 @@
 //! The options that clap's matches tell. POSIX.1-2017 `grep`, OPTIONS and OPERANDS.
 ghost use Rattle.std.specs.Prelude.{◌≡◌, IfErr, IfOk, OnOk, codes, if◌then◌else◌, map, string_bytes, true};
 ghost use Rattle.lit_base.specs.declared.fold.Fold.TheVariants.{Ascii, No};
-ghost use Rattle.litgrep.specs.Options.{IsNoPattern, IsOptionsOf, IsRefusalOf, Tells, gives_pattern, is_used, texts, texts_of};
+ghost use Rattle.litgrep.specs.Options.{IsNoPattern, IsOptionsOf, IsRefusalOf, Tells, gives_pattern, texts, texts_of};
+ghost use Rattle.program_words.specs.Matches.{is_used};
 
 use clap::ArgMatches;
 use grep_run::GrepOptions;

@@ -1,4 +1,8 @@
 //! The words of the command line, read with clap.
+ghost use Rattle.std.specs.Prelude.{◌≡◌, IfOk, IfSome, codes, string_bytes};
+ghost use Rattle.program_words.specs.Matches.{IsNumber};
+ghost use Rattle.litplan.specs.Requests.{IsFlag, IsFold, IsRequestOf, text_of};
+
 use clap::{Arg, ArgAction, ArgMatches, Command, value_parser};
 use lit_base::Fold;
 use plan_run::{Request, Scan, Workers};
@@ -12,60 +16,94 @@ use std::alloc::{AllocError, Global};
 /// - `OutOfMemory` where a growth was refused.
 pub fn requested(alloc: Global, words: &[String]) -> Result<Request, Fault> {
     let matches = matches_of(alloc, litplan(alloc)?, words)?;
-    request_of(alloc, &matches)
+    match matches.subcommand() {
+        Some((name, found)) => request_of(alloc, name, found),
+        None => Err(no_command(alloc)),
+    }
 }
 
-/// The request that clap's matches tell.
-fn request_of(alloc: Global, matches: &ArgMatches<'_>) -> Result<Request, Fault> {
-    match matches.subcommand() {
-        Some(("plan", found)) => Ok(Request::Plan {
+/// The request that clap's matches of the subcommand of a name tell, each argument under its name as id.
+///
+/// # Errors
+/// - `Usage` where there is no such command, or no such number of workers: clap lets neither through.
+/// - `OutOfMemory` where a growth was refused.
+pub fn request_of(alloc: Global, name: &str, found: &ArgMatches<'_>) -> Result<Request, Fault>
+    ensures { IfOk result (IsRequestOf name.now found.now) }
+{
+    match name {
+        "plan" => Ok(Request::Plan {
             fold: fold_of(found),
             file: value(alloc, found, "file")?,
         }),
-        Some(("check", found)) => Ok(Request::Check {
+        "check" => Ok(Request::Check {
             fold: fold_of(found),
             file: value(alloc, found, "file")?,
             certificate: value(alloc, found, "certificate")?,
         }),
-        Some(("pack", found)) => Ok(Request::Pack {
+        "pack" => Ok(Request::Pack {
             fold: fold_of(found),
             file: value(alloc, found, "file")?,
             output: value(alloc, found, "output")?,
         }),
-        Some(("explain", found)) => Ok(Request::Explain {
+        "explain" => Ok(Request::Explain {
             fold: fold_of(found),
-            svg: found.get_flag("svg"),
+            svg: flag_of(found, "svg"),
             file: value(alloc, found, "file")?,
         }),
-        Some(("scan", found)) => scan_of(alloc, found),
-        _ => Err(Fault::usage(String::from_str(alloc, "litplan: no command given\n"))),
+        "scan" => Ok(Request::Scan(scan_of(alloc, found)?)),
+        _ => Err(no_command(alloc)),
     }
 }
 
-/// The scan that clap's matches tell. Clap lets no other number of workers through.
-fn scan_of(alloc: Global, found: &ArgMatches<'_>) -> Result<Request, Fault> {
-    let Some(workers) = found.get_one::<usize>("workers").and_then(Workers::new) else {
+/// The scan that clap's matches tell.
+fn scan_of(alloc: Global, found: &ArgMatches<'_>) -> Result<Scan, Fault>
+    ensures { IfOk result (λ scan. IsRequestOf (codes "scan") found.now (Request.Scan scan)) }
+{
+    let Some(workers) = workers_of(found) else {
         return Err(Fault::usage(String::from_str(alloc, "litplan: no such number of workers\n")));
     };
-    Ok(Request::Scan(Scan {
+    Ok(Scan {
         fold: fold_of(found),
         workers,
-        count: found.get_flag("count"),
+        count: flag_of(found, "count"),
         file: value(alloc, found, "file")?,
         input: value(alloc, found, "input")?,
-    }))
+    })
 }
 
-fn fold_of(matches: &ArgMatches<'_>) -> Fold {
-    if matches.get_flag("fold") {
+/// The number of workers that clap's matches tell, if there may be so many.
+fn workers_of(found: &ArgMatches<'_>) -> Option<Workers>
+    ensures { IfSome result (λ workers. IsNumber found.now (codes "workers") workers.count) }
+{
+    Workers::new(found.get_one::<usize>("workers")?)
+}
+
+/// What is answered where the words name no command.
+fn no_command(alloc: Global) -> Fault {
+    Fault::usage(String::from_str(alloc, "litplan: no command given\n"))
+}
+
+fn fold_of(matches: &ArgMatches<'_>) -> Fold
+    ensures { IsFold matches.now result }
+{
+    if flag_of(matches, "fold") {
         Fold::Ascii
     } else {
         Fold::No
     }
 }
 
+/// Whether a flag was set.
+fn flag_of(matches: &ArgMatches<'_>, id: &str) -> bool
+    ensures { IsFlag matches.now id.now result }
+{
+    matches.get_flag(id)
+}
+
 /// The value of an argument, which clap requires.
-fn value(alloc: Global, matches: &ArgMatches<'_>, id: &str) -> Result<String, AllocError> {
+fn value(alloc: Global, matches: &ArgMatches<'_>, id: &str) -> Result<String, AllocError>
+    ensures { IfOk result (λ text. string_bytes text ≡ text_of matches.now id.now) }
+{
     String::from_str(alloc, matches.get_str(id).unwrap_or_default())
 }
 

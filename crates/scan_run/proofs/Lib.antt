@@ -1,4 +1,5 @@
-pub mod TellLemmas
 pub mod FeedLemmas
-pub mod SeenLemmas
 pub mod LoadLemmas
+pub mod SeenLemmas
+pub mod StatusLemmas
+pub mod TellLemmas

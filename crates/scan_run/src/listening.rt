@@ -1,5 +1,5 @@
 //! Serving many streams at once over one store, each in a thread of its own.
-ghost use Rattle.std.specs.Prelude.{◌≡◌, ◌≤◌, false, length};
+ghost use Rattle.std.specs.Prelude.{◌≡◌, ◌≢◌, ◌≤◌, ◌||◌, false, length};
 ghost use Rattle.scan_run.specs.Limits.{AreConnections};
 ghost use Rattle.scan_run.specs.Reports.{ReportsSome};
 
@@ -30,8 +30,12 @@ pub fn listen<R: Threads + Wait + Sync, O: ByteOut, E: ByteOut>(
     out: &mut O,
     err: &mut E,
 ) -> Status
-    ensures { ReportsSome connections.count result (O.has_failed out.new) (E.has_failed err.new)
+    ensures told { ReportsSome connections.count result (O.has_failed out.new) (E.has_failed err.new)
         (O.written out.old) (O.written out.new) (E.written err.old) (E.written err.new) }
+
+    // A write that failed is told.
+    ensures fault { result ≢ Status.Trouble
+        → (O.has_failed out.new || E.has_failed err.new) ≡ (O.has_failed out.old || E.has_failed err.old) }
 {
     let served = serve_all(rt, alloc, store, listener, connections.count());
     report(alloc, &served.endings, served.faulty, out, err)

@@ -1,5 +1,5 @@
 //! Telling how connections ended.
-ghost use Rattle.std.specs.Prelude.{◌≡◌, ◌++◌, IfOk, OnOk, length, string_bytes};
+ghost use Rattle.std.specs.Prelude.{◌≡◌, ◌≢◌, ◌++◌, ◌||◌, IfOk, OnOk, length, string_bytes};
 ghost use Rattle.scan_run.specs.Reports.{IsStatusOf, Reports, line_text, lines_from, word_of};
 
 use crate::status::Status;
@@ -17,8 +17,12 @@ pub(crate) fn report<O: ByteOut, E: ByteOut>(
     out: &mut O,
     err: &mut E,
 ) -> Status
-    ensures { Reports endings.now faulty result (O.has_failed out.new) (E.has_failed err.new)
+    ensures told { Reports endings.now faulty result (O.has_failed out.new) (E.has_failed err.new)
         (O.written out.old) (O.written out.new) (E.written err.old) (E.written err.new) }
+
+    // A write that failed is told.
+    ensures fault { result ≢ Status.Trouble
+        → (O.has_failed out.new || E.has_failed err.new) ≡ (O.has_failed out.old || E.has_failed err.old) }
 {
     let Ok(text) = lines(alloc, endings) else {
         say_text("scand: out of memory\n", err);

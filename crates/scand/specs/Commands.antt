@@ -1,9 +1,6 @@
 -- How a command ends, whatever its words ask for.
-use Rattle.std.specs.Prelude.{◌≡◌, ℕ, Bool, List, [], ◌++◌, Option, Some, None, Ok, Err, codes, decimal, string_bytes, ◌⊎◌}
+use Rattle.std.specs.Prelude.{◌≡◌, ℕ, Bool, List, [], ◌++◌, Option, Some, None, Ok, Err, codes, decimal, ◌⊎◌}
 use Rattle.std.specs.Io.KnownBytes.{Appends}
-use Rattle.std.specs.Option.{option_map}
-use Rattle.std.specs.Global.{Global}
-use Rattle.std.specs.declared.string.String.{String}
 use Rattle.boxcar.specs.Table.{Shelves}
 use Rattle.byte_io.specs.Devices.{Coming, Told}
 use Rattle.byte_io.specs.Sources.{Named, Sources, after}
@@ -18,6 +15,7 @@ use Rattle.scan_run.specs.Alone.{EndsAlone}
 use Rattle.scan_run.specs.Loading.{LoadsNamed}
 use Rattle.scan_run.specs.Messages.{out_of_memory}
 use Rattle.scan_run.specs.Reports.{ReportsSome}
+use Rattle.scand.specs.Requests.{named}
 use Rattle.scand.specs.declared.words.Request.{Request}
 use Rattle.scand.specs.declared.words.Service.{Service}
 use Rattle.scand.specs.declared.words.Service.TheVariants.{Alone, Listen}
@@ -42,10 +40,6 @@ Serves (Listen port connections) store status out_failed err_failed coming_old c
 -- the one file that was asked for is that of a name
 abbrev pub AsksFor : List ℕ → Option Sources → Option Sources → Type 0
 AsksFor name old new = Told old new (λ x y. y ≡ after (Named name) x)
-
--- the name of the file of plans that is told, if one is
-abbrev pub named : Option (String Global) → Option (List ℕ)
-named plans = option_map (λ name. string_bytes name) plans
 
 -- A request was served over a store, with the plans of the file that it names, or with none at first where it names none; or
 -- the file could not be loaded, or there was no memory for a store, and nothing was served.

@@ -1,5 +1,5 @@
 //! What a command does.
-ghost use Rattle.std.specs.Prelude.{◌≡◌, IfOk, string_bytes};
+ghost use Rattle.std.specs.Prelude.{◌≡◌, ◌||◌, IfOk, string_bytes};
 ghost use Rattle.byte_io.specs.Transfers.{Says};
 ghost use Rattle.program_words.specs.Words.{message_on};
 ghost use Rattle.scan_run.specs.Messages.{out_of_memory};
@@ -26,8 +26,13 @@ pub fn serve<R, F: Opener, I: ByteIn, O: ByteOut, E: ByteOut>(
 ) -> Status
 where
     R: Env + AllocGlobal + Threads + Wait + Sync + Net<Listener = TcpListener, Stream = TcpStream>,
-    ensures { EndsSomehow result (F.sources files.old) (F.sources files.new) (O.has_failed out.new) (E.has_failed err.new)
+    ensures ends { EndsSomehow result (F.sources files.old) (F.sources files.new) (O.has_failed out.new) (E.has_failed err.new)
         (I.coming input.old) (I.coming input.new) (O.written out.old) (O.written out.new) (E.written err.old) (E.written err.new) }
+
+    // Who ends well had no read and no write that failed.
+    ensures unread { result ≡ Status.Clean → I.has_failed input.new ≡ I.has_failed input.old }
+    ensures fault { result ≡ Status.Clean
+        → (O.has_failed out.new || E.has_failed err.new) ≡ (O.has_failed out.old || E.has_failed err.old) }
 {
     match asked(rt) {
         Ok(request) => run(rt, rt.alloc(), &request, files, input, out, err),
@@ -53,8 +58,11 @@ fn run<R, F: Opener, I: ByteIn, O: ByteOut, E: ByteOut>(
 ) -> Status
 where
     R: Threads + Wait + Sync + Net<Listener = TcpListener, Stream = TcpStream>,
-    ensures { Runs request.now result (F.sources files.old) (F.sources files.new) (O.has_failed out.new) (E.has_failed err.new)
+    ensures runs { Runs request.now result (F.sources files.old) (F.sources files.new) (O.has_failed out.new) (E.has_failed err.new)
         (I.coming input.old) (I.coming input.new) (O.written out.old) (O.written out.new) (E.written err.old) (E.written err.new) }
+    ensures unread { result ≡ Status.Clean → I.has_failed input.new ≡ I.has_failed input.old }
+    ensures fault { result ≡ Status.Clean
+        → (O.has_failed out.new || E.has_failed err.new) ≡ (O.has_failed out.old || E.has_failed err.old) }
 {
     let Ok(store) = PlanStore::new(alloc) else {
         return refuse(&Fault::OutOfMemory, err);
@@ -81,8 +89,11 @@ fn serve_over<R, I: ByteIn, O: ByteOut, E: ByteOut>(
 ) -> Status
 where
     R: Threads + Wait + Sync + Net<Listener = TcpListener, Stream = TcpStream>,
-    ensures { Serves service store.now result (O.has_failed out.new) (E.has_failed err.new)
+    ensures serves { Serves service store.now result (O.has_failed out.new) (E.has_failed err.new)
         (I.coming input.old) (I.coming input.new) (O.written out.old) (O.written out.new) (E.written err.old) (E.written err.new) }
+    ensures unread { result ≡ Status.Clean → I.has_failed input.new ≡ I.has_failed input.old }
+    ensures fault { result ≡ Status.Clean
+        → (O.has_failed out.new || E.has_failed err.new) ≡ (O.has_failed out.old || E.has_failed err.old) }
 {
     match service {
         Service::Alone => serve_alone(rt, alloc, store, input, out),
@@ -104,8 +115,10 @@ fn serve_port<R, O: ByteOut, E: ByteOut>(
 ) -> Status
 where
     R: Threads + Wait + Sync + Net<Listener = TcpListener, Stream = TcpStream>,
-    ensures { ServesPort port connections.count result (O.has_failed out.new) (E.has_failed err.new)
+    ensures serves { ServesPort port connections.count result (O.has_failed out.new) (E.has_failed err.new)
         (O.written out.old) (O.written out.new) (E.written err.old) (E.written err.new) }
+    ensures fault { result ≡ Status.Clean
+        → (O.has_failed out.new || E.has_failed err.new) ≡ (O.has_failed out.old || E.has_failed err.old) }
 {
     let Ok(listener) = TcpListener::bind(rt, (Ipv4Addr::LOCALHOST, port)) else {
         return refuse(&Fault::usage(cannot_listen(alloc, port)), err);

@@ -1,4 +1,9 @@
 //! The words of the command line, read with clap.
+ghost use Rattle.std.specs.Prelude.{◌≡◌, IfOk, IfSome, Some, codes, true};
+ghost use Rattle.clap.specs.Words.{first_value, found_of};
+ghost use Rattle.program_words.specs.Matches.{IsNumber, is_used};
+ghost use Rattle.scand.specs.Requests.{IsRequestOf, IsServiceOf, named};
+
 use crate::help::{HELP, USAGE};
 use clap::{Arg, ArgAction, ArgMatches, Command, value_parser};
 use program_words::{Fault, VERSION, matches_of};
@@ -30,31 +35,59 @@ pub enum Service {
 /// - `OutOfMemory` where a growth was refused.
 pub fn requested(alloc: Global, words: &[String]) -> Result<Request, Fault> {
     let matches = matches_of(alloc, scand(alloc)?, words)?;
-    let Some(service) = service_of(&matches) else {
+    request_of(alloc, &matches)
+}
+
+/// The request that clap's matches tell, each argument under its name as id.
+///
+/// # Errors
+/// - `Usage` where --stdio was not used, and a port or connections are missing.
+/// - `OutOfMemory` where a growth was refused.
+pub fn request_of(alloc: Global, matches: &ArgMatches<'_>) -> Result<Request, Fault>
+    ensures { IfOk result (IsRequestOf matches.now) }
+{
+    let Some(service) = service_of(matches) else {
         return Err(Fault::usage(String::from_str(
             alloc,
             "scand: --stdio or --port and --connections are needed\n",
         )));
     };
-    let plans = plans_of(alloc, &matches)?;
+    let plans = plans_of(alloc, matches)?;
     Ok(Request { plans, service })
 }
 
 /// Whom clap's matches tell to serve, if no option is missing. Clap lets no other number of
 /// connections through.
-fn service_of(matches: &ArgMatches<'_>) -> Option<Service> {
+fn service_of(matches: &ArgMatches<'_>) -> Option<Service>
+    ensures told { IfSome result (IsServiceOf matches.now) }
+    ensures alone { is_used matches.now (codes "stdio") ≡ true → result ≡ Some Service.Alone }
+{
     if matches.get_count("stdio") > 0 {
         return Some(Service::Alone);
     }
-    let port = matches.get_one::<u16>("port")?;
-    let connections = matches
-        .get_one::<usize>("connections")
-        .and_then(Connections::new)?;
+    let port = port_of(matches)?;
+    let connections = connections_of(matches)?;
     Some(Service::Listen { port, connections })
 }
 
+/// The port that clap's matches tell, if one is given.
+fn port_of(matches: &ArgMatches<'_>) -> Option<u16>
+    ensures { IfSome result (IsNumber matches.now (codes "port")) }
+{
+    matches.get_one::<u16>("port")
+}
+
+/// The number of connections that clap's matches tell, if one is given and there may be so many.
+fn connections_of(matches: &ArgMatches<'_>) -> Option<Connections>
+    ensures { IfSome result (λ connections. IsNumber matches.now (codes "connections") connections.count) }
+{
+    Connections::new(matches.get_one::<usize>("connections")?)
+}
+
 /// The file of plans that clap's matches tell, if one is given.
-fn plans_of(alloc: Global, matches: &ArgMatches<'_>) -> Result<Option<String>, AllocError> {
+fn plans_of(alloc: Global, matches: &ArgMatches<'_>) -> Result<Option<String>, AllocError>
+    ensures { IfOk result (λ plans. named plans ≡ first_value (found_of matches.now) (codes "plans")) }
+{
     match matches.get_str("plans") {
         Some(name) => Ok(Some(String::from_str(alloc, name)?)),
         None => Ok(None),

@@ -6,19 +6,19 @@ use Rattle.byte_io.proofs.SayLemmas.{front-part}
 use Rattle.scan_run.specs.Reports.{Broken, Faulty, Starved, lines_from}
 use Rattle.scan_run.proofs.report.report.Goals as goal
 
-pub returns-in_default : goal.returns-in_default
-returns-in_default g c = Starved refl (Appends-nil (g.O.ByteOut.written c.args.out.now)) c.say_text.ensures
+pub returns-in_default-clause-told : goal.returns-in_default-clause-told
+returns-in_default-clause-told g c = Starved refl (Appends-nil (g.O.ByteOut.written c.args.out.now)) c.say_text.ensures
 
-pub returns-in_default-write_all : goal.returns-in_default-write_all
-returns-in_default-write_all g c =
+pub returns-in_default-write_all-clause-told : goal.returns-in_default-write_all-clause-told
+returns-in_default-write_all-clause-told g c =
     let text : c.as_bytes.result.now ≡ lines_from 1 c.args.endings.now = c.as_bytes.ensures.value ∙ c.in-Ok.ensures in
     let failed : g.O.ByteOut.has_failed c.write_all.new.out ≡ true = search rules in
     Broken failed refl
     (subst (λ (t : List ℕ). AppendsFront (g.O.ByteOut.written c.args.out.now) (g.O.ByteOut.written c.write_all.new.out) t) text (front-part c.in_default-write_all.ensures.err))
     (Appends-nil (g.E.ByteOut.written c.args.err.now))
 
-pub returns-then-faulty : goal.returns-then-faulty
-returns-then-faulty g c =
+pub returns-then-faulty-clause-told : goal.returns-then-faulty-clause-told
+returns-then-faulty-clause-told g c =
     let text : c.as_bytes.result.now ≡ lines_from 1 c.args.endings.now = c.as_bytes.ensures.value ∙ c.in-Ok.ensures in
     Faulty c.if-faulty.true refl
     (subst (λ (t : List ℕ). Appends (g.O.ByteOut.written c.args.out.now) (g.O.ByteOut.written c.write_all.new.out) t) text c.in-Ok-write_all.ensures.ok)

@@ -1,0 +1,7 @@
+-- The port is the number that its text spells.
+use Rattle.std.proofs.Common.{codes}
+use Rattle.program_words.proofs.NumberLemmas.{number_read}
+use Rattle.scand.proofs.words.port_of.Goals as goal
+
+pub returns : goal.returns
+returns c = number_read 16 c.args.matches.now (codes "port") c.get_one.result c.get_one.ensures.none c.get_one.ensures.value
