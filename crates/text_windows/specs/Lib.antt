@@ -1,3 +1,4 @@
+pub mod Blocks
 pub mod Looks
 pub mod NoEnds
 pub mod ShiftOr

@@ -1,6 +1,7 @@
 //! Marks of literals by windows of their bytes, chosen so that they are rare in a text at hand.
 #![tactic(auto)]
 
+mod blocks;
 mod choosing;
 mod confirming;
 mod counts;

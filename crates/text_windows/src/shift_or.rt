@@ -1,10 +1,13 @@
 //! Shift-or over buckets of literals, as Hyperscan's FDR has it: which ends are ruled out by the bytes before them.
-ghost use Rattle.std.specs.Prelude.{◌≡◌, ℕ, ◌+◌, ◌-◌, ◌<◌, ◌≤◌, IfOk, IfSome, MatchOption, length, max, false};
+ghost use Rattle.std.specs.Prelude.{◌≡◌, ℕ, ◌+◌, ◌-◌, ◌*◌, ◌<◌, ◌≤◌, ◌⊎◌, IfOk, IfSome, MatchOption, length, max, slice_index, false};
+ghost use Rattle.text_windows.specs.Blocks.{AreNoted};
 ghost use Rattle.text_windows.specs.NoEnds.{Finds, IsFirstFound, NoEndUpTo};
 ghost use Rattle.text_windows.specs.ShiftOr.{AreEntriesOf, NoneOf, RulesOut, RulesOutWords};
 ghost use Rattle.text_windows.specs.Looks.{AreLooks, AreLooksBehind, IsVerified};
+ghost use Rattle.text_windows.specs.declared.blocks.TheConstants.{GROUP, GROUPS};
 ghost use Rattle.text_windows.specs.declared.shift_or.TheConstants.{FRONT};
 
+use crate::blocks::{GROUP, GROUPS, look_at_block, note_words};
 use crate::confirming::{CONFIRM_BITS, Confirms};
 use crate::entries::{ENTRIES, PLACES, fill_all};
 use crate::joining::{lacking, last_alone, last_of};
@@ -42,6 +45,17 @@ const SPARSE: usize = 31;
 /// So many bytes of a text are gone through without looks: behind them there are eight places to look at before the first end that
 /// is sought, and eight bytes before each of these.
 const FRONT: usize = 15;
+
+/// So far behind the place from which a search goes on it begins to take blocks: nearer ends are found by one look at a block less, and
+/// where one is found behind, its block is looked at twice.
+const NEAR: usize = 1024;
+
+/// A place up to which nothing ends, and what the last looks rule out behind it.
+#[derive(Clone, Copy)]
+struct Quiet {
+    at: usize,
+    before: u64x4,
+}
 
 /// For the two bytes before a place, in either case where case does not count, an entry that tells which ends they rule out: bit `8 * ahead + bucket` is set if no literal of
 /// a bucket ends `ahead` places behind such bytes. The entries of all or of every second place, each shifted by how far it stands
@@ -263,6 +277,7 @@ impl<'p> ShiftOr<'p> {
         // The looks are held by single variables, and handed on as new ones: else they are stored at each turn.
         let mut at = looks.at;
         let mut before = last_alone(looks.carried);
+        let far = at.saturating_add(NEAR);
         // Behind a block of eight places there are to be four more, for one turn.
         let last_four = text.len().saturating_sub(5 * PLACES - 1);
         'fours: while at <= last_four {
@@ -277,6 +292,11 @@ impl<'p> ShiftOr<'p> {
                 }
             }
             at += 4 * PLACES;
+            if at == far {
+                let quiet = self.skip_blocks::<STEP>(entries, text, at, before, left);
+                at = quiet.at;
+                before = quiet.before;
+            }
         }
         let rest = Looks {
             at,
@@ -284,6 +304,84 @@ impl<'p> ShiftOr<'p> {
             carried: last_of(before),
         };
         self.next_by_eights(entries, text, from, rest, looks, left)
+    }
+
+    /// Goes on block by block as long as nothing ends in one, behind a place up to which nothing does.
+    #[inline(never)]
+    fn skip_blocks<const STEP: usize>(
+        &self,
+        entries: &[u64],
+        text: &[u8],
+        from: usize,
+        carried: u64x4,
+        left: &mut usize,
+    ) -> Quiet
+        requires entries { AreEntriesOf self.now.literals self.now.buckets entries.now }
+        requires before { RulesOut self.now text.now (from + 8) (slice_index carried 3) }
+        ensures after { from ≤ result.at }
+        ensures within { from ≡ result.at ⊎ (result.at + 7 ≤ length text.now) }
+        ensures none { NoEndUpTo self.now.literals text.now (from + 7) (result.at + 7) }
+        ensures before { RulesOut self.now text.now (result.at + 8) (slice_index result.before 3) }
+    {
+        let mut words = [0u64; 4 * GROUPS];
+        let mut groups = [0usize; GROUPS];
+        let mut numbers = [0usize; 4 * GROUPS];
+        let mut at = from;
+        let mut before = carried;
+        let last = text.len().saturating_sub(GROUP * GROUPS + (PLACES - 1));
+        'quiet: while at < last {
+            let ahead = at + PLACES;
+            let noted = look_at_block::<STEP>(
+                entries,
+                text,
+                ahead,
+                before,
+                &mut words,
+                &mut groups,
+            );
+            let count = note_words(&words, &groups, noted.count, &mut numbers);
+            let mut vain = 0;
+            if self.has_end(text, ahead, &words, &numbers, count, &mut vain) {
+                return Quiet { at, before };
+            }
+            *left = left.saturating_add(vain);
+            before = noted.behind;
+            at += GROUP * GROUPS;
+        }
+        Quiet { at, before }
+    }
+
+    /// Whether a literal ends at a place of a block, by the words that are noted. Adds to `vain` how many ends were not ruled out, once
+    /// for each bucket, at which none does.
+    #[inline(always)]
+    fn has_end(
+        &self,
+        text: &[u8],
+        at: usize,
+        words: &[u64],
+        numbers: &[usize],
+        count: usize,
+        vain: &mut usize,
+    ) -> bool
+        requires eight { 8 ≤ at }
+        requires inside { at + (GROUP * GROUPS - 1) ≤ length text.now }
+        requires words { length words.now ≡ 4 * GROUPS }
+        requires few { count ≤ length numbers.now }
+        requires noted { AreNoted self.now text.now at GROUPS words.now numbers.now count }
+        ensures { result ≡ false → NoEndUpTo self.now.literals text.now (at - 1) (at + (GROUP * GROUPS - 1)) }
+    {
+        for slot in 0..count {
+            let word = numbers[slot];
+            let looks = Looks {
+                at: at + PLACES * word,
+                unruled: !words[word],
+                carried: 0,
+            };
+            if let Some(_found) = self.first_verified(text, looks, vain) {
+                return true;
+            }
+        }
+        false
     }
 
     /// The same behind such looks, of whose ends none is left, by eight places at a time: the last ones of a text.

@@ -1,11 +1,11 @@
 -- The front is verified place by place, then what is left of the looks at hand, then of thirty-two places after the other.
-use Rattle.std.proofs.Common.{◌≡◌, ℕ, ◌+◌, ◌-◌, ◌*◌, max, slice_index, sym, ap, ◌∙◌, subst, arith}
+use Rattle.std.proofs.Common.{◌≡◌, ℕ, ◌+◌, ◌-◌, ◌*◌, inl, inr, max, slice_index, sym, ap, ◌∙◌, subst, arith}
 use Rattle.std.specs.Int.{bit_at}
 use Rattle.std.proofs.lemmas.Nat.Bits.{bit_at-zero}
 use Rattle.text_windows.specs.Looks.{AreLooks, IsVerified}
 use Rattle.text_windows.specs.NoEnds.{NoEndUpTo}
 use Rattle.text_windows.specs.ShiftOr.{AreRuled, RulesOut}
-use Rattle.text_windows.proofs.ShiftOrLemmas.{found_further, none_joined, none_of_word, none_of_words}
+use Rattle.text_windows.proofs.ShiftOrLemmas.{found_further, none_joined, none_of_group}
 use Rattle.text_windows.proofs.shift_or.ShiftOr.next_by_step.Goals as goal
 use Rattle.text_windows.proofs.shift_or.ShiftOr.next_by_step.Goals.{then-lacking-ne0+in_default-verify_four, else-lacking-ne0}
 
@@ -91,8 +91,43 @@ fours-preserved g c =
         | else-lacking-ne0 w ↦
             let gone : c.lacking.result ≡ 0 = omega (arith, w.if-lacking-ne0.false) in
             let ruled = c.with_those_before-ruled.ensures b text at are before.before in
-            λ end after within. none_of_words b.literals text c.args.from at 4 (omega arith) (λ end after within. before.none end after (omega (arith, within)))
-            (λ i below. none_of_word b text (at + 8 * i) (slice_index c.with_those_before-ruled.result i) (omega arith) (ruled i below) (c.lacking.ensures.full i below (ap (λ m. bit_at m i) gone ∙ bit_at-zero i))) end after (omega (arith, within))
+            let own = none_of_group b text at c.with_those_before-ruled.result (omega arith) ruled (λ i below. c.lacking.ensures.full i below (ap (λ m. bit_at m i) gone ∙ bit_at-zero i)) in
+            none_joined b.literals text c.args.from (c.fours.at + 7) (c.fours.at + 7) (c.fours.at + 32 + 7) (omega arith) before.none (λ end after within. own end (omega (arith, after)) (omega (arith, within)))
       ];
       before = subst (λ p. RulesOut b text p (slice_index c.four_looks-now.result.behind 3)) there (are.behind 3 (omega arith));
+    }
+
+pub skip_blocks-quiet-requires-clause-before : goal.skip_blocks-quiet-requires-clause-before
+skip_blocks-quiet-requires-clause-before g c =
+    let b = c.args.self.now in
+    let are : AreRuled b c.args.text.now (c.fours.at + 8) c.four_looks-now.result = c.four_looks-now.ensures b c.requires.entries in
+    let there : c.fours.at + 8 + 8 + 8 * 3 ≡ c.fours.at + 32 + 8 = omega arith in
+    subst (λ p. RulesOut b c.args.text.now p (slice_index c.four_looks-now.result.behind 3)) there (are.behind 3 (omega arith))
+
+pub fours-preserved-then-at-far : goal.fours-preserved-then-at-far
+fours-preserved-then-at-far g c =
+    let b = c.args.self.now in
+    let text = c.args.text.now in
+    let start : ℕ = max c.args.from 15 in
+    let before = c.fours.invariant in
+    let quiet = c.skip_blocks-quiet.ensures in
+    let at : ℕ = c.fours.at + 8 in
+    let none : NoEndUpTo b.literals text start (at - 1) = λ end after within. before.none end (omega (arith, after)) (omega (arith, within)) in
+    let passed : NoEndUpTo b.literals text c.args.from (c.fours.at + 32 + 7) = elim c.if-lacking-ne0.branch [
+      | then-lacking-ne0+in_default-verify_four w ↦ none_joined b.literals text c.args.from (c.fours.at + 7) start (c.fours.at + 32 + 7) before.near before.none (λ end after within. w.in_default-verify_four.ensures start (omega (arith, before.near)) none end after (omega (arith, within)))
+      | else-lacking-ne0 w ↦
+          let gone : c.lacking.result ≡ 0 = omega (arith, w.if-lacking-ne0.false) in
+          let ruled = c.with_those_before-ruled.ensures b text at (c.four_looks-now.ensures b c.requires.entries) before.before in
+          let own = none_of_group b text at c.with_those_before-ruled.result (omega arith) ruled (λ i below. c.lacking.ensures.full i below (ap (λ m. bit_at m i) gone ∙ bit_at-zero i)) in
+          none_joined b.literals text c.args.from (c.fours.at + 7) (c.fours.at + 7) (c.fours.at + 32 + 7) (omega arith) before.none (λ end after within. own end (omega (arith, after)) (omega (arith, within)))
+    ] in
+    record {
+      some = omega (arith, before.some, quiet.after);
+      near = omega (arith, before.near, quiet.after);
+      within = elim quiet.within [
+        | inl same ↦ omega (arith, same, c.fours-test.true, before.some, c.saturating_sub-last_four.ensures)
+        | inr inside ↦ omega (arith, inside)
+      ];
+      none = none_joined b.literals text c.args.from (c.fours.at + 32 + 7) (c.fours.at + 32 + 7) (c.skip_blocks-quiet.result.at + 7) (omega arith) passed quiet.none;
+      before = quiet.before;
     }
