@@ -368,11 +368,11 @@ fn finds_only(shift_or: &ShiftOr<'_>, text: &[u8], end: usize) -> bool {
             .is_none()
 }
 
-/// So many dots, a word, and as many more as make a text of a hundred and twenty bytes and the word.
-fn dots_round(alloc: Global, word: &[u8], before: usize) -> Option<Vec<u8>> {
+/// So many dots, a word, and as many more as make a text of so many bytes and the word.
+fn dots_round(alloc: Global, word: &[u8], before: usize, dots: usize) -> Option<Vec<u8>> {
     let mut text = Vec::from_elem(alloc, b'.', before).ok()?;
     text.extend_from_slice(word).ok()?;
-    text.resize(120 + word.len(), b'.').ok()?;
+    text.resize(dots.saturating_add(word.len()), b'.').ok()?;
     Some(text)
 }
 
@@ -385,12 +385,25 @@ fn count_missed(
     word: &[u8],
     bytes: [u8; 4],
 ) -> Option<usize> {
+    count_missed_among(alloc, fold, literal, word, bytes, 0, 120)
+}
+
+/// The same among so many dots, from so many before the word on.
+fn count_missed_among(
+    alloc: Global,
+    fold: Fold,
+    literal: &[u8],
+    word: &[u8],
+    bytes: [u8; 4],
+    first: usize,
+    dots: usize,
+) -> Option<usize> {
     let list = list_of(alloc, fold, &[literal, b"abcd"])?;
     let mut shift_or = ShiftOr::new(alloc, &list).ok()?;
     shift_or.learn(&sample_of(alloc, bytes)?, EndRate::nothing());
     let mut missed = 0usize;
-    for before in 0..120usize {
-        let text = dots_round(alloc, word, before)?;
+    for before in first..dots {
+        let text = dots_round(alloc, word, before, dots)?;
         if !finds_only(&shift_or, text.as_slice(), before + word.len()) {
             missed = missed.saturating_add(1);
         }
@@ -426,6 +439,23 @@ fn finds_literals_at_each_place_by_looks_at_each(rt: HostRuntime) {
     );
     assert_eq!(rt;
         count_missed(rt.alloc(), Fold::Ascii, b"wxyz", b"wXyZ", *b"wxy."),
+        Some(0)
+    );
+}
+
+/// How many such words are missed from so many bytes before the first block of a text to so many behind the third.
+fn count_missed_in_blocks(alloc: Global, word: &[u8], bytes: [u8; 4]) -> Option<usize> {
+    count_missed_among(alloc, Fold::No, word, word, bytes, 960, 4300)
+}
+
+#[test]
+fn finds_literals_at_each_place_of_blocks(rt: HostRuntime) {
+    assert_eq!(rt;
+        count_missed_in_blocks(rt.alloc(), b"wxyz", *b"...."),
+        Some(0)
+    );
+    assert_eq!(rt;
+        count_missed_in_blocks(rt.alloc(), b"wxyzuvwxyz", *b"wxy."),
         Some(0)
     );
 }
