@@ -35,6 +35,9 @@ const FEW: usize = 32;
 /// is found out early.
 const SPAN: usize = SAMPLE;
 
+/// The first span of a text at hand goes in so many parts, since it may learn behind each. The number was not varied.
+const FIRST_SPANS: usize = 4;
+
 /// Fewer bytes tell too little of a text: of a shorter text, or a shorter piece of a stream, nothing is learned.
 pub const LEAST_SAMPLE: usize = 16384;
 
@@ -214,7 +217,10 @@ impl<'p> EndFinder<'p> {
         let mut hits = Vec::new(alloc);
         let mut place = from;
         'spans: while place < text.len() {
-            let stop = text.len().min(place.saturating_add(SPAN));
+            self.learn_if_sure(text, place);
+            let stop = text
+                .len()
+                .min(place.saturating_add(span_behind(place - from)));
             let (front, _) = text.split_at(stop);
             self.add_hits(front, place, place as u64, usize::MAX, &mut hits)?;
             place = stop;
@@ -379,6 +385,17 @@ impl<'p> EndFinder<'p> {
         found
     }
 
+    /// Learns from the text at hand behind a place, where what is left of it is likely to gain by that.
+    fn learn_if_sure(&mut self, text: &[u8], from: usize)
+        requires { from ≤ length text.now }
+        ensures { self.new ≡ self.old }
+    {
+        let rest = text.len() - from;
+        if rest >= LEAST_SAMPLE && self.learning.is_due_before(rest) {
+            self.learn(text, from);
+        }
+    }
+
     /// Learns from the text behind a place, where that is worth while and enough of it is left.
     #[inline(always)]
     fn learn_if_due(&mut self, text: &[u8], from: usize)
@@ -432,6 +449,17 @@ impl<'p> HitSearch for EndFinder<'p> {
             Way::ShiftOr => self.add_hits_shifted(text, from, at, most, out),
             Way::Plan => self.add_hits_plainly(text, from, at, most, out),
         }
+    }
+}
+
+/// How many bytes of a text at hand are scanned in one way behind so many that were.
+fn span_behind(passed: usize) -> usize
+    ensures { 0 < result }
+{
+    if passed < SPAN {
+        SPAN / FIRST_SPANS
+    } else {
+        SPAN
     }
 }
 

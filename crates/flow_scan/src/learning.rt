@@ -45,6 +45,10 @@ const LEAST_LOSS: usize = 1_500_000;
 /// So many times the least loss is waited for at most, where learning gains little.
 const MOST_WAIT: usize = 128;
 
+/// It learns at once where what a text at hand has left is likely to lose so many times that: then learning is sure to be worth while, as
+/// far as the plan goes on as it began.
+const SURE: usize = 10;
+
 /// So many bytes of a text are searched in one way before it is asked whether the other one that was learned is likely to take less.
 /// The number was not varied.
 const TRIAL: usize = 65536;
@@ -169,6 +173,12 @@ impl Learning {
     #[inline(always)]
     pub fn is_due(&self) -> bool {
         self.lost >= self.most_lost
+    }
+
+    /// The same in a text at hand of which so many bytes are left: while it goes by the plan, what these are likely to lose counts too.
+    pub fn is_due_before(&self, rest: usize) -> bool {
+        let likely = self.lost.saturating_mul(rest / self.passed.max(1));
+        self.is_due() || !self.has_learned() && likely >= self.most_lost.saturating_mul(SURE)
     }
 
     /// Adds what so many bytes took, and how many ends were found in them. The way may be another one then.

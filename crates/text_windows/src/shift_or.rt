@@ -29,7 +29,7 @@ const EACH_COST: usize = 4300;
 pub const SHIFT_OR_COST: usize = 2900;
 
 /// An end that is not ruled out takes so many, once for each bucket, if nothing ends there.
-const LEFT_COST: usize = 190;
+const LEFT_COST: usize = 100;
 
 /// A scan takes so much longer for an end at which a literal does end than by windows, in tenths of a nanosecond. Chosen with either way
 /// forced for 26 lists of 30 to 1,000 frequent literals of log lines, English, JSON and source code, of two seeds: so what is estimated
@@ -46,9 +46,13 @@ const SPARSE: usize = 31;
 /// is sought, and eight bytes before each of these.
 const FRONT: usize = 15;
 
-/// So far behind the place from which a search goes on it begins to take blocks: nearer ends are found by one look at a block less, and
-/// where one is found behind, its block is looked at twice.
+/// Behind so many bytes it is asked whether to go on by blocks: an end that is nearer is found without, and where one is found by blocks,
+/// its own is looked at twice.
 const NEAR: usize = 1024;
+
+/// It goes on by blocks where of so many bytes at least so many groups were left with an end. A jump that is foreseen wrongly takes some
+/// 20 ns there, and to note what is left some 16 ns for a block: where fewer were, searches by blocks took 1.03 to 1.06 times as long.
+const MANY_OPEN: usize = 2;
 
 /// A place up to which nothing ends, and what the last looks rule out behind it.
 #[derive(Clone, Copy)]
@@ -277,7 +281,7 @@ impl<'p> ShiftOr<'p> {
         // The looks are held by single variables, and handed on as new ones: else they are stored at each turn.
         let mut at = looks.at;
         let mut before = last_alone(looks.carried);
-        let far = at.saturating_add(NEAR);
+        let (mut far, mut opened) = (at.saturating_add(NEAR), 0usize);
         // Behind a block of eight places there are to be four more, for one turn.
         let last_four = text.len().saturating_sub(5 * PLACES - 1);
         'fours: while at <= last_four {
@@ -286,16 +290,19 @@ impl<'p> ShiftOr<'p> {
             let ruled = now.with_those_before(before);
             before = now.behind;
             if lacking(ruled) != 0 {
+                opened = opened.saturating_add(1);
                 if let Some(found) = self.verify_four(text, ahead, ruled, last_of(before), left) {
                     *looks = found.looks;
                     return Some((found.end, found.first));
                 }
             }
             at += 4 * PLACES;
-            if at == far {
-                let quiet = self.skip_blocks::<STEP>(entries, text, at, before, left);
+            if at >= far {
+                let quiet = self.skip_where_open::<STEP>(opened, entries, text, at, before, left);
                 at = quiet.at;
                 before = quiet.before;
+                far = at.saturating_add(NEAR);
+                opened = 0;
             }
         }
         let rest = Looks {
@@ -306,7 +313,34 @@ impl<'p> ShiftOr<'p> {
         self.next_by_eights(entries, text, from, rest, looks, left)
     }
 
-    /// Goes on block by block as long as nothing ends in one, behind a place up to which nothing does.
+    /// Goes on as `skip_blocks` does, if that is worth while where so many groups were left with an end.
+    #[inline(always)]
+    fn skip_where_open<const STEP: usize>(
+        &self,
+        opened: usize,
+        entries: &[u64],
+        text: &[u8],
+        from: usize,
+        carried: u64x4,
+        left: &mut usize,
+    ) -> Quiet
+        requires entries { AreEntriesOf self.now.literals self.now.buckets entries.now }
+        requires before { RulesOut self.now text.now (from + 8) (slice_index carried 3) }
+        ensures after { from ≤ result.at }
+        ensures within { from ≡ result.at ⊎ (result.at + 7 ≤ length text.now) }
+        ensures none { NoEndUpTo self.now.literals text.now (from + 7) (result.at + 7) }
+        ensures before { RulesOut self.now text.now (result.at + 8) (slice_index result.before 3) }
+    {
+        if opened < MANY_OPEN {
+            return Quiet {
+                at: from,
+                before: carried,
+            };
+        }
+        self.skip_blocks::<STEP>(entries, text, from, carried, left)
+    }
+
+    /// Goes on block by block as long as nothing ends in one and some groups are noted, behind a place up to which nothing ends.
     #[inline(never)]
     fn skip_blocks<const STEP: usize>(
         &self,
@@ -329,7 +363,8 @@ impl<'p> ShiftOr<'p> {
         let mut at = from;
         let mut before = carried;
         let last = text.len().saturating_sub(GROUP * GROUPS + (PLACES - 1));
-        'quiet: while at < last {
+        let mut is_open = true;
+        'quiet: while is_open && at < last {
             let ahead = at + PLACES;
             let noted = look_at_block::<STEP>(
                 entries,
@@ -347,6 +382,7 @@ impl<'p> ShiftOr<'p> {
             *left = left.saturating_add(vain);
             before = noted.behind;
             at += GROUP * GROUPS;
+            is_open = count != 0;
         }
         Quiet { at, before }
     }

@@ -24,7 +24,7 @@ spans-init c =
 pub returns-in_err-add_hits-clause-quiet : goal.returns-in_err-add_hits-clause-quiet
 returns-in_err-add_hits-clause-quiet c = λ none.
     let before = c.spans.invariant in
-    absurd (false≢true ((rw (ap (λ (p : Plan). p.literals) before.finder, c.split_at.ensures.front) at c.in_err-add_hits.ensures.quiet)
+    absurd (false≢true ((rw (ap (λ (p : Plan). p.literals) (c.learn_if_sure.ensures ∙ before.finder), c.split_at.ensures.front) at c.in_err-add_hits.ensures.quiet)
     (none_in_front c.args.self.now.literals c.args.text.now c.args.from c.spans.place c.min-stop.result before.ahead none)))
 
 pub spans-preserved : goal.spans-preserved
@@ -37,12 +37,12 @@ spans-preserved c =
     let new = c.add_hits.new.out in
     let small : length new.items < 18446744073709551615 = omega (arith, new.ok.0, new.ok.1, new.small) in
     record {
-      finder = c.in_ok-add_hits.ensures.same ∙ before.finder;
+      finder = c.in_ok-add_hits.ensures.same ∙ c.learn_if_sure.ensures ∙ before.finder;
       ahead = omega (arith, further, before.ahead);
       within = within;
       gained = gained_further c.args.self.now.literals c.args.text.now c.args.from place stop [] c.spans.hits.items new.items before.ahead further within before.gained
           (all_searched c.args.self.now.literals (take stop c.args.text.now) place place _ c.in_ok-add_hits.field-0 c.spans.hits.items new.items small
-          (rw (ap (λ (p : Plan). p.literals) before.finder, c.split_at.ensures.front) at c.in_ok-add_hits.ensures.ok));
+          (rw (ap (λ (p : Plan). p.literals) (c.learn_if_sure.ensures ∙ before.finder), c.split_at.ensures.front) at c.in_ok-add_hits.ensures.ok));
     }
 
 -- from no hits on those up to the text's end are all

@@ -97,8 +97,8 @@ fours-preserved g c =
       before = subst (λ p. RulesOut b text p (slice_index c.four_looks-now.result.behind 3)) there (are.behind 3 (omega arith));
     }
 
-pub skip_blocks-quiet-requires-clause-before : goal.skip_blocks-quiet-requires-clause-before
-skip_blocks-quiet-requires-clause-before g c =
+pub skip_where_open-quiet-requires-clause-before : goal.skip_where_open-quiet-requires-clause-before
+skip_where_open-quiet-requires-clause-before g c =
     let b = c.args.self.now in
     let are : AreRuled b c.args.text.now (c.fours.at + 8) c.four_looks-now.result = c.four_looks-now.ensures b c.requires.entries in
     let there : c.fours.at + 8 + 8 + 8 * 3 ≡ c.fours.at + 32 + 8 = omega arith in
@@ -110,7 +110,7 @@ fours-preserved-then-at-far g c =
     let text = c.args.text.now in
     let start : ℕ = max c.args.from 15 in
     let before = c.fours.invariant in
-    let quiet = c.skip_blocks-quiet.ensures in
+    let quiet = c.skip_where_open-quiet.ensures in
     let at : ℕ = c.fours.at + 8 in
     let none : NoEndUpTo b.literals text start (at - 1) = λ end after within. before.none end (omega (arith, after)) (omega (arith, within)) in
     let passed : NoEndUpTo b.literals text c.args.from (c.fours.at + 32 + 7) = elim c.if-lacking-ne0.branch [
@@ -128,6 +128,6 @@ fours-preserved-then-at-far g c =
         | inl same ↦ omega (arith, same, c.fours-test.true, before.some, c.saturating_sub-last_four.ensures)
         | inr inside ↦ omega (arith, inside)
       ];
-      none = none_joined b.literals text c.args.from (c.fours.at + 32 + 7) (c.fours.at + 32 + 7) (c.skip_blocks-quiet.result.at + 7) (omega arith) passed quiet.none;
+      none = none_joined b.literals text c.args.from (c.fours.at + 32 + 7) (c.fours.at + 32 + 7) (c.skip_where_open-quiet.result.at + 7) (omega arith) passed quiet.none;
       before = quiet.before;
     }
