@@ -58,7 +58,7 @@ const MANY_OPEN: usize = 2;
 #[derive(Clone, Copy)]
 struct Quiet {
     at: usize,
-    before: u64x4,
+    carried: u64,
 }
 
 /// For the two bytes before a place, in either case where case does not count, an entry that tells which ends they rule out: bit `8 * ahead + bucket` is set if no literal of
@@ -298,9 +298,16 @@ impl<'p> ShiftOr<'p> {
             }
             at += 4 * PLACES;
             if at >= far {
-                let quiet = self.skip_where_open::<STEP>(opened, entries, text, at, before, left);
+                let quiet = self.skip_where_open::<STEP>(
+                    opened,
+                    entries,
+                    text,
+                    at,
+                    last_of(before),
+                    left,
+                );
                 at = quiet.at;
-                before = quiet.before;
+                before = last_alone(quiet.carried);
                 far = at.saturating_add(NEAR);
                 opened = 0;
             }
@@ -321,21 +328,18 @@ impl<'p> ShiftOr<'p> {
         entries: &[u64],
         text: &[u8],
         from: usize,
-        carried: u64x4,
+        carried: u64,
         left: &mut usize,
     ) -> Quiet
         requires entries { AreEntriesOf self.now.literals self.now.buckets entries.now }
-        requires before { RulesOut self.now text.now (from + 8) (slice_index carried 3) }
+        requires carried { RulesOut self.now text.now (from + 8) carried }
         ensures after { from ≤ result.at }
         ensures within { from ≡ result.at ⊎ (result.at + 7 ≤ length text.now) }
         ensures none { NoEndUpTo self.now.literals text.now (from + 7) (result.at + 7) }
-        ensures before { RulesOut self.now text.now (result.at + 8) (slice_index result.before 3) }
+        ensures carried { RulesOut self.now text.now (result.at + 8) result.carried }
     {
         if opened < MANY_OPEN {
-            return Quiet {
-                at: from,
-                before: carried,
-            };
+            return Quiet { at: from, carried };
         }
         self.skip_blocks::<STEP>(entries, text, from, carried, left)
     }
@@ -347,21 +351,21 @@ impl<'p> ShiftOr<'p> {
         entries: &[u64],
         text: &[u8],
         from: usize,
-        carried: u64x4,
+        carried: u64,
         left: &mut usize,
     ) -> Quiet
         requires entries { AreEntriesOf self.now.literals self.now.buckets entries.now }
-        requires before { RulesOut self.now text.now (from + 8) (slice_index carried 3) }
+        requires carried { RulesOut self.now text.now (from + 8) carried }
         ensures after { from ≤ result.at }
         ensures within { from ≡ result.at ⊎ (result.at + 7 ≤ length text.now) }
         ensures none { NoEndUpTo self.now.literals text.now (from + 7) (result.at + 7) }
-        ensures before { RulesOut self.now text.now (result.at + 8) (slice_index result.before 3) }
+        ensures carried { RulesOut self.now text.now (result.at + 8) result.carried }
     {
         let mut words = [0u64; 4 * GROUPS];
         let mut groups = [0usize; GROUPS];
         let mut numbers = [0usize; 4 * GROUPS];
         let mut at = from;
-        let mut before = carried;
+        let mut before = last_alone(carried);
         let last = text.len().saturating_sub(GROUP * GROUPS + (PLACES - 1));
         let mut is_open = true;
         'quiet: while is_open && at < last {
@@ -377,14 +381,17 @@ impl<'p> ShiftOr<'p> {
             let count = note_words(&words, &groups, noted.count, &mut numbers);
             let mut vain = 0;
             if self.has_end(text, ahead, &words, &numbers, count, &mut vain) {
-                return Quiet { at, before };
+                break;
             }
             *left = left.saturating_add(vain);
             before = noted.behind;
             at += GROUP * GROUPS;
             is_open = count != 0;
         }
-        Quiet { at, before }
+        Quiet {
+            at,
+            carried: last_of(before),
+        }
     }
 
     /// Whether a literal ends at a place of a block, by the words that are noted. Adds to `vain` how many ends were not ruled out, once

@@ -487,7 +487,7 @@ fn cost_of(alloc: Global, literals: &[&[u8]], bytes: [u8; 4]) -> Option<usize> {
 #[test]
 fn costs_more_where_ends_are_many(rt: HostRuntime) {
     assert_eq!(rt; cost_of(rt.alloc(), &FOURS, *b"...."), Some(2900));
-    assert_eq!(rt; cost_of(rt.alloc(), &FOURS, *b"wxyz"), Some(51350));
+    assert_eq!(rt; cost_of(rt.alloc(), &FOURS, *b"wxyz"), Some(28400));
 }
 
 #[test]

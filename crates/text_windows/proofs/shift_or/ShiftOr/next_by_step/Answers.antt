@@ -97,12 +97,12 @@ fours-preserved g c =
       before = subst (λ p. RulesOut b text p (slice_index c.four_looks-now.result.behind 3)) there (are.behind 3 (omega arith));
     }
 
-pub skip_where_open-quiet-requires-clause-before : goal.skip_where_open-quiet-requires-clause-before
-skip_where_open-quiet-requires-clause-before g c =
+pub skip_where_open-quiet-requires-clause-carried : goal.skip_where_open-quiet-requires-clause-carried
+skip_where_open-quiet-requires-clause-carried g c =
     let b = c.args.self.now in
     let are : AreRuled b c.args.text.now (c.fours.at + 8) c.four_looks-now.result = c.four_looks-now.ensures b c.requires.entries in
     let there : c.fours.at + 8 + 8 + 8 * 3 ≡ c.fours.at + 32 + 8 = omega arith in
-    subst (λ p. RulesOut b c.args.text.now p (slice_index c.four_looks-now.result.behind 3)) there (are.behind 3 (omega arith))
+    subst (RulesOut b c.args.text.now (c.fours.at + 32 + 8)) (sym c.last_of-then-at-far.ensures) (subst (λ p. RulesOut b c.args.text.now p (slice_index c.four_looks-now.result.behind 3)) there (are.behind 3 (omega arith)))
 
 pub fours-preserved-then-at-far : goal.fours-preserved-then-at-far
 fours-preserved-then-at-far g c =
@@ -129,5 +129,5 @@ fours-preserved-then-at-far g c =
         | inr inside ↦ omega (arith, inside)
       ];
       none = none_joined b.literals text c.args.from (c.fours.at + 32 + 7) (c.fours.at + 32 + 7) (c.skip_where_open-quiet.result.at + 7) (omega arith) passed quiet.none;
-      before = quiet.before;
+      before = subst (RulesOut b text (c.skip_where_open-quiet.result.at + 8)) (sym c.last_alone-before-then-at-far.ensures) quiet.carried;
     }
