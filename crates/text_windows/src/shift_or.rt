@@ -50,13 +50,10 @@ const SPARSE: usize = 31;
 /// is sought, and eight bytes before each of these.
 const FRONT: usize = 15;
 
-/// Behind so many bytes it is asked whether to go on by blocks: an end that is nearer is found without, and where one is found by blocks,
-/// its own is looked at twice.
+/// A search goes on by blocks behind so many bytes, where of so many two groups were left with an end. An end that is nearer is found
+/// without, since the block of one that is found by blocks is looked at twice. To leave the loop takes some 20 ns, and to note what is left
+/// some 16 ns for a block: where fewer groups were left, searches by blocks took 1.03 to 1.06 times as long.
 const NEAR: usize = 1024;
-
-/// It goes on by blocks where of so many bytes at least so many groups were left with an end. A jump that is foreseen wrongly takes some
-/// 20 ns there, and to note what is left some 16 ns for a block: where fewer were, searches by blocks took 1.03 to 1.06 times as long.
-const MANY_OPEN: usize = 2;
 
 /// A place up to which nothing ends, and what the last looks rule out behind it.
 #[derive(Clone, Copy)]
@@ -285,7 +282,8 @@ impl<'p> ShiftOr<'p> {
         // The looks are held by single variables, and handed on as new ones: else they are stored at each turn.
         let mut at = looks.at;
         let mut before = last_alone(looks.carried);
-        let (mut far, mut opened) = (at.saturating_add(NEAR), 0usize);
+        let far = at.saturating_add(NEAR);
+        let mut opened = at;
         // Behind a block of eight places there are to be four more, for one turn.
         let last_four = text.len().saturating_sub(5 * PLACES - 1);
         'fours: while at <= last_four {
@@ -293,27 +291,18 @@ impl<'p> ShiftOr<'p> {
             let now = four_looks::<STEP>(entries, text, ahead);
             let ruled = now.with_those_before(before);
             before = now.behind;
+            at += 4 * PLACES;
             if lacking(ruled) != 0 {
-                opened = opened.saturating_add(1);
-                if let Some(found) = self.verify_four(text, ahead, ruled, last_of(before), left) {
+                let carried = last_of(before);
+                if let Some(found) = self.verify_four(text, ahead, ruled, carried, left) {
                     *looks = found.looks;
                     return Some((found.end, found.first));
                 }
-            }
-            at += 4 * PLACES;
-            if at >= far {
-                let quiet = self.skip_where_open::<STEP>(
-                    opened,
-                    entries,
-                    text,
-                    at,
-                    last_of(before),
-                    left,
-                );
+                let is_open = at >= far && at.saturating_sub(opened) < NEAR;
+                let quiet = self.skip_if::<STEP>(is_open, entries, text, at, carried, left);
                 at = quiet.at;
                 before = last_alone(quiet.carried);
-                far = at.saturating_add(NEAR);
-                opened = 0;
+                opened = at;
             }
         }
         let rest = Looks {
@@ -324,11 +313,11 @@ impl<'p> ShiftOr<'p> {
         self.next_by_eights(entries, text, from, rest, looks, left)
     }
 
-    /// Goes on as `skip_blocks` does, if that is worth while where so many groups were left with an end.
+    /// Goes on as `skip_blocks` does, if that is asked for.
     #[inline(always)]
-    fn skip_where_open<const STEP: usize>(
+    fn skip_if<const STEP: usize>(
         &self,
-        opened: usize,
+        is_open: bool,
         entries: &[u64],
         text: &[u8],
         from: usize,
@@ -342,7 +331,7 @@ impl<'p> ShiftOr<'p> {
         ensures none { NoEndUpTo self.now.literals text.now (from + 7) (result.at + 7) }
         ensures carried { RulesOut self.now text.now (result.at + 8) result.carried }
     {
-        if opened < MANY_OPEN {
+        if !is_open {
             return Quiet { at: from, carried };
         }
         self.skip_blocks::<STEP>(entries, text, from, carried, left)

@@ -7,7 +7,6 @@ use Rattle.text_windows.specs.NoEnds.{NoEndUpTo}
 use Rattle.text_windows.specs.ShiftOr.{AreRuled, RulesOut}
 use Rattle.text_windows.proofs.ShiftOrLemmas.{found_further, none_joined, none_of_group}
 use Rattle.text_windows.proofs.shift_or.ShiftOr.next_by_step.Goals as goal
-use Rattle.text_windows.proofs.shift_or.ShiftOr.next_by_step.Goals.{then-lacking-ne0+in_default-verify_four, else-lacking-ne0}
 
 pub returns-in-Some-end_left-clause-next : goal.returns-in-Some-end_left-clause-next
 returns-in-Some-end_left-clause-next g c =
@@ -47,7 +46,7 @@ verify_four-requires-clause-behind g c =
     let b = c.args.self.now in
     let are : AreRuled b c.args.text.now (c.fours.at + 8) c.four_looks-now.result = c.four_looks-now.ensures b c.requires.entries in
     let there : c.fours.at + 8 + 8 + 8 * 3 ≡ c.fours.at + 8 + 32 = omega arith in
-    subst (RulesOut b c.args.text.now (c.fours.at + 8 + 32)) (sym c.last_of.ensures) (subst (λ p. RulesOut b c.args.text.now p (slice_index c.four_looks-now.result.behind 3)) there (are.behind 3 (omega arith)))
+    subst (RulesOut b c.args.text.now (c.fours.at + 8 + 32)) (sym c.last_of-carried.ensures) (subst (λ p. RulesOut b c.args.text.now p (slice_index c.four_looks-now.result.behind 3)) there (are.behind 3 (omega arith)))
 
 pub returns-in-Some-verify_four-clause-next : goal.returns-in-Some-verify_four-clause-next
 returns-in-Some-verify_four-clause-next g c =
@@ -72,55 +71,44 @@ returns-in-Some-verify_four-clause-looks g c =
     let verified : IsVerified b text start found = c.in-Some-verify_four.ensures start (omega (arith, before.near)) none in
     subst (λ s. AreLooks b text s found.looks) (omega (arith, verified.first.after)) verified.looks
 
+-- where the looks at thirty-two places leave no end
 pub fours-preserved : goal.fours-preserved
 fours-preserved g c =
     let b = c.args.self.now in
     let text = c.args.text.now in
-    let start : ℕ = max c.args.from 15 in
     let before = c.fours.invariant in
     let at : ℕ = c.fours.at + 8 in
-    let none : NoEndUpTo b.literals text start (at - 1) = λ end after within. before.none end (omega (arith, after)) (omega (arith, within)) in
     let are : AreRuled b text at c.four_looks-now.result = c.four_looks-now.ensures b c.requires.entries in
     let there : c.fours.at + 8 + 8 + 8 * 3 ≡ c.fours.at + 32 + 8 = omega arith in
+    let gone : c.lacking.result ≡ 0 = omega (arith, c.if-lacking-ne0.false) in
+    let ruled = c.with_those_before-ruled.ensures b text at are before.before in
+    let own = none_of_group b text at c.with_those_before-ruled.result (omega arith) ruled (λ i below. c.lacking.ensures.full i below (ap (λ m. bit_at m i) gone ∙ bit_at-zero i)) in
     record {
       some = omega (arith, before.some);
       near = omega (arith, before.near);
       within = omega (arith, c.fours-test.true, before.some, c.saturating_sub-last_four.ensures);
-      none = elim c.if-lacking-ne0.branch [
-        | then-lacking-ne0+in_default-verify_four w ↦ none_joined b.literals text c.args.from (c.fours.at + 7) start (c.fours.at + 32 + 7) before.near before.none (λ end after within. w.in_default-verify_four.ensures start (omega (arith, before.near)) none end after (omega (arith, within)))
-        | else-lacking-ne0 w ↦
-            let gone : c.lacking.result ≡ 0 = omega (arith, w.if-lacking-ne0.false) in
-            let ruled = c.with_those_before-ruled.ensures b text at are before.before in
-            let own = none_of_group b text at c.with_those_before-ruled.result (omega arith) ruled (λ i below. c.lacking.ensures.full i below (ap (λ m. bit_at m i) gone ∙ bit_at-zero i)) in
-            none_joined b.literals text c.args.from (c.fours.at + 7) (c.fours.at + 7) (c.fours.at + 32 + 7) (omega arith) before.none (λ end after within. own end (omega (arith, after)) (omega (arith, within)))
-      ];
+      none = none_joined b.literals text c.args.from (c.fours.at + 7) (c.fours.at + 7) (c.fours.at + 32 + 7) (omega arith) before.none (λ end after within. own end (omega (arith, after)) (omega (arith, within)));
       before = subst (λ p. RulesOut b text p (slice_index c.four_looks-now.result.behind 3)) there (are.behind 3 (omega arith));
     }
 
-pub skip_where_open-quiet-requires-clause-carried : goal.skip_where_open-quiet-requires-clause-carried
-skip_where_open-quiet-requires-clause-carried g c =
+pub skip_if-quiet-requires-clause-carried : goal.skip_if-quiet-requires-clause-carried
+skip_if-quiet-requires-clause-carried g c =
     let b = c.args.self.now in
     let are : AreRuled b c.args.text.now (c.fours.at + 8) c.four_looks-now.result = c.four_looks-now.ensures b c.requires.entries in
     let there : c.fours.at + 8 + 8 + 8 * 3 ≡ c.fours.at + 32 + 8 = omega arith in
-    subst (RulesOut b c.args.text.now (c.fours.at + 32 + 8)) (sym c.last_of-then-at-far.ensures) (subst (λ p. RulesOut b c.args.text.now p (slice_index c.four_looks-now.result.behind 3)) there (are.behind 3 (omega arith)))
+    subst (RulesOut b c.args.text.now (c.fours.at + 32 + 8)) (sym c.last_of-carried.ensures) (subst (λ p. RulesOut b c.args.text.now p (slice_index c.four_looks-now.result.behind 3)) there (are.behind 3 (omega arith)))
 
-pub fours-preserved-then-at-far : goal.fours-preserved-then-at-far
-fours-preserved-then-at-far g c =
+-- where they leave some at which nothing ends, and maybe blocks behind them
+pub fours-preserved-then-lacking-ne0 : goal.fours-preserved-then-lacking-ne0
+fours-preserved-then-lacking-ne0 g c =
     let b = c.args.self.now in
     let text = c.args.text.now in
     let start : ℕ = max c.args.from 15 in
     let before = c.fours.invariant in
-    let quiet = c.skip_where_open-quiet.ensures in
+    let quiet = c.skip_if-quiet.ensures in
     let at : ℕ = c.fours.at + 8 in
     let none : NoEndUpTo b.literals text start (at - 1) = λ end after within. before.none end (omega (arith, after)) (omega (arith, within)) in
-    let passed : NoEndUpTo b.literals text c.args.from (c.fours.at + 32 + 7) = elim c.if-lacking-ne0.branch [
-      | then-lacking-ne0+in_default-verify_four w ↦ none_joined b.literals text c.args.from (c.fours.at + 7) start (c.fours.at + 32 + 7) before.near before.none (λ end after within. w.in_default-verify_four.ensures start (omega (arith, before.near)) none end after (omega (arith, within)))
-      | else-lacking-ne0 w ↦
-          let gone : c.lacking.result ≡ 0 = omega (arith, w.if-lacking-ne0.false) in
-          let ruled = c.with_those_before-ruled.ensures b text at (c.four_looks-now.ensures b c.requires.entries) before.before in
-          let own = none_of_group b text at c.with_those_before-ruled.result (omega arith) ruled (λ i below. c.lacking.ensures.full i below (ap (λ m. bit_at m i) gone ∙ bit_at-zero i)) in
-          none_joined b.literals text c.args.from (c.fours.at + 7) (c.fours.at + 7) (c.fours.at + 32 + 7) (omega arith) before.none (λ end after within. own end (omega (arith, after)) (omega (arith, within)))
-    ] in
+    let passed : NoEndUpTo b.literals text c.args.from (c.fours.at + 32 + 7) = none_joined b.literals text c.args.from (c.fours.at + 7) start (c.fours.at + 32 + 7) before.near before.none (λ end after within. c.in_default-verify_four.ensures start (omega (arith, before.near)) none end after (omega (arith, within))) in
     record {
       some = omega (arith, before.some, quiet.after);
       near = omega (arith, before.near, quiet.after);
@@ -128,6 +116,6 @@ fours-preserved-then-at-far g c =
         | inl same ↦ omega (arith, same, c.fours-test.true, before.some, c.saturating_sub-last_four.ensures)
         | inr inside ↦ omega (arith, inside)
       ];
-      none = none_joined b.literals text c.args.from (c.fours.at + 32 + 7) (c.fours.at + 32 + 7) (c.skip_where_open-quiet.result.at + 7) (omega arith) passed quiet.none;
-      before = subst (RulesOut b text (c.skip_where_open-quiet.result.at + 8)) (sym c.last_alone-before-then-at-far.ensures) quiet.carried;
+      none = none_joined b.literals text c.args.from (c.fours.at + 32 + 7) (c.fours.at + 32 + 7) (c.skip_if-quiet.result.at + 7) (omega arith) passed quiet.none;
+      before = subst (RulesOut b text (c.skip_if-quiet.result.at + 8)) (sym c.last_alone-before-then-lacking-ne0.ensures) quiet.carried;
     }
