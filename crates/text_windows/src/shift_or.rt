@@ -55,11 +55,12 @@ const FRONT: usize = 15;
 /// some 16 ns for a block: where fewer groups were left, searches by blocks took 1.03 to 1.06 times as long.
 const NEAR: usize = 1024;
 
-/// A place up to which nothing ends, and what the last looks rule out behind it.
+/// A place up to which nothing ends, what the last looks rule out behind it, and from where on blocks may be tried.
 #[derive(Clone, Copy)]
 struct Quiet {
     at: usize,
     carried: u64,
+    far: usize,
 }
 
 /// For the two bytes before a place, in either case where case does not count, an entry that tells which ends they rule out: bit `8 * ahead + bucket` is set if no literal of
@@ -282,8 +283,7 @@ impl<'p> ShiftOr<'p> {
         // The looks are held by single variables, and handed on as new ones: else they are stored at each turn.
         let mut at = looks.at;
         let mut before = last_alone(looks.carried);
-        let far = at.saturating_add(NEAR);
-        let mut opened = at;
+        let (mut far, mut opened) = (at.saturating_add(NEAR), at);
         // Behind a block of eight places there are to be four more, for one turn.
         let last_four = text.len().saturating_sub(5 * PLACES - 1);
         'fours: while at <= last_four {
@@ -298,10 +298,11 @@ impl<'p> ShiftOr<'p> {
                     *looks = found.looks;
                     return Some((found.end, found.first));
                 }
-                let is_open = at >= far && at.saturating_sub(opened) < NEAR;
-                let quiet = self.skip_if::<STEP>(is_open, entries, text, at, carried, left);
+                let here = Quiet { at, carried, far };
+                let quiet = self.skip_if_open::<STEP>(opened, entries, text, here, left);
                 at = quiet.at;
                 before = last_alone(quiet.carried);
+                far = quiet.far;
                 opened = at;
             }
         }
@@ -313,28 +314,27 @@ impl<'p> ShiftOr<'p> {
         self.next_by_eights(entries, text, from, rest, looks, left)
     }
 
-    /// Goes on as `skip_blocks` does, if that is asked for.
+    /// Goes on as `skip_blocks` does, if it may be tried here and the last group that was left with an end is near.
     #[inline(always)]
-    fn skip_if<const STEP: usize>(
+    fn skip_if_open<const STEP: usize>(
         &self,
-        is_open: bool,
+        opened: usize,
         entries: &[u64],
         text: &[u8],
-        from: usize,
-        carried: u64,
+        here: Quiet,
         left: &mut usize,
     ) -> Quiet
         requires entries { AreEntriesOf self.now.literals self.now.buckets entries.now }
-        requires carried { RulesOut self.now text.now (from + 8) carried }
-        ensures after { from ≤ result.at }
-        ensures within { from ≡ result.at ⊎ (result.at + 7 ≤ length text.now) }
-        ensures none { NoEndUpTo self.now.literals text.now (from + 7) (result.at + 7) }
+        requires carried { RulesOut self.now text.now (here.at + 8) here.carried }
+        ensures after { here.at ≤ result.at }
+        ensures within { here.at ≡ result.at ⊎ (result.at + 7 ≤ length text.now) }
+        ensures none { NoEndUpTo self.now.literals text.now (here.at + 7) (result.at + 7) }
         ensures carried { RulesOut self.now text.now (result.at + 8) result.carried }
     {
-        if !is_open {
-            return Quiet { at: from, carried };
+        if here.at < here.far || here.at.saturating_sub(opened) >= NEAR {
+            return here;
         }
-        self.skip_blocks::<STEP>(entries, text, from, carried, left)
+        self.skip_blocks::<STEP>(entries, text, here.at, here.carried, left)
     }
 
     /// Goes on block by block as long as nothing ends in one and some groups are noted, behind a place up to which nothing ends.
@@ -384,6 +384,8 @@ impl<'p> ShiftOr<'p> {
         Quiet {
             at,
             carried: last_of(before),
+            // Where an end stopped the blocks, it is found before they are tried again.
+            far: at.saturating_add(NEAR),
         }
     }
 

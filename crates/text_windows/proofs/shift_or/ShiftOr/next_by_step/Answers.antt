@@ -91,8 +91,8 @@ fours-preserved g c =
       before = subst (λ p. RulesOut b text p (slice_index c.four_looks-now.result.behind 3)) there (are.behind 3 (omega arith));
     }
 
-pub skip_if-quiet-requires-clause-carried : goal.skip_if-quiet-requires-clause-carried
-skip_if-quiet-requires-clause-carried g c =
+pub skip_if_open-quiet-requires-clause-carried : goal.skip_if_open-quiet-requires-clause-carried
+skip_if_open-quiet-requires-clause-carried g c =
     let b = c.args.self.now in
     let are : AreRuled b c.args.text.now (c.fours.at + 8) c.four_looks-now.result = c.four_looks-now.ensures b c.requires.entries in
     let there : c.fours.at + 8 + 8 + 8 * 3 ≡ c.fours.at + 32 + 8 = omega arith in
@@ -105,7 +105,7 @@ fours-preserved-then-lacking-ne0 g c =
     let text = c.args.text.now in
     let start : ℕ = max c.args.from 15 in
     let before = c.fours.invariant in
-    let quiet = c.skip_if-quiet.ensures in
+    let quiet = c.skip_if_open-quiet.ensures in
     let at : ℕ = c.fours.at + 8 in
     let none : NoEndUpTo b.literals text start (at - 1) = λ end after within. before.none end (omega (arith, after)) (omega (arith, within)) in
     let passed : NoEndUpTo b.literals text c.args.from (c.fours.at + 32 + 7) = none_joined b.literals text c.args.from (c.fours.at + 7) start (c.fours.at + 32 + 7) before.near before.none (λ end after within. c.in_default-verify_four.ensures start (omega (arith, before.near)) none end after (omega (arith, within))) in
@@ -116,6 +116,6 @@ fours-preserved-then-lacking-ne0 g c =
         | inl same ↦ omega (arith, same, c.fours-test.true, before.some, c.saturating_sub-last_four.ensures)
         | inr inside ↦ omega (arith, inside)
       ];
-      none = none_joined b.literals text c.args.from (c.fours.at + 32 + 7) (c.fours.at + 32 + 7) (c.skip_if-quiet.result.at + 7) (omega arith) passed quiet.none;
-      before = subst (RulesOut b text (c.skip_if-quiet.result.at + 8)) (sym c.last_alone-before-then-lacking-ne0.ensures) quiet.carried;
+      none = none_joined b.literals text c.args.from (c.fours.at + 32 + 7) (c.fours.at + 32 + 7) (c.skip_if_open-quiet.result.at + 7) (omega arith) passed quiet.none;
+      before = subst (RulesOut b text (c.skip_if_open-quiet.result.at + 8)) (sym c.last_alone-before-then-lacking-ne0.ensures) quiet.carried;
     }
