@@ -1,5 +1,5 @@
 -- Where two literals end together the shorter one is a suffix of the longer one; and the walk along those that extend one.
-use Rattle.std.proofs.Common.{◌≡◌, ◌≢◌, ℕ, zero, suc, replicate, set, refl, ◌+◌, ◌-◌, ◌<◌, ◌≤◌, List, [], Some, All, MatchOption, Option, None, inl, inr, length, drop, get_or, slice_range, sym, ap, ◌∙◌, subst, arith}
+use Rattle.std.proofs.Common.{◌≡◌, ℕ, zero, suc, replicate, set, ◌+◌, ◌-◌, ◌<◌, ◌≤◌, List, [], Some, All, MatchOption, Option, None, inl, inr, length, drop, get_or, slice_range, sym, ap, ◌∙◌, subst, arith}
 use Rattle.std.specs.Prelude.{◌⊎◌}
 use Rattle.std.specs.List.{slice_get}
 use Rattle.std.specs.List.Sorted.{IsNonDecreasing}

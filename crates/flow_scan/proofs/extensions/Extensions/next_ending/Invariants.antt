@@ -1,4 +1,3 @@
-use Rattle.std.proofs.Common.{◌-◌, length}
 use Rattle.flow_scan.proofs.ExtensionLemmas.{Walks}
 use Rattle.flow_scan.proofs.extensions.Extensions.next_ending.Given as goal
 
