@@ -1,0 +1,4 @@
+pub mod FrontLemmas
+pub mod QuietLemmas
+pub mod ReadLemmas
+pub mod TellingLemmas

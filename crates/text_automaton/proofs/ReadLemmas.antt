@@ -1,0 +1,81 @@
+-- The states of places one after the other.
+use Rattle.std.proofs.Common.{◌≡◌, ℕ, zero, suc, ◌+◌, ◌-◌, ◌*◌, ◌<◌, ◌≤◌, ◌⊎◌, List, inl, inr, length, get_or, set, slice_index, refl, sym, ap, ◌∙◌, subst, arith}
+use Rattle.std.proofs.lemmas.Bool.{cases_eq, cases_lt}
+use Rattle.std.proofs.lemmas.List.{get_or-set_other, get_or-set_same}
+use Rattle.text_automaton.specs.Fronts.{IsRead, state_behind}
+use Rattle.text_automaton.specs.Tables.{count_of, step}
+use Rattle.text_automaton.specs.declared.tables.Tables.{Tables}
+
+-- a place's state leads to the next one's
+pub read_on : (t : Tables) (text : List ℕ) (longest place at next state to : ℕ) → IsRead t text longest place state → at ≡ place → next ≡ place + 1 → to ≡ step t state (slice_index t.classes (slice_index text at)) → to < count_of t
+    → IsRead t text longest next to
+read_on t text longest place at next state to old here there led known = record {
+  from = old.from;
+  count = suc old.count;
+  here = omega (arith, old.here, there);
+  front = elim old.front [
+    | inl none ↦ inl none
+    | inr far ↦ inr (omega (arith, far, there))
+  ];
+  state = led ∙ ap (λ s. step t s (slice_index t.classes (slice_index text at))) old.state
+      ∙ ap (λ p. step t (state_behind t text old.from old.count) (slice_index t.classes (slice_index text p))) (here ∙ sym old.here);
+  known = known;
+}
+
+-- a state is that of a place, however the place is told
+pub read_there : (t : Tables) (text : List ℕ) (longest place other state : ℕ) → place ≡ other → IsRead t text longest place state → IsRead t text longest other state
+read_there t text longest place other state same old = subst (λ p. IsRead t text longest p state) same old
+
+-- what holds of some places of a list, and of a number, holds of them and of the place where it is put
+pub set_more : (P : ℕ → ℕ → Type 0) (D : ℕ → Type 0) (xs : List ℕ) (at value : ℕ) → at < length xs → ((k : ℕ) → D k → P k (get_or xs k 0)) → P at value
+    → (k : ℕ) → (D k ⊎ (k ≡ at)) → P k (get_or (set xs at value) k 0)
+set_more P D xs at value room old new k which = elim (cases_eq k at) [
+  | inl same ↦ subst (λ x. P x (get_or (set xs at value) x 0)) (sym same) (subst (P at) (sym (get_or-set_same xs at value 0 room)) new)
+  | inr other ↦ elim which [
+    | inl done ↦ subst (P k) (sym (get_or-set_other xs at k value 0 other)) (old k done)
+    | inr same ↦ absurd (other same)
+  ]
+]
+
+-- a place is one of the first so many of a lane
+abbrev pub AreDone : ℕ → ℕ → Type 0
+AreDone count k = ((k < count) ⊎ ((1024 ≤ k) × (k < 1024 + count))) ⊎ (((2048 ≤ k) × (k < 2048 + count)) ⊎ ((3072 ≤ k) × (k < 3072 + count)))
+
+-- no place is at first
+pub done_none : (k : ℕ) → AreDone 0 k → ⊥
+done_none k (inl (inl p)) = omega (arith, p)
+done_none k (inl (inr p)) = omega (arith, p.0, p.1)
+done_none k (inr (inl p)) = omega (arith, p.0, p.1)
+done_none k (inr (inr p)) = omega (arith, p.0, p.1)
+
+-- and all are in the end
+pub done_all : (k : ℕ) → k < 4096 → AreDone 1024 k
+done_all k small = elim (cases_lt k 1024) [
+  | inl in_first ↦ inl (inl in_first)
+  | inr past_first ↦ elim (cases_lt k 2048) [
+    | inl in_second ↦ inl (inr (past_first, in_second))
+    | inr past_second ↦ elim (cases_lt k 3072) [
+      | inl in_third ↦ inr (inl (past_second, in_third))
+      | inr past_third ↦ inr (inr (past_third, small))
+    ]
+  ]
+]
+
+-- one more of each lane are those before, and four places
+pub done_more : (count k : ℕ) → AreDone (count + 1) k → (((AreDone count k ⊎ (k ≡ count)) ⊎ (k ≡ 1024 + count)) ⊎ (k ≡ 2048 + count)) ⊎ (k ≡ 3072 + count)
+done_more count k (inl (inl p)) = elim (cases_lt k count) [
+  | inl sooner ↦ inl (inl (inl (inl (inl (inl sooner)))))
+  | inr there ↦ inl (inl (inl (inr (omega (arith, p, there)))))
+]
+done_more count k (inl (inr p)) = elim (cases_lt k (1024 + count)) [
+  | inl sooner ↦ inl (inl (inl (inl (inl (inr (p.0, sooner))))))
+  | inr there ↦ inl (inl (inr (omega (arith, p.1, there))))
+]
+done_more count k (inr (inl p)) = elim (cases_lt k (2048 + count)) [
+  | inl sooner ↦ inl (inl (inl (inl (inr (inl (p.0, sooner))))))
+  | inr there ↦ inl (inr (omega (arith, p.1, there)))
+]
+done_more count k (inr (inr p)) = elim (cases_lt k (3072 + count)) [
+  | inl sooner ↦ inl (inl (inl (inl (inr (inr (p.0, sooner))))))
+  | inr there ↦ inr (omega (arith, p.1, there))
+]

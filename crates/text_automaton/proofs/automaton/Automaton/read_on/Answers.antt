@@ -1,0 +1,23 @@
+-- The states that were read are those of their places.
+use Rattle.std.proofs.Common.{◌+◌, ap, ◌∙◌, subst, slice_index, arith}
+use Rattle.text_automaton.specs.Automata.{IsStateAt, Telling}
+use Rattle.text_automaton.specs.Stages.{is_made}
+use Rattle.text_automaton.proofs.TellingLemmas.{stage_made, state_there}
+use Rattle.text_automaton.proofs.automaton.Automaton.read_on.Goals as goal
+
+pub returns-clause-reading : goal.returns-clause-reading
+returns-clause-reading c =
+    let a = c.self.inside in
+    let text = c.args.text.now in
+    let start = c.args.reading.now.start + c.args.reading.now.count in
+    let states = c.read_behind-count.new.states in
+    let right = c.self.invariant (stage_made a.stage (ap (λ (x : Telling). x.is_made) c.self.view_is ∙ c.requires.reading.made)) in
+    record {
+      made = c.requires.reading.made;
+      states = λ at low. subst (λ (x : Telling). IsStateAt x text (start + at + 1) (slice_index states at)) c.self.view_is
+          (state_there a.tables a.list.now text c.longest_of-longest.result (start + at + 1) (slice_index states at) (is_made a.stage) right c.normal_law.ensures.nonempty c.longest_of-longest.ensures
+          (λ i. omega (arith, c.type_inv.text i)) (omega (arith, low, c.read_behind-count.ensures.count, c.requires.more)) (c.read_behind-count.ensures.states at low));
+      passed = omega arith;
+      room = omega (arith, c.read_behind-count.ensures.count);
+      inside = omega (arith, c.read_behind-count.ensures.count, c.requires.more);
+    }

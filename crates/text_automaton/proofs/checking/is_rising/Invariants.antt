@@ -1,0 +1,6 @@
+use Rattle.std.proofs.Common.{◌≡◌, ℕ, ◌<◌, ◌≤◌, ◌+◌, length, slice_index}
+use Rattle.text_automaton.proofs.checking.is_rising.Given as goal
+
+-- the literals passed stand in order
+abbrev pub invariant-loop-place : goal.invariant-loop-place
+invariant-loop-place l = (k : ℕ) → k + 1 < l.place → slice_index l.told k < slice_index l.told (k + 1)

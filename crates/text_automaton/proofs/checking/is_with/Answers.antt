@@ -1,0 +1,17 @@
+-- A list is its front and its last number.
+use Rattle.std.proofs.Common.{◌≡◌, suc, [], ◌∷◌, ◌++◌, length, take, get_or, sym, ap, ◌∙◌, arith}
+use Rattle.std.proofs.Math.Seq.{take-suc}
+use Rattle.std.proofs.lemmas.Bool.Decides.{Decides-eqb}
+use Rattle.std.proofs.lemmas.List.{take_all}
+use Rattle.std.proofs.lemmas.Slice.Eq.{slice_eq-Decides}
+use Rattle.text_automaton.proofs.checking.is_with.Goals as goal
+
+pub returns : goal.returns
+returns c is =
+    let told = c.args.told.now in
+    let others = c.args.others.now in
+    let count = length others in
+    let front : take count told ≡ others = (slice_eq-Decides Decides-eqb (take count told) others c.eq.result c.eq.ensures).0 is in
+    sym (take_all (suc count) told (omega (arith, c.if-told-count-ne1.false, c.if-told-count.false)))
+    ∙ take-suc told count 0 (omega (arith, c.if-told-count.false))
+    ∙ ap (λ xs. xs ++ get_or told count 0 ∷ []) front ∙ ap (λ x. others ++ x ∷ []) c.if-told-count-2.false

@@ -1,0 +1,11 @@
+use Rattle.std.proofs.Common.{◌≡◌, ℕ, ◌<◌, ◌≤◌, ◌+◌, length, slice_index}
+use Rattle.text_automaton.specs.Tables.{IsFail, IsLonger, IsSpelled, IsStep, IsTelling, front_of, state_of}
+use Rattle.text_automaton.specs.declared.tables.TheConstants.{CLASSES}
+use Rattle.lit_base.specs.Chains.{literal_at}
+use Rattle.lit_base.specs.Folding.{folded}
+use Rattle.text_automaton.proofs.tables.Tables.are_classes.Given as goal
+
+-- the bytes passed have their classes
+abbrev pub invariant-loop-byte : goal.invariant-loop-byte
+invariant-loop-byte l = (byte : ℕ) → byte < l.byte → (slice_index l.self.classes byte < CLASSES) × (slice_index l.self.classes byte ≡ slice_index l.self.classes (folded l.fold byte))
+    × (0 < slice_index l.self.classes byte → slice_index l.self.bytes (slice_index l.self.classes byte) ≡ folded l.fold byte)

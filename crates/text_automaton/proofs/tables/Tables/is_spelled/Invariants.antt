@@ -1,0 +1,14 @@
+use Rattle.std.proofs.Common.{◌≡◌, ℕ, ◌<◌, ◌≤◌, ◌+◌, length, slice_index}
+use Rattle.text_automaton.specs.Tables.{IsFail, IsLonger, IsSpelled, IsStep, IsTelling, front_of, state_of}
+use Rattle.text_automaton.specs.declared.tables.TheConstants.{CLASSES}
+use Rattle.lit_base.specs.Chains.{literal_at}
+use Rattle.lit_base.specs.Folding.{folded}
+use Rattle.text_automaton.proofs.tables.Tables.is_spelled.Given as goal
+
+-- the fronts passed lead each to the next
+abbrev pub invariant-loop-at : goal.invariant-loop-at
+invariant-loop-at l = record {
+  state : l.state ≡ state_of l.self (front_of l.literal l.at);
+  known : l.state < length l.self.parents.items;
+  fronts : (at : ℕ) → at < l.at → IsLonger l.self (front_of l.literal at) (slice_index l.literal at);
+}

@@ -1,0 +1,44 @@
+-- One place more of each lane is read.
+use Rattle.std.proofs.Common.{◌≡◌, ℕ, ◌+◌, ◌*◌, ◌<◌, ◌⊎◌, length, set, ◌∙◌, arith}
+use Rattle.std.proofs.lemmas.List.{length-set}
+use Rattle.text_automaton.specs.Fronts.{IsRead}
+use Rattle.text_automaton.proofs.ReadLemmas.{AreDone, done_more, read_on, set_more}
+use Rattle.text_automaton.proofs.tables.Tables.read_block.Goals as goal
+
+pub lanes-preserved : goal.lanes-preserved
+lanes-preserved c =
+    let before = c.lanes.invariant in
+    let t = c.args.self.now in
+    let text = c.args.text.now in
+    let longest = c.args.longest in
+    let start = c.args.start in
+    let at = c.lanes.at in
+    let low : at < 1024 = c.lanes-test.true in
+    let first = c.next_state-first.ensures in
+    let second = c.next_state-second.ensures in
+    let third = c.next_state-third.ensures in
+    let fourth = c.next_state-fourth.ensures in
+    let one = c.lanes.states in
+    let two = set one at c.next_state-first.result in
+    let three = set two (1024 + at) c.next_state-second.result in
+    let four = set three (2048 + at) c.next_state-third.result in
+    let long_two : length two ≡ 4096 = length-set one at c.next_state-first.result ∙ before.room in
+    let long_three : length three ≡ 4096 = length-set two (1024 + at) c.next_state-second.result ∙ long_two in
+    let long_four : length four ≡ 4096 = length-set three (2048 + at) c.next_state-third.result ∙ long_three in
+    let Read = λ (k s : ℕ). IsRead t text longest (start + k + 1) s in
+    record {
+      room = length-set four (3072 + at) c.next_state-fourth.result ∙ long_four;
+      first = read_on t text longest (start + at) (start + at) (start + (at + 1)) c.lanes.first c.next_state-first.result before.first (omega arith) (omega arith) first.value first.state;
+      second = read_on t text longest (start + 1024 + at) (start + 1024 + at) (start + 1024 + (at + 1)) c.lanes.second c.next_state-second.result before.second (omega arith) (omega arith) second.value second.state;
+      third = read_on t text longest (start + 2048 + at) (start + 2048 + at) (start + 2048 + (at + 1)) c.lanes.third c.next_state-third.result before.third (omega arith) (omega arith) third.value third.state;
+      fourth = read_on t text longest (start + 3072 + at) (start + 3072 + at) (start + 3072 + (at + 1)) c.lanes.fourth c.next_state-fourth.result before.fourth (omega arith) (omega arith) fourth.value fourth.state;
+      states = λ k done. set_more Read (λ k. ((AreDone at k ⊎ (k ≡ at)) ⊎ (k ≡ 1024 + at)) ⊎ (k ≡ 2048 + at)) four (3072 + at) c.next_state-fourth.result (omega (arith, low, long_four))
+          (set_more Read (λ k. (AreDone at k ⊎ (k ≡ at)) ⊎ (k ≡ 1024 + at)) three (2048 + at) c.next_state-third.result (omega (arith, low, long_three))
+          (set_more Read (λ k. AreDone at k ⊎ (k ≡ at)) two (1024 + at) c.next_state-second.result (omega (arith, low, long_two))
+          (set_more Read (AreDone at) one at c.next_state-first.result (omega (arith, low, before.room)) before.states
+          (read_on t text longest (start + at) (start + at) (start + at + 1) c.lanes.first c.next_state-first.result before.first (omega arith) (omega arith) first.value first.state))
+          (read_on t text longest (start + 1024 + at) (start + 1024 + at) (start + (1024 + at) + 1) c.lanes.second c.next_state-second.result before.second (omega arith) (omega arith) second.value second.state))
+          (read_on t text longest (start + 2048 + at) (start + 2048 + at) (start + (2048 + at) + 1) c.lanes.third c.next_state-third.result before.third (omega arith) (omega arith) third.value third.state))
+          (read_on t text longest (start + 3072 + at) (start + 3072 + at) (start + (3072 + at) + 1) c.lanes.fourth c.next_state-fourth.result before.fourth (omega arith) (omega arith) fourth.value fourth.state)
+          k (done_more at k done);
+    }

@@ -1,0 +1,4 @@
+pub mod Automata
+pub mod Fronts
+pub mod Stages
+pub mod Tables

@@ -1,0 +1,103 @@
+-- When the tables of an automaton are right: what is checked of them, state by state.
+use Rattle.std.specs.Prelude.{◌≡◌, ℕ, zero, suc, ◌+◌, ◌*◌, ◌<◌, ◌≤◌, ◌⊎◌, List, [], ◌∷◌, ◌++◌, length, slice_index, slice_range}
+use Rattle.std.specs.List.Sorted.{IsStrictlyIncreasing}
+use Rattle.lit_base.specs.Chains.{literal_at}
+use Rattle.lit_base.specs.Folding.{folded}
+use Rattle.lit_base.specs.Literals.{Literals}
+use Rattle.lit_base.specs.declared.fold.Fold.{Fold}
+use Rattle.text_automaton.specs.declared.tables.Tables.{Tables}
+use Rattle.text_automaton.specs.declared.tables.TheConstants.{CLASSES, MOST_STATES}
+
+-- how many states there are
+abbrev pub count_of : Tables → ℕ
+count_of t = length t.parents.items
+
+-- to which state a byte of a class leads from one
+abbrev pub step : Tables → ℕ → ℕ → ℕ
+step t state class = slice_index t.rows.items (CLASSES * state + class)
+
+-- the literals that a state tells
+abbrev pub told_at : Tables → ℕ → List ℕ
+told_at t state = slice_range t.told.items (slice_index t.lows.items state) (slice_index t.highs.items state)
+
+-- each state has a row and all else, and what stands there is a state, or a range of what is told
+pub record AreSized (t : Tables) : Type 0 where
+  pub some : 0 < count_of t
+  pub few : count_of t ≤ MOST_STATES
+  pub rows : length t.rows.items ≡ CLASSES * count_of t
+  pub lasts : length t.lasts.items ≡ count_of t
+  pub fails : length t.fails.items ≡ count_of t
+  pub owns : length t.owns.items ≡ count_of t
+  pub lows : length t.lows.items ≡ count_of t
+  pub highs : length t.highs.items ≡ count_of t
+  pub stepped : (i : ℕ) → i < length t.rows.items → slice_index t.rows.items i < count_of t
+  pub known : (state : ℕ) → state < count_of t → (slice_index t.parents.items state < count_of t) × (slice_index t.fails.items state < count_of t)
+      × (slice_index t.lows.items state ≤ slice_index t.highs.items state) × (slice_index t.highs.items state ≤ length t.told.items)
+
+-- a byte has the class of the byte that it is folded to, and each class but 0 is that of one folded byte
+abbrev pub AreClasses : Fold → List ℕ → List ℕ → Type 0
+AreClasses fold classes bytes = (byte : ℕ) → byte < 256 → (slice_index classes byte < CLASSES) × (slice_index classes byte ≡ slice_index classes (folded fold byte))
+    × (0 < slice_index classes byte → slice_index bytes (slice_index classes byte) ≡ folded fold byte)
+
+-- each byte has a class
+abbrev pub HaveClasses : Tables → Type 0
+HaveClasses t = (byte : ℕ) → byte < 256 → slice_index t.classes byte < CLASSES
+
+-- one state stands for the front of another with a byte of a class behind it
+abbrev pub IsChild : Tables → ℕ → ℕ → ℕ → Type 0
+IsChild t state class to = (0 < class) × (0 < to) × (slice_index t.parents.items to ≡ state) × (slice_index t.lasts.items to ≡ class)
+
+-- a byte leads to the state of the longer front, or, where no front is longer by it, to where it leads from the next shorter one that ends here
+abbrev pub IsStep : Tables → ℕ → ℕ → Type 0
+IsStep t state class = IsChild t state class (step t state class) ⊎ ((¬ IsChild t state class (step t state class))
+    × (((state ≡ 0) × (step t state class ≡ 0)) ⊎ ((0 < state) × (step t state class ≡ step t (slice_index t.fails.items state) class))))
+
+-- the next shorter front that ends where a state's does is that to which the last byte leads from the next shorter one of the front before it
+abbrev pub IsFail : Tables → ℕ → Type 0
+IsFail t state = ((slice_index t.parents.items state ≡ 0) × (slice_index t.fails.items state ≡ 0))
+    ⊎ ((0 < slice_index t.parents.items state)
+    × (slice_index t.fails.items state ≡ step t (slice_index t.fails.items (slice_index t.parents.items state)) (slice_index t.lasts.items state)))
+
+-- a state tells what the next shorter front tells, and the literal that it is, in order; whether it tells any its number says
+pub record IsTelling (t : Tables) (count state : ℕ) : Type 0 where
+  pub own : slice_index t.owns.items state < count → slice_index t.ends.items (slice_index t.owns.items state) ≡ state
+  pub first : state ≡ 0 → told_at t state ≡ []
+  pub others : 0 < state → ((slice_index t.owns.items state < count) × (told_at t state ≡ told_at t (slice_index t.fails.items state) ++ slice_index t.owns.items state ∷ []))
+      ⊎ ((count ≤ slice_index t.owns.items state) × (told_at t state ≡ told_at t (slice_index t.fails.items state)))
+  pub rising : IsStrictlyIncreasing (told_at t state)
+  pub quiet : state < t.quiet → told_at t state ≡ []
+  pub telling : t.quiet ≤ state → 0 < length (told_at t state)
+
+-- the state to which some bytes lead from the first one, the last byte first
+abbrev pub state_of : Tables → List ℕ → ℕ
+state_of t [] = 0
+state_of t (byte ∷ before) = step t (state_of t before) (slice_index t.classes byte)
+
+-- so many first bytes of a text, the last one first
+abbrev pub front_of : List ℕ → ℕ → List ℕ
+front_of text zero = []
+front_of text (suc count) = slice_index text count ∷ front_of text count
+
+-- a byte is the one of its class
+pub record IsKnown (t : Tables) (byte : ℕ) : Type 0 where
+  pub class : slice_index t.classes byte < CLASSES
+  pub own : 0 < slice_index t.classes byte → slice_index t.bytes (slice_index t.classes byte) ≡ byte
+
+-- a byte leads from where some bytes lead to the state of a longer front
+abbrev pub IsLonger : Tables → List ℕ → ℕ → Type 0
+IsLonger t before byte = IsKnown t byte × IsChild t (state_of t before) (slice_index t.classes byte) (state_of t (byte ∷ before))
+
+-- a literal's fronts lead each to the next, and the longest one is its state
+pub record IsSpelled (t : Tables) (l : Literals) (place : ℕ) : Type 0 where
+  pub fronts : (at : ℕ) → at < length (literal_at l place) → IsLonger t (front_of (literal_at l place) at) (slice_index (literal_at l place) at)
+  pub end : state_of t (front_of (literal_at l place) (length (literal_at l place))) ≡ slice_index t.ends.items place
+  pub own : slice_index t.owns.items (slice_index t.ends.items place) ≡ place
+
+-- all of it
+pub record AreRight (t : Tables) (l : Literals) : Type 0 where
+  pub sized : AreSized t
+  pub classes : AreClasses l.folding t.classes t.bytes
+  pub steps : (state class : ℕ) → state < count_of t → class < CLASSES → IsStep t state class
+  pub fails : (state : ℕ) → 0 < state → state < count_of t → IsFail t state
+  pub telling : (state : ℕ) → state < count_of t → IsTelling t (length l.texts) state
+  pub spelled : (place : ℕ) → place < length l.texts → IsSpelled t l place

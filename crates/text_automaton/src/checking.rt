@@ -1,0 +1,370 @@
+//! Whether tables are right. However they were made, those that pass tell all ends, and no others.
+ghost use Rattle.std.specs.Prelude.{◌≡◌, ◌↔◌, ◌⊎◌, ◌++◌, ◌∷◌, [], ℕ, ◌*◌, ◌<◌, ◌≤◌, IsTrue, length, slice_index, slice_range, true};
+ghost use Rattle.std.specs.List.Sorted.{IsStrictlyIncreasing};
+ghost use Rattle.lit_base.specs.Chains.{literal_at};
+ghost use Rattle.lit_base.specs.Folding.{folded};
+ghost use Rattle.text_automaton.specs.Tables.{AreClasses, AreRight, AreSized, IsChild, IsFail, IsKnown, IsSpelled, IsStep, IsTelling, step, told_at};
+
+use crate::tables::{CLASSES, MOST_STATES, Tables};
+use lit_base::{Fold, LitList, fold_byte};
+
+impl Tables {
+    /// Makes the tables of a list. The answer is whether they are right.
+    pub fn make_right(&mut self, list: &LitList) -> bool
+        ensures { IsTrue result → AreRight self.new list.now }
+    {
+        if self.make(list).is_none() {
+            return false;
+        }
+        self.are_right(list)
+    }
+
+    /// Whether the tables are those of a list.
+    pub fn are_right(&self, list: &LitList) -> bool
+        ensures { IsTrue result → AreRight self.now list.now }
+    {
+        if !self.are_sized() {
+            return false;
+        }
+        if !self.are_classes(list.fold()) || !self.are_steps() || !self.are_fails() {
+            return false;
+        }
+        if !self.are_telling(list.len()) {
+            return false;
+        }
+        self.are_spelled(list)
+    }
+
+    /// Whether each state has all that it is to have.
+    fn are_sized(&self) -> bool
+        ensures { IsTrue result → AreSized self.now }
+    {
+        let count = self.count();
+        self.are_as_many(count) && self.are_stepped(count) && self.are_known(count)
+    }
+
+    /// Whether there are as many of all.
+    fn are_as_many(&self, count: usize) -> bool
+        ensures some { IsTrue result → 0 < count }
+        ensures few { IsTrue result → count ≤ MOST_STATES }
+        ensures rows { IsTrue result → length self.now.rows.items ≡ CLASSES * count }
+        ensures lasts { IsTrue result → length self.now.lasts.items ≡ count }
+        ensures fails { IsTrue result → length self.now.fails.items ≡ count }
+        ensures owns { IsTrue result → length self.now.owns.items ≡ count }
+        ensures lows { IsTrue result → length self.now.lows.items ≡ count }
+        ensures highs { IsTrue result → length self.now.highs.items ≡ count }
+    {
+        count != 0
+            && count <= MOST_STATES
+            && self.rows.len() / CLASSES == count
+            && self.rows.len() % CLASSES == 0
+            && self.lasts.len() == count
+            && self.fails.len() == count
+            && self.owns.len() == count
+            && self.lows.len() == count
+            && self.highs.len() == count
+    }
+
+    /// Whether each byte leads to one of so many states.
+    fn are_stepped(&self, count: usize) -> bool
+        ensures { IsTrue result → (i : ℕ) → i < length self.now.rows.items → slice_index self.now.rows.items i < count }
+    {
+        for place in 0..self.rows.len() {
+            if self.rows[place] as usize >= count {
+                return false;
+            }
+        }
+        true
+    }
+
+    /// Whether each of so many states has a parent and a shorter one among them, and a range of what is told.
+    fn are_known(&self, count: usize) -> bool
+        requires count { count ≡ length self.now.parents.items }
+        requires fails { length self.now.fails.items ≡ count }
+        requires lows { length self.now.lows.items ≡ count }
+        requires highs { length self.now.highs.items ≡ count }
+        ensures { IsTrue result → (state : ℕ) → state < count → (slice_index self.now.parents.items state < count) × (slice_index self.now.fails.items state < count)
+            × (slice_index self.now.lows.items state ≤ slice_index self.now.highs.items state) × (slice_index self.now.highs.items state ≤ length self.now.told.items) }
+    {
+        for state in 0..count {
+            let high = self.highs[state] as usize;
+            if self.parents[state] as usize >= count
+                || self.fails[state] as usize >= count
+                || self.lows[state] as usize > high
+                || high > self.told.len()
+            {
+                return false;
+            }
+        }
+        true
+    }
+
+    /// Whether each byte has the class of what it is folded to, and each class one folded byte.
+    fn are_classes(&self, fold: Fold) -> bool
+        ensures { IsTrue result → AreClasses fold self.now.classes self.now.bytes }
+    {
+        for byte in 0..256usize {
+            if !self.is_class(fold, byte) {
+                return false;
+            }
+        }
+        true
+    }
+
+    /// Whether that is so of one byte.
+    fn is_class(&self, fold: Fold, byte: usize) -> bool
+        requires { byte < 256 }
+        ensures small { IsTrue result → slice_index self.now.classes byte < CLASSES }
+        ensures folded { IsTrue result → slice_index self.now.classes byte ≡ slice_index self.now.classes (folded fold byte) }
+        ensures own { IsTrue result → 0 < slice_index self.now.classes byte → slice_index self.now.bytes (slice_index self.now.classes byte) ≡ folded fold byte }
+    {
+        let folded = fold_byte(fold, byte as u8);
+        let class = self.classes[byte] as usize;
+        class < CLASSES
+            && class == self.classes[folded as usize] as usize
+            && (class == 0 || self.bytes[class] == folded)
+    }
+
+    /// Whether a state stands for the front of another one with a byte of a class behind it.
+    #[inline]
+    fn is_child(&self, state: usize, class: usize, to: usize) -> bool
+        requires sized { AreSized self.now }
+        requires to { to < length self.now.parents.items }
+        ensures { IsTrue result ↔ IsChild self.now state class to }
+    {
+        class != 0
+            && to != 0
+            && self.parents[to] as usize == state
+            && self.lasts[to] as usize == class
+    }
+
+    /// Whether each byte leads from each state where it is to lead.
+    fn are_steps(&self) -> bool
+        requires { AreSized self.now }
+        ensures { IsTrue result → (state class : ℕ) → state < length self.now.parents.items → class < CLASSES → IsStep self.now state class }
+    {
+        for state in 0..self.count() {
+            if !self.is_row(state) {
+                return false;
+            }
+        }
+        true
+    }
+
+    /// Whether that is so of one state.
+    fn is_row(&self, state: usize) -> bool
+        requires sized { AreSized self.now }
+        requires state { state < length self.now.parents.items }
+        ensures { IsTrue result → (class : ℕ) → class < CLASSES → IsStep self.now state class }
+    {
+        for class in 0..CLASSES {
+            if !self.is_step(state, class) {
+                return false;
+            }
+        }
+        true
+    }
+
+    /// Whether that is so of one state and one class of bytes.
+    #[inline]
+    fn is_step(&self, state: usize, class: usize) -> bool
+        requires sized { AreSized self.now }
+        requires state { state < length self.now.parents.items }
+        requires class { class < CLASSES }
+        ensures { IsTrue result → IsStep self.now state class }
+    {
+        let to = self.step(state, class);
+        if self.is_child(state, class, to) {
+            return true;
+        }
+        if state == 0 {
+            return to == 0;
+        }
+        to == self.step(self.fail(state), class)
+    }
+
+    /// The state of the longest other front with which that of a state ends.
+    #[inline]
+    fn fail(&self, state: usize) -> usize
+        requires sized { AreSized self.now }
+        requires state { state < length self.now.parents.items }
+        ensures value { result ≡ slice_index self.now.fails.items state }
+        ensures state { result < length self.now.parents.items }
+    {
+        self.fails[state] as usize
+    }
+
+    /// Whether the shorter one of each state is right.
+    fn are_fails(&self) -> bool
+        requires { AreSized self.now }
+        ensures { IsTrue result → (state : ℕ) → 0 < state → state < length self.now.parents.items → IsFail self.now state }
+    {
+        for state in 0..self.count() {
+            if state != 0 && !self.is_fail(state) {
+                return false;
+            }
+        }
+        true
+    }
+
+    /// Whether that of one state is.
+    fn is_fail(&self, state: usize) -> bool
+        requires sized { AreSized self.now }
+        requires state { state < length self.now.parents.items }
+        ensures { IsTrue result → IsFail self.now state }
+    {
+        let parent = self.parent(state);
+        if parent == 0 {
+            return self.fail(state) == 0;
+        }
+        let class = self.lasts[state] as usize;
+        class < CLASSES && self.fail(state) == self.step(self.fail(parent), class)
+    }
+
+    /// The state of the front but for its last byte.
+    #[inline]
+    fn parent(&self, state: usize) -> usize
+        requires sized { AreSized self.now }
+        requires state { state < length self.now.parents.items }
+        ensures value { result ≡ slice_index self.now.parents.items state }
+        ensures state { result < length self.now.parents.items }
+    {
+        self.parents[state] as usize
+    }
+
+    /// The literals that a state tells.
+    #[inline(always)]
+    pub fn told_at(&self, state: usize) -> &[u16]
+        requires sized { AreSized self.now }
+        requires state { state < length self.now.parents.items }
+        ensures { result.now ≡ told_at self.now state }
+    {
+        &self.told[self.lows[state] as usize..self.highs[state] as usize]
+    }
+
+    /// Whether each state tells the literals that it is to tell, of so many.
+    fn are_telling(&self, count: usize) -> bool
+        requires { AreSized self.now }
+        ensures { IsTrue result → (state : ℕ) → state < length self.now.parents.items → IsTelling self.now count state }
+    {
+        for state in 0..self.count() {
+            if !self.is_telling(count, state) {
+                return false;
+            }
+        }
+        true
+    }
+
+    /// Whether one state does.
+    fn is_telling(&self, count: usize, state: usize) -> bool
+        requires sized { AreSized self.now }
+        requires state { state < length self.now.parents.items }
+        ensures { IsTrue result → IsTelling self.now count state }
+    {
+        let told = self.told_at(state);
+        self.is_own(count, state)
+            && self.adds_own(count, state, told)
+            && is_rising(told)
+            && (state < self.quiet) == told.is_empty()
+    }
+
+    /// Whether the literal that a state is said to be, if it is one, has that state.
+    fn is_own(&self, count: usize, state: usize) -> bool
+        requires sized { AreSized self.now }
+        requires state { state < length self.now.parents.items }
+        ensures { IsTrue result → slice_index self.now.owns.items state < count → slice_index self.now.ends.items (slice_index self.now.owns.items state) ≡ state }
+    {
+        let own = self.own(state);
+        own >= count || own < self.ends.len() && self.ends[own] as usize == state
+    }
+
+    /// The literal that a state is, or a number that stands for none.
+    fn own(&self, state: usize) -> usize
+        requires sized { AreSized self.now }
+        requires state { state < length self.now.parents.items }
+        ensures { result ≡ slice_index self.now.owns.items state }
+    {
+        self.owns[state] as usize
+    }
+
+    /// Whether what a state tells is what the shorter one tells, and the literal that it is, if it is one.
+    fn adds_own(&self, count: usize, state: usize, told: &[u16]) -> bool
+        requires sized { AreSized self.now }
+        requires state { state < length self.now.parents.items }
+        requires told { told.now ≡ told_at self.now state }
+        ensures first { IsTrue result → state ≡ 0 → told_at self.now state ≡ [] }
+        ensures others { IsTrue result → 0 < state → ((slice_index self.now.owns.items state < count) × (told_at self.now state ≡ told_at self.now (slice_index self.now.fails.items state) ++ slice_index self.now.owns.items state ∷ []))
+            ⊎ ((count ≤ slice_index self.now.owns.items state) × (told_at self.now state ≡ told_at self.now (slice_index self.now.fails.items state))) }
+    {
+        if state == 0 {
+            return told.is_empty();
+        }
+        let others = self.told_at(self.fail(state));
+        let own = self.own(state);
+        if own < count {
+            is_with(told, others, own)
+        } else {
+            told == others
+        }
+    }
+
+    /// Whether each literal of a list is spelled.
+    fn are_spelled(&self, list: &LitList) -> bool
+        requires sized { AreSized self.now }
+        requires classes { AreClasses list.now.folding self.now.classes self.now.bytes }
+        ensures { IsTrue result → (place : ℕ) → place < length list.now.texts → IsSpelled self.now list.now place }
+    {
+        for place in 0..list.len() {
+            if !self.is_spelled(list, place) {
+                return false;
+            }
+        }
+        true
+    }
+
+    /// Whether one literal is.
+    fn is_spelled(&self, list: &LitList, place: usize) -> bool
+        requires sized { AreSized self.now }
+        requires classes { AreClasses list.now.folding self.now.classes self.now.bytes }
+        requires place { place < length list.now.texts }
+        ensures { IsTrue result → IsSpelled self.now list.now place }
+    {
+        let literal = list.get(place);
+        let mut state = 0;
+        for at in 0..literal.len() {
+            let class = self.classes[literal[at] as usize] as usize;
+            if class >= CLASSES {
+                return false;
+            }
+            let next = self.step(state, class);
+            if !self.is_child(state, class, next) || self.bytes[class] != literal[at] {
+                return false;
+            }
+            state = next;
+        }
+        place < self.ends.len() && self.ends[place] as usize == state && self.own(state) == place
+    }
+}
+
+/// Whether a list of literals is another one with one more at its end.
+fn is_with(told: &[u16], others: &[u16], own: usize) -> bool
+    ensures { IsTrue result → told.now ≡ others.now ++ own ∷ [] }
+{
+    let count = others.len();
+    if told.len() <= count || told.len() - count != 1 || told[count] as usize != own {
+        return false;
+    }
+    &told[..count] == others
+}
+
+/// Whether literals stand in order, each once.
+fn is_rising(told: &[u16]) -> bool
+    ensures { IsTrue result → IsStrictlyIncreasing told.now }
+{
+    for place in 1..told.len() {
+        if told[place - 1] >= told[place] {
+            return false;
+        }
+    }
+    true
+}

@@ -1,0 +1,288 @@
+//! How tables are made. Nothing here decides whether they are right: that is checked.
+ghost use Rattle.std.specs.Prelude.{◌<◌};
+
+use crate::tables::{CLASSES, MOST_STATES, MOST_TOLD, NONE, Tables};
+use lit_base::{LitList, MAX_LITERALS, fold_byte};
+
+impl Tables {
+    /// Makes the tables of a list, if it has no more fronts and bytes than they have room for.
+    pub fn make(&mut self, list: &LitList) -> Option<()> {
+        self.begin(list);
+        self.class_bytes(list)?;
+        self.grow(list)?;
+        self.tell()?;
+        self.part();
+        Some(())
+    }
+
+    /// Leaves the first state alone, which stands for the empty front.
+    fn begin(&mut self, list: &LitList) {
+        self.rows.clear();
+        self.parents.clear();
+        self.lasts.clear();
+        self.fails.clear();
+        self.owns.clear();
+        self.told.clear();
+        self.ends.clear();
+        // It takes no memory, and so is not refused.
+        let _are_made = self.ends.resize(list.len(), 0);
+        let _first = self.add_state(0, 0, 0);
+    }
+
+    /// Gives each byte of a literal a class, and those that are folded to it the same.
+    fn class_bytes(&mut self, list: &LitList) -> Option<()> {
+        self.classes = [0; 256];
+        for place in 0..list.len() {
+            for byte in list.get(place) {
+                self.class_byte(*byte)?;
+            }
+        }
+        for byte in 0..256usize {
+            let folded = fold_byte(list.fold(), byte as u8);
+            self.classes[byte] = self.classes[folded as usize];
+        }
+        Some(())
+    }
+
+    /// Gives a byte a class of its own, unless it has one.
+    fn class_byte(&mut self, byte: u8) -> Option<()> {
+        if self.classes[byte as usize] != 0 {
+            return Some(());
+        }
+        let class = self.count_classes();
+        if class >= CLASSES {
+            return None;
+        }
+        self.classes[byte as usize] = class as u8;
+        self.bytes[class] = byte;
+        Some(())
+    }
+
+    /// One more than the greatest class.
+    fn count_classes(&self) -> usize {
+        let mut most = 0;
+        for byte in 0..256usize {
+            most = self.classes[byte].max(most);
+        }
+        usize::from(most).saturating_add(1)
+    }
+
+    /// Adds a state, if there is room for it.
+    fn add_state(&mut self, parent: u16, class: u8, fail: u16) -> Option<u16> {
+        let state = self.parents.len();
+        if state >= MOST_STATES {
+            return None;
+        }
+        self.parents.push(parent).ok()?;
+        self.lasts.push(class).ok()?;
+        self.fails.push(fail).ok()?;
+        self.owns.push(NONE).ok()?;
+        self.rows.resize(CLASSES * (state + 1), 0).ok()?;
+        Some(state as u16)
+    }
+
+    /// Adds the states of all fronts, the shorter ones first.
+    fn grow(&mut self, list: &LitList) -> Option<()> {
+        let mut current = [0u16; MAX_LITERALS];
+        let mut first = 0;
+        for len in 0..MOST_STATES {
+            let last = self.parents.len();
+            self.take_over(first, last);
+            if first == last {
+                return Some(());
+            }
+            self.lengthen(list, len, last, &mut current)?;
+            first = last;
+        }
+        None
+    }
+
+    /// Each byte leads from some states where it leads from the next shorter one, as long as no front is longer by it.
+    fn take_over(&mut self, first: usize, last: usize) {
+        for state in first.max(1)..last {
+            let from = CLASSES * usize::from(self.fail_at(state));
+            let to = state.saturating_mul(CLASSES);
+            if from + CLASSES <= self.rows.len() && to <= self.rows.len() - CLASSES {
+                self.rows.copy_within(from..from + CLASSES, to);
+            }
+        }
+    }
+
+    /// Adds the states of the fronts that are longer by a byte than so many, `last` being the first of them.
+    fn lengthen(
+        &mut self,
+        list: &LitList,
+        len: usize,
+        last: usize,
+        current: &mut [u16; MAX_LITERALS],
+    ) -> Option<()> {
+        for place in 0..list.len() {
+            let literal = list.get(place);
+            if len < literal.len() {
+                let state = self.longer(current[place], literal[len], last)?;
+                current[place] = state;
+                if literal.len() - len == 1 {
+                    put(
+                        &mut self.owns,
+                        usize::from(state),
+                        u16::try_from(place).ok()?,
+                    );
+                    put(&mut self.ends, place, state);
+                }
+            }
+        }
+        Some(())
+    }
+
+    /// The state of a front with a byte behind it, which is added unless it is one from `last` on.
+    fn longer(&mut self, state: u16, byte: u8, last: usize) -> Option<u16> {
+        let class = self.classes[usize::from(byte)];
+        let slot = CLASSES * usize::from(state) + usize::from(class);
+        let to = self.row_at(slot);
+        if usize::from(to) >= last {
+            return Some(to);
+        }
+        let longer = self.add_state(state, class, to)?;
+        put(&mut self.rows, slot, longer);
+        Some(longer)
+    }
+
+    /// Lists what each state tells: what the next shorter one does, and the literal that it is.
+    fn tell(&mut self) -> Option<()> {
+        self.lows.clear();
+        self.highs.clear();
+        for state in 0..self.parents.len() {
+            let low = u16::try_from(self.told.len()).ok()?;
+            let (first, last) = self.range_at(usize::from(self.fail_at(state)));
+            for place in first..last {
+                let literal = self.literal_at(place);
+                self.tell_one(literal)?;
+            }
+            let own = self.own_at(state);
+            if own != NONE {
+                self.tell_one(own)?;
+            }
+            self.lows.push(low).ok()?;
+            self.highs.push(u16::try_from(self.told.len()).ok()?).ok()?;
+        }
+        Some(())
+    }
+
+    /// One literal more is told.
+    fn tell_one(&mut self, literal: u16) -> Option<()> {
+        if self.told.len() >= MOST_TOLD {
+            return None;
+        }
+        self.told.push(literal).ok()
+    }
+
+    fn row_at(&self, slot: usize) -> u16 {
+        at(&self.rows, slot)
+    }
+
+    fn fail_at(&self, state: usize) -> u16 {
+        at(&self.fails, state)
+    }
+
+    fn own_at(&self, state: usize) -> u16 {
+        at(&self.owns, state)
+    }
+
+    fn literal_at(&self, place: usize) -> u16 {
+        at(&self.told, place)
+    }
+
+    fn range_at(&self, state: usize) -> (usize, usize) {
+        let (low, high) = (at(&self.lows, state), at(&self.highs, state));
+        (usize::from(low), usize::from(high))
+    }
+
+    /// Parts the states that tell no end from those that do, behind them.
+    fn part(&mut self) {
+        let mut names = [0u16; MOST_STATES];
+        for state in 0..MOST_STATES {
+            names[state] = state as u16;
+        }
+        let mut low = 0;
+        let mut high = self.parents.len().min(MOST_STATES);
+        while low < high {
+            if self.is_quiet(low) {
+                low += 1;
+            } else if !self.is_quiet(high - 1) {
+                high -= 1;
+            } else {
+                high -= 1;
+                self.swap(low, high);
+                names[low] = high as u16;
+                names[high] = low as u16;
+                low += 1;
+            }
+        }
+        self.quiet = low;
+        rename(&mut self.rows, &names);
+        rename(&mut self.parents, &names);
+        rename(&mut self.fails, &names);
+        rename(&mut self.ends, &names);
+    }
+
+    /// Whether a state tells no end.
+    fn is_quiet(&self, state: usize) -> bool {
+        let (low, high) = self.range_at(state);
+        low == high
+    }
+
+    /// Lets two states change places.
+    fn swap(&mut self, one: usize, other: usize)
+        requires one { one < 65536 }
+        requires other { other < 65536 }
+    {
+        for class in 0..CLASSES {
+            swap(
+                &mut self.rows,
+                CLASSES * one + class,
+                CLASSES * other + class,
+            );
+        }
+        swap(&mut self.parents, one, other);
+        if one < self.lasts.len() && other < self.lasts.len() {
+            self.lasts.swap(one, other);
+        }
+        swap(&mut self.fails, one, other);
+        swap(&mut self.owns, one, other);
+        swap(&mut self.lows, one, other);
+        swap(&mut self.highs, one, other);
+    }
+}
+
+/// The number at a place, or 0 past the end.
+fn at(numbers: &Vec<u16>, place: usize) -> u16 {
+    if place < numbers.len() {
+        numbers[place]
+    } else {
+        0
+    }
+}
+
+/// Puts a number at a place, unless that is past the end.
+fn put(numbers: &mut Vec<u16>, place: usize, number: u16) {
+    if place < numbers.len() {
+        numbers[place] = number;
+    }
+}
+
+/// Lets two numbers change places, if neither is past the end.
+fn swap(numbers: &mut Vec<u16>, one: usize, other: usize) {
+    if one < numbers.len() && other < numbers.len() {
+        numbers.swap(one, other);
+    }
+}
+
+/// Gives each state that stands there its new number.
+fn rename(states: &mut Vec<u16>, names: &[u16; MOST_STATES]) {
+    for place in 0..states.len() {
+        let state = usize::from(states[place]);
+        if state < MOST_STATES {
+            states[place] = names[state];
+        }
+    }
+}
