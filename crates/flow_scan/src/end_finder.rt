@@ -6,12 +6,15 @@ ghost use Rattle.flow_scan.specs.HitsAt.{Extends};
 ghost use Rattle.flow_scan.specs.NextEnds.{IsNextEnd, NoEndAfter};
 ghost use Rattle.flow_scan.specs.Tails.{AreHitsBehind, Continues, StopsAt};
 
+use crate::automatic::add_hits_by_automaton;
 use crate::compiled::Compiled;
 use crate::endings::Backoff;
 use crate::fault::Fault;
 use crate::hit::Hit;
 use crate::hit_search::HitSearch;
-use crate::learning::{Learning, Way, cost_by_windows, cost_of_plain_ends};
+use crate::learning::{
+    Learning, Way, cost_by_automaton, cost_by_windows, cost_of_dense_ends, cost_of_plain_ends,
+};
 use crate::met::Met;
 use crate::pace::MOST_BY_BYTES;
 use crate::searching::{add_hits, add_hits_at, skip_short_ends};
@@ -20,6 +23,7 @@ use crate::text_search::TextSearch;
 use crate::windowed::{Claims, next_end_by_windows};
 use std::alloc::{AllocError, Global};
 use std::marker::Model;
+use text_automaton::Automaton;
 use text_windows::{EndRate, SHIFT_OR_COST, ShiftOr, Windows};
 
 /// So many bytes of a text are learned from at most.
@@ -49,6 +53,7 @@ pub struct EndFinder<'p> {
     compiled: &'p Compiled,
     windows: Windows<'p>,
     shift_or: ShiftOr<'p>,
+    automaton: Automaton<'p>,
     learning: Learning,
 }
 
@@ -60,7 +65,8 @@ impl<'p> Model for EndFinder<'p> {
 
     ghost view = { λ s. s.compiled.now };
 
-    ghost invariant = { λ s. (s.windows.literals ≡ s.compiled.now.literals) × (s.shift_or.literals ≡ s.compiled.now.literals) };
+    ghost invariant = { λ s. (s.windows.literals ≡ s.compiled.now.literals) × (s.shift_or.literals ≡ s.compiled.now.literals)
+        × (s.automaton.literals ≡ s.compiled.now.literals) };
 }
 
 impl<'p> EndFinder<'p> {
@@ -70,10 +76,12 @@ impl<'p> EndFinder<'p> {
     {
         let windows = Windows::new(alloc, compiled.list())?;
         let shift_or = ShiftOr::new(alloc, compiled.list())?;
+        let automaton = Automaton::new(alloc, compiled.list())?;
         Ok(EndFinder {
             compiled,
             windows,
             shift_or,
+            automaton,
             learning: Learning::new(),
         })
     }
@@ -147,7 +155,7 @@ impl<'p> EndFinder<'p> {
         match self.learning.way() {
             Way::Windows => self.next_windowed(search.text(), from),
             Way::ShiftOr => self.next_shifted(search.text(), from),
-            Way::Plan => self.next_by_plan(search, from),
+            Way::Automaton | Way::Plan => self.next_by_plan(search, from),
         }
     }
 
@@ -247,7 +255,7 @@ impl<'p> EndFinder<'p> {
         let mut backoff = Backoff::new();
         let stop = add_hits(self.compiled, text, from, at, most, &mut backoff, out)?;
         let passed = stop - from;
-        let cost = cost_of_plain_ends(backoff.ends(), passed);
+        let cost = cost_of_plain_ends(backoff.ends());
         let spent = backoff.spent().saturating_add(cost);
         self.learning
             .note(passed, spent, EndRate::of_scan(backoff.ends()));
@@ -385,6 +393,43 @@ impl<'p> EndFinder<'p> {
         found
     }
 
+    /// Adds hits by the automaton, as `add_hits` does, or by the plan where it is not made.
+    fn add_hits_told(
+        &mut self,
+        text: &[u8],
+        from: usize,
+        at: u64,
+        most: usize,
+        out: &mut Vec<Hit>,
+    ) -> Result<usize, AllocError>
+        requires inside { from ≤ length text.now }
+        requires room { at + (length text.now - from) < 2 ^ 64 }
+        ensures same { self.new ≡ self.old }
+        ensures ok { IfOk result (λ stop. StopsAt self.old.literals text.now from at most stop out.old.items out.new.items) }
+        ensures kept { Extends out.old.items out.new.items }
+        ensures quiet { NoEndAfter self.old.literals text.now from → IsOk result }
+    {
+        let Some(reading) = self.automaton.reading_behind(text, from) else {
+            return self.add_hits_plainly(text, from, at, most, out);
+        };
+        let mut met = Met::nothing();
+        let stop = add_hits_by_automaton(
+            self.compiled,
+            &self.automaton,
+            reading,
+            text,
+            from,
+            at,
+            most,
+            &mut met,
+            out,
+        )?;
+        let spent = cost_by_automaton(stop - from, met.ends);
+        self.learning
+            .note(stop - from, spent, EndRate::of_scan(met.ends));
+        Ok(stop)
+    }
+
     /// Learns from the text at hand behind a place, where what is left of it is likely to gain by that.
     fn learn_if_sure(&mut self, text: &[u8], from: usize)
         requires { from ≤ length text.now }
@@ -421,14 +466,29 @@ impl<'p> EndFinder<'p> {
         };
         let (sample, _) = behind.split_at(behind.len().min(most));
         let rate = self.learning.rate();
-        let by_windows = self.windows.learn(sample, rate);
-        let by_shift_or = if by_windows <= SHIFT_OR_COST {
+        let dense = cost_of_dense_ends(rate);
+        let by_windows = self.windows.learn(sample, rate).saturating_add(dense);
+        let by_automaton = self.learn_to_tell(by_windows, rate);
+        let by_shift_or = if by_windows <= SHIFT_OR_COST || by_automaton < by_windows {
             // Shift-or is not likely to take less: its entries, half a megabyte, need not be made.
             usize::MAX
         } else {
-            self.shift_or.learn(sample, rate)
+            self.shift_or.learn(sample, rate).saturating_add(dense)
         };
-        self.learning.choose(by_windows, by_shift_or);
+        self.learning.choose(by_windows, by_shift_or, by_automaton);
+    }
+
+    /// What the automaton is likely to take, which is made if that is less than another way takes: for scans, in which ends are as frequent
+    /// as that.
+    fn learn_to_tell(&mut self, other: usize, rate: EndRate) -> usize
+        ensures { self.new ≡ self.old }
+    {
+        let cost = cost_by_automaton(1024, rate.ends);
+        if rate.starts == 0 && cost < other && self.automaton.learn() {
+            cost
+        } else {
+            usize::MAX
+        }
     }
 }
 
@@ -447,6 +507,7 @@ impl<'p> HitSearch for EndFinder<'p> {
         match self.learning.way() {
             Way::Windows => self.add_hits_windowed(text, from, at, most, out),
             Way::ShiftOr => self.add_hits_shifted(text, from, at, most, out),
+            Way::Automaton => self.add_hits_told(text, from, at, most, out),
             Way::Plan => self.add_hits_plainly(text, from, at, most, out),
         }
     }

@@ -19,6 +19,8 @@ pub(crate) enum Way {
     Windows,
     /// By shift-or over buckets of the literals.
     ShiftOr,
+    /// By the automaton of the literals: scans alone.
+    Automaton,
 }
 
 /// What a search by the plan may take for 1,024 bytes beside what the sieve takes, without learning: one place in a hundred
@@ -32,9 +34,9 @@ const LEARNED_COST: usize = 2048;
 /// number was not varied: with it 30 to 1,000 frequent literals in four texts are found 1.3 to 1.9 times as fast.
 const PLAIN_END_COST: usize = 500;
 
-/// Where ends stand so many bytes apart or less, one takes no longer by the plan: the next is told by what was looked up for the one
-/// before. On one seed a thousand frequent literals in JSON, 1.8 bytes apart, took 0.86 of the time by the plan, in log lines, 2.9 bytes
-/// apart, 0.97, and 300 in JSON, 3.4 bytes apart, 1.05.
+/// Where ends stand so many bytes apart or less, one takes as long by windows as by the plan, which tells the next by what was looked up for
+/// the one before. On one seed a thousand frequent literals in JSON, 1.8 bytes apart, took 0.86 of the time by the plan, in log lines, 2.9
+/// bytes apart, 0.97, and 300 in JSON, 3.4 bytes apart, 1.05.
 const DENSE: usize = 3;
 
 /// It learns once so much was lost: less than to learn takes, since what a part of a text loses the rest of it is likely to lose as well.
@@ -58,13 +60,30 @@ fn allowed_for(cost: usize) -> usize {
     cost.saturating_add(cost / 2).saturating_add(LEARNED_COST)
 }
 
-/// What so many ends of a scan by the plan took longer than by windows, in so many bytes.
-pub(crate) fn cost_of_plain_ends(ends: usize, count: usize) -> usize {
-    if ends >= count / DENSE {
-        0
+/// What the automaton takes for 1,024 bytes beside the ends, in tenths of a nanosecond.
+const AUTOMATON_COST: usize = 9500;
+
+/// An end of a scan takes so much longer by windows or by shift-or than by the automaton, whose states tell all literals that end there.
+const TOLD_GAIN: usize = 300;
+
+/// What so many ends of a scan by the plan took longer than by windows where these stand apart.
+pub(crate) fn cost_of_plain_ends(ends: usize) -> usize {
+    ends.saturating_mul(PLAIN_END_COST)
+}
+
+/// What ends that are as frequent as that take longer by windows than where they stand apart, for 1,024 bytes.
+pub(crate) fn cost_of_dense_ends(rate: EndRate) -> usize {
+    if rate.starts == 0 && rate.ends >= 1024 / DENSE {
+        rate.ends.saturating_mul(PLAIN_END_COST)
     } else {
-        ends.saturating_mul(PLAIN_END_COST)
+        0
     }
+}
+
+/// What the automaton takes for so many bytes with so many ends, less what these gain by it.
+pub(crate) fn cost_by_automaton(count: usize, ends: usize) -> usize {
+    let steps = count.saturating_mul(AUTOMATON_COST) / 1024;
+    steps.saturating_sub(ends.saturating_mul(TOLD_GAIN))
 }
 
 /// What `count` bytes take by looks that are a stride apart.
@@ -118,6 +137,15 @@ const NO_WAY: Promise = Promise {
     cost: usize::MAX,
 };
 
+/// Two promises, the better one first.
+fn in_order(one: Promise, other: Promise) -> (Promise, Promise) {
+    if other.cost < one.cost {
+        (other, one)
+    } else {
+        (one, other)
+    }
+}
+
 /// How a search has fared since it chose its way: what it took for how many bytes, and how much more that was than
 /// it may take.
 #[derive(Clone, Copy, Debug)]
@@ -165,7 +193,7 @@ impl Learning {
     fn has_learned(&self) -> bool {
         match self.way {
             Way::Plan => false,
-            Way::Windows | Way::ShiftOr => true,
+            Way::Windows | Way::ShiftOr | Way::Automaton => true,
         }
     }
 
@@ -228,9 +256,9 @@ impl Learning {
         self.trial = TRIAL;
     }
 
-    /// It has learned two ways, in which 1,024 bytes are likely to take so long: it goes on in the one that takes less if that is less
+    /// It has learned some ways, in which 1,024 bytes are likely to take so long: it goes on in the one that takes least if that is less
     /// than they took. A way that was not learned takes `usize::MAX`.
-    pub fn choose(&mut self, by_windows: usize, by_shift_or: usize) {
+    pub fn choose(&mut self, by_windows: usize, by_shift_or: usize, by_automaton: usize) {
         let windows = Promise {
             way: Way::Windows,
             cost: by_windows,
@@ -239,10 +267,16 @@ impl Learning {
             way: Way::ShiftOr,
             cost: by_shift_or,
         };
-        if by_shift_or < by_windows {
-            self.choose_first(shift_or, windows);
+        let automaton = Promise {
+            way: Way::Automaton,
+            cost: by_automaton,
+        };
+        let (best, other) = in_order(windows, shift_or);
+        if automaton.cost < best.cost {
+            self.choose_first(automaton, best);
         } else {
-            self.choose_first(windows, shift_or);
+            let (other, _) = in_order(other, automaton);
+            self.choose_first(best, other);
         }
     }
 

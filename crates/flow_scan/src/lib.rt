@@ -2,6 +2,7 @@
 //! whatever pieces the stream comes.
 #![tactic(auto)]
 
+mod automatic;
 mod carry;
 mod claiming;
 mod compiled;

@@ -171,7 +171,7 @@ fn add_all_at(
 }
 
 /// The hit of the literal at a place of the list.
-fn hit_of(list: &LitList, place: usize, at: u64) -> Hit
+pub(crate) fn hit_of(list: &LitList, place: usize, at: u64) -> Hit
     requires { place < length list.now.texts }
     ensures { result ≡ (place, at) }
 {

@@ -1,12 +1,9 @@
 -- Fronts of literals, and the states that they lead to. Fronts and texts stand with their last byte first, so that what ends a text
 -- begins it here.
-use Rattle.std.proofs.Common.{◌≡◌, ℕ, zero, suc, ◌+◌, ◌-◌, ◌*◌, ◌<◌, ◌≤◌, ◌⊎◌, ◌++◌, List, [], ◌∷◌, Contains, inl, inr, length, slice_index, refl, sym, ap, ◌∙◌, subst, arith}
-use Rattle.std.specs.Prelude.{◌↔◌, ⊤}
-use Rattle.std.proofs.lemmas.Bool.{cases_eq, cases_lt}
-use Rattle.lit_base.specs.Chains.{literal_at}
-use Rattle.lit_base.specs.Literals.{Literals}
+use Rattle.std.proofs.Common.{◌≡◌, ℕ, zero, suc, ◌+◌, ◌*◌, ◌<◌, ◌≤◌, List, [], ◌∷◌, inl, inr, length, slice_index, refl, sym, ap, ◌∙◌, subst, arith}
+use Rattle.std.proofs.lemmas.Bool.{cases_lt}
 use Rattle.text_automaton.specs.Fronts.{Begins, IsNextShorter, IsPath, Leads}
-use Rattle.text_automaton.specs.Tables.{AreRight, AreSized, IsChild, IsFail, IsKnown, IsSpelled, IsStep, IsTelling, count_of, front_of, state_of, step, told_at}
+use Rattle.text_automaton.specs.Tables.{AreSized, IsChild, IsFail, IsKnown, IsStep, count_of, state_of, step}
 use Rattle.text_automaton.specs.declared.tables.Tables.{Tables}
 use Rattle.text_automaton.specs.declared.tables.TheConstants.{CLASSES}
 

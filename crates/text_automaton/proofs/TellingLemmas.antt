@@ -1,7 +1,6 @@
 -- What the states of right tables tell: the literals that end at a place of a text.
-use Rattle.std.proofs.Common.{◌≡◌, ℕ, zero, suc, ◌+◌, ◌-◌, ◌<◌, ◌≤◌, ◌⊎◌, ◌++◌, List, [], ◌∷◌, Some, Contains, Bool, true, All, inl, inr, length, map, get_or, slice_get, slice_index, slice_range, drop, take, refl, sym, ap, ◌∙◌, subst, arith}
-use Rattle.std.specs.Prelude.{◌↔◌, ⊤}
-use Rattle.std.proofs.lemmas.Bool.{cases_eq, cases_lt}
+use Rattle.std.proofs.Common.{◌≡◌, ℕ, zero, suc, ◌+◌, ◌-◌, ◌<◌, ◌≤◌, ◌⊎◌, ◌++◌, List, [], ◌∷◌, Contains, Bool, true, All, inl, inr, length, get_or, slice_index, slice_range, drop, refl, sym, ap, ◌∙◌, subst, arith}
+use Rattle.std.proofs.lemmas.Bool.{cases_lt}
 use Rattle.std.proofs.lemmas.List.{ext_get_or, get_or-drop, get_or-map, get_or-take, length-drop, length-map, length-take}
 use Rattle.std.proofs.lemmas.List.Elements.{Contains-append_left, Contains-push, Contains-push_cases}
 use Rattle.std.proofs.lemmas.Option.{get_or_from_slice_get, slice_get-get_or, slice_get_within}
@@ -16,7 +15,7 @@ use Rattle.text_automaton.specs.Fronts.{Begins, IsNextShorter, IsPath, IsRead, L
 use Rattle.text_automaton.specs.Stages.{is_made}
 use Rattle.text_automaton.specs.declared.automaton.Stage.{Stage}
 use Rattle.text_automaton.specs.declared.automaton.Stage.TheVariants.{Made, Refused, Unmade}
-use Rattle.text_automaton.specs.Tables.{AreRight, IsKnown, count_of, front_of, state_of, step, told_at}
+use Rattle.text_automaton.specs.Tables.{AreRight, IsKnown, front_of, state_of, step, told_at}
 use Rattle.text_automaton.specs.declared.tables.Tables.{Tables}
 use Rattle.text_automaton.proofs.FrontLemmas.{begins_refl, begins_short, begins_trans, begins_whole, falls_to, goes_on, leads_none, leads_on, one_path, state_small}
 

@@ -1,6 +1,6 @@
 -- Fronts of literals, and which one a text leads to. Fronts and texts stand with their last byte first here, so that what ends a text
 -- begins it.
-use Rattle.std.specs.Prelude.{◌≡◌, ℕ, zero, suc, ◌+◌, ◌-◌, ◌<◌, ◌≤◌, ◌⊎◌, List, [], ◌∷◌, ⊤, length, slice_index}
+use Rattle.std.specs.Prelude.{◌≡◌, ℕ, zero, suc, ◌+◌, ◌<◌, ◌≤◌, ◌⊎◌, List, [], ◌∷◌, ⊤, length, slice_index}
 use Rattle.lit_base.specs.Folding.{folded}
 use Rattle.lit_base.specs.declared.fold.Fold.{Fold}
 use Rattle.text_automaton.specs.Tables.{IsChild, IsKnown, count_of, state_of, step}

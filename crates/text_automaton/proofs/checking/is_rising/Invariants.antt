@@ -1,4 +1,4 @@
-use Rattle.std.proofs.Common.{◌≡◌, ℕ, ◌<◌, ◌≤◌, ◌+◌, length, slice_index}
+use Rattle.std.proofs.Common.{ℕ, ◌<◌, ◌+◌, slice_index}
 use Rattle.text_automaton.proofs.checking.is_rising.Given as goal
 
 -- the literals passed stand in order

@@ -1,5 +1,5 @@
 -- As many states tell none as there are bits in a row.
-use Rattle.std.proofs.Common.{◌≡◌, ◌+◌, ◌-◌, ◌<◌, ◌≤◌, inl, inr, slice_index, sym, ap, ◌∙◌, subst, arith}
+use Rattle.std.proofs.Common.{◌≡◌, ◌+◌, ◌-◌, ◌<◌, inl, inr, slice_index, subst, arith}
 use Rattle.std.proofs.lemmas.Bool.{cases_lt}
 use Rattle.text_automaton.proofs.QuietLemmas.{skipped}
 use Rattle.text_automaton.proofs.telling.first_telling.Goals as goal

@@ -1,5 +1,5 @@
 -- The bits are those of the tests, state by state.
-use Rattle.std.proofs.Common.{◌≡◌, ℕ, ◌+◌, ◌<◌, List, length, sym, subst, arith}
+use Rattle.std.proofs.Common.{◌<◌, sym, subst, arith}
 use Rattle.std.proofs.lemmas.Simd.{get_or-chunk, length-chunk}
 use Rattle.text_automaton.proofs.QuietLemmas.{bit_of_less, bits_of_less}
 use Rattle.text_automaton.proofs.telling.quiet_bits.Goals as goal

@@ -11,3 +11,6 @@ returns-in-Plan-clause-quiet c = rw (ap (λ (p : Plan). p.literals) c.learn_if_d
 
 pub returns-in-ShiftOr-clause-quiet : goal.returns-in-ShiftOr-clause-quiet
 returns-in-ShiftOr-clause-quiet c = rw (ap (λ (p : Plan). p.literals) c.learn_if_due.ensures) at c.add_hits_shifted.ensures.quiet
+
+pub returns-in-Automaton-clause-quiet : goal.returns-in-Automaton-clause-quiet
+returns-in-Automaton-clause-quiet c = rw (ap (λ (p : Plan). p.literals) c.learn_if_due.ensures) at c.add_hits_told.ensures.quiet

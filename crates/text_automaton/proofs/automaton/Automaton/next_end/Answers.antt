@@ -1,6 +1,6 @@
 -- The first state that is not quiet is that of the next end.
-use Rattle.std.proofs.Common.{◌≡◌, ◌+◌, ◌<◌, ◌≤◌, slice_index, length, sym, ap, ◌∙◌, subst, arith}
-use Rattle.text_automaton.specs.Automata.{IsStateAt, Telling, told_by}
+use Rattle.std.proofs.Common.{◌≡◌, ◌+◌, slice_index, sym, ap, subst, arith}
+use Rattle.text_automaton.specs.Automata.{IsStateAt, Telling}
 use Rattle.text_automaton.proofs.TellingLemmas.{none_further}
 use Rattle.text_automaton.proofs.automaton.Automaton.next_end.Goals as goal
 

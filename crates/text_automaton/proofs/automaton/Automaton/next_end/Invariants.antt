@@ -1,4 +1,4 @@
-use Rattle.std.proofs.Common.{◌≡◌, ℕ, ◌+◌, ◌-◌, ◌<◌, ◌≤◌, length}
+use Rattle.std.proofs.Common.{ℕ, ◌+◌, ◌-◌, ◌<◌, ◌≤◌, length}
 use Rattle.lit_base.specs.Occurrences.{HasEnd}
 use Rattle.text_automaton.specs.Automata.{IsReading, place_of}
 use Rattle.text_automaton.proofs.automaton.Automaton.next_end.Given as goal

@@ -1,4 +1,4 @@
-use Rattle.std.proofs.Common.{◌≡◌, ℕ, ◌<◌, ◌≤◌, ◌+◌, length, slice_index}
+use Rattle.std.proofs.Common.{ℕ, ◌<◌, ◌≤◌, length, slice_index}
 use Rattle.text_automaton.proofs.tables.Tables.are_known.Given as goal
 
 -- the states passed are known

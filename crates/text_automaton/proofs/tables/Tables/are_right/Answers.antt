@@ -1,6 +1,5 @@
 -- All that is checked is right.
 use Rattle.std.proofs.Common.{refl}
-use Rattle.text_automaton.specs.Tables.{AreClasses, IsTelling}
 use Rattle.text_automaton.proofs.tables.Tables.are_right.Goals as goal
 
 pub returns : goal.returns

@@ -1,8 +1,5 @@
-use Rattle.std.proofs.Common.{◌≡◌, ℕ, ◌<◌, ◌≤◌, ◌+◌, length, slice_index}
-use Rattle.text_automaton.specs.Tables.{IsFail, IsLonger, IsSpelled, IsStep, IsTelling, front_of, state_of}
-use Rattle.text_automaton.specs.declared.tables.TheConstants.{CLASSES}
-use Rattle.lit_base.specs.Chains.{literal_at}
-use Rattle.lit_base.specs.Folding.{folded}
+use Rattle.std.proofs.Common.{◌≡◌, ℕ, ◌<◌, length, slice_index}
+use Rattle.text_automaton.specs.Tables.{IsLonger, front_of, state_of}
 use Rattle.text_automaton.proofs.tables.Tables.is_spelled.Given as goal
 
 -- the fronts passed lead each to the next

@@ -1,4 +1,4 @@
-use Rattle.std.proofs.Common.{◌≡◌, ℕ, ◌+◌, ◌*◌, ◌<◌, length, slice_index}
+use Rattle.std.proofs.Common.{◌≡◌, ℕ, ◌+◌, ◌*◌, length, slice_index}
 use Rattle.text_automaton.specs.Fronts.{IsRead}
 use Rattle.text_automaton.specs.declared.reading.TheConstants.{BLOCK, LANE}
 use Rattle.text_automaton.proofs.ReadLemmas.{AreDone}

@@ -1,5 +1,5 @@
 -- One place more is read.
-use Rattle.std.proofs.Common.{◌≡◌, ℕ, ◌+◌, ◌<◌, inl, inr, ◌∙◌, arith}
+use Rattle.std.proofs.Common.{◌+◌, ◌<◌, inl, inr, ◌∙◌, arith}
 use Rattle.std.proofs.lemmas.Bool.{cases_lt}
 use Rattle.std.proofs.lemmas.List.{length-set}
 use Rattle.text_automaton.specs.Fronts.{IsRead}
