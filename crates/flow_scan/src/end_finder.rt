@@ -424,7 +424,7 @@ impl<'p> EndFinder<'p> {
             &mut met,
             out,
         )?;
-        let spent = cost_by_automaton(stop - from, met.ends);
+        let spent = cost_by_automaton(self.automaton.room(), stop - from, met.ends);
         self.learning
             .note(stop - from, spent, EndRate::of_scan(met.ends));
         Ok(stop)
@@ -468,24 +468,25 @@ impl<'p> EndFinder<'p> {
         let rate = self.learning.rate();
         let dense = cost_of_dense_ends(rate);
         let by_windows = self.windows.learn(sample, rate).saturating_add(dense);
-        let by_automaton = self.learn_to_tell(by_windows, rate);
-        let by_shift_or = if by_windows <= SHIFT_OR_COST || by_automaton < by_windows {
-            // Shift-or is not likely to take less: its entries, half a megabyte, need not be made.
+        let told = self.cost_to_tell(rate);
+        // What is not likely to take less is not learned: half a megabyte of entries, or the tables of the automaton.
+        let by_shift_or = if by_windows.min(told) <= SHIFT_OR_COST {
             usize::MAX
         } else {
             self.shift_or.learn(sample, rate).saturating_add(dense)
         };
+        let by_automaton = if told < by_windows.min(by_shift_or) && self.automaton.learn() {
+            told
+        } else {
+            usize::MAX
+        };
         self.learning.choose(by_windows, by_shift_or, by_automaton);
     }
 
-    /// What the automaton is likely to take, which is made if that is less than another way takes: for scans, in which ends are as frequent
-    /// as that.
-    fn learn_to_tell(&mut self, other: usize, rate: EndRate) -> usize
-        ensures { self.new ≡ self.old }
-    {
-        let cost = cost_by_automaton(1024, rate.ends);
-        if rate.starts == 0 && cost < other && self.automaton.learn() {
-            cost
+    /// What the automaton is likely to take for 1,024 bytes in which literals end so often: it serves scans alone.
+    fn cost_to_tell(&self, rate: EndRate) -> usize {
+        if rate.starts == 0 && !self.automaton.is_refused() {
+            cost_by_automaton(self.automaton.room(), 1024, rate.ends)
         } else {
             usize::MAX
         }

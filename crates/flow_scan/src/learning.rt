@@ -11,7 +11,7 @@ use text_windows::{
 pub(crate) const CANDIDATE_COST: usize = 400;
 
 /// How a search goes through a text.
-#[derive(Clone, Copy, Debug)]
+#[derive(Clone, Copy, Debug, PartialEq, Eq)]
 pub(crate) enum Way {
     /// By the plan alone: nothing that was learned suits the text better.
     Plan,
@@ -60,8 +60,12 @@ fn allowed_for(cost: usize) -> usize {
     cost.saturating_add(cost / 2).saturating_add(LEARNED_COST)
 }
 
-/// What the automaton takes for 1,024 bytes beside the ends, in tenths of a nanosecond.
+/// What the automaton takes for 1,024 bytes beside the ends, in tenths of a nanosecond, while its rows stay near.
 const AUTOMATON_COST: usize = 9500;
+
+/// The rows of so many states stay near; half as much is added for each state more that there is room for. With a thousand rare literals
+/// of a text's own words, which have some 8,000 fronts, it took 1.3 to 1.5 times as long as with ten.
+const NEAR_STATES: usize = 1024;
 
 /// An end of a scan takes so much longer by windows or by shift-or than by the automaton, whose states tell all literals that end there.
 const TOLD_GAIN: usize = 300;
@@ -80,9 +84,10 @@ pub(crate) fn cost_of_dense_ends(rate: EndRate) -> usize {
     }
 }
 
-/// What the automaton takes for so many bytes with so many ends, less what these gain by it.
-pub(crate) fn cost_by_automaton(count: usize, ends: usize) -> usize {
-    let steps = count.saturating_mul(AUTOMATON_COST) / 1024;
+/// What an automaton with room for so many states takes for so many bytes with so many ends, less what these gain by it.
+pub(crate) fn cost_by_automaton(room: usize, count: usize, ends: usize) -> usize {
+    let step = AUTOMATON_COST.saturating_add(room.saturating_sub(NEAR_STATES) / 2);
+    let steps = count.saturating_mul(step) / 1024;
     steps.saturating_sub(ends.saturating_mul(TOLD_GAIN))
 }
 

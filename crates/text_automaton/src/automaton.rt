@@ -65,6 +65,16 @@ impl<'p> Automaton<'p> {
         })
     }
 
+    /// How many states it has room for: one for each byte of the literals and one more, unless these are too many.
+    pub fn room(&self) -> usize {
+        room_for(self.list)
+    }
+
+    /// Whether it is known that the tables cannot be made.
+    pub fn is_refused(&self) -> bool {
+        matches!(self.stage, Stage::Refused)
+    }
+
     /// Makes the tables, unless they are made or cannot be. The answer is whether texts can be read by them.
     pub fn learn(&mut self) -> bool
         ensures literals { self.new.literals ≡ self.old.literals }

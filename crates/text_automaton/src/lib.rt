@@ -10,3 +10,6 @@ mod telling;
 
 pub use automaton::Automaton;
 pub use reading::Reading;
+
+#[cfg(test)]
+mod tests;

@@ -1,5 +1,5 @@
 //! Searches that change their way at places drawn by chance in the middle of a text: by the plan alone, by windows that
-//! some piece of the text chooses, by shift-or, by a search that learns. What they find together is what the plan alone finds.
+//! some piece of the text chooses, by shift-or, by the automaton, by a search that learns. What they find together is what the plan alone finds.
 use crate::compiled::Compiled;
 use crate::end_finder::EndFinder;
 use crate::met::Met;
@@ -11,6 +11,7 @@ use crate::tests::finding::{
 use crate::windowed::next_end_by_windows;
 use lit_base::Fold;
 use std::alloc::Global;
+use text_automaton::Automaton;
 use text_windows::{EndRate, ShiftOr, Windows};
 
 /// How far a search has come in a text, and what it has found up to there.
@@ -98,6 +99,33 @@ fn by_shift_or(
     Some((from, told))
 }
 
+/// So many, by the automaton, by which the text is read anew behind each.
+fn by_automaton(
+    alloc: Global,
+    compiled: &Compiled,
+    text: &[u8],
+    progress: Progress,
+    count: usize,
+) -> Option<Progress> {
+    let mut automaton = Automaton::new(alloc, compiled.list()).ok()?;
+    if !automaton.learn() {
+        return None;
+    }
+    let (mut from, mut told) = progress;
+    for _ in 0..count {
+        if from > text.len() {
+            return None;
+        }
+        let mut reading = automaton.reading_behind(text, from)?;
+        let Some((end, _)) = automaton.next_end(text, &mut reading) else {
+            return Some((text.len(), told));
+        };
+        told = with_end(told, end);
+        from = end;
+    }
+    Some((from, told))
+}
+
 /// A piece of a text from somewhere on.
 fn sample_of<'t>(draws: &mut Draws, text: &'t [u8]) -> Option<&'t [u8]> {
     let (_, behind) = text.split_at_checked(draws.below(text.len()))?;
@@ -115,9 +143,10 @@ fn changing_in(alloc: Global, compiled: &Compiled, draws: &mut Draws, text: &[u8
             return Some(told);
         }
         let count = draws.below(100).saturating_add(1);
-        progress = match draws.below(4) {
+        progress = match draws.below(5) {
             0 => by_plan(compiled, text, progress, count),
             1 => by_learning(&mut finder, text, progress, count),
+            3 => by_automaton(alloc, compiled, text, progress, count)?,
             2 => {
                 let sample = sample_of(draws, text)?;
                 by_shift_or(alloc, compiled, text, sample, progress, count)?

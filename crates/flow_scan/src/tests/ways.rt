@@ -1,5 +1,5 @@
-//! In which way a search goes on that has learned two.
-use crate::learning::{Learning, Way, cost_of_plain_ends};
+//! In which way a search goes on that has learned some.
+use crate::learning::{Learning, Way, cost_by_automaton, cost_of_dense_ends, cost_of_plain_ends};
 use text_windows::EndRate;
 
 /// Bytes of a text in which a search may change its way.
@@ -7,49 +7,59 @@ const BYTES: usize = 65536;
 
 /// A search that has learned, and was promised so much for 1,024 bytes by windows and by shift-or, where the plan took far more.
 fn promised(by_windows: usize, by_shift_or: usize) -> Learning {
+    promised_three(by_windows, by_shift_or, usize::MAX)
+}
+
+/// The same that was promised so much by the automaton too.
+fn promised_three(by_windows: usize, by_shift_or: usize, by_automaton: usize) -> Learning {
     let mut learning = Learning::new();
     learning.note(BYTES, 1 << 30, EndRate::nothing());
-    learning.choose(by_windows, by_shift_or);
+    learning.choose(by_windows, by_shift_or, by_automaton);
     learning
 }
 
-/// Whether it goes by windows, and whether by shift-or.
-fn ways(learning: &Learning) -> (bool, bool) {
-    match learning.way() {
-        Way::Plan => (false, false),
-        Way::Windows => (true, false),
-        Way::ShiftOr => (false, true),
-    }
-}
-
 /// Its ways behind the first bytes, which took so long each 1,024, and behind as many more.
-fn ways_behind(mut learning: Learning, first: usize, second: usize) -> [(bool, bool); 2] {
+fn ways_behind(mut learning: Learning, first: usize, second: usize) -> [Way; 2] {
     learning.note(
         BYTES,
         first.saturating_mul(BYTES / 1024),
         EndRate::nothing(),
     );
-    let before = ways(&learning);
+    let before = learning.way();
     learning.note(
         BYTES,
         second.saturating_mul(BYTES / 1024),
         EndRate::nothing(),
     );
-    [before, ways(&learning)]
+    [before, learning.way()]
 }
 
 #[test]
 fn goes_by_what_promises_less(rt: HostRuntime) {
-    assert_eq!(rt; ways(&promised(8_000, 9_000)), (true, false));
-    assert_eq!(rt; ways(&promised(9_000, 8_000)), (false, true));
-    assert_eq!(rt; ways(&promised(8_000, usize::MAX)), (true, false));
+    assert_eq!(rt; promised(8_000, 9_000).way(), Way::Windows);
+    assert_eq!(rt; promised(9_000, 8_000).way(), Way::ShiftOr);
+    assert_eq!(rt; promised(8_000, usize::MAX).way(), Way::Windows);
+    assert_eq!(rt; promised_three(8_000, 9_000, 7_000).way(), Way::Automaton);
+    assert_eq!(rt; promised_three(8_000, 9_000, 8_500).way(), Way::Windows);
+}
+
+#[test]
+fn goes_over_to_what_promises_next_to_least(rt: HostRuntime) {
+    assert_eq!(rt;
+        ways_behind(promised_three(8_000, usize::MAX, 7_000), 20_000, 30_000),
+        [Way::Windows, Way::Automaton]
+    );
+    assert_eq!(rt;
+        ways_behind(promised_three(8_000, 12_000, 9_000), 20_000, 10_000),
+        [Way::Automaton, Way::Automaton]
+    );
 }
 
 #[test]
 fn goes_on_while_the_promise_is_kept(rt: HostRuntime) {
     assert_eq!(rt;
         ways_behind(promised(8_000, 9_000), 10_000, 10_000),
-        [(true, false), (true, false)]
+        [Way::Windows, Way::Windows]
     );
 }
 
@@ -57,7 +67,7 @@ fn goes_on_while_the_promise_is_kept(rt: HostRuntime) {
 fn goes_over_where_the_other_way_promises_less_than_was_taken(rt: HostRuntime) {
     assert_eq!(rt;
         ways_behind(promised(8_000, 9_000), 20_000, 10_000),
-        [(false, true), (false, true)]
+        [Way::ShiftOr, Way::ShiftOr]
     );
 }
 
@@ -65,7 +75,7 @@ fn goes_over_where_the_other_way_promises_less_than_was_taken(rt: HostRuntime) {
 fn comes_back_where_the_other_way_takes_more(rt: HostRuntime) {
     assert_eq!(rt;
         ways_behind(promised(8_000, 9_000), 20_000, 30_000),
-        [(false, true), (true, false)]
+        [Way::ShiftOr, Way::Windows]
     );
 }
 
@@ -73,14 +83,25 @@ fn comes_back_where_the_other_way_takes_more(rt: HostRuntime) {
 fn takes_no_way_that_was_not_learned(rt: HostRuntime) {
     assert_eq!(rt;
         ways_behind(promised(8_000, usize::MAX), 1 << 30, 1 << 30),
-        [(true, false), (true, false)]
+        [Way::Windows, Way::Windows]
     );
 }
 
 #[test]
-fn counts_nothing_for_ends_that_stand_close_together(rt: HostRuntime) {
-    assert_eq!(rt; cost_of_plain_ends(100, 1024), 50_000);
-    assert_eq!(rt; cost_of_plain_ends(340, 1024), 170_000);
-    assert_eq!(rt; cost_of_plain_ends(341, 1024), 0);
-    assert_eq!(rt; cost_of_plain_ends(1024, 1024), 0);
+fn takes_ends_that_stand_close_together_for_as_much_by_windows(rt: HostRuntime) {
+    assert_eq!(rt; cost_of_plain_ends(100), 50_000);
+    assert_eq!(rt; cost_of_dense_ends(EndRate::of_scan(340)), 0);
+    assert_eq!(rt;
+        cost_of_dense_ends(EndRate::of_scan(341)),
+        cost_of_plain_ends(341)
+    );
+    assert_eq!(rt; cost_of_dense_ends(EndRate::of_searches(341)), 0);
+}
+
+#[test]
+fn takes_the_automaton_for_less_where_ends_are_frequent(rt: HostRuntime) {
+    assert_eq!(rt; cost_by_automaton(100, 1024, 0), 9_500);
+    assert_eq!(rt; cost_by_automaton(1024, 2048, 10), 16_000);
+    assert_eq!(rt; cost_by_automaton(8192, 1024, 10), 10_084);
+    assert_eq!(rt; cost_by_automaton(8192, 1024, 44), 0);
 }
