@@ -6,7 +6,6 @@ ghost use Rattle.flow_scan.specs.HitsAt.{Extends};
 ghost use Rattle.flow_scan.specs.NextEnds.{IsNextEnd, NoEndAfter};
 ghost use Rattle.flow_scan.specs.Tails.{AreHitsBehind, Continues, StopsAt};
 
-use crate::automatic::add_hits_by_automaton;
 use crate::compiled::Compiled;
 use crate::endings::Backoff;
 use crate::fault::Fault;
@@ -20,6 +19,7 @@ use crate::pace::MOST_BY_BYTES;
 use crate::searching::{add_hits, add_hits_at, skip_short_ends};
 use crate::shifted::{add_hits_by_shift_or, next_end_by_shift_or};
 use crate::text_search::TextSearch;
+use crate::told::add_hits_by_automaton;
 use crate::windowed::{Claims, next_end_by_windows};
 use std::alloc::{AllocError, Global};
 use std::marker::Model;

@@ -68,6 +68,8 @@ const AUTOMATON_COST: usize = 9500;
 const NEAR_STATES: usize = 1024;
 
 /// An end of a scan takes so much longer by windows or by shift-or than by the automaton, whose states tell all literals that end there.
+/// With this and `AUTOMATON_COST`, both taken from a trial in C, 16 lists of 5 to 100 frequent literals (four texts, one seed) go by the
+/// automaton where they take less so, but for two that take 1.1 and 1.2 times as long in the way they go.
 const TOLD_GAIN: usize = 300;
 
 /// What so many ends of a scan by the plan took longer than by windows where these stand apart.

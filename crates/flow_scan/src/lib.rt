@@ -2,7 +2,6 @@
 //! whatever pieces the stream comes.
 #![tactic(auto)]
 
-mod automatic;
 mod carry;
 mod claiming;
 mod compiled;
@@ -24,6 +23,7 @@ mod searching;
 mod shifted;
 mod strides;
 mod text_search;
+mod told;
 mod windowed;
 
 pub use compiled::{Compiled, least_law};

@@ -8,8 +8,8 @@ use crate::tables::Tables;
 /// So many places follow each other in a lane. Each lane begins with the bytes before it that a literal may have there.
 pub(crate) const LANE: usize = 1024;
 
-/// So many places are read at once, in four lanes: what a byte leads to is known some five nanoseconds after it is asked for, and
-/// meanwhile the other lanes ask.
+/// So many places are read at once, in four lanes: a byte leads on from the state before it, which has to be there first, and meanwhile
+/// the other lanes go on. In C, on four texts, one lane took 2.4 to 2.8 ns a byte, two took 1.6 and four 0.9.
 pub(crate) const BLOCK: usize = 4 * LANE;
 
 /// The states of some places of a text, and how far they were looked at.

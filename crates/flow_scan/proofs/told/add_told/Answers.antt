@@ -5,7 +5,7 @@ use Rattle.std.proofs.lemmas.List.{append-nil, length-append}
 use Rattle.lit_base.specs.Occurrences.{IsFirstEnding}
 use Rattle.flow_scan.proofs.HitLists.{gained_both, gained_one, hits_at_ended, hits_at_more, hits_at_none}
 use Rattle.flow_scan.proofs.ToldLemmas.{told_below, told_few, told_next, told_none, told_within}
-use Rattle.flow_scan.proofs.automatic.add_told.Goals as goal
+use Rattle.flow_scan.proofs.told.add_told.Goals as goal
 use Rattle.std.proofs.Common.{◌≡◌, sym}
 
 pub loop-place-init : goal.loop-place-init

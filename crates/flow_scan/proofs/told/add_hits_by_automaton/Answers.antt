@@ -9,8 +9,8 @@ use Rattle.flow_scan.proofs.HitLists.{gained_more}
 use Rattle.flow_scan.proofs.Stops.{gained_ended, gained_here, gained_nothing}
 use Rattle.flow_scan.proofs.ToldLemmas.{next_of_told}
 use Rattle.lit_base.specs.Literals.{Literals}
-use Rattle.flow_scan.proofs.automatic.add_hits_by_automaton.Goals as goal
-use Rattle.flow_scan.proofs.automatic.add_hits_by_automaton.Goals.{In_ok-add_told}
+use Rattle.flow_scan.proofs.told.add_hits_by_automaton.Goals as goal
+use Rattle.flow_scan.proofs.told.add_hits_by_automaton.Goals.{In_ok-add_told}
 
 pub loop-end-init : goal.loop-end-init
 loop-end-init c = record {

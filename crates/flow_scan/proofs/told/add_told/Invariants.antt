@@ -1,6 +1,6 @@
 use Rattle.std.proofs.Common.{◌≡◌, ℕ, ◌<◌, ◌≤◌, ◌++◌, List, length, slice_index}
 use Rattle.flow_scan.proofs.HitLists.{AreHitsAtBefore}
-use Rattle.flow_scan.proofs.automatic.add_told.Given as goal
+use Rattle.flow_scan.proofs.told.add_told.Given as goal
 
 -- the hits added are those of the literals passed, which stand before the others
 abbrev pub invariant-loop-place : goal.invariant-loop-place

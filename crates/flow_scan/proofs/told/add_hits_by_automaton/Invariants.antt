@@ -1,7 +1,7 @@
 use Rattle.std.proofs.Common.{◌+◌, ◌-◌, ◌≤◌, length, take}
 use Rattle.flow_scan.specs.Tails.{GainsHitsBehind}
 use Rattle.text_automaton.specs.Automata.{IsReading, place_of}
-use Rattle.flow_scan.proofs.automatic.add_hits_by_automaton.Given as goal
+use Rattle.flow_scan.proofs.told.add_hits_by_automaton.Given as goal
 
 -- the hits added are those up to the place that was read to
 abbrev pub invariant-loop-end : goal.invariant-loop-end
