@@ -270,7 +270,7 @@ const SCAN_HELP: &str = "\
 Prints a line `LIT END` for each place at which a pattern ends: its number in the list, from 0, by length and then by
 bytes, and how many bytes of INPUT there are up to its end. The lines stand by END, then by LIT, and are the same for
 each W. INPUT is held in memory, in a buffer that doubles: up to twice its size. A hit takes 16 bytes more, with several
-workers up to 24, and a worker that has 256 KiB of INPUT up to 900 KiB. Status 0, or 2 with a message.
+workers up to 24, and a worker that has 256 KiB of INPUT up to 3.1 MiB. Status 0, or 2 with a message.
 
 Example: where the words of a list end in a log
   litplan scan --workers 4 words access.log";

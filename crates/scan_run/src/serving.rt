@@ -83,7 +83,7 @@ impl<'r, 's, R: Wait> Answer for Served<'r, 's, R> {
 /// its store. Behind `WriteFault` and `OutOfMemory` it is of no use any more.
 ///
 /// Whatever is asked, it holds at most 262,180 bytes of what was read, at most 106,506 bytes of replies,
-/// which are written once they are 65,536, a few thousand hits, and what it learned of long streams, some 900 KiB,
+/// which are written once they are 65,536, a few thousand hits, and what it learned of long streams, up to 3.1 MiB,
 /// beside the plans that it publishes and the tails of its streams. Only a Publish may wait for another thread.
 pub fn serve_session<'s, R: Wait, I: ByteIn, O: ByteOut>(
     rt: &R,
