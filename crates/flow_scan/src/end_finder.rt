@@ -42,6 +42,9 @@ const SPAN: usize = SAMPLE;
 /// The first span of a text at hand goes in so many parts, since it may learn behind each. The number was not varied.
 const FIRST_SPANS: usize = 4;
 
+/// Fewer bytes are scanned by the plan where a scan goes by the automaton: to begin to read takes longer. The number was not varied.
+const LEAST_TOLD: usize = 512;
+
 /// Fewer bytes tell too little of a text: of a shorter text, or a shorter piece of a stream, nothing is learned.
 pub const LEAST_SAMPLE: usize = 16384;
 
@@ -393,7 +396,7 @@ impl<'p> EndFinder<'p> {
         found
     }
 
-    /// Adds hits by the automaton, as `add_hits` does, or by the plan where it is not made.
+    /// Adds hits by the automaton, as `add_hits` does, or by the plan where it is not made or little is to be read.
     fn add_hits_told(
         &mut self,
         text: &[u8],
@@ -409,7 +412,13 @@ impl<'p> EndFinder<'p> {
         ensures kept { Extends out.old.items out.new.items }
         ensures quiet { NoEndAfter self.old.literals text.now from → IsOk result }
     {
-        let Some(reading) = self.automaton.reading_behind(text, from) else {
+        let rest = text.len() - from;
+        let reading = if rest < LEAST_TOLD {
+            None
+        } else {
+            self.automaton.reading_behind(text, from)
+        };
+        let Some(reading) = reading else {
             return self.add_hits_plainly(text, from, at, most, out);
         };
         let mut met = Met::nothing();
@@ -424,7 +433,7 @@ impl<'p> EndFinder<'p> {
             &mut met,
             out,
         )?;
-        let spent = cost_by_automaton(self.automaton.room(), stop - from, met.ends);
+        let spent = self.cost_to_tell(stop - from, met.ends);
         self.learning
             .note(stop - from, spent, EndRate::of_scan(met.ends));
         Ok(stop)
@@ -468,7 +477,11 @@ impl<'p> EndFinder<'p> {
         let rate = self.learning.rate();
         let dense = cost_of_dense_ends(rate);
         let by_windows = self.windows.learn(sample, rate).saturating_add(dense);
-        let told = self.cost_to_tell(rate);
+        let told = if rate.starts == 0 && !self.automaton.is_refused() {
+            self.cost_to_tell(1024, rate.ends)
+        } else {
+            usize::MAX
+        };
         // What is not likely to take less is not learned: half a megabyte of entries, or the tables of the automaton.
         let by_shift_or = if by_windows.min(told) <= SHIFT_OR_COST {
             usize::MAX
@@ -483,13 +496,9 @@ impl<'p> EndFinder<'p> {
         self.learning.choose(by_windows, by_shift_or, by_automaton);
     }
 
-    /// What the automaton is likely to take for 1,024 bytes in which literals end so often: it serves scans alone.
-    fn cost_to_tell(&self, rate: EndRate) -> usize {
-        if rate.starts == 0 && !self.automaton.is_refused() {
-            cost_by_automaton(self.automaton.room(), 1024, rate.ends)
-        } else {
-            usize::MAX
-        }
+    /// What a scan by the automaton takes for so many bytes with so many ends.
+    fn cost_to_tell(&self, count: usize, ends: usize) -> usize {
+        cost_by_automaton(self.automaton.room(), self.compiled.carry(), count, ends)
     }
 }
 

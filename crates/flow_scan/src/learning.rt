@@ -67,10 +67,14 @@ const AUTOMATON_COST: usize = 9500;
 /// of a text's own words, which have some 8,000 fronts, it took 1.3 to 1.5 times as long as with ten.
 const NEAR_STATES: usize = 1024;
 
+/// To begin a lane of 1,024 places takes so many tenths of a nanosecond for each byte that the longest literal has: these bytes before it
+/// are read one after the other.
+const LANE_COST: usize = 24;
+
 /// An end of a scan takes so much longer by windows or by shift-or than by the automaton, whose states tell all literals that end there.
-/// With this and `AUTOMATON_COST`, both taken from a trial in C, 16 lists of 5 to 100 frequent literals (four texts, one seed) go by the
-/// automaton where they take less so, but for two that take 1.1 and 1.2 times as long in the way they go.
-const TOLD_GAIN: usize = 300;
+/// Ten lists of 5 to 100 frequent literals (four texts, one seed) gained 39 to 96 ns for each end where the automaton was forced, 55 in the
+/// median, with what they lost for each byte in the measure of `AUTOMATON_COST`.
+const TOLD_GAIN: usize = 500;
 
 /// What so many ends of a scan by the plan took longer than by windows where these stand apart.
 pub(crate) fn cost_of_plain_ends(ends: usize) -> usize {
@@ -86,9 +90,12 @@ pub(crate) fn cost_of_dense_ends(rate: EndRate) -> usize {
     }
 }
 
-/// What an automaton with room for so many states takes for so many bytes with so many ends, less what these gain by it.
-pub(crate) fn cost_by_automaton(room: usize, count: usize, ends: usize) -> usize {
-    let step = AUTOMATON_COST.saturating_add(room.saturating_sub(NEAR_STATES) / 2);
+/// What an automaton with room for so many states takes for so many bytes with so many ends, less what these gain by it, where literals
+/// have at most so many bytes.
+pub(crate) fn cost_by_automaton(room: usize, longest: usize, count: usize, ends: usize) -> usize {
+    let step = AUTOMATON_COST
+        .saturating_add(room.saturating_sub(NEAR_STATES) / 2)
+        .saturating_add(longest.saturating_mul(LANE_COST));
     let steps = count.saturating_mul(step) / 1024;
     steps.saturating_sub(ends.saturating_mul(TOLD_GAIN))
 }

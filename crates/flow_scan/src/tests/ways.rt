@@ -100,8 +100,9 @@ fn takes_ends_that_stand_close_together_for_as_much_by_windows(rt: HostRuntime) 
 
 #[test]
 fn takes_the_automaton_for_less_where_ends_are_frequent(rt: HostRuntime) {
-    assert_eq!(rt; cost_by_automaton(100, 1024, 0), 9_500);
-    assert_eq!(rt; cost_by_automaton(1024, 2048, 10), 16_000);
-    assert_eq!(rt; cost_by_automaton(8192, 1024, 10), 10_084);
-    assert_eq!(rt; cost_by_automaton(8192, 1024, 44), 0);
+    assert_eq!(rt; cost_by_automaton(100, 0, 1024, 0), 9_500);
+    assert_eq!(rt; cost_by_automaton(1024, 0, 2048, 10), 14_000);
+    assert_eq!(rt; cost_by_automaton(8192, 0, 1024, 10), 8_084);
+    assert_eq!(rt; cost_by_automaton(8192, 10, 1024, 45), 0);
+    assert_eq!(rt; cost_by_automaton(8192, 4094, 1024, 45), 88_840);
 }
