@@ -48,6 +48,15 @@ const LEAST_TOLD: usize = 512;
 /// Fewer bytes tell too little of a text: of a shorter text, or a shorter piece of a stream, nothing is learned.
 pub const LEAST_SAMPLE: usize = 16384;
 
+/// What a search is asked for.
+#[derive(Clone, Copy)]
+enum Wanted {
+    /// One end after the other.
+    Ends,
+    /// All hits behind a place.
+    Hits,
+}
+
 /// A search through the texts of one run for the literals of a plan. It begins as `next_end` does; where what
 /// it meets in a text ends nothing too often, it learns which windows of the literals are rare there, and what shift-or would
 /// leave, and goes on by what promises to take least. What it finds does not depend on that. All memory is taken when it is made.
@@ -138,7 +147,7 @@ impl<'p> EndFinder<'p> {
         if start >= text.len() {
             return None;
         }
-        self.learn_if_due(text, start);
+        self.learn_if_due(text, start, Wanted::Ends);
         match self.next_behind(search, start) {
             Some((end, _)) => Some(end),
             None => None,
@@ -446,24 +455,24 @@ impl<'p> EndFinder<'p> {
     {
         let rest = text.len() - from;
         if rest >= LEAST_SAMPLE && self.learning.is_due_before(rest) {
-            self.learn(text, from);
+            self.learn(text, from, Wanted::Hits);
         }
     }
 
     /// Learns from the text behind a place, where that is worth while and enough of it is left.
     #[inline(always)]
-    fn learn_if_due(&mut self, text: &[u8], from: usize)
+    fn learn_if_due(&mut self, text: &[u8], from: usize, wanted: Wanted)
         requires { from ≤ length text.now }
         ensures { self.new ≡ self.old }
     {
         if self.learning.is_due() && text.len() - from >= LEAST_SAMPLE {
-            self.learn(text, from);
+            self.learn(text, from, wanted);
         }
     }
 
     /// Learns from the text behind a place.
     #[inline(never)]
-    fn learn(&mut self, text: &[u8], from: usize)
+    fn learn(&mut self, text: &[u8], from: usize, wanted: Wanted)
         requires { from ≤ length text.now }
         ensures { self.new ≡ self.old }
     {
@@ -477,23 +486,38 @@ impl<'p> EndFinder<'p> {
         let rate = self.learning.rate();
         let dense = cost_of_dense_ends(rate);
         let by_windows = self.windows.learn(sample, rate).saturating_add(dense);
-        let told = if rate.starts == 0 && !self.automaton.is_refused() {
-            self.cost_to_tell(1024, rate.ends)
-        } else {
-            usize::MAX
-        };
+        let told = self.cost_if_told(wanted, rate);
         // What is not likely to take less is not learned: half a megabyte of entries, or the tables of the automaton.
-        let by_shift_or = if by_windows.min(told) <= SHIFT_OR_COST {
+        let is_told = self.can_tell_below(told, by_windows.min(SHIFT_OR_COST));
+        let by_shift_or = if by_windows <= SHIFT_OR_COST || is_told {
             usize::MAX
         } else {
             self.shift_or.learn(sample, rate).saturating_add(dense)
         };
-        let by_automaton = if told < by_windows.min(by_shift_or) && self.automaton.learn() {
+        let by_automaton = if self.can_tell_below(told, by_windows.min(by_shift_or)) {
             told
         } else {
             usize::MAX
         };
         self.learning.choose(by_windows, by_shift_or, by_automaton);
+    }
+
+    /// Whether the automaton takes less than that and its tables are made: they are, if that is possible.
+    fn can_tell_below(&mut self, told: usize, other: usize) -> bool
+        ensures { self.new ≡ self.old }
+    {
+        if told >= other {
+            return false;
+        }
+        self.automaton.learn()
+    }
+
+    /// What a scan by the automaton is likely to take for 1,024 bytes in which literals end so often. Single ends are not looked for by it.
+    fn cost_if_told(&self, wanted: Wanted, rate: EndRate) -> usize {
+        match wanted {
+            Wanted::Hits if !self.automaton.is_refused() => self.cost_to_tell(1024, rate.ends),
+            Wanted::Hits | Wanted::Ends => usize::MAX,
+        }
     }
 
     /// What a scan by the automaton takes for so many bytes with so many ends.
@@ -513,7 +537,7 @@ impl<'p> HitSearch for EndFinder<'p> {
         most: usize,
         out: &mut Vec<Hit>,
     ) -> Result<usize, AllocError> {
-        self.learn_if_due(text, from);
+        self.learn_if_due(text, from, Wanted::Hits);
         match self.learning.way() {
             Way::Windows => self.add_hits_windowed(text, from, at, most, out),
             Way::ShiftOr => self.add_hits_shifted(text, from, at, most, out),

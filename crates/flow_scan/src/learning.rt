@@ -63,8 +63,8 @@ fn allowed_for(cost: usize) -> usize {
 /// What the automaton takes for 1,024 bytes beside the ends, in tenths of a nanosecond, while its rows stay near.
 const AUTOMATON_COST: usize = 9500;
 
-/// The rows of so many states stay near; half as much is added for each state more that there is room for. With a thousand rare literals
-/// of a text's own words, which have some 8,000 fronts, it took 1.3 to 1.5 times as long as with ten.
+/// The rows of so many states stay near. Each state more that there is room for counts for half a tenth of a nanosecond in 1,024 bytes:
+/// with a thousand rare literals of a text's own words, which have some 8,000 fronts, it took 1.3 to 1.5 times as long as with ten.
 const NEAR_STATES: usize = 1024;
 
 /// To begin a lane of 1,024 places takes so many tenths of a nanosecond for each byte that the longest literal has: these bytes before it
@@ -72,7 +72,7 @@ const NEAR_STATES: usize = 1024;
 const LANE_COST: usize = 24;
 
 /// An end of a scan takes so much longer by windows or by shift-or than by the automaton, whose states tell all literals that end there.
-/// Ten lists of 5 to 100 frequent literals (four texts, one seed) gained 39 to 96 ns for each end where the automaton was forced, 55 in the
+/// Ten lists of 5 to 100 frequent literals (four texts, one seed) gained 39 to 97 ns for each end where the automaton was forced, 56 in the
 /// median, with what they lost for each byte in the measure of `AUTOMATON_COST`.
 const TOLD_GAIN: usize = 500;
 
@@ -90,12 +90,12 @@ pub(crate) fn cost_of_dense_ends(rate: EndRate) -> usize {
     }
 }
 
-/// What an automaton with room for so many states takes for so many bytes with so many ends, less what these gain by it, where literals
-/// have at most so many bytes.
-pub(crate) fn cost_by_automaton(room: usize, longest: usize, count: usize, ends: usize) -> usize {
+/// What an automaton with room for so many states, whose lanes begin so many bytes before their first places, takes for so many bytes with
+/// so many ends, less what these gain by it.
+pub(crate) fn cost_by_automaton(room: usize, before: usize, count: usize, ends: usize) -> usize {
     let step = AUTOMATON_COST
         .saturating_add(room.saturating_sub(NEAR_STATES) / 2)
-        .saturating_add(longest.saturating_mul(LANE_COST));
+        .saturating_add(before.saturating_mul(LANE_COST));
     let steps = count.saturating_mul(step) / 1024;
     steps.saturating_sub(ends.saturating_mul(TOLD_GAIN))
 }

@@ -1,5 +1,6 @@
 //! The automaton of a list, and a search for ends by it.
-ghost use Rattle.std.specs.Prelude.{◌≡◌, ℕ, ◌+◌, ◌<◌, ◌≤◌, IfOk, IfSome, MatchOption, length, true};
+ghost use Rattle.std.specs.Prelude.{◌≡◌, ℕ, ◌+◌, ◌<◌, ◌≤◌, IfOk, IfSome, MatchOption, false, length, true};
+ghost use Rattle.std.specs.Option.{IfNone};
 ghost use Rattle.lit_base.specs.Chains.{literal_at};
 ghost use Rattle.text_automaton.specs.Automata.{IsNextTold, IsReading, NoneBehind, place_of, told_by};
 ghost use Rattle.text_automaton.specs.declared.tables.TheConstants.{MOST_STATES};
@@ -29,6 +30,8 @@ pub(crate) enum Stage {
 pub struct Automaton<'p> {
     list: &'p LitList,
     tables: Tables,
+    /// For how many states there is room.
+    room: usize,
     stage: Stage,
 }
 
@@ -58,16 +61,18 @@ impl<'p> Automaton<'p> {
     pub fn new(alloc: Global, list: &'p LitList) -> Result<Automaton<'p>, AllocError>
         ensures { IfOk result (λ made. made.literals ≡ list.now) }
     {
+        let room = room_for(list);
         Ok(Automaton {
             list,
-            tables: Tables::new(alloc, room_for(list))?,
+            tables: Tables::new(alloc, room)?,
+            room,
             stage: Stage::Unmade,
         })
     }
 
     /// How many states it has room for: one for each byte of the literals and one more, unless these are too many.
     pub fn room(&self) -> usize {
-        room_for(self.list)
+        self.room
     }
 
     /// Whether it is known that the tables cannot be made.
@@ -79,6 +84,7 @@ impl<'p> Automaton<'p> {
     pub fn learn(&mut self) -> bool
         ensures literals { self.new.literals ≡ self.old.literals }
         ensures made { result ≡ self.new.is_made }
+        ensures kept { self.old.is_made ≡ true → self.new ≡ self.old }
     {
         match self.stage {
             Stage::Made => true,
@@ -99,7 +105,8 @@ impl<'p> Automaton<'p> {
     /// A text that is read behind a place, if the tables are made: nothing of it is read yet.
     pub fn reading_behind(&self, text: &[u8], from: usize) -> Option<Reading>
         requires { from ≤ length text.now }
-        ensures { IfSome result (λ reading. IsReading self.now text.now reading × (place_of reading ≡ from)) }
+        ensures some { IfSome result (λ reading. IsReading self.now text.now reading × (place_of reading ≡ from)) }
+        ensures none { IfNone result (self.now.is_made ≡ false) }
     {
         match self.stage {
             Stage::Made => Some(Reading::behind(from)),

@@ -14,7 +14,7 @@ pub(crate) const CLASSES: usize = 128;
 /// A list whose literals have more fronts gets no automaton: its rows would take more than two megabytes.
 pub(crate) const MOST_STATES: usize = 8192;
 
-/// Nor one whose states tell more ends than that, each state those of all literals that end with its front.
+/// Nor one whose states tell more ends than that, each state all literals that its front ends with.
 pub(crate) const MOST_TOLD: usize = 32768;
 
 /// Stands for no literal.
@@ -37,7 +37,7 @@ pub(crate) struct Tables {
     pub fails: Vec<u16>,
     /// The literal that it is, or `NONE`.
     pub owns: Vec<u16>,
-    /// Where the literals that end with it begin among those told, and where they end.
+    /// Where the literals that its front ends with begin among those told, and where they end.
     pub lows: Vec<u16>,
     pub highs: Vec<u16>,
     /// The literals that states tell, each range in the order of the list.
