@@ -40,7 +40,7 @@ TELL_NONE = re.compile(
     "|scan_core::tests::(counts_the_literals_of_the_normal_form|has_64_streams_open|opens_.*_published|publishes_64_plans"
     "|tells_each_end_once_over_many_feeds|tells_hits_in_full_blocks)"
     "|scan_serve::tests::serves_more_than_it_holds_at_once"
-    "|text_windows::tests::.*"
+    "|text_(automaton|windows)::tests::.*"
     "|mistaken::answers none"
 )
 NO_VALUE = re.compile(rb"left: None\n right: Some\(")
