@@ -30,3 +30,7 @@ pub returns-clause-answer : goal.returns-clause-answer
 returns-clause-answer g c = λ d e short.
     let read = c.in_ok-end.ensures.answer _ _ _ d _ (begin-stands _ c.picker_for-picker.ensures.fed c.picker_for-picker.ensures.numbers c.begin.ensures.options c.begin.ensures.name c.begin.ensures.count c.begin.ensures.text) e short in
     message-whole read _ (nat_lt 0 c.finish.new.self.count) c.is_fault.result _ _ c.in_ok-finish.ensures.ok (ap (nat_lt 0) c.in_ok-finish.ensures.count) c.is_fault.ensures c.in_ok-report.ensures.ok
+
+-- the finder that is handed back is one by the same plan, and the memory is as long as before
+pub invariant_of-self-2-clause-room : goal.invariant_of-self-2-clause-room
+invariant_of-self-2-clause-room g c = c.args.self.now.room
