@@ -58,8 +58,9 @@ enum Wanted {
 }
 
 /// A search through the texts of one run for the literals of a plan. It begins as `next_end` does; where what
-/// it meets in a text ends nothing too often, it learns which windows of the literals are rare there, and what shift-or would
-/// leave, and goes on by what promises to take least. What it finds does not depend on that. All memory is taken when it is made.
+/// it meets in a text ends nothing too often, it learns which windows of the literals are rare there, what shift-or would
+/// leave, and for a scan whether the literals end so often that their automaton takes less, and goes on by what promises to take least.
+/// What it finds does not depend on that. All memory is taken when it is made.
 #[derive(Debug, Drop)]
 pub struct EndFinder<'p> {
     compiled: &'p Compiled,
@@ -515,8 +516,8 @@ impl<'p> EndFinder<'p> {
     /// What a scan by the automaton is likely to take for 1,024 bytes in which literals end so often. Single ends are not looked for by it.
     fn cost_if_told(&self, wanted: Wanted, rate: EndRate) -> usize {
         match wanted {
-            Wanted::Hits if !self.automaton.is_refused() => self.cost_to_tell(1024, rate.ends),
-            Wanted::Hits | Wanted::Ends => usize::MAX,
+            Wanted::Hits => self.cost_to_tell(1024, rate.ends),
+            Wanted::Ends => usize::MAX,
         }
     }
 

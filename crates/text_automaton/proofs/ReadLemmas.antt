@@ -1,5 +1,5 @@
 -- The states of places one after the other.
-use Rattle.std.proofs.Common.{◌≡◌, ℕ, suc, ◌+◌, ◌<◌, ◌≤◌, ◌⊎◌, List, inl, inr, length, get_or, set, slice_index, sym, ap, ◌∙◌, subst, arith}
+use Rattle.std.proofs.Common.{◌≡◌, ℕ, suc, ◌+◌, ◌*◌, ◌<◌, ◌≤◌, ◌⊎◌, List, inl, inr, length, get_or, set, slice_index, sym, ap, ◌∙◌, subst, arith}
 use Rattle.std.proofs.lemmas.Bool.{cases_eq, cases_lt}
 use Rattle.std.proofs.lemmas.List.{get_or-set_other, get_or-set_same}
 use Rattle.text_automaton.specs.Fronts.{IsRead, state_behind}
@@ -37,45 +37,45 @@ set_more P D xs at value room old new k which = elim (cases_eq k at) [
   ]
 ]
 
--- a place is one of the first so many of a lane
-abbrev pub AreDone : ℕ → ℕ → Type 0
-AreDone count k = ((k < count) ⊎ ((1024 ≤ k) × (k < 1024 + count))) ⊎ (((2048 ≤ k) × (k < 2048 + count)) ⊎ ((3072 ≤ k) × (k < 3072 + count)))
+-- a place is one of the first so many of one of four lanes of so many places each
+abbrev pub AreDone : ℕ → ℕ → ℕ → Type 0
+AreDone lane count k = ((k < count) ⊎ ((lane ≤ k) × (k < lane + count))) ⊎ (((2 * lane ≤ k) × (k < 2 * lane + count)) ⊎ ((3 * lane ≤ k) × (k < 3 * lane + count)))
 
 -- no place is at first
-pub done_none : (k : ℕ) → AreDone 0 k → ⊥
-done_none k (inl (inl p)) = omega (arith, p)
-done_none k (inl (inr p)) = omega (arith, p.0, p.1)
-done_none k (inr (inl p)) = omega (arith, p.0, p.1)
-done_none k (inr (inr p)) = omega (arith, p.0, p.1)
+pub done_none : (lane k : ℕ) → AreDone lane 0 k → ⊥
+done_none lane k (inl (inl p)) = omega (arith, p)
+done_none lane k (inl (inr p)) = omega (arith, p.0, p.1)
+done_none lane k (inr (inl p)) = omega (arith, p.0, p.1)
+done_none lane k (inr (inr p)) = omega (arith, p.0, p.1)
 
 -- and all are in the end
-pub done_all : (k : ℕ) → k < 4096 → AreDone 1024 k
-done_all k small = elim (cases_lt k 1024) [
+pub done_all : (lane k : ℕ) → k < 4 * lane → AreDone lane lane k
+done_all lane k small = elim (cases_lt k lane) [
   | inl in_first ↦ inl (inl in_first)
-  | inr past_first ↦ elim (cases_lt k 2048) [
-    | inl in_second ↦ inl (inr (past_first, in_second))
-    | inr past_second ↦ elim (cases_lt k 3072) [
-      | inl in_third ↦ inr (inl (past_second, in_third))
-      | inr past_third ↦ inr (inr (past_third, small))
+  | inr past_first ↦ elim (cases_lt k (2 * lane)) [
+    | inl in_second ↦ inl (inr (past_first, omega (arith, in_second)))
+    | inr past_second ↦ elim (cases_lt k (3 * lane)) [
+      | inl in_third ↦ inr (inl (past_second, omega (arith, in_third)))
+      | inr past_third ↦ inr (inr (past_third, omega (arith, small)))
     ]
   ]
 ]
 
 -- one more of each lane are those before, and four places
-pub done_more : (count k : ℕ) → AreDone (count + 1) k → (((AreDone count k ⊎ (k ≡ count)) ⊎ (k ≡ 1024 + count)) ⊎ (k ≡ 2048 + count)) ⊎ (k ≡ 3072 + count)
-done_more count k (inl (inl p)) = elim (cases_lt k count) [
+pub done_more : (lane count k : ℕ) → AreDone lane (count + 1) k → (((AreDone lane count k ⊎ (k ≡ count)) ⊎ (k ≡ lane + count)) ⊎ (k ≡ 2 * lane + count)) ⊎ (k ≡ 3 * lane + count)
+done_more lane count k (inl (inl p)) = elim (cases_lt k count) [
   | inl sooner ↦ inl (inl (inl (inl (inl (inl sooner)))))
   | inr there ↦ inl (inl (inl (inr (omega (arith, p, there)))))
 ]
-done_more count k (inl (inr p)) = elim (cases_lt k (1024 + count)) [
+done_more lane count k (inl (inr p)) = elim (cases_lt k (lane + count)) [
   | inl sooner ↦ inl (inl (inl (inl (inl (inr (p.0, sooner))))))
   | inr there ↦ inl (inl (inr (omega (arith, p.1, there))))
 ]
-done_more count k (inr (inl p)) = elim (cases_lt k (2048 + count)) [
+done_more lane count k (inr (inl p)) = elim (cases_lt k (2 * lane + count)) [
   | inl sooner ↦ inl (inl (inl (inl (inr (inl (p.0, sooner))))))
   | inr there ↦ inl (inr (omega (arith, p.1, there)))
 ]
-done_more count k (inr (inr p)) = elim (cases_lt k (3072 + count)) [
+done_more lane count k (inr (inr p)) = elim (cases_lt k (3 * lane + count)) [
   | inl sooner ↦ inl (inl (inl (inl (inr (inr (p.0, sooner))))))
   | inr there ↦ inr (omega (arith, p.1, there))
 ]

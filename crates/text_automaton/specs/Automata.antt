@@ -1,10 +1,12 @@
 -- What an automaton tells of a text: at each place the literals that end there.
-use Rattle.std.specs.Prelude.{◌≡◌, ℕ, ◌+◌, ◌<◌, ◌≤◌, ◌↔◌, Bool, true, List, [], Contains, length, slice_index, slice_range}
+use Rattle.std.specs.Prelude.{◌≡◌, ℕ, ◌+◌, ◌<◌, ◌≤◌, ◌↔◌, Bool, true, List, [], Contains, length, min, slice_index, slice_range}
+use Rattle.std.specs.List.{sum_by}
 use Rattle.std.specs.List.Sorted.{IsStrictlyIncreasing}
 use Rattle.lit_base.specs.Literals.{Literals}
 use Rattle.lit_base.specs.Occurrences.{HasEnd, Occurs}
 use Rattle.text_automaton.specs.declared.reading.Reading.{Reading}
 use Rattle.text_automaton.specs.declared.reading.TheConstants.{BLOCK}
+use Rattle.text_automaton.specs.declared.tables.TheConstants.{MOST_STATES}
 
 -- the literals, and those that each state tells: a range of a list. States below a number tell none. It is not said which state is that of a place before the automaton is made
 pub record Telling : Type 0 where
@@ -14,6 +16,10 @@ pub record Telling : Type 0 where
   pub highs : List ℕ
   pub quiet : ℕ
   pub is_made : Bool
+
+-- how many states there is room for: one for each byte of the literals and one more, and no more than rows are kept for
+abbrev pub room_of : Literals → ℕ
+room_of l = min MOST_STATES (sum_by length l.texts + 1)
 
 -- the literals that a state tells
 abbrev pub told_by : Telling → ℕ → List ℕ

@@ -2,8 +2,7 @@
 ghost use Rattle.std.specs.Prelude.{◌≡◌, ℕ, ◌+◌, ◌<◌, ◌≤◌, IfOk, IfSome, MatchOption, false, length, true};
 ghost use Rattle.std.specs.Option.{IfNone};
 ghost use Rattle.lit_base.specs.Chains.{literal_at};
-ghost use Rattle.text_automaton.specs.Automata.{IsNextTold, IsReading, NoneBehind, place_of, told_by};
-ghost use Rattle.text_automaton.specs.declared.tables.TheConstants.{MOST_STATES};
+ghost use Rattle.text_automaton.specs.Automata.{IsNextTold, IsReading, NoneBehind, place_of, room_of, told_by};
 
 use crate::reading::Reading;
 use crate::tables::{MOST_STATES, Tables};
@@ -17,7 +16,7 @@ use std::marker::Model;
 pub(crate) enum Stage {
     /// Nobody asked for it yet.
     Unmade,
-    /// The list has too many fronts, bytes or ends for it.
+    /// Its tables were asked for, and none were right: the list has too many fronts or bytes for them, or its states tell too much.
     Refused,
     /// Its tables were made, and are right.
     Made,
@@ -30,14 +29,14 @@ pub(crate) enum Stage {
 pub struct Automaton<'p> {
     list: &'p LitList,
     tables: Tables,
-    /// For how many states there is room.
+    /// For how many states the tables have room.
     room: usize,
     stage: Stage,
 }
 
 impl<'p> Model for Automaton<'p> {
     ghost use Rattle.std.specs.Prelude.{◌≡◌};
-    ghost use Rattle.text_automaton.specs.Automata.{Telling};
+    ghost use Rattle.text_automaton.specs.Automata.{Telling, room_of};
     ghost use Rattle.text_automaton.specs.Stages.{is_made};
     ghost use Rattle.text_automaton.specs.Tables.{AreRight};
     ghost use Rattle.text_automaton.specs.declared.automaton.Stage.TheVariants.{Made};
@@ -53,7 +52,7 @@ impl<'p> Model for Automaton<'p> {
       is_made = is_made a.stage;
     } };
 
-    ghost invariant = { λ a. a.stage ≡ Made → AreRight a.tables a.list.now };
+    ghost invariant = { λ a. (a.stage ≡ Made → AreRight a.tables a.list.now) × (a.room ≡ room_of a.list.now) };
 }
 
 impl<'p> Automaton<'p> {
@@ -71,16 +70,14 @@ impl<'p> Automaton<'p> {
     }
 
     /// How many states it has room for: one for each byte of the literals and one more, unless these are too many.
-    pub fn room(&self) -> usize {
+    pub fn room(&self) -> usize
+        ensures { result ≡ room_of self.now.literals }
+    {
         self.room
     }
 
-    /// Whether it is known that the tables cannot be made.
-    pub fn is_refused(&self) -> bool {
-        matches!(self.stage, Stage::Refused)
-    }
-
-    /// Makes the tables, unless they are made or cannot be. The answer is whether texts can be read by them.
+    /// Makes the tables, unless they are made or cannot be. The answer is whether texts can be read by them. Tables that could not be made
+    /// are not tried again.
     pub fn learn(&mut self) -> bool
         ensures literals { self.new.literals ≡ self.old.literals }
         ensures made { result ≡ self.new.is_made }
@@ -176,13 +173,13 @@ impl<'p> Automaton<'p> {
 
 /// For how many states there is to be room: one for each byte of the literals and one more, unless these are too many.
 fn room_for(list: &LitList) -> usize
-    ensures { result ≤ MOST_STATES }
+    ensures { result ≡ room_of list.now }
 {
-    let mut bytes = 1usize;
+    let mut room = 1usize;
     for place in 0..list.len() {
-        bytes = bytes.saturating_add(list.get(place).len());
+        room = room.saturating_add(list.get(place).len()).min(MOST_STATES);
     }
-    bytes.min(MOST_STATES)
+    room
 }
 
 /// The length of the longest literal, or none where there is none.

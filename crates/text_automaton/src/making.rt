@@ -5,7 +5,7 @@ use crate::tables::{CLASSES, MOST_STATES, MOST_TOLD, NONE, Tables};
 use lit_base::{LitList, MAX_LITERALS, fold_byte};
 
 impl Tables {
-    /// Makes the tables of a list, if it has no more fronts and bytes than they have room for.
+    /// Makes the tables of a list, if it has no more than `MOST_STATES` fronts, `CLASSES - 1` bytes and `MOST_TOLD` literals told by all states.
     pub fn make(&mut self, list: &LitList) -> Option<()> {
         self.begin(list);
         self.class_bytes(list)?;
@@ -176,22 +176,27 @@ impl Tables {
         self.told.push(literal).ok()
     }
 
+    /// What stands at a place of the rows.
     fn row_at(&self, slot: usize) -> u16 {
         at(&self.rows, slot)
     }
 
+    /// The state of the next shorter front.
     fn fail_at(&self, state: usize) -> u16 {
         at(&self.fails, state)
     }
 
+    /// The literal that a state is, or `NONE`.
     fn own_at(&self, state: usize) -> u16 {
         at(&self.owns, state)
     }
 
+    /// The literal at a place among those told.
     fn literal_at(&self, place: usize) -> u16 {
         at(&self.told, place)
     }
 
+    /// Where the literals that a state tells begin among those told, and where they end.
     fn range_at(&self, state: usize) -> (usize, usize) {
         let (low, high) = (at(&self.lows, state), at(&self.highs, state));
         (usize::from(low), usize::from(high))
@@ -255,30 +260,26 @@ impl Tables {
 }
 
 /// The number at a place, or 0 past the end.
-fn at(numbers: &Vec<u16>, place: usize) -> u16 {
-    if place < numbers.len() {
-        numbers[place]
-    } else {
-        0
-    }
+fn at(numbers: &[u16], place: usize) -> u16 {
+    numbers.get(place).copied().unwrap_or(0)
 }
 
 /// Puts a number at a place, unless that is past the end.
-fn put(numbers: &mut Vec<u16>, place: usize, number: u16) {
+fn put(numbers: &mut [u16], place: usize, number: u16) {
     if place < numbers.len() {
         numbers[place] = number;
     }
 }
 
 /// Lets two numbers change places, if neither is past the end.
-fn swap(numbers: &mut Vec<u16>, one: usize, other: usize) {
+fn swap(numbers: &mut [u16], one: usize, other: usize) {
     if one < numbers.len() && other < numbers.len() {
         numbers.swap(one, other);
     }
 }
 
 /// Gives each state that stands there its new number.
-fn rename(states: &mut Vec<u16>, names: &[u16; MOST_STATES]) {
+fn rename(states: &mut [u16], names: &[u16; MOST_STATES]) {
     for place in 0..states.len() {
         let state = usize::from(states[place]);
         if state < MOST_STATES {

@@ -1,16 +1,16 @@
 //! Reading a text: the state of each place.
-ghost use Rattle.std.specs.Prelude.{◌≡◌, ℕ, ◌+◌, ◌-◌, ◌<◌, ◌≤◌, length, min, slice_index};
+ghost use Rattle.std.specs.Prelude.{◌≡◌, ℕ, ◌+◌, ◌-◌, ◌*◌, ◌<◌, ◌≤◌, length, min, slice_index};
 ghost use Rattle.text_automaton.specs.Fronts.{IsRead};
 ghost use Rattle.text_automaton.specs.Tables.{AreSized, HaveClasses, step};
 
 use crate::tables::Tables;
 
-/// So many places follow each other in a lane. Each lane begins with the bytes before it that a literal may have there.
-pub(crate) const LANE: usize = 1024;
+/// Places are read in so many lanes, one behind the other: a byte leads on from the state before it, which has to be there first, and
+/// meanwhile the other lanes go on. In C, on four texts, one lane took 2.4 to 2.8 ns a byte, two took 1.6 and four 0.9.
+const LANES: usize = 4;
 
-/// So many places are read at once, in four lanes: a byte leads on from the state before it, which has to be there first, and meanwhile
-/// the other lanes go on. In C, on four texts, one lane took 2.4 to 2.8 ns a byte, two took 1.6 and four 0.9.
-pub(crate) const BLOCK: usize = 4 * LANE;
+/// So many places are read at once, if the text has them.
+pub(crate) const BLOCK: usize = 4096;
 
 /// The states of some places of a text, and how far they were looked at.
 #[derive(Debug, Drop)]
@@ -83,50 +83,74 @@ impl Tables {
         ensures count { result ≡ min BLOCK (length text.now - start) }
         ensures states { (at : ℕ) → at < result → IsRead self.now text.now longest (start + at + 1) (slice_index states.new at) }
     {
-        let rest = text.len() - start;
-        if rest < BLOCK {
-            self.read_rest(text, longest, start, states);
-            return rest;
+        let count = (text.len() - start).min(BLOCK);
+        let lane = count / LANES;
+        // Each lane goes over the bytes of a longest literal first.
+        if lane <= longest {
+            self.read_rest(text, longest, start, 0, count, states);
+            return count;
         }
-        self.read_block(text, longest, start, states);
-        BLOCK
+        self.read_lanes(text, longest, start, lane, states);
+        self.read_rest(text, longest, start, LANES * lane, count, states);
+        count
     }
 
-    /// The states of the last places of a text, one after the other.
-    fn read_rest(&self, text: &[u8], longest: usize, start: usize, states: &mut [u16; BLOCK])
+    /// The states of the places behind one from a number on, where those before are known, one after the other.
+    fn read_rest(
+        &self,
+        text: &[u8],
+        longest: usize,
+        start: usize,
+        known: usize,
+        count: usize,
+        states: &mut [u16; BLOCK],
+    )
         requires sized { AreSized self.now }
         requires classes { HaveClasses self.now }
-        requires inside { start ≤ length text.now }
-        requires few { length text.now - start ≤ BLOCK }
-        ensures { (at : ℕ) → at < length text.now - start → IsRead self.now text.now longest (start + at + 1) (slice_index states.new at) }
+        requires inside { start + count ≤ length text.now }
+        requires few { count ≤ BLOCK }
+        requires begun { known ≤ count }
+        requires before { (at : ℕ) → at < known → IsRead self.now text.now longest (start + at + 1) (slice_index states.old at) }
+        ensures { (at : ℕ) → at < count → IsRead self.now text.now longest (start + at + 1) (slice_index states.new at) }
     {
-        let mut state = self.state_at(text, longest, start);
-        for at in 0..text.len() - start {
+        if known == count {
+            return;
+        }
+        let mut state = self.state_at(text, longest, start + known);
+        for at in known..count {
             state = self.next_state(state, text[start + at]);
             states[at] = state as u16;
         }
     }
 
-    /// The states of as many places as are read at once, in four lanes.
-    fn read_block(&self, text: &[u8], longest: usize, start: usize, states: &mut [u16; BLOCK])
+    /// The states of four lanes of so many places each, which follow each other.
+    fn read_lanes(
+        &self,
+        text: &[u8],
+        longest: usize,
+        start: usize,
+        lane: usize,
+        states: &mut [u16; BLOCK],
+    )
         requires sized { AreSized self.now }
         requires classes { HaveClasses self.now }
-        requires inside { start + BLOCK ≤ length text.now }
-        ensures { (at : ℕ) → at < BLOCK → IsRead self.now text.now longest (start + at + 1) (slice_index states.new at) }
+        requires few { LANES * lane ≤ BLOCK }
+        requires inside { start + LANES * lane ≤ length text.now }
+        ensures { (at : ℕ) → at < LANES * lane → IsRead self.now text.now longest (start + at + 1) (slice_index states.new at) }
     {
         let mut first = self.state_at(text, longest, start);
-        let mut second = self.state_at(text, longest, start + LANE);
-        let mut third = self.state_at(text, longest, start + 2 * LANE);
-        let mut fourth = self.state_at(text, longest, start + 3 * LANE);
-        'lanes: for at in 0..LANE {
+        let mut second = self.state_at(text, longest, start + lane);
+        let mut third = self.state_at(text, longest, start + 2 * lane);
+        let mut fourth = self.state_at(text, longest, start + 3 * lane);
+        'lanes: for at in 0..lane {
             first = self.next_state(first, text[start + at]);
-            second = self.next_state(second, text[start + LANE + at]);
-            third = self.next_state(third, text[start + 2 * LANE + at]);
-            fourth = self.next_state(fourth, text[start + 3 * LANE + at]);
+            second = self.next_state(second, text[start + lane + at]);
+            third = self.next_state(third, text[start + 2 * lane + at]);
+            fourth = self.next_state(fourth, text[start + 3 * lane + at]);
             states[at] = first as u16;
-            states[LANE + at] = second as u16;
-            states[2 * LANE + at] = third as u16;
-            states[3 * LANE + at] = fourth as u16;
+            states[lane + at] = second as u16;
+            states[2 * lane + at] = third as u16;
+            states[3 * lane + at] = fourth as u16;
         }
     }
 }

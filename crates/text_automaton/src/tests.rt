@@ -27,8 +27,7 @@ fn is_made(alloc: Global, fold: Fold, literals: &[&[u8]]) -> Option<bool> {
     let mut automaton = Automaton::new(alloc, &list).ok()?;
     let is_made = automaton.learn();
     let is_read = automaton.reading_behind(b"", 0).is_some();
-    let is_told = is_made == is_read && is_made != automaton.is_refused();
-    if is_told && automaton.learn() == is_made {
+    if is_made == is_read && automaton.learn() == is_made {
         Some(is_made)
     } else {
         None

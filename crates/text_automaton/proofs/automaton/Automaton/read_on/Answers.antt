@@ -11,7 +11,7 @@ returns-clause-reading c =
     let text = c.args.text.now in
     let start = c.args.reading.now.start + c.args.reading.now.count in
     let states = c.read_behind-count.new.states in
-    let right = c.self.invariant (stage_made a.stage (ap (λ (x : Telling). x.is_made) c.self.view_is ∙ c.requires.reading.made)) in
+    let right = c.self.invariant.0 (stage_made a.stage (ap (λ (x : Telling). x.is_made) c.self.view_is ∙ c.requires.reading.made)) in
     record {
       made = c.requires.reading.made;
       states = λ at low. subst (λ (x : Telling). IsStateAt x text (start + at + 1) (slice_index states at)) c.self.view_is
