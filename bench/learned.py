@@ -5,8 +5,8 @@
 
 The texts and lists are those of lists.py: literals made of a text's own words or syllables, rare and frequent ones, and such
 lists of which every tenth literal is short. Random bytes, with literals of random bytes, stand beside them. The text is at
-hand, beside Hyperscan's block mode, and then a stream in pieces of 64 KiB, beside its streaming mode: once it counts the hits,
-and once it keeps them, as the scans do, all of a text or those of one piece after the other. Each program is started
+hand, beside Hyperscan's block mode, and then a stream in pieces of 64 KiB, and of 1,000 bytes, beside its streaming mode: once it
+counts the hits, and once it keeps them, as the scans do, all of a text or those of one piece after the other. Each program is started
 in turn, scans the text three times over and gives the median; the figure is the least of the turns. --rounds goes over all
 rows so often, one round after the other, so that what slows a shared machine for some minutes meets no row in each. Hit
 counts are compared. --scanner, more than once, measures builds for different processors, each beside the others. With --write
@@ -29,7 +29,9 @@ KINDS = (("rare", COUNTS), ("rare, some short", FEWER), ("frequent", COUNTS))
 SCANS = 3
 PLAN, LEARNED, HYPERSCAN, KEEPING = "plan", "learned", "Hyperscan", "keeping"
 # How a text is given, with the modes of the four.
-WAYS = {"at hand": ("all", "learned", "block", "block-kept"), "in pieces": ("stream", "learned-stream", "stream", "stream-kept")}
+WAYS = {"at hand": ("all", "learned", "block", "block-kept"),
+        "in pieces": ("stream", "learned-stream", "stream", "stream-kept"),
+        "in small pieces": ("stream:1000", "learned-stream:1000", "stream:1000", "stream-kept:1000")}
 
 
 def group_of(name, kind, count):
@@ -134,7 +136,7 @@ def report(results, options):
     lines = ["# Scans that learn", "", machine(options.size), turns, "",
              "A ratio is the time of another scan by that of the one that learns, each the least of the turns: above 1, it pays to",
              "learn, and the scan is ahead of Hyperscan. `least` is that of one list. A text is at hand, or a stream that comes",
-             "in pieces of 64 KiB. Hyperscan counts the hits, and keeps them as the scans do where it says `keeping`.", ""]
+             "in pieces of 64 KiB, or in small ones of 1,000 bytes. Hyperscan counts the hits, and keeps them as the scans do where it says `keeping`.", ""]
     for (build, way), like in results.items():
         lines += ["## By kind, %s, %s" % (way, build), ""] + as_groups(like) + [""]
     for (build, way), like in results.items():

@@ -2,7 +2,8 @@
 //
 //   hyperscan TEXT LITERALS block|stream|block-kept|stream-kept|WORKERS TURNS
 //
-// So many workers, at most 16, are threads that share the text; a hit that two parts share is lost. Hits are counted, or kept in
+// A stream comes in pieces of 64 KiB, or of so many bytes, as in stream:1000 and stream-kept:1000. So many workers, at most 16, are
+// threads that share the text; a hit that two parts share is lost. Hits are counted, or kept in
 // an array that grows: those of the text, or of one piece of a stream after the other. It prints the median seconds of a scan and the
 // number of hits.
 #include <hs/hs.h>
@@ -12,11 +13,14 @@
 #include <string.h>
 #include <time.h>
 
-enum { PIECE = 65536, WORKERS = 16 };
+enum { WORKERS = 16 };
 
 struct part { const char *bytes; size_t length; hs_scratch_t *scratch; unsigned long long hits; };
 
 static hs_database_t *database;
+
+// How many bytes a piece of a stream has.
+static size_t piece = 65536;
 
 static char *read_file(const char *name, size_t *length) {
     FILE *file = fopen(name, "rb");
@@ -60,8 +64,8 @@ static unsigned long long scan_keeping(const char *text, size_t length, int stre
     if (streams) {
         hs_stream_t *stream;
         hs_open_stream(database, 0, &stream);
-        for (size_t at = 0; at < length; at += PIECE) {
-            hs_scan_stream(stream, text + at, length - at < PIECE ? length - at : PIECE, 0, scratch, keep_hit, &kept);
+        for (size_t at = 0; at < length; at += piece) {
+            hs_scan_stream(stream, text + at, length - at < piece ? length - at : piece, 0, scratch, keep_hit, &kept);
             hits += kept.length;
             kept.length = 0;
         }
@@ -110,6 +114,8 @@ int main(int count, char **words) {
     char *text = read_file(words[1], &length), *list = read_file(words[2], &list_length);
     int streams = !strncmp(words[3], "stream", 6), keeps = strstr(words[3], "-kept") != NULL, turns = atoi(words[4]);
     int workers = atoi(words[3]) > WORKERS ? WORKERS : atoi(words[3]);
+    const char *size = strchr(words[3], ':');
+    if (size && atol(size + 1) > 0) piece = atol(size + 1);
     const char **literals = malloc(sizeof *literals * (list_length + 1));
     unsigned *flags = calloc(list_length + 1, sizeof *flags), *ids = malloc(sizeof *ids * (list_length + 1));
     size_t *lengths = malloc(sizeof *lengths * (list_length + 1));
@@ -145,8 +151,8 @@ int main(int count, char **words) {
         } else if (streams) {
             hs_stream_t *stream;
             hs_open_stream(database, 0, &stream);
-            for (size_t at = 0; at < length; at += PIECE)
-                hs_scan_stream(stream, text + at, length - at < PIECE ? length - at : PIECE, 0, scratch, count_hit, &hits);
+            for (size_t at = 0; at < length; at += piece)
+                hs_scan_stream(stream, text + at, length - at < piece ? length - at : piece, 0, scratch, count_hit, &hits);
             hs_close_stream(stream, scratch, count_hit, &hits);
         } else {
             hs_scan(database, text, length, 0, scratch, count_hit, &hits);

@@ -1,6 +1,7 @@
 //! How long a scan takes: `bench_scan TEXT LITERALS all|learned|stream|learned-stream|WORKERS TURNS` reads both files and
 //! prints the median seconds of a scan and the number of hits. A number of workers from 1 to 16 share
-//! the text. It prints nothing without arguments; `bench/README.md` says what it is measured beside.
+//! the text. A stream comes in pieces of 64 KiB, or as `stream:1000` in pieces of so many bytes. It prints nothing without
+//! arguments; `bench/README.md` says what it is measured beside.
 #![tactic(auto)]
 
 use anyhow::{Result, ensure};
@@ -14,7 +15,7 @@ use std::thread::Threads;
 use std::time::Instant;
 use std::{env, fs};
 
-/// Bytes of a piece of a stream.
+/// Bytes of a piece of a stream where nothing else is said.
 const PIECE: usize = 65536;
 
 /// How a text is fed.
@@ -24,10 +25,10 @@ enum Mode {
     Whole,
     /// In one call that learns from the text.
     Learned,
-    /// As a stream, in pieces.
-    Pieces,
+    /// As a stream, in pieces of so many bytes.
+    Pieces(usize),
     /// As a stream, in pieces that are learned from.
-    LearnedPieces,
+    LearnedPieces(usize),
     /// By so many workers, each of which scans a part.
     Parts(usize),
 }
@@ -37,13 +38,7 @@ fn main(rt: HostRuntime) -> Result<()> {
     let [text, literals, mode, turns] = words.as_slice() else {
         return Ok(());
     };
-    let mode = match mode.as_str() {
-        "all" => Mode::Whole,
-        "learned" => Mode::Learned,
-        "stream" => Mode::Pieces,
-        "learned-stream" => Mode::LearnedPieces,
-        workers => Mode::Parts(workers.parse::<usize>()?),
-    };
+    let mode = mode_of(mode.as_str())?;
     let text = fs::read(&rt, text.as_str())?;
     let compiled = compiled_of(rt.alloc(), fs::read(&rt, literals.as_str())?.as_slice())?;
     measure(
@@ -53,6 +48,22 @@ fn main(rt: HostRuntime) -> Result<()> {
         mode,
         turns.as_str().parse::<usize>()?,
     )
+}
+
+/// The mode that a word names.
+fn mode_of(word: &str) -> Result<Mode> {
+    let (name, size) = match word.split_once(':') {
+        Some((name, size)) => (name, size.parse::<usize>()?),
+        None => (word, PIECE),
+    };
+    ensure!(size > 0, "no byte in a piece");
+    Ok(match name {
+        "all" => Mode::Whole,
+        "learned" => Mode::Learned,
+        "stream" => Mode::Pieces(size),
+        "learned-stream" => Mode::LearnedPieces(size),
+        workers => Mode::Parts(workers.parse::<usize>()?),
+    })
 }
 
 /// The literals of a file with their plan.
@@ -96,8 +107,8 @@ fn scan<R: Threads + Sync>(
     match mode {
         Mode::Whole => Ok(scan_all(alloc, compiled, text)?.len()),
         Mode::Learned => scan_learning(alloc, compiled, text),
-        Mode::Pieces => scan_pieces(alloc, compiled, text),
-        Mode::LearnedPieces => scan_pieces_learning(alloc, compiled, text),
+        Mode::Pieces(size) => scan_pieces(alloc, compiled, text, size),
+        Mode::LearnedPieces(size) => scan_pieces_learning(alloc, compiled, text, size),
         Mode::Parts(workers) => {
             ensure!((1..=MAX_WORKERS).contains(&workers), "1 to 16 workers");
             Ok(scan_parts(rt, alloc, &NoGate, compiled, text, workers)?.len())
@@ -114,11 +125,11 @@ fn scan_learning(alloc: Global, compiled: &Compiled, text: &[u8]) -> Result<usiz
 }
 
 /// How many hits a text has, fed in pieces, the hits of each let go before the next.
-fn scan_pieces(alloc: Global, compiled: &Compiled, text: &[u8]) -> Result<usize> {
+fn scan_pieces(alloc: Global, compiled: &Compiled, text: &[u8], size: usize) -> Result<usize> {
     let mut scanner = Scanner::new(alloc, compiled)?;
     let mut out: Vec<Hit> = Vec::new(alloc);
     let mut count = 0usize;
-    for piece in text.chunks(PIECE) {
+    for piece in text.chunks(size.max(1)) {
         scanner.feed(piece, &mut out)?;
         count = count.saturating_add(out.len());
         out.clear();
@@ -127,14 +138,19 @@ fn scan_pieces(alloc: Global, compiled: &Compiled, text: &[u8]) -> Result<usize>
 }
 
 /// The same by what learns from the pieces if the list has literals enough.
-fn scan_pieces_learning(alloc: Global, compiled: &Compiled, text: &[u8]) -> Result<usize> {
+fn scan_pieces_learning(
+    alloc: Global,
+    compiled: &Compiled,
+    text: &[u8],
+    size: usize,
+) -> Result<usize> {
     let Some(mut finder) = EndFinder::new_unless_few(alloc, compiled)? else {
-        return scan_pieces(alloc, compiled, text);
+        return scan_pieces(alloc, compiled, text, size);
     };
     let mut scanner = Scanner::new(alloc, compiled)?;
     let mut out: Vec<Hit> = Vec::new(alloc);
     let mut count = 0usize;
-    'pieces: for piece in text.chunks(PIECE) {
+    'pieces: for piece in text.chunks(size.max(1)) {
         scanner.feed_learning(&mut finder, piece, usize::MAX, &mut out)?;
         count = count.saturating_add(out.len());
         out.clear();

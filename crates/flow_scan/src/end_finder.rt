@@ -16,6 +16,7 @@ use crate::learning::{
 };
 use crate::met::Met;
 use crate::pace::MOST_BY_BYTES;
+use crate::sampling::{LEAST_SAMPLE, Sample, least_gathered};
 use crate::searching::{add_hits, add_hits_at, skip_short_ends};
 use crate::shifted::{add_hits_by_shift_or, next_end_by_shift_or};
 use crate::text_search::TextSearch;
@@ -42,11 +43,13 @@ const SPAN: usize = SAMPLE;
 /// The first span of a text at hand goes in so many parts, since it may learn behind each. The number was not varied.
 const FIRST_SPANS: usize = 4;
 
-/// Fewer bytes are scanned by the plan where a scan goes by the automaton: to begin to read takes longer. The number was not varied.
-const LEAST_TOLD: usize = 512;
+/// Fewer bytes are scanned by the plan, whichever way was chosen, such as those at the seam of two pieces: windows look at each of them by
+/// itself.
+const LEAST_CHOSEN: usize = 64;
 
-/// Fewer bytes tell too little of a text: of a shorter text, or a shorter piece of a stream, nothing is learned.
-pub const LEAST_SAMPLE: usize = 16384;
+/// Fewer bytes are scanned by the plan where a scan goes by the automaton: to begin to read takes longer. With 512 a hundred frequent literals in
+/// pieces of 250 bytes took 2.1 times as long as by the plan alone, since they were learned of again and again.
+const LEAST_TOLD: usize = 128;
 
 /// What a search is asked for.
 #[derive(Clone, Copy)]
@@ -67,6 +70,8 @@ pub struct EndFinder<'p> {
     windows: Windows<'p>,
     shift_or: ShiftOr<'p>,
     automaton: Automaton<'p>,
+    /// What is gathered of a stream in small pieces. It is taken out while it is learned from.
+    sample: Option<Sample>,
     learning: Learning,
 }
 
@@ -90,11 +95,13 @@ impl<'p> EndFinder<'p> {
         let windows = Windows::new(alloc, compiled.list())?;
         let shift_or = ShiftOr::new(alloc, compiled.list())?;
         let automaton = Automaton::new(alloc, compiled.list())?;
+        let sample = Sample::new(alloc)?;
         Ok(EndFinder {
             compiled,
             windows,
             shift_or,
             automaton,
+            sample: Some(sample),
             learning: Learning::new(),
         })
     }
@@ -119,6 +126,22 @@ impl<'p> EndFinder<'p> {
         ensures { result.now ≡ self.now }
     {
         self.compiled
+    }
+
+    /// How it searches.
+    #[inline(always)]
+    pub(crate) fn way(&self) -> Way {
+        self.learning.way()
+    }
+
+    /// How it scans so many bytes.
+    #[inline(always)]
+    fn way_of(&self, rest: usize) -> Way {
+        if rest < LEAST_CHOSEN {
+            Way::Plan
+        } else {
+            self.way()
+        }
     }
 
     /// The first place of the text behind `from` at which some literal ends, wherever it begins, if
@@ -165,7 +188,7 @@ impl<'p> EndFinder<'p> {
             (NoEndAfter self.old.literals search.old.text from)
             (λ found. IsNextEnd self.old.literals search.old.text from found.0) }
     {
-        match self.learning.way() {
+        match self.way() {
             Way::Windows => self.next_windowed(search.text(), from),
             Way::ShiftOr => self.next_shifted(search.text(), from),
             Way::Automaton | Way::Plan => self.next_by_plan(search, from),
@@ -460,15 +483,41 @@ impl<'p> EndFinder<'p> {
         }
     }
 
-    /// Learns from the text behind a place, where that is worth while and enough of it is left.
+    /// Learns from the text behind a place, where that is worth while and enough of it is left. Of a shorter piece of a stream it gathers what
+    /// is left.
     #[inline(always)]
     fn learn_if_due(&mut self, text: &[u8], from: usize, wanted: Wanted)
         requires { from ≤ length text.now }
         ensures { self.new ≡ self.old }
     {
-        if self.learning.is_due() && text.len() - from >= LEAST_SAMPLE {
-            self.learn(text, from, wanted);
+        if !self.learning.is_due() {
+            return;
         }
+        if text.len() - from >= LEAST_SAMPLE {
+            self.learn(text, from, wanted);
+        } else if let Wanted::Hits = wanted {
+            self.gather(text, from);
+        }
+    }
+
+    /// Gathers what a piece of a stream has behind a place, unless that is too short, and learns once enough is gathered.
+    #[inline(never)]
+    fn gather(&mut self, text: &[u8], from: usize)
+        requires { from ≤ length text.now }
+        ensures { self.new ≡ self.old }
+    {
+        let (_, rest) = text.split_at(from);
+        if rest.len() < least_gathered(self.compiled.list().len()) {
+            return;
+        }
+        let Some(mut sample) = self.sample.take() else {
+            return;
+        };
+        if sample.add(rest) {
+            self.learn(sample.text(), 0, Wanted::Hits);
+            sample.clear();
+        }
+        self.sample = Some(sample);
     }
 
     /// Learns from the text behind a place.
@@ -539,7 +588,7 @@ impl<'p> HitSearch for EndFinder<'p> {
         out: &mut Vec<Hit>,
     ) -> Result<usize, AllocError> {
         self.learn_if_due(text, from, Wanted::Hits);
-        match self.learning.way() {
+        match self.way_of(text.len() - from) {
             Way::Windows => self.add_hits_windowed(text, from, at, most, out),
             Way::ShiftOr => self.add_hits_shifted(text, from, at, most, out),
             Way::Automaton => self.add_hits_told(text, from, at, most, out),

@@ -6,7 +6,7 @@ ghost use Rattle.flow_scan.specs.Tails.{StopsIn};
 ghost use Rattle.scan_core.specs.declared.fault.Fault.TheVariants.{OutOfMemory};
 
 use crate::fault::Fault;
-use flow_scan::{EndFinder, Hit, LEAST_SAMPLE, Scanner};
+use flow_scan::{EndFinder, Hit, Scanner};
 use plan_store::{PlanStore, Ticket};
 use std::alloc::Global;
 use std::marker::Model;
@@ -139,7 +139,7 @@ impl<'s> Learner<'s> {
     {
         if self.is_by(store, ticket) {
             self.strange = 0;
-        } else if place >= LEAST_LEARNED && count >= LEAST_SAMPLE {
+        } else if place >= LEAST_LEARNED {
             self.strange = self.strange.saturating_add(count);
             self.make_if_due(alloc, store, ticket);
         }

@@ -5,6 +5,7 @@ use super::finding::{CAPITALS, Draws, FIGURES, WORDS, pieces_of, plan_of_pieces,
 use crate::compiled::Compiled;
 use crate::end_finder::EndFinder;
 use crate::hit::Hit;
+use crate::learning::Way;
 use crate::scanner::Scanner;
 use crate::scanning::scan_all;
 use lit_base::Fold;
@@ -83,4 +84,29 @@ fn finds_short_hits_of_a_stream_in_either_case(rt: HostRuntime) {
         agrees(rt.alloc(), Fold::Ascii, [&CAPITALS, &WORDS], 2),
         Some(true)
     );
+}
+
+/// Whether a search learns from a text that comes in pieces of so many bytes, and finds the text's hits.
+fn learns_in_pieces(alloc: Global, compiled: &Compiled, text: &[u8], size: usize) -> Option<bool> {
+    let wanted = scan_all(alloc, compiled, text).ok()?;
+    let mut finder = EndFinder::new(alloc, compiled).ok()?;
+    let scanner = Scanner::new(alloc, compiled).ok()?;
+    let are_fed = are_fed(scanner, &mut finder, Vec::new(alloc), text, size, &wanted)?;
+    Some(are_fed && finder.way() != Way::Plan)
+}
+
+/// Whether it does for forty pieces of a text of words.
+fn learns(alloc: Global, size: usize) -> Option<bool> {
+    let mut draws = Draws { state: 23 };
+    let text = text_of(alloc, &mut draws, &WORDS, &WORDS)?;
+    let raw = pieces_of(alloc, &mut draws, &text, 4, 1)?;
+    let compiled = plan_of_pieces(alloc, &raw, Fold::No)?;
+    learns_in_pieces(alloc, &compiled, &text, size)
+}
+
+#[test]
+fn learns_from_small_pieces(rt: HostRuntime) {
+    for size in [16_384, 4_096, 1_000] {
+        assert_eq!(rt; learns(rt.alloc(), size), Some(true));
+    }
 }
