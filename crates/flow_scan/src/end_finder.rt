@@ -44,7 +44,7 @@ const SPAN: usize = SAMPLE;
 const FIRST_SPANS: usize = 4;
 
 /// Fewer bytes are scanned by the plan, whichever way was chosen, such as those at the seam of two pieces: windows look at each of them by
-/// itself.
+/// itself. The number was not varied.
 const LEAST_CHOSEN: usize = 64;
 
 /// Fewer bytes are scanned by the plan where a scan goes by the automaton: to begin to read takes longer. With 512 a hundred frequent literals in
