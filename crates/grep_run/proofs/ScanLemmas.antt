@@ -430,6 +430,15 @@ fed-none test p tests held none_lines none_bytes state = record {
 pub fed-bare : (test : List ℕ → Bool) (text : List ℕ) (p : Picking) → HasFed test text p → HasFed test text (record p { is_numbered = false; lines = 0 })
 fed-bare test text p f = record { tests = f.tests; held = f.held; lines = λ e. (cc); bytes = f.bytes; state = f.state }
 
+-- whether the search of a picker learns does not change where it stands
+pub stands-learned : {o : GrepOptions} {test : List ℕ → Bool} {name text : List ℕ} {p q : Picking} {b : Block} {before now : Writer} → q ≡ record p { learns = q.learns } → StandsBehind o test name text p b before now → StandsBehind o test name text q b before now
+stands-learned {o} {test} {name} {text} {p} {q} {b} {before} {now} same s =
+    subst (λ (x : Picking). StandsBehind o test name text x b before now) (sym same) record {
+      fed = record { tests = s.fed.tests; held = s.fed.held; lines = s.fed.lines; bytes = s.fed.bytes; state = s.fed.state };
+      numbers = s.numbers;
+      taken = s.taken;
+    }
+
 -- at first picker and block stand before the content
 pub begin-stands : {o : GrepOptions} {test : List ℕ → Bool} {name : List ℕ} {p : Picking} {b : Block} (out : Writer) → HasFed test [] p → p.is_numbered ≡ o.number
     → b.options.now ≡ o → b.name.now ≡ name → b.count ≡ 0 → b.text.items ≡ [] → StandsBehind o test name [] p b out out

@@ -130,7 +130,7 @@ fn learn_if<'a>(
     picker: &mut Picker<'a>,
 ) -> Result<(), AllocError>
     requires { picker.old.plan ≡ request.now.patterns.now.plan }
-    ensures { picker.new ≡ picker.old }
+    ensures { picker.new ≡ record picker.old { learns = picker.new.learns } }
 {
     if !is_long || picker.learns() {
         return Ok(());

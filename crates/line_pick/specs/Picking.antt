@@ -8,7 +8,7 @@ use Rattle.line_pick.specs.declared.sink.Next.TheVariants.{More, Stop}
 use Rattle.line_pick.specs.declared.state.State.{State}
 use Rattle.line_pick.specs.declared.state.State.TheVariants.{Running, Stopped, Finished, Failed}
 
--- patterns, a rule, the bytes since the last newline, the numbers of ended lines, if lines are numbered, and of bytes so far
+-- patterns, a rule, the bytes since the last newline, the numbers of ended lines, if lines are numbered, and of bytes so far, and whether the search learns
 pub record Picking : Type 0 where
   pub plan : Option Plan
   pub has_empty : Bool
@@ -18,6 +18,7 @@ pub record Picking : Type 0 where
   pub lines : ℕ
   pub bytes : ℕ
   pub state : State
+  pub learns : Bool
 
 -- what a call answers, where no line is lent any more
 abbrev pub answer_in : State → Option (Result Next Fault)

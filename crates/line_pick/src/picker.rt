@@ -1,5 +1,5 @@
 //! The selected lines of a text that comes in pieces.
-ghost use Rattle.std.specs.Prelude.{◌≡◌, ◌≢◌, [], Ok, Err, IfSome, Some, false, true};
+ghost use Rattle.std.specs.Prelude.{◌≡◌, ◌≢◌, [], Ok, Err, IfSome, Some, false, true, is_some};
 ghost use Rattle.std.specs.Option.{option_copied};
 ghost use Rattle.line_pick.specs.Feeding.{Feeds, Finishes, Stays};
 ghost use Rattle.line_pick.specs.Lending.{answer_of};
@@ -33,7 +33,7 @@ impl<'p> Model for Picker<'p> {
 
     ghost Value = { Picking };
 
-    ghost use Rattle.std.specs.Prelude.{◌≡◌, IfSome, Some, if◌then◌else◌};
+    ghost use Rattle.std.specs.Prelude.{◌≡◌, IfSome, Some, if◌then◌else◌, is_some};
     ghost use Rattle.line_pick.specs.Matching.{AreInLines};
     ghost use Rattle.line_pick.specs.Progresses.{IsSound};
 
@@ -46,6 +46,7 @@ impl<'p> Model for Picker<'p> {
       lines = if p.progress.is_numbered then p.progress.lines else 0;
       bytes = p.progress.bytes;
       state = p.state;
+      learns = is_some p.finder;
     } };
 
     ghost invariant = { λ p. IsSound p.progress × AreInLines (option_copied p.matcher.plan)
@@ -71,6 +72,7 @@ impl<'p> Picker<'p> {
           lines = 0;
           bytes = 0;
           state = Running;
+          learns = false;
         } }
     {
         let matcher = Matcher {
@@ -98,6 +100,7 @@ impl<'p> Picker<'p> {
           lines = 0;
           bytes = 0;
           state = Running;
+          learns = true;
         } }
     {
         let matcher = Matcher {
@@ -121,6 +124,7 @@ impl<'p> Picker<'p> {
           lines = 0;
           bytes = 0;
           state = Running;
+          learns = is_some finder.entry;
         } }
     {
         Picker {
@@ -141,21 +145,24 @@ impl<'p> Picker<'p> {
     }
 
     /// Whether the search learns from the text.
-    pub fn learns(&self) -> bool {
+    pub fn learns(&self) -> bool
+        ensures { result ≡ self.now.learns }
+    {
         self.finder.is_some()
     }
 
     /// The search learns from now on, by such a finder. What is lent does not depend on that.
     pub fn learn_by(&mut self, finder: EndFinder<'p>)
         requires { self.old.plan ≡ Some finder }
-        ensures { self.new ≡ self.old }
+        ensures { self.new ≡ record self.old { learns = true } }
     {
         self.finder = Some(finder);
     }
 
     /// What learned from the text, if anything did, for the next text.
     pub fn into_finder(self) -> Option<EndFinder<'p>>
-        ensures { IfSome result (λ plan. self.entry.plan ≡ Some plan) }
+        ensures plan { IfSome result (λ plan. self.entry.plan ≡ Some plan) }
+        ensures learned { is_some result ≡ self.entry.learns }
     {
         self.finder
     }
@@ -173,6 +180,7 @@ impl<'p> Picker<'p> {
             → Feeds S.takes self.old piece.now sink.old result self.new sink.new }
         ensures over { self.old.state ≢ Running → Stays self.old sink.old result self.new sink.new }
         ensures plan { self.new.plan ≡ self.old.plan }
+        ensures learns { self.new.learns ≡ self.old.learns }
     {
         if let Some(answer) = self.state.answer() {
             return answer;
@@ -194,6 +202,7 @@ impl<'p> Picker<'p> {
             → Finishes S.takes self.old sink.old result self.new sink.new }
         ensures over { self.old.state ≢ Running → Stays self.old sink.old result self.new sink.new }
         ensures plan { self.new.plan ≡ self.old.plan }
+        ensures learns { self.new.learns ≡ self.old.learns }
     {
         if let Some(answer) = self.state.answer() {
             return answer;

@@ -4,6 +4,7 @@ ghost use Rattle.std.specs.List.{slice_get};
 ghost use Rattle.plan_store.specs.Tickets.{IsOf};
 ghost use Rattle.scan_wire.specs.Messages.{Close, Feed, Open, Publish, ShowPlan, reply_parts, request_parts, texts_of};
 ghost use Rattle.scan_core.specs.Fronts.{FeedsFront, MayFeed};
+ghost use Rattle.scan_core.specs.Refusals.{raw_refusal};
 ghost use Rattle.scan_core.specs.Sessions.{GainsEvent, IsEvent, by_tails, fresh, parts_of};
 ghost use Rattle.scan_core.specs.Steps.{refusal_of};
 ghost use Rattle.scan_core.specs.Together.{tickets_of};
@@ -134,7 +135,8 @@ impl<'s> Session<'s> {
     }
 
     /// The reply to a Publish, whose plan is stored. Behind the one step that shows it to all sessions
-    /// nothing can fail. It may wait for another thread. The only fault is `OutOfMemory`.
+    /// nothing can fail. It may wait for another thread. The only fault is `OutOfMemory`: what is refused
+    /// before the normal form is made takes no memory.
     pub fn publish(
         &mut self,
         rt: &impl Wait,
@@ -145,6 +147,7 @@ impl<'s> Session<'s> {
         ensures ok { IfOk result (λ reply. IsEvent self.old (Publish fold (texts_of literals.now)) (reply_parts reply ∷ []) self.new) }
         ensures same { OnErr result (self.new ≡ self.old) }
         ensures fault { IsOkUnless result OutOfMemory }
+        ensures accepted { OnErr result (raw_refusal (length self.old.told) (texts_of literals.now) ≡ None) }
     {
         if let Some(refusal) = refusal_of_literals(self.told.len(), literals) {
             return Ok(refusal.reply(0));
@@ -162,11 +165,12 @@ impl<'s> Session<'s> {
     }
 
     /// The reply to an Open, which binds the stream to the plan of the number. A number that this session
-    /// was told, or has a stream open by, is found. The only fault is `OutOfMemory`.
+    /// was told, or has a stream open by, is found. The only fault is `OutOfMemory`, where nothing is refused.
     pub fn open(&mut self, alloc: Global, stream: u32, number: u64) -> Result<Reply, Fault>
         ensures ok { IfOk result (λ reply. IsEvent self.old (Open stream number) (reply_parts reply ∷ []) self.new) }
         ensures same { OnErr result (self.new ≡ self.old) }
         ensures fault { IsOkUnless result OutOfMemory }
+        ensures accepted { OnErr result (refusal_of by_tails (parts_of self.old) (Open stream number) ≡ None) }
     {
         if find_stream(&self.streams, stream).is_some() {
             return Ok(Refusal::StreamInUse.reply(stream));
@@ -285,10 +289,11 @@ impl<'s> Session<'s> {
         Reply::Closed { stream }
     }
 
-    /// The reply to a ShowPlan. The only fault is `OutOfMemory`.
+    /// The reply to a ShowPlan. The only fault is `OutOfMemory`, where the stream is open.
     pub fn show_plan(&self, stream: u32) -> Result<Reply, Fault>
         ensures ok { IfOk result (λ reply. IsEvent self.now (ShowPlan stream) (reply_parts reply ∷ []) self.now) }
         ensures fault { IsOkUnless result OutOfMemory }
+        ensures accepted { OnErr result (refusal_of by_tails (parts_of self.now) (ShowPlan stream) ≡ None) }
     {
         let Some(place) = find_stream(&self.streams, stream) else {
             return Ok(Refusal::NoSuchStream.reply(stream));

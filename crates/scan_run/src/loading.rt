@@ -19,7 +19,7 @@ use std::sync::Wait;
 /// `publish` does.
 ///
 /// # Errors
-/// - `ReadFault`, where a read failed, and `BadPlanFile`, where the file is none: nothing was published.
+/// - `ReadFault`, where a read failed, and `BadPlanFile`, where the file is none: no ticket is gained.
 /// - `OutOfMemory`, where a growth was refused: the plans published so far stay.
 /// - `WriteFault`, where a line or a message could not be written: what was published stays, and behind
 ///   the plan of such a line no other is.

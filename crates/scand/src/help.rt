@@ -22,10 +22,11 @@ Usage: scand --port P --connections N [--plans FILE]
   -V, --version        print the version, likewise
 
 All clients share the plans that they publish, each under its number. Each
-frame is answered before the next one is waited for. Nothing is kept of what
-was fed but the last bytes that a hit may need, and a client takes up to 1.3
-megabytes beside its plans, whatever it asks. A client may wait for as long as
-it likes: put a limit, where one is wanted, before the server.
+frame is answered before the next one is waited for. Of what was fed the last
+bytes are kept that a hit may need and, of long streams, up to 16 KiB to learn
+from. A client takes up to 1.3 megabytes beside its plans, up to 3.6 where
+literals end often, whatever it asks. It may wait for as long as it likes: put
+a limit, where one is wanted, before the server.
 
 A plan file, as `litplan pack` writes one, holds up to 64 plans, each with its
 certificate. It is read whole, each certificate is checked again, and the plans

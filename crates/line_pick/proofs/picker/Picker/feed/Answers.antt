@@ -1,5 +1,6 @@
 -- What is shown of the picker, by what its progress took.
 use Rattle.std.proofs.Common.{rules, ◌≡◌, ℕ, Bool, List, ◌++◌, Option, cond, length, Result, Ok, Err, OnOk, ap, sym, ◌∙◌}
+use Rattle.std.specs.Prelude.{is_some}
 use Rattle.std.specs.Option.{option_copied}
 use Rattle.lit_base.specs.Lines.{ended_lines}
 use Rattle.flow_scan.specs.Plans.{Plan}
@@ -20,16 +21,17 @@ on_more (Ok x) e p = p
 on_more (Err halt) e p = absurd (answer_to-More halt e)
 
 -- what is shown of a picker
-abbrev shown : Option Plan → Bool → LineRule → Bool → List ℕ → ℕ → ℕ → State → Picking
-shown plan has_empty rule is_numbered held lines bytes state = record { plan = plan; has_empty = has_empty; rule = rule; is_numbered = is_numbered; held = held; lines = lines; bytes = bytes; state = state }
+abbrev shown : Option Plan → Bool → LineRule → Bool → List ℕ → ℕ → ℕ → State → Bool → Picking
+shown plan has_empty rule is_numbered held lines bytes state learns = record { plan = plan; has_empty = has_empty; rule = rule; is_numbered = is_numbered; held = held; lines = lines; bytes = bytes; state = state; learns = learns }
 
-same-picking : (plan : Option Plan) (has_empty : Bool) (rule : LineRule) {k k' : Bool} {h h' : List ℕ} {l l' b b' : ℕ} {s s' : State} → k ≡ k' → h ≡ h' → l ≡ l' → b ≡ b' → s ≡ s' → shown plan has_empty rule k h l b s ≡ shown plan has_empty rule k' h' l' b' s'
-same-picking plan has_empty rule {k' = k'} {h = h} {h' = h'} {l = l} {l' = l'} {b = b} {b' = b'} {s = s} numbered held lines bytes state =
-    ap (λ x. shown plan has_empty rule x h l b s) numbered
-    ∙ ap (λ x. shown plan has_empty rule k' x l b s) held
-    ∙ ap (λ x. shown plan has_empty rule k' h' x b s) lines
-    ∙ ap (λ x. shown plan has_empty rule k' h' l' x s) bytes
-    ∙ ap (λ x. shown plan has_empty rule k' h' l' b' x) state
+same-picking : (plan : Option Plan) (has_empty : Bool) (rule : LineRule) {k k' : Bool} {h h' : List ℕ} {l l' b b' : ℕ} {s s' : State} {f f' : Bool} → k ≡ k' → h ≡ h' → l ≡ l' → b ≡ b' → s ≡ s' → f ≡ f' → shown plan has_empty rule k h l b s f ≡ shown plan has_empty rule k' h' l' b' s' f'
+same-picking plan has_empty rule {k' = k'} {h = h} {h' = h'} {l = l} {l' = l'} {b = b} {b' = b'} {s = s} {s' = s'} {f = f} numbered held lines bytes state learns =
+    ap (λ x. shown plan has_empty rule x h l b s f) numbered
+    ∙ ap (λ x. shown plan has_empty rule k' x l b s f) held
+    ∙ ap (λ x. shown plan has_empty rule k' h' x b s f) lines
+    ∙ ap (λ x. shown plan has_empty rule k' h' l' x s f) bytes
+    ∙ ap (λ x. shown plan has_empty rule k' h' l' b' x f) state
+    ∙ ap (λ x. shown plan has_empty rule k' h' l' b' s' x) learns
 
 pub returns-clause-running : goal.returns-clause-running
 returns-clause-running g c = rw (← c.self.view_is) (λ running.
@@ -43,7 +45,7 @@ returns-clause-running g c = rw (← c.self.view_is) (λ running.
           let all : answer_of c.take.result ≡ Ok More = sym c.answered-answer.ensures ∙ e in
           same-picking (option_copied m.plan) m.has_empty m.rule c.take.ensures.numbered (on_more c.take.result all c.take.ensures.held)
           (ap (λ is_numbered. cond is_numbered new.lines 0) c.take.ensures.numbered ∙ shown-more old.is_numbered old.lines new.lines count (on_more c.take.result all c.take.ensures.lines))
-          (on_more c.take.result all c.take.ensures.bytes) (c.after_feed-self-inside.ensures ∙ ap fed_state e ∙ sym running);
+          (on_more c.take.result all c.take.ensures.bytes) (c.after_feed-self-inside.ensures ∙ ap fed_state e ∙ sym running) (ap is_some c.take.ensures.same);
       state = c.after_feed-self-inside.ensures;
       too_long = search rules;
     })
