@@ -1,7 +1,7 @@
 //! A session: what one client has published and opened, and how it is answered.
 ghost use Rattle.std.specs.Prelude.{◌≡◌, ◌∷◌, ◌<◌, [], IfErr, IfNone, IfOk, IfSome, None, Some, IsOkUnless, OnErr, OnOk, Contains, length, map};
 ghost use Rattle.std.specs.List.{slice_get};
-ghost use Rattle.plan_store.specs.Tickets.{IsOf};
+ghost use Rattle.plan_store.specs.Tickets.{IsOf, Told};
 ghost use Rattle.scan_wire.specs.Messages.{Close, Feed, Open, Publish, ShowPlan, reply_parts, request_parts, texts_of};
 ghost use Rattle.scan_core.specs.Fronts.{FeedsFront, MayFeed};
 ghost use Rattle.scan_core.specs.Refusals.{raw_refusal};
@@ -165,12 +165,14 @@ impl<'s> Session<'s> {
     }
 
     /// The reply to an Open, which binds the stream to the plan of the number. A number that this session
-    /// was told, or has a stream open by, is found. The only fault is `OutOfMemory`, where nothing is refused.
+    /// was told, or has a stream open by, is found. The only fault is `OutOfMemory`, where the number
+    /// was found and nothing is refused.
     pub fn open(&mut self, alloc: Global, stream: u32, number: u64) -> Result<Reply, Fault>
         ensures ok { IfOk result (λ reply. IsEvent self.old (Open stream number) (reply_parts reply ∷ []) self.new) }
         ensures same { OnErr result (self.new ≡ self.old) }
         ensures fault { IsOkUnless result OutOfMemory }
         ensures accepted { OnErr result (refusal_of by_tails (parts_of self.old) (Open stream number) ≡ None) }
+        ensures found { OnErr result ((ticket : Told) × IsOf self.old.store ticket × (ticket.number ≡ number)) }
     {
         if find_stream(&self.streams, stream).is_some() {
             return Ok(Refusal::StreamInUse.reply(stream));

@@ -1,7 +1,8 @@
-use Rattle.std.proofs.Common.{◌≡◌, ℕ, ◌∷◌, [], None, Result, Ok, Err, OnErr, ap, ◌∙◌, subst}
+use Rattle.std.proofs.Common.{◌≡◌, ℕ, ◌∷◌, [], None, ap, ◌∙◌, subst}
 use Rattle.std.proofs.lemmas.Option.{get_or_from_slice_get}
-use Rattle.std.proofs.lemmas.Result.{IfOk-weaker}
+use Rattle.std.proofs.lemmas.Result.{IfErr-weaker, IfOk-weaker}
 use Rattle.scan_wire.specs.Messages.{ShowPlan, reply_parts}
+use Rattle.scan_core.specs.declared.fault.Fault.TheVariants.{OutOfMemory}
 use Rattle.scan_core.specs.declared.refusal.Refusal.TheVariants.{NoSuchStream}
 use Rattle.scan_core.specs.Sessions.{Bound, IsEvent, Serving, by_tails, parts_of}
 use Rattle.scan_core.specs.Steps.{plan_reply, refusal_of}
@@ -28,15 +29,11 @@ returns-clause-ok c =
     (shown_plan s c.args.stream c.in-Some.place (reply_parts reply) at (told ∙ ap (λ (n : ℕ × Bound). plan_reply n.0 n.1.scan.plan) got)))
     c.plan_reply.ensures.ok
 
--- what holds in any case holds where there is an error
-in_any_case : {T E P : Type 0} (r : Result T E) → P → OnErr r P
-in_any_case (Ok _) p = tt
-in_any_case (Err _) p = p
-
 pub returns-clause-accepted : goal.returns-clause-accepted
 returns-clause-accepted c =
     let request = ShowPlan c.args.stream in
     let s : Serving = record { store = c.self.inside.store.now; told = c.self.inside.told; streams = c.self.inside.streams } in
-    in_any_case c.plan_reply.result
-    (subst (λ (t : Serving). refusal_of by_tails (parts_of t) request ≡ None) c.self.view_is
-    (a_stream s c.args.stream c.in-Some.place (λ state. None) c.in-Some.ensures))
+    let none : refusal_of by_tails (parts_of c.args.self.now) request ≡ None =
+    subst (λ (t : Serving). refusal_of by_tails (parts_of t) request ≡ None) c.self.view_is
+    (a_stream s c.args.stream c.in-Some.place (λ state. None) c.in-Some.ensures) in
+    IfErr-weaker c.plan_reply.result (λ fault. fault ≡ OutOfMemory) (λ fault. refusal_of by_tails (parts_of c.args.self.now) request ≡ None) (λ fault is. none) c.plan_reply.ensures.fault
