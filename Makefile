@@ -6,6 +6,7 @@
 #   make check              proves and tests everything from nothing, then runs the tests of the programs that this built
 #   make test               the programs' tests alone, over what `make` builds
 #   make check-deploy       tries what is in clients/, tools/ and deploy/, with Debian's packages, on this machine
+#   make mutants            tries every wrong body that the contracts are to refuse, for more than an hour
 #   make soak MINUTES=..    the scan server under load, hostile connections among it, for some minutes
 #   make bench              the programs that measure, in bin/
 #   make examples           the programs to copy from, in bin/
@@ -31,11 +32,11 @@ marks_below = $(patsubst %,crates/%/out/proved,$(filter $(LIBRARIES),$(shell sed
 
 all: $(PROGRAMS:%=bin/%)
 
-# A library is marked once it is proved.
+# A library is marked once it is proved. tools/apart.sh says why that is done in a copy of the tree.
 define library_rule
 crates/$(1)/out/proved: $$(call files_of,$(1)) $$(call marks_below,$(1))
 	@echo "proving $(1)"
-	@cd crates/$(1) && mkdir -p out && { rt lib > out/build.log 2>&1 || { cat out/build.log >&2; exit 1; }; }
+	@tools/apart.sh $(1) rt lib
 	@touch $$@
 endef
 $(foreach library,$(LIBRARIES),$(eval $(call library_rule,$(library))))
@@ -45,11 +46,9 @@ $(foreach library,$(LIBRARIES),$(eval $(call library_rule,$(library))))
 define program_rule
 bin/$(1): $$(call files_of,$(1)) $$(call marks_below,$(1)) bin/.cpu
 	@echo "proving and building $(1) for $(CPU)"
-	@cd crates/$(1) && mkdir -p out && \
-	words=$$$$(sed 's|^|$$(if $$(wildcard crates/$(1)/data),data/)|' args 2> /dev/null); \
-	if rt run --cpu=$(CPU) -- $$$$words < $$(if $$(wildcard crates/$(1)/stdin),stdin,/dev/null) \
-		> out/build.stdout 2> out/build.log; \
-	then test ! -f stdout || cmp out/build.stdout stdout; else cat out/build.log >&2; exit 1; fi
+	@words=$$$$(sed 's|^|$$(if $$(wildcard crates/$(1)/data),data/)|' crates/$(1)/args 2> /dev/null); \
+	tools/apart.sh $(1) rt run --cpu=$(CPU) -- $$$$words < $$(or $$(wildcard crates/$(1)/stdin),/dev/null)
+	@test ! -f crates/$(1)/stdout || cmp crates/$(1)/out/build.stdout crates/$(1)/stdout
 	@cp crates/$(1)/out/$(1) $$@
 endef
 $(foreach program,$(PROGRAMS) $(MEASURES) $(PROBES) $(EXAMPLES),$(eval $(call program_rule,$(program))))
@@ -75,6 +74,10 @@ test: $(TRIED:%=bin/%)
 
 check-deploy: all
 	python3 tests/deploy.py
+
+# The gate tries the wrong bodies that tell most, in crates/*/must-fail/; this tries those of mutants/ too, on a copy.
+mutants:
+	python3 tools/mutants.py
 
 # A report of the server under load.
 MINUTES = 1
@@ -114,5 +117,5 @@ clean:
 
 FORCE:
 
-.PHONY: all check test check-deploy soak bench examples install uninstall clean FORCE
+.PHONY: all check test check-deploy mutants soak bench examples install uninstall clean FORCE
 .DELETE_ON_ERROR:

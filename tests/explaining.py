@@ -13,6 +13,77 @@ REFUSED = b"litplan: refused (%d)\n"
 # The worked table, as docs/FORMATS.md has it.
 WORDS = b"he\nhis\nshe\nhers\nHe\n\nhis\n"
 
+# Three animals, one of them twice, and a null pattern; and bytes that a table or a drawing has otherwise.
+ANIMALS, SIGNS = b"cat\ndog\n\nhorse\ndog\n", b"a<b\n\"&\\\1\n"
+TABLE = rb"""bucket  literals  shortest  bytes  weight        cost    %   endings  first and last literal
+     1         1         3      3     151         351   37         1  "cat" to "cat"
+     2         1         3      3     151         351   37         1  "dog" to "dog"
+     3         1         5      3      32         232   24         1  "horse" to "horse"
+total                                             934  100
+one bucket for all                               1559  166
+even eighths                                      934  100
+equal to an earlier line: 1
+  line 5 is line 2 again
+null patterns: 1
+"""
+DRAWING = rb"""<svg xmlns="http://www.w3.org/2000/svg" viewBox="0 0 720 310" font-family="sans-serif" font-size="13">
+<style>text { fill: #24292f } rect { fill: #4f8fd0; stroke: #fff } path { stroke: #24292f }
+@media (prefers-color-scheme: dark) { text { fill: #e6edf3 } rect { stroke: #0d1117 } path { stroke: #e6edf3 } }</style>
+<text x="40" y="24">cost 934; one bucket for all 1559; even eighths 934</text>
+<g><title>bucket 1: literals 1, shortest 3, cost 351, % of all 37  "cat" to "cat"</title>
+<rect x="40" y="60" width="213" height="200"/>
+<text x="43" y="55">351</text>
+<text x="43" y="275">3</text>
+</g>
+<g><title>bucket 2: literals 1, shortest 3, cost 351, % of all 37  "dog" to "dog"</title>
+<rect x="253" y="60" width="213" height="200"/>
+<text x="256" y="55">351</text>
+<text x="256" y="275">3</text>
+</g>
+<g><title>bucket 3: literals 1, shortest 5, cost 232, % of all 24  "horse" to "horse"</title>
+<rect x="466" y="128" width="214" height="132"/>
+<text x="469" y="123">232</text>
+<text x="469" y="275">5</text>
+</g>
+<path d="M40 260H680"/>
+<text x="40" y="300">literals by length; below a bucket the bytes of its shortest, above it its cost</text>
+</svg>
+"""
+TABLE_OF_SIGNS = rb"""bucket  literals  shortest  bytes  weight        cost    %   endings  first and last literal
+     1         1         3      3     151         351   57         1  "a<b" to "a<b"
+     2         1         4      3      64         264   42         1  "\"&\\\x01" to "\"&\\\x01"
+total                                             615  100
+one bucket for all                                804  130
+even eighths                                      615  100
+equal to an earlier line: 0
+null patterns: 0
+"""
+DRAWING_OF_SIGNS = rb"""<svg xmlns="http://www.w3.org/2000/svg" viewBox="0 0 720 310" font-family="sans-serif" font-size="13">
+<style>text { fill: #24292f } rect { fill: #4f8fd0; stroke: #fff } path { stroke: #24292f }
+@media (prefers-color-scheme: dark) { text { fill: #e6edf3 } rect { stroke: #0d1117 } path { stroke: #e6edf3 } }</style>
+<text x="40" y="24">cost 615; one bucket for all 804; even eighths 615</text>
+<g><title>bucket 1: literals 1, shortest 3, cost 351, % of all 57  "a&lt;b" to "a&lt;b"</title>
+<rect x="40" y="60" width="320" height="200"/>
+<text x="43" y="55">351</text>
+<text x="43" y="275">3</text>
+</g>
+<g><title>bucket 2: literals 1, shortest 4, cost 264, % of all 42  "\"&amp;\\\x01" to "\"&amp;\\\x01"</title>
+<rect x="360" y="110" width="320" height="150"/>
+<text x="363" y="105">264</text>
+<text x="363" y="275">4</text>
+</g>
+<path d="M40 260H680"/>
+<text x="40" y="300">literals by length; below a bucket the bytes of its shortest, above it its cost</text>
+</svg>
+"""
+# Patterns, how they are shown, and the text.
+WORKED = [
+    (ANIMALS, [], TABLE),
+    (ANIMALS, ["--svg"], DRAWING),
+    (SIGNS, [], TABLE_OF_SIGNS),
+    (SIGNS, ["--svg"], DRAWING_OF_SIGNS),
+]
+
 # Files, the words, standard input, and the message, which comes with status 2.
 REFUSALS = [
     ({}, ["explain", "-"], b"", REFUSED % 5),
@@ -46,7 +117,9 @@ def is_xml(text):
 
 
 def rows(run):
-    """The worked table, words in other places, and what is refused."""
+    """The worked tables and drawings, words in other places, and what is refused."""
+    for patterns, words, text in WORKED:
+        yield f"litplan explain {words} of {patterns}", run({}, ["explain", "-", *words], patterns), (0, text, b"")
     for words, is_folded in (["explain", "-"], False), (["explain", "-i", "-"], True), (["explain", "-", "--ignore-case", "-i"], True):
         wanted = plain_view.text_of(WORDS.split(b"\n")[:-1], is_folded)
         yield f"litplan {words}", run({}, words, WORDS), (0, wanted, b"")

@@ -29,7 +29,6 @@ STARVED = re.compile(rb"(error|there is memory): (OutOfMemory|AllocError|AllocFa
 BESIDE = {
     "lit_base": rb"Some\(\(Err\(OutOfMemory\), 2, true\)\)|Some\(Err\(1\)\)",
     "scan_core": rb"\[Some\(OutOfMemory\), None, None\]",
-    "scan_serve": rb"\[?(\(\w+, true\), )?\(OutOfMemory, true\)(, \(\w+, true\))?\]?|Some\(\(OutOfMemory, \d+\)\)",
 }
 # Tests of calls that answer None for want of memory, where a value is wanted; the last is one of mistaken_tests.c.
 TELL_NONE = re.compile(
@@ -37,21 +36,17 @@ TELL_NONE = re.compile(
     "|line_pick::picker::tests::(finding::.*|names_its_faults|numbers::.*|whole_lines::selects_.*)"
     "|lit_base::(costs|lit_list|raw_list)::tests::.*"
     "|plan_store::tests::(finds_.*_published|shows_in_one_thread_what_another_published|tells_two_threads_two_numbers)"
-    "|scan_core::tests::(counts_the_literals_of_the_normal_form|has_64_streams_open|opens_.*_published|publishes_64_plans"
-    "|tells_each_end_once_over_many_feeds|tells_hits_in_full_blocks)"
-    "|scan_serve::tests::serves_more_than_it_holds_at_once"
+    "|scan_core::tests::opens_.*_published"
     "|text_(automaton|windows)::tests::.*"
     "|mistaken::answers none"
 )
 NO_VALUE = re.compile(rb"left: None\n right: Some\(")
 # Tests that do not tell want of memory: of workers that wait for each other, where one does it all if memory for a thread is
-# refused, of threads that publish as much as they can, and of a server's clients, who see no more than that it ends.
+# refused, and of threads that publish as much as they can.
 LEFT_OUT = {
     "par_scan::tests::runs_two_workers_at_once",
     "par_scan::tests::runs_sixteen_workers_at_once",
     "plan_store::tests::finds_what_eight_threads_published",
-    "scan_run::tests::serves_two_clients_at_once",
-    "scan_run::tests::tells_a_client_that_left_inside_a_frame",
 }
 # Tests that may pass where all growths behind one are refused: a thread that is not to be had is done without, and the first
 # and the last want to find nothing at their ends.

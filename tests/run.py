@@ -56,6 +56,7 @@ GREPS = [
     ({}, ["cat"], b"\0cat\r\n\r\n", b"\0cat\r\n", b"", 0),
     ({}, [], b"", b"", NO_PATTERN, 2),
     ({}, ["-F"], b"", b"", NO_PATTERN, 2),
+    ({}, ["-F", "-c"], b"", b"", NO_PATTERN, 2),
     ({}, ["-z", "a"], b"a\n", b"", b"error: unexpected argument '-z' found...", 2),
     ({}, ["--help"], b"", b"", b"litgrep writes the lines...", 2),
     ({}, [b"\xff"], b"", b"", b"litgrep: a word is not UTF-8\n", 2),
@@ -100,6 +101,18 @@ GREPS = [
     ({}, ["-e", "-n", "-ne", "--"], b"a\n-n\n--\n", b"2:-n\n3:--\n", b"", 0),
     ({"-p": b"cat\n"}, ["-f", "-p", "-e", "-=", "--", "-"], b"cat\n-=\nb\n", b"cat\n-=\n", b"", 0),
     ({}, ["--", "-e", "-"], b"a-e\nb\n", b"a-e\n", b"", 0),
+    # many words at once, short and long spellings of options, and what looks like one as the argument of another
+    ({"f": b"x\n=CAT\n", "g": b"a-b\ny\n", "-q": b"DOG\nz\n", "p": b"dog\n"},
+     ["f", "-nnF", "-i", "-e=cat", "g", "-f", "p", "-ve", "-", "--", "-q"], b"", b"f:1:x\ng:2:y\n-q:2:z\n", b"", 0),
+    ({"-e": b"dog\n", "g": b"cow\n", "-=": b"a-N\nx--\n-=X\n-F\nplain\nDOG\nCow\n--n\n- E\n"},
+     ["-e", "-n", "-ie", "--", "-e", "-", "-e", "-=x", "-f", "-e", "-f", "g", "-e-f", "-v", "--", "-e", "-="], b"", b"-=:plain\n", b"", 0),
+    ({"-e": b"dog\n", "g": b"cow\n", "-=": b"a-N\nx--\n-=X\n-F\nplain\nDOG\nCow\n- E\n"},
+     ["-e", "-n", "-ie", "--", "-e", "-=x", "-f", "-e", "-f", "g", "-e-f", "-v", "--", "-e", "-="], b"", b"-=:plain\n-=:- E\n", b"", 0),
+    ({"-v": b"dog\n", "p": b"cow\n", "--quiet": b"x-N\n--FILE\na=b\nDOG\nCow\nnone\n"},
+     ["--count", "--regexp=-n", "--regexp", "--file", "--ignore-case", "--file", "-v", "--regexp==", "--file=p", "--", "--quiet"],
+     b"", b"5\n", b"", 0),
+    ({}, ["-xclqs", "", "-"], b"a\n\n", b"", b"", 0),
+    ({}, ["-xclqs", "", "-"], b"a\n", b"", b"", 1),
     # pattern files
     ({"empty": b""}, ["-f", "empty"], b"a\n", b"", b"", 1),
     ({"empty": b""}, ["-v", "-f", "empty"], b"a\n", b"a\n", b"", 0),
@@ -252,6 +265,7 @@ def usages():
     explain, scan = "litplan explain [-i] [--svg] FILE", "litplan scan [-i] [--count] --workers W FILE INPUT"
     for program, words, usage in (
         (LITGREP, ["-z"], lists),
+        (LITGREP, ["--help"], lists),
         (LITPLAN, ["-z"], f"Usage: {plan}\n       {check}\n       {pack}\n       {explain}\n       {scan}"),
         (LITPLAN, ["plan"], f"Usage: {plan}\n"),
         (LITPLAN, ["check", "f"], f"Usage: {check}\n"),

@@ -4,6 +4,7 @@ model of sessions.py. SCAND in the environment names another program to test."""
 import bisect
 import concurrent.futures
 import functools
+import itertools
 import os
 import random
 import resource
@@ -14,7 +15,7 @@ import tempfile
 
 import session_cases
 from session_cases import CAT_IN_7, CLOSE_7, FEED_CONCAT, FIRST_THREE, OPEN_7, PUBLISH_CAT, SHOW_PLAN_7, THEIR_REPLIES
-from sessions import HITS, close, conversation, fed, feed, frame, open_stream, publish, refused, replies_of, requests_of
+from sessions import HITS, close, conversation, fed, feed, frame, hits_replies, open_stream, publish, refused, replies_of, requests_of
 
 TOP = os.path.dirname(os.path.dirname(os.path.abspath(__file__)))
 SCAND = os.environ.get("SCAND", os.path.join(TOP, "bin", "scand"))
@@ -309,6 +310,15 @@ def random_serving():
     yield from side_by_side(cases)
 
 
+def each_end_once():
+    """Streams fed byte by byte: an end at each byte but the first of 100,000, and the longest literal at its last places."""
+    for literal, count in (b"aa", 100_000), (b"a" * 4095, 4096):
+        text = publish([literal]) + OPEN_7 + feed(7, b"a") * count
+        told = [hits_replies(7, [(0, place)] if place >= len(literal) else []) + [fed(7, place)] for place in range(1, count + 1)]
+        want = (0, THEIR_REPLIES[:26] + b"".join(itertools.chain.from_iterable(told)), b"")
+        yield f"{count} bytes one by one, for a literal of {len(literal)}", served(text) == want, True
+
+
 # What streams are made of that the server learns from: words of lines, and figures.
 LINE_WORDS = [b"con", b"nect", b"ion ", b"sess", b"the ", b"plan", b"ner ", b"of ", b"it", b"ation", b"search", b"ed\n"]
 FIGURES = [b"0x", b"1f", b"07", b", ", b"00", b"\xff\xfe", b"con", b"7e3", b"ION "]
@@ -365,4 +375,4 @@ def long_streams():
         yield f"hits in long streams of seed {seed}", len(replies) > 1 << 19, True
 
 
-PARTS = (words, model, rows, cuts, waits, halves, costliest, long_streams, faults, random_serving)
+PARTS = (words, model, rows, cuts, waits, halves, costliest, each_end_once, long_streams, faults, random_serving)

@@ -51,6 +51,7 @@ WORKED = [
     ("flags 02", publish([b"cat"], flags=2), bytes.fromhex("00000008 17 00000000 0B 0004"), "bad"),
     ("Close and Open again", FIRST_THREE + CLOSE_7 + OPEN_7 + feed(7, b""),
      THEIR_REPLIES + CLOSED_7 + OPENED_7 + bytes.fromhex("0000000D 14 00000007 0000000000000000"), "clean"),
+    ("a literal across two pieces", CAT_IN_7 + feed(7, b"conc") + feed(7, b"at"), ITS_REPLIES + fed(7, 4) + hits(7, (0, 6)) + fed(7, 6), "clean"),
     ("an empty piece", FIRST_THREE + feed(7, b""), THEIR_REPLIES + fed(7, 6), "clean"),
     ("an empty literal behind another", publish([b"a", b""]), refused(0, EMPTY_LITERAL, 1), "clean"),
     ("a stream that is not open", feed(7, b"cat") + close(7) + show_plan(7) + CLOSE_7, refused(7, NO_SUCH_STREAM) * 4, "clean"),
@@ -88,6 +89,9 @@ BAD = [
 
 DIFFERENT = [b"%c%c" % (97 + number // 32, 48 + number % 32) for number in range(1025)]
 PAIRS = [bytes([number // 32 + 1, number % 32]) for number in range(1024)]
+# A letter in two cases and 1,023 literals that are no letters: a run of the letter and 17 others, and seven of 143 or 144.
+FOLDED_PAIRS = [b"A", b"a"] + [bytes([128 | number >> 7, 128 | number & 127]) for number in range(1023)]
+FOLDED_PAIRS_SHOWN = bytes.fromhex("01 0400 00000000047DCA40 08 0012 00A1 0130 01C0 0250 02E0 0370 0400")
 PAIRS_SHOWN = bytes.fromhex("00 0400 0000000004000640 08 0080 0100 0180 0200 0280 0300 0380 0400")
 SMALL = [publish([b"%d" % number]) for number in range(64)]
 NUMBERS = b"".join(published(number) for number in range(64))
@@ -105,6 +109,10 @@ def rising(first, last):
 # The limits.
 LIMITS = [
     ("1,025 literals", publish(DIFFERENT), refused(0, TOO_MANY_LITERALS), "clean"),
+    ("no plan of 1,025 literals", publish(DIFFERENT) + OPEN_7 + SHOW_PLAN_7,
+     refused(0, TOO_MANY_LITERALS) + refused(7, NO_SUCH_PLAN) + refused(7, NO_SUCH_STREAM), "clean"),
+    ("1,025 literals of which two fold together shown", publish(FOLDED_PAIRS, True) + OPEN_7 + SHOW_PLAN_7,
+     ITS_REPLIES + frame(PLAN, 7, FOLDED_PAIRS_SHOWN), "clean"),
     ("1,025 literals of which two fold together", publish([b"A0", *DIFFERENT[:1024]], True) + open_stream(1, 0) + feed(1, b"..A0"),
      PUBLISHED_0 + opened(1) + hits(1, (0, 4)) + fed(1, 4), "clean"),
     ("the same without folding", publish([b"A0", *DIFFERENT[:1024]]), refused(0, TOO_MANY_LITERALS), "clean"),
@@ -141,6 +149,15 @@ LIMITS = [
      PUBLISHED_0 + ALL_OPENED + closed(9) + refused(80, NO_SUCH_PLAN) + opened(80) + refused(9, STREAM_QUOTA), "clean"),
 ]
 
+# Where a literal ends in a text of dots: before, at and behind the places where a vector of 32 or 64 bytes ends.
+EDGES = [31, 32, 33, 34, 63, 64, 65, 66, 100]
+
+
+def dotted(end):
+    """A hundred bytes, dots but for a literal that ends there."""
+    return (b"." * (end - 3) + b"xyz").ljust(100, b".")
+
+
 # What streams are told.
 LAST = 0xFFFFFFFF
 FOUR = publish([b"he", b"his", b"she", b"hers"]) + open_stream(1, 0)
@@ -160,6 +177,10 @@ STREAMED = [
      ITS_REPLIES + hits(7, (0, 3), (0, 7)) + fed(7, 7) + PLAN_OF_CAT.replace(b"\7\0\0\1", b"\7\1\0\1"), "clean"),
     ("the greatest stream", PUBLISH_CAT + open_stream(LAST, 0) + feed(LAST, b"cat") + close(0) + close(LAST),
      PUBLISHED_0 + opened(LAST) + hits(LAST, (0, 3)) + fed(LAST, 3) + refused(0, NO_SUCH_STREAM) + closed(LAST), "clean"),
+    ("a literal and a longer one that is not whole", publish([b"ab", b"abc"]) + OPEN_7 + feed(7, b"ab"), ITS_REPLIES + hits(7, (0, 2)) + fed(7, 2), "clean"),
+    ("what passes the filter alone", publish([b"abcdefgh", b"abcdefxy"]) + OPEN_7 + feed(7, b"abcdefgy"), ITS_REPLIES + fed(7, 8), "clean"),
+    ("ends at the edges of vectors", publish([b"xyz"]) + b"".join(open_stream(end, 0) + feed(end, dotted(end)) for end in EDGES),
+     PUBLISHED_0 + b"".join(opened(end) + hits(end, (0, end)) + fed(end, 100) for end in EDGES), "clean"),
     ("overlaps", publish([b"aa"]) + open_stream(7, 0) + feed(7, b"aaaa"),
      ITS_REPLIES + hits(7, (0, 2), (0, 3), (0, 4)) + fed(7, 4), "clean"),
     ("nothing left of a closed stream", PUBLISH_CAT + open_stream(7, 0) + feed(7, b"ca") + CLOSE_7 + OPEN_7 + feed(7, b"t"),

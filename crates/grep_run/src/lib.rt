@@ -19,6 +19,3 @@ pub use message::{say_out_of_memory, write_whole};
 pub use options::GrepOptions;
 pub use running::{answer, run};
 pub use status::{Status, Stop};
-
-#[cfg(test)]
-mod tests;

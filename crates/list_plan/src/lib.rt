@@ -4,6 +4,3 @@
 mod compiling;
 
 pub use compiling::compile;
-
-#[cfg(test)]
-mod tests;

@@ -15,6 +15,3 @@ fn main(rt: HostRuntime) -> ExitCode {
     let mut err = ToWrite::new(rt.stderr());
     ExitCode::from(program::serve(&rt, rt.stdin(), &mut out, &mut err).code())
 }
-
-#[cfg(test)]
-mod tests;

@@ -14,6 +14,3 @@ mod viewing;
 
 pub use drawing::plan_svg;
 pub use viewing::plan_text;
-
-#[cfg(test)]
-mod tests;

@@ -7,6 +7,3 @@ mod reading;
 
 pub use fault::Fault;
 pub use reading::{VERSION, matches_of, words};
-
-#[cfg(test)]
-mod tests;

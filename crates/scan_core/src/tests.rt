@@ -1,6 +1,6 @@
 //! What no clause says: that a request is answered where there is memory, that numbers begin at 0, and
 //! that a number of another session is found, in another thread too. Where memory runs out a test tells it, once the
-//! replies are seen to be none.
+//! replies are seen to be none. Worked sessions and the limits are rows of `tests/session_cases.py`, played with `scand`.
 ghost use Rattle.std.specs.Prelude.{◌≡◌, IfSome};
 
 use crate::session::Session;
@@ -54,11 +54,6 @@ fn unless_starved(replies: Replies) -> Option<Replies> {
 /// One reply.
 fn one(said: Told) -> Replies {
     [Some(said), None, None]
-}
-
-/// Nothing but a refusal.
-fn refused(stream: u32, code: u8, detail: u16) -> Replies {
-    one(Told::Refused(stream, code, detail))
 }
 
 /// What a reply says.
@@ -177,13 +172,8 @@ const CONCAT: Ask = Ask::Feed(7, b"concat");
 
 const OPEN: Ask = Ask::Open(7, 0);
 
-/// The front of `concat`.
-const CONC: Ask = Ask::Feed(7, b"conc");
-
 /// The replies to `concat`, or to what completes it.
 const OF_CONCAT: Replies = [Some(Told::Hits(7, 1, 6)), Some(Told::Fed(7, 6)), None];
-
-const NOTHING: Ask = Ask::Feed(7, b"");
 
 /// Asserts that a session of a new store answers so to the last of what is asked.
 fn assert_last<R: Abort + AllocGlobal + Wait>(rt: &R, asks: &[Ask<'_>], wanted: Replies) {
@@ -191,288 +181,14 @@ fn assert_last<R: Abort + AllocGlobal + Wait>(rt: &R, asks: &[Ask<'_>], wanted: 
 }
 
 #[test]
-fn tells_the_hits_of_a_stream(rt: HostRuntime) {
+fn answers_each_kind_of_request(rt: HostRuntime) {
+    let plan = Told::Plan(7, Fold::No, 1, 351, 1);
     assert_last(&rt, &[CAT], one(Told::Published(0)));
-    assert_last(&rt, &[CAT, CAT], one(Told::Published(1)));
     assert_last(&rt, &[CAT, OPEN], one(Told::Opened(7)));
     assert_last(&rt, &[CAT, OPEN, CONCAT], OF_CONCAT);
-}
-
-#[test]
-fn goes_on_with_a_stream(rt: HostRuntime) {
-    assert_last(&rt, &[CAT, OPEN, CONCAT, NOTHING], one(Told::Fed(7, 6)));
-    assert_last(&rt, &[CAT, OPEN, CONC, Ask::Feed(7, b"at")], OF_CONCAT);
-}
-
-#[test]
-fn forgets_a_closed_stream(rt: HostRuntime) {
-    let closed = [CAT, OPEN, CONC, Ask::Close(7), OPEN, NOTHING];
-    assert_last(&rt, &closed[..4], one(Told::Closed(7)));
-    assert_last(&rt, &closed, one(Told::Fed(7, 0)));
-}
-
-#[test]
-fn shows_the_plan_of_a_stream(rt: HostRuntime) {
-    let plan = Told::Plan(7, Fold::No, 1, 351, 1);
     assert_last(&rt, &[CAT, OPEN, Ask::ShowPlan(7)], one(plan));
-}
-
-#[test]
-fn refuses_streams(rt: HostRuntime) {
-    assert_last(&rt, &[CONCAT], refused(7, 13, 0));
-    assert_last(&rt, &[Ask::Close(7)], refused(7, 13, 0));
-    assert_last(&rt, &[Ask::ShowPlan(7)], refused(7, 13, 0));
-    assert_last(&rt, &[Ask::Open(7, 5)], refused(7, 14, 0));
-    assert_last(&rt, &[CAT, OPEN, Ask::Open(7, 5)], refused(7, 12, 0));
-    assert_last(&rt, &[CAT, OPEN, OPEN], refused(7, 12, 0));
-}
-
-/// Asserts that a session of a new store answers so to a Publish of these literals.
-fn assert_published<R: Abort + AllocGlobal + Wait>(rt: &R, literals: &[&[u8]], wanted: Told) {
-    assert_last(rt, &[Ask::Publish(Fold::No, literals)], one(wanted));
-}
-
-#[test]
-fn refuses_literals(rt: HostRuntime) {
-    let (empty, letters): (&[u8], &[u8]) = (b"", &[b'a'; 4096]);
-    assert_published(&rt, &[], Told::Refused(0, 5, 0));
-    assert_published(&rt, &[b"a", b""], Told::Refused(0, 4, 1));
-    assert_published(&rt, &[empty; 4097], Told::Refused(0, 2, 0));
-    assert_published(&rt, &[&letters[1..]], Told::Published(0));
-    assert_published(&rt, &[letters], Told::Refused(0, 3, 0));
-}
-
-/// So many different literals of two bytes that are no letters, and these behind them.
-fn many(alloc: Global, count: u16, others: &[&[u8]]) -> Option<Vec<Vec<u8>>> {
-    let mut all = copied(alloc, others)?;
-    for number in 0..count {
-        let [high, low] = number.to_be_bytes();
-        let literal = [128 | high << 1 | low >> 7, 128 | low];
-        all.push(Vec::from_slice(alloc, &literal).ok()?).ok()?;
-    }
-    Some(all)
-}
-
-/// What a session answers to a Publish of many literals, and then to an Open and a ShowPlan; none where
-/// memory ran out, and then no plan is shown.
-fn publish_and_show<R: Wait>(
-    rt: &R,
-    alloc: Global,
-    session: &mut Session<'_>,
-    request: Request,
-) -> Option<(Replies, Replies)> {
-    let first = answered(rt, alloc, session, request);
-    let shown = unless_starved(last_answer(rt, alloc, session, &[OPEN, Ask::ShowPlan(7)]))?;
-    if first == STARVED && shown == refused(7, 13, 0) {
-        return None;
-    }
-    Some((first, shown))
-}
-
-/// That of a session of a new store.
-fn shown_of_many<R: Wait>(
-    rt: &R,
-    alloc: Global,
-    fold: Fold,
-    literals: Vec<Vec<u8>>,
-) -> Option<(Replies, Replies)> {
-    let store = PlanStore::new(alloc).ok()?;
-    let request = Request::Publish { fold, literals };
-    publish_and_show(rt, alloc, &mut Session::new(&store), request)
-}
-
-/// That of so many literals and these behind them.
-fn of_many<R: Wait>(
-    rt: &R,
-    alloc: Global,
-    count: u16,
-    others: &[&[u8]],
-) -> Option<(Replies, Replies)> {
-    shown_of_many(rt, alloc, Fold::Ascii, many(alloc, count, others)?)
-}
-
-/// Asserts that these are the replies.
-fn assert_many<R: Abort + AllocGlobal + Wait>(
-    rt: &R,
-    count: u16,
-    others: &[&[u8]],
-    first: Told,
-    shown: Told,
-) {
-    let wanted = (one(first), one(shown));
-    assert_eq!(*rt; of_many(rt, rt.alloc(), count, others), Some(wanted));
-}
-
-#[test]
-fn counts_the_literals_of_the_normal_form(rt: HostRuntime) {
-    let unknown = Told::Refused(7, 13, 0);
-    assert_many(&rt, 1025, &[], Told::Refused(0, 6, 0), unknown);
-    // A run of the letter and 17 literals of two bytes, and seven runs of 143 or 144 of the others.
-    let plan = Told::Plan(7, Fold::Ascii, 1024, 75_352_640, 8);
-    assert_many(&rt, 1023, &[b"A", b"a"], Told::Published(0), plan);
-}
-
-/// The replies to a Feed of so many letters `a`, by the plan of one.
-fn fed_letters<R: Wait>(rt: &R, alloc: Global, count: usize) -> Option<Replies> {
-    let letters = vec![in alloc; b'a'; count].ok()?;
-    let asks = [
-        Ask::Publish(Fold::No, &[b"a"]),
-        OPEN,
-        Ask::Feed(7, &letters),
-    ];
-    unless_starved(last_of(rt, alloc, &asks))
-}
-
-#[test]
-fn tells_hits_in_full_blocks(rt: HostRuntime) {
-    let wanted = [
-        Some(Told::Hits(7, 4096, 4096)),
-        Some(Told::Hits(7, 1, 4097)),
-        Some(Told::Fed(7, 4097)),
-    ];
-    assert_eq!(rt; fed_letters(&rt, rt.alloc(), 4097), Some(wanted));
-}
-
-/// How many letters `a`, each fed by itself, end `aa` at their own place, the first of a stream aside.
-fn ends_in_letters<R: Wait>(
-    rt: &R,
-    alloc: Global,
-    session: &mut Session<'_>,
-    count: u64,
-) -> Option<u64> {
-    let mut ends = 0;
-    for place in 2..=count {
-        let wanted = [
-            Some(Told::Hits(7, 1, place)),
-            Some(Told::Fed(7, place)),
-            None,
-        ];
-        let said = unless_starved(asked(rt, alloc, session, Ask::Feed(7, b"a")))?;
-        if said == wanted && ends < count {
-            ends += 1;
-        }
-    }
-    Some(ends)
-}
-
-/// That, with the first letter fed before; 0 where its replies are others.
-fn ends_of_two<R: Wait>(
-    rt: &R,
-    alloc: Global,
-    session: &mut Session<'_>,
-    count: u64,
-) -> Option<u64> {
-    let before = [Ask::Publish(Fold::No, &[b"aa"]), OPEN, Ask::Feed(7, b"a")];
-    if unless_starved(last_answer(rt, alloc, session, &before))? != one(Told::Fed(7, 1)) {
-        return Some(0);
-    }
-    ends_in_letters(rt, alloc, session, count)
-}
-
-/// That of a session of a new store.
-fn ends_of_new<R: Wait>(rt: &R, alloc: Global, count: u64) -> Option<u64> {
-    let store = PlanStore::new(alloc).ok()?;
-    ends_of_two(rt, alloc, &mut Session::new(&store), count)
-}
-
-#[test]
-fn tells_each_end_once_over_many_feeds(rt: HostRuntime) {
-    assert_eq!(rt; ends_of_new(&rt, rt.alloc(), 100_000), Some(99_999));
-}
-
-/// How many of so many streams, from 1 on, a session opens by plan 0.
-fn open_up_to<R: Wait>(
-    rt: &R,
-    alloc: Global,
-    session: &mut Session<'_>,
-    count: u32,
-) -> Option<u32> {
-    let mut opened = 0;
-    for stream in 1..=count {
-        let said = unless_starved(asked(rt, alloc, session, Ask::Open(stream, 0)))?;
-        if said == one(Told::Opened(stream)) && opened < count {
-            opened += 1;
-        }
-    }
-    Some(opened)
-}
-
-/// How many of so many plans a session publishes under numbers that rise from 0.
-fn publish_up_to<R: Wait>(
-    rt: &R,
-    alloc: Global,
-    session: &mut Session<'_>,
-    count: u64,
-) -> Option<u64> {
-    let mut published = 0;
-    for number in 0..count {
-        let said = unless_starved(asked(rt, alloc, session, CAT))?;
-        if said == one(Told::Published(number)) && published < count {
-            published += 1;
-        }
-    }
-    Some(published)
-}
-
-/// How many of 64 streams a session opens, and what it then answers to this.
-fn open_and_ask<R: Wait>(
-    rt: &R,
-    alloc: Global,
-    session: &mut Session<'_>,
-    ask: Ask<'_>,
-) -> Option<(u32, Replies)> {
-    let _ = unless_starved(asked(rt, alloc, session, CAT))?;
-    let opened = open_up_to(rt, alloc, session, 64)?;
-    Some((opened, unless_starved(asked(rt, alloc, session, ask))?))
-}
-
-/// That of a session of a new store.
-fn opened_beside<R: Wait>(rt: &R, alloc: Global, ask: Ask<'_>) -> Option<(u32, Replies)> {
-    let store = PlanStore::new(alloc).ok()?;
-    open_and_ask(rt, alloc, &mut Session::new(&store), ask)
-}
-
-/// How many of 64 plans a session publishes, and what it then answers to this.
-fn publish_and_ask<R: Wait>(
-    rt: &R,
-    alloc: Global,
-    session: &mut Session<'_>,
-    ask: Ask<'_>,
-) -> Option<(u64, Replies)> {
-    let published = publish_up_to(rt, alloc, session, 64)?;
-    Some((published, unless_starved(asked(rt, alloc, session, ask))?))
-}
-
-/// That of a session of a new store.
-fn published_beside<R: Wait>(rt: &R, alloc: Global, ask: Ask<'_>) -> Option<(u64, Replies)> {
-    let store = PlanStore::new(alloc).ok()?;
-    publish_and_ask(rt, alloc, &mut Session::new(&store), ask)
-}
-
-/// Asserts that all 64 are opened, and one more is refused by this code.
-fn assert_opened<R: Abort + AllocGlobal + Wait>(rt: &R, stream: u32, number: u64, code: u8) {
-    let wanted = Some((64, refused(stream, code, 0)));
-    let ask = Ask::Open(stream, number);
-    assert_eq!(*rt; opened_beside(rt, rt.alloc(), ask), wanted);
-}
-
-#[test]
-fn has_64_streams_open(rt: HostRuntime) {
-    assert_opened(&rt, 65, 0, 16);
-    assert_opened(&rt, 65, 5, 16);
-    assert_opened(&rt, 64, 0, 12);
-}
-
-/// Asserts that all 64 are published, and this is refused.
-fn assert_full<R: Abort + AllocGlobal + Wait>(rt: &R, ask: Ask<'_>) {
-    let wanted = Some((64, refused(0, 15, 0)));
-    assert_eq!(*rt; published_beside(rt, rt.alloc(), ask), wanted);
-}
-
-#[test]
-fn publishes_64_plans(rt: HostRuntime) {
-    assert_full(&rt, CAT);
-    assert_full(&rt, Ask::Publish(Fold::No, &[]));
+    assert_last(&rt, &[CAT, OPEN, Ask::Close(7)], one(Told::Closed(7)));
+    assert_last(&rt, &[CONCAT], one(Told::Refused(7, 13, 0)));
 }
 
 /// What a new session answers to the last of what is asked, none where memory ran out.
@@ -503,7 +219,7 @@ fn opens_what_another_session_published(rt: HostRuntime) {
     assert_another(&rt, &[Ask::Open(7, 1)], one(Told::Opened(7)));
     assert_another(&rt, &[Ask::Open(7, 1), CONCAT], OF_CONCAT);
     assert_another(&rt, &[OPEN, CONCAT], one(Told::Fed(7, 6)));
-    assert_another(&rt, &[Ask::Open(7, 2)], refused(7, 14, 0));
+    assert_another(&rt, &[Ask::Open(7, 2)], one(Told::Refused(7, 14, 0)));
 }
 
 /// The number that was told.

@@ -20,6 +20,3 @@ pub use plan_file::Fault;
 pub use scan_serve::Ended;
 pub use serving::{serve, serve_session};
 pub use status::Status;
-
-#[cfg(test)]
-mod tests;

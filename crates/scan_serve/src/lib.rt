@@ -17,6 +17,3 @@ pub use outbox::Outbox;
 pub use serving::serve;
 pub use stop::Stop;
 pub use window::Window;
-
-#[cfg(test)]
-mod tests;
