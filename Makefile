@@ -26,17 +26,26 @@ CPU := $(if $(filter-out $(shell grep -m1 '^flags' /proc/cpuinfo),$(V3_FLAGS)),x
 CRATES := $(shell sed -nE 's/^([a-z_0-9]+).*:.*/\1/p' crates.txt)
 LIBRARIES := $(patsubst crates/%/src/lib.rt,%,$(wildcard $(CRATES:%=crates/%/src/lib.rt)))
 
+# The longest chain of crates, each of which stands on the one before. It decides how long a first build takes, so the
+# other crates give way to it.
+CHAIN = byte_io lit_base nib_mask lane_filter text_windows flow_scan line_pick grep_run litgrep
+first = $(if $(filter $(1),$(CHAIN)),,nice)
+
+# Processes that share one proof: as many as there are processors, but more than four gain nothing.
+JOBS := $(shell n=$$(nproc) && echo $$((n < 4 ? n : 4)))
+
 # The files of a crate, and the marks of the libraries of this repository that it stands on, by crates.txt.
-files_of = $(shell find crates/$(1) -name out -prune -o -type f -print)
+files_of = $(shell find crates/$(1) \( -name out -o -name must-fail \) -prune -o -type f -print)
 marks_below = $(patsubst %,crates/%/out/proved,$(filter $(LIBRARIES),$(shell sed -nE 's/^$(1)( .*)?:(.*)/\2/p' crates.txt)))
 
 all: $(PROGRAMS:%=bin/%)
 
-# A library is marked once it is proved. tools/apart.sh says why that is done in a copy of the tree.
+# A library is marked once it is proved. The crates above read its statements alone, not its proofs again. tools/apart.sh
+# says what rt locks, and why a crate is proved in a copy of the tree.
 define library_rule
 crates/$(1)/out/proved: $$(call files_of,$(1)) $$(call marks_below,$(1))
 	@echo "proving $(1)"
-	@tools/apart.sh $(1) rt lib
+	@$(call first,$(1)) tools/apart.sh $(1) rt lib --statements --jobs $(JOBS)
 	@touch $$@
 endef
 $(foreach library,$(LIBRARIES),$(eval $(call library_rule,$(library))))
@@ -47,7 +56,7 @@ define program_rule
 bin/$(1): $$(call files_of,$(1)) $$(call marks_below,$(1)) bin/.cpu
 	@echo "proving and building $(1) for $(CPU)"
 	@words=$$$$(sed 's|^|$$(if $$(wildcard crates/$(1)/data),data/)|' crates/$(1)/args 2> /dev/null); \
-	tools/apart.sh $(1) rt run --cpu=$(CPU) -- $$$$words < $$(or $$(wildcard crates/$(1)/stdin),/dev/null)
+	$(call first,$(1)) tools/apart.sh $(1) rt run --cpu=$(CPU) --jobs $(JOBS) -- $$$$words < $$(or $$(wildcard crates/$(1)/stdin),/dev/null)
 	@test ! -f crates/$(1)/stdout || cmp crates/$(1)/out/build.stdout crates/$(1)/stdout
 	@cp crates/$(1)/out/$(1) $$@
 endef
