@@ -20,8 +20,8 @@ import tempfile
 from programs import HERE
 
 sys.path.insert(0, os.path.join(HERE, "../tests"))
-import plain_plan  # noqa: E402
-from plain_plan_file import file_fields  # noqa: E402
+from oracles import plain_plan  # noqa: E402
+from oracles.plain_plan_file import file_fields  # noqa: E402
 
 PROBE = os.path.join(HERE, "../bin/plan_probe")
 CHECK = os.path.join(HERE, "../bin/bench_check")

@@ -28,7 +28,7 @@ from programs import HERE, MB, log_block, machine, rare_literal, write_lines
 from talking import Port, Stdio
 
 sys.path.insert(0, os.path.join(HERE, "../tests"))
-from sessions import feed, open_stream, publish  # noqa: E402
+from oracles.sessions import feed, open_stream, publish  # noqa: E402
 
 SCAN = os.path.join(HERE, "../bin/bench_scan")
 PEER = os.path.join(HERE, "peers/bin/serve")

@@ -8,7 +8,7 @@ import time
 from programs import HERE
 
 sys.path.insert(0, os.path.join(HERE, "../tests"))
-from sessions import HITS, feed, open_stream  # noqa: E402
+from oracles.sessions import HITS, feed, open_stream  # noqa: E402
 
 MORE = bytes([HITS])
 LOAD = os.path.join(HERE, "peers/bin/load")

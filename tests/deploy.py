@@ -1,11 +1,11 @@
 #!/usr/bin/env python3
-"""Tries what is in clients/, tools/ and deploy/ on this machine, over the loopback alone.
+"""Tests clients/, tools/ and deploy/ on this machine, over the loopback alone.
 
-    python3 tests/deploy.py [PART..]
+    python3 tests/deploy.py             plays all parts
+    python3 tests/deploy.py PART..      plays these parts; --help names them
 
-Without PARTs all of them; --help names them. What is needed beside the programs in bin/ is installed from Debian's
-packages where the caller may do that; what cannot be tried without it is left out, and named. Prints
-'N passed, M failed'."""
+Installs from Debian's packages what the parts need in addition to the programs in bin/, where the caller may do that.
+Leaves out each part that lacks a program, and says so. Prints each check that fails, then 'N passed, M failed'."""
 
 import argparse
 import importlib
@@ -14,20 +14,20 @@ import shutil
 import subprocess
 import sys
 
-import clients
+from support.playing import played
 
-# The parts, in order, and the programs that each of them needs beside those of a system with Python and a C compiler.
-NEEDS = {
-    "types": ["mypy"],
-    "clients": [],
-    "c_header": [],
-    "dissecting": ["tshark"],
-    "supervising": ["systemd-socket-activate", "systemd-analyze", "strace"],
-    "balancing": ["haproxy", "systemd-socket-activate"],
-    "hosts": ["parallel"],
-    "cluster": ["dask-scheduler", "dask-worker"],
+# The parts, in order. Each has its module, and the programs that it needs in addition to Python and a C compiler.
+PARTS = {
+    "python_types": ("deploy_parts.python_types", ["mypy"]),
+    "python_client": ("parts.python_client", []),
+    "c_header": ("parts.c_header", []),
+    "dissector": ("deploy_parts.dissector", ["tshark"]),
+    "systemd_units": ("deploy_parts.systemd_units", ["systemd-socket-activate", "systemd-analyze", "strace"]),
+    "haproxy_balancer": ("deploy_parts.haproxy_balancer", ["haproxy", "systemd-socket-activate"]),
+    "parallel_hosts": ("deploy_parts.parallel_hosts", ["parallel"]),
+    "dask_cluster": ("deploy_parts.dask_cluster", ["dask-scheduler", "dask-worker"]),
 }
-# Debian's packages that have these programs, where they are named otherwise.
+# Debian's packages of programs with another name.
 PACKAGES = {
     "systemd-socket-activate": "systemd",
     "systemd-analyze": "systemd",
@@ -36,9 +36,9 @@ PACKAGES = {
 }
 
 
-def install(parts):
-    """Installs what is missing, where that can be done. Gives the parts that can be tried, and says which are left out."""
-    needed = {program for part in parts for program in NEEDS[part]}
+def install(names):
+    """Installs missing programs, where that can be done. Answers the parts that can be played, and prints the others."""
+    needed = {program for name in names for program in PARTS[name][1]}
     missing = sorted({PACKAGES.get(program, program) for program in needed if not shutil.which(program)})
     if missing and os.geteuid() == 0 and shutil.which("apt-get"):
         print(f"installing {' '.join(missing)}", flush=True)
@@ -47,47 +47,34 @@ def install(parts):
         subprocess.run([*apt, "update"], check=False, **quiet)
         subprocess.run([*apt, "install", "--no-install-recommends", *missing], check=False, **quiet)
     found = []
-    for part in parts:
-        lacking = [program for program in NEEDS[part] if not shutil.which(program)]
+    for name in names:
+        lacking = [program for program in PARTS[name][1] if not shutil.which(program)]
         if lacking:
-            print(f"left out: {part}, for want of {', '.join(lacking)}")
+            print(f"left out: {name}, for want of {', '.join(lacking)}")
         else:
-            found.append(part)
+            found.append(name)
     return found
 
 
-def types():
-    """The types of the Python client, for the oldest Python that it is for."""
-    files = [os.path.join(clients.PYTHON, name) for name in sorted(os.listdir(clients.PYTHON)) if name.endswith(".py")]
-    words = ["mypy", "--strict", "--python-version", "3.9", "--cache-dir", os.devnull, *files]
-    done = subprocess.run(words, capture_output=True, text=True)
-    yield f"types of the client: {done.stdout}{done.stderr}", done.returncode, 0
-
-
-def run(parts):
-    """Runs these parts, and counts what passed and failed."""
+def run(names):
+    """Plays these parts, and counts what passed and failed."""
     passed = failed = 0
-    for name in parts:
-        before = passed + failed
-        for test in (types,) if name == "types" else importlib.import_module(name).PARTS:
-            for what, got, want in test():
-                passed += got == want
-                if got != want:
-                    failed += 1
-                    print(f"FAILED: {name}: {what}\n  got  {got!r:.300}\n  want {want!r:.300}")
-        print(f"{name}: {passed + failed - before} tests", flush=True)
+    for name in names:
+        right, wrong = played(name, importlib.import_module(PARTS[name][0]).TESTS)
+        passed, failed = passed + right, failed + wrong
+        print(f"{name}: {right + wrong} checks", flush=True)
     print(f"{passed} passed, {failed} failed")
     return 1 if failed else 0
 
 
 def main():
-    parser = argparse.ArgumentParser(description="Tries what is in clients/, tools/ and deploy/ on this machine.")
-    parser.add_argument("parts", nargs="*", metavar="PART", help=", ".join(NEEDS))
-    parts = parser.parse_args().parts or list(NEEDS)
-    unknown = set(parts) - set(NEEDS)
+    parser = argparse.ArgumentParser(description="Tests clients/, tools/ and deploy/ on this machine.")
+    parser.add_argument("parts", nargs="*", metavar="PART", help=", ".join(PARTS))
+    names = parser.parse_args().parts or list(PARTS)
+    unknown = set(names) - set(PARTS)
     if unknown:
         parser.error(f"no such part: {', '.join(sorted(unknown))}")
-    return run(install(parts))
+    return run(install(names))
 
 
 if __name__ == "__main__":

@@ -1,11 +1,11 @@
 #!/usr/bin/env python3
-"""A soak of `scand --port`: 56 connections of mixed load and 8 hostile ones, for some minutes.
+"""Loads `scand --port` for some minutes, with 56 connections of mixed load and 8 hostile connections.
 
     python3 tests/soak.py MINUTES
 
-Every reply to the 56 is compared with the one that the plain model of sessions.py gives. Prints a report; status 1
-where a reply is wrong or missing, a connection ends otherwise than it should, or memory grows. SCAND in the
-environment names another program to test.
+Every reply to the 56 is compared with the reply of a plain model. Prints a report. The status is 1 where a reply is wrong
+or missing, a connection ends otherwise than it should, or memory grows. SCAND in the environment names another program to
+test.
 """
 
 import argparse
@@ -17,13 +17,13 @@ import sys
 import threading
 import time
 
-from listening import BROKEN, Server, sends_deafly
-from session_cases import FEED_CONCAT
-from sessions import Session, close, feed, frame, open_stream, publish, requests_of, show_plan
+from cases.session_cases import FEED_CONCAT
+from oracles.sessions import Session, close, feed, frame, open_stream, publish, requests_of, show_plan
+from support.servers import BROKEN, Server, sends_deafly
 
 GOOD, WORKERS = 56, 4
 LETTERS = b"etaoinshrdlucmfwypvbgkjqxz    "
-# Memory may grow by this much, in KiB, from the time when all connections are at work.
+# By how much memory may grow, in KiB, once all connections are at work.
 GROWTH = 4096
 
 
@@ -36,7 +36,7 @@ def words_of(source, count, shortest, longest):
 
 
 class Episode:
-    """What one stream is sent from Open to Close, and what it is replied."""
+    """The requests of one stream from Open to Close, and their replies."""
 
     def __init__(self, literals, is_folded, stream, pieces):
         self.published, self.stream = publish(literals, is_folded), stream
@@ -50,7 +50,7 @@ class Episode:
         self.steps = [(request, b"".join(replies)) for request, replies in self.steps]
 
     def open_as(self, number):
-        """The Open by this plan's number."""
+        """The Open by this number of a plan."""
         return open_stream(self.stream, number)
 
 
@@ -59,7 +59,7 @@ def text_of(source, size):
 
 
 def pieces_of(source, size, most):
-    """A text in pieces of up to so many bytes."""
+    """A text in pieces of up to this number of bytes."""
     text, found, at = text_of(source, size), [], 0
     while at < size:
         found.append(text[at : at + source.randint(0 if found else 1, most)])
@@ -68,7 +68,7 @@ def pieces_of(source, size, most):
 
 
 def episodes_of(place):
-    """The episodes of one connection: short ones of its own, and longer ones that some share."""
+    """The episodes of a connection: two short episodes of its own, and longer episodes that others share."""
     own, shared = random.Random(place), random.Random(1000 + place % 4)
     short = words_of(own, 3, 2, 4) + [b"%02d" % place]
     return [
@@ -81,7 +81,7 @@ def episodes_of(place):
 
 
 class Tally:
-    """What was counted: replies, those that are wrong or missing, bytes fed, and times of round trips."""
+    """Counts replies, wrong and missing replies, bytes fed, and times of round trips."""
 
     def __init__(self):
         self.replies, self.wrong, self.fed, self.times, self.faults = 0, 0, 0, [], []
@@ -95,7 +95,7 @@ class Tally:
 
 
 def run_episode(client, episode, number, tally):
-    """Sends an episode step by step; answers whether all replies were right."""
+    """Sends an episode step by step. Answers whether all replies were right."""
     for request, replies in [(episode.open_as(number), episode.steps[0][1]), *episode.steps[1:]]:
         before = time.perf_counter()
         client.sends(request)
@@ -120,7 +120,7 @@ class Loaded:
         self.numbers = [int.from_bytes(client.asks(episode.published)[0][0][9:], "big") for episode in self.episodes]
 
     def run(self, until):
-        """Episodes in no order until the time is over."""
+        """Episodes in random order until the time is over."""
         while time.monotonic() < until:
             at = self.source.randrange(len(self.episodes))
             if not run_episode(self.client, self.episodes[at], self.numbers[at], self.tally):
@@ -132,7 +132,7 @@ class Loaded:
 
 
 def work(clients, seconds, start, results):
-    """A process with some of the good connections, each in a thread; the first of all is alone, and timed."""
+    """A process with some of the good connections, each in a thread. The first connection is alone in its process, and timed."""
     loaded = [Loaded(client, place) for place, client in clients]
     start.wait()
     threads = [threading.Thread(target=one.run, args=(time.monotonic() + seconds,)) for one in loaded]
@@ -157,7 +157,7 @@ def deaf(client, until):
 
 
 def slow(client, until):
-    """Asks for as much, and reads it slowly."""
+    """Asks for as much, and reads slowly."""
     sends_deafly(client)
     while time.monotonic() < until:
         client.hears(1 << 16)
@@ -177,17 +177,19 @@ def dribbling(client, until):
             client.sends(bytes([byte]))
             time.sleep(0.003)
         if client.hears(len(replies)) != replies:
-            raise AssertionError("a wrong reply to one that sends slowly")
+            raise AssertionError("a wrong reply to a client that sends slowly")
 
 
 def bad(text):
-    """Waits for half of the time, and sends what is wrong."""
+    """Waits for half of the time, and sends a bad frame."""
+
     def run(client, until):
         time.sleep(max(until - time.monotonic(), 0) / 2)
         client.sends(text)
         got = client.leaves()
         if got[4:5] != b"\x17" or got[9:10] != b"\x0b" or len(got) != 12 + len(client.fault):
             raise AssertionError(f"replies to a bad frame: {got!r:.80}")
+
     return run
 
 
@@ -221,7 +223,7 @@ HOSTILE = [
 def guarded(behave, client, until, faults):
     try:
         behave(client, until)
-    except Exception as fault:  # a defect of the server or of this script: the report tells it
+    except Exception as fault:  # a defect of the server or of this script: the report shows it
         faults.append(f"{behave.__name__}: {fault!r}")
         client.socket.close()
 
@@ -241,7 +243,7 @@ def watched(server, until):
 
 
 def started_workers(clients, seconds, start, results):
-    """The processes of the good connections: the first one alone, the others in groups."""
+    """The processes of the good connections: the first connection alone, the others in groups."""
     placed = list(enumerate(clients))
     groups = [placed[:1]] + [placed[1 + worker :: WORKERS] for worker in range(WORKERS)]
     workers = [multiprocessing.Process(target=work, args=(group, seconds, start, results)) for group in groups]
@@ -253,13 +255,13 @@ def started_workers(clients, seconds, start, results):
 
 
 def soak(seconds):
-    """Runs all connections; answers the tally, the memory, and the lines of the server."""
+    """Runs all connections. Answers the tally, the memory, and the ending of the server."""
     start, results, faults, tally = multiprocessing.Barrier(WORKERS + 2), multiprocessing.Queue(), [], Tally()
     with Server(GOOD + len(HOSTILE)) as server, contextlib.ExitStack() as stack:
         workers = started_workers([stack.enter_context(server.client()) for _ in range(GOOD)], seconds, start, results)
         start.wait()
         until, threads = time.monotonic() + seconds, []
-        for behave, _ in HOSTILE:  # connected once no other process can hold them open
+        for behave, _ in HOSTILE:  # these connect once no other process can hold them open
             client = stack.enter_context(server.client())
             threads.append(threading.Thread(target=guarded, args=(behave, client, until, faults)))
             threads[-1].start()
@@ -273,7 +275,7 @@ def soak(seconds):
 
 
 def is_ended_well(output, tally):
-    """Whether each connection ended as it should; what did not is noted."""
+    """Whether each connection ended as it should. Wrong endings go into the tally."""
     words = output.decode().split()[2::3]
     wanted = [{"clean"}] * GOOD + [allowed for _, allowed in HOSTILE]
     numbered = enumerate(zip(words, wanted), 1)

@@ -1,6 +1,6 @@
-/* Reads texts of frames, and writes what scand.h makes of them, for tests/clients.py. A text of standard input is a byte
-   `q` for requests or `p` for replies, its size in four bytes, and its bytes. A line is written for each frame, and one
-   for the end of the text. Each request is also written anew, and into too little room. */
+/* Reads texts of frames, and writes what scand.h makes of them, for tests/parts/c_header.py. A text of standard input is
+   a byte `q` for requests or `p` for replies, its size in four bytes, and its bytes. A line is written for each frame,
+   and one for the end of the text. Each request is also written anew, and into too little room. */
 
 #include <inttypes.h>
 #include <stdio.h>

@@ -1,6 +1,6 @@
 //! What no clause says: that a request is answered where there is memory, that numbers begin at 0, and
 //! that a number of another session is found, in another thread too. Where memory runs out a test tells it, once the
-//! replies are seen to be none. Worked sessions and the limits are rows of `tests/session_cases.py`, played with `scand`.
+//! replies are seen to be none. Worked sessions and the limits are rows of `tests/cases/session_cases.py`, for `scand`.
 ghost use Rattle.std.specs.Prelude.{◌≡◌, IfSome};
 
 use crate::session::Session;

@@ -1,0 +1,1 @@
+"""Worked cases, and random cases that are the same in each run."""

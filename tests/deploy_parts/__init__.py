@@ -1,0 +1,1 @@
+"""The parts that tests/deploy.py plays, built like those in parts/."""

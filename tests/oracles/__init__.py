@@ -1,0 +1,1 @@
+"""Plain models of the programs. The tests compare the programs with them."""

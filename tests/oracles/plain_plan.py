@@ -1,0 +1,117 @@
+"""A plain model of `litplan plan` and `litplan check`: plans, certificates, and the check of a certificate.
+
+A plan is the least of all cuts, built up from the last literal. A certificate is read by splitting lines and words.
+Nothing here is fast, and nothing comes from the program."""
+
+import re
+
+BUCKETS = 8
+NUMBER_MAX = (1 << 64) - 1
+
+
+def literals_of(patterns, is_folded):
+    """The literals of a list of patterns, in their order."""
+    folded = {pattern.lower() if is_folded else pattern for pattern in patterns} - {b""}
+    return sorted(folded, key=lambda literal: (len(literal), literal))
+
+
+def cost(literals, start, end):
+    """The cost of the run of literals from one position to another."""
+    weight = 4096 // min(len(literals[start]), 8) ** 3
+    return 200 + (end - start) ** 2 * weight
+
+
+def first_cuts(literals):
+    """For at most 1, 2 .. 8 runs, and for each position, the first cut of the literals from there on. A cut is its price,
+    the number of its runs, and their ends; cuts are ordered by these three."""
+    n = len(literals)
+    rows = []
+    for most in range(1, BUCKETS + 1):
+        row = [(0, 0, ())] * (n + 1)
+        for start in range(n):
+            found = [(cost(literals, start, n), 1, (n,))]
+            for end in range(start + 1, n) if most > 1 else ():
+                price, runs, ends = rows[-1][end]
+                found.append((cost(literals, start, end) + price, runs + 1, (end, *ends)))
+            row[start] = min(found)
+        rows.append(row)
+    return rows
+
+
+def plan_of(literals):
+    """The certificate of some literals: its ends, its cost, and its rows of potentials."""
+    rows = first_cuts(literals)
+    price, _, ends = rows[-1][0]
+    return list(ends), price, [[price for price, _, _ in row[:-1]] for row in rows]
+
+
+def spelled(certificate):
+    """The text of a certificate."""
+    ends, price, rows = certificate
+    lines = ["litcert 1", f"literals {len(rows[0])}", " ".join(["ends", *map(str, ends)]), f"cost {price}"]
+    lines += [" ".join(map(str, [number, *row])) for number, row in enumerate(rows, 1)]
+    return "".join(line + "\n" for line in [*lines, "end"]).encode()
+
+
+def numbers_of(words, greatest):
+    """The numbers that words spell, or None where a word spells no number up to the greatest."""
+    if not all(re.fullmatch("0|[1-9][0-9]{0,19}", word, re.ASCII) for word in words):
+        return None
+    numbers = [int(word) for word in words]
+    return numbers if all(number <= greatest for number in numbers) else None
+
+
+def line_of(line, front, greatest):
+    """The numbers of a line that begins with this word, or None."""
+    words = line.split(" ")
+    return numbers_of(words[1:], greatest) if words[0] == front else None
+
+
+def read_certificate(text):
+    """The certificate in a text, or None where the text is no certificate."""
+    lines = text.decode("latin-1").split("\n")
+    if len(lines) != 14 or lines[0] != "litcert 1" or lines[12:] != ["end", ""]:
+        return None
+    count, ends, price = line_of(lines[1], "literals", 1024), line_of(lines[2], "ends", 65535), line_of(lines[3], "cost", NUMBER_MAX)
+    rows = [line_of(line, str(number), NUMBER_MAX) for number, line in enumerate(lines[4:12], 1)]
+    if None in (count, ends, price, *rows) or len(count) != 1 or count[0] < 1 or len(ends) > BUCKETS or len(price) != 1:
+        return None
+    return (ends, price[0], rows) if all(len(row) == count[0] for row in rows) else None
+
+
+def is_cut(ends, n):
+    """Whether these are the ends of runs of n literals."""
+    return ends == sorted(set(ends)) and ends[:1] > [0] and ends[-1] == n
+
+
+def failure(literals, certificate):
+    """The first condition of a certificate that fails, or None."""
+    ends, price, rows = certificate
+    n = len(literals)
+    if n == 0 or len(rows[0]) != n:
+        return "length"
+    if not is_cut(ends, n):
+        return "ends"
+    if sum(cost(literals, start, end) for start, end in zip([0, *ends], ends)) != price or rows[-1][0] != price:
+        return "total"
+    for r, row in enumerate(rows, 1):
+        for p in range(n):
+            if row[p] > cost(literals, p, n):
+                return f"end row {r} {p}"
+    for r in range(2, BUCKETS + 1):
+        for p in range(n):
+            for q in range(p + 1, n):
+                if rows[r - 1][p] > cost(literals, p, q) + rows[r - 2][q]:
+                    return f"step {r} {p} {q}"
+    return None
+
+
+def answer(literals, text):
+    """The status, output and messages of the check of a certificate's text."""
+    certificate = read_certificate(text)
+    if certificate is None:
+        return 2, b"", b"litplan: refused (9)\n"
+    reason = failure(literals, certificate)
+    if reason is None:
+        return 0, b"optimal %d\n" % certificate[1], b""
+    return 1, f"not certified: {reason}\n".encode(), b""

@@ -1,0 +1,110 @@
+"""`litgrep` on odd streams: full, closed, endless, named pipes, and files that are also its output."""
+
+import os
+import select
+import subprocess
+import tempfile
+
+from support.programs import LITGREP, lay_out, run
+
+UNREADABLE = b"litgrep: (standard input): cannot be read\n"
+MANY = b"".join(b"%d cat\n%d dog\n" % (n, n) for n in range(9000))
+
+
+def edges():
+    """Streams that are full, closed, very long, or a folder."""
+    lines = b"".join(line + b"\n" for line in MANY.split(b"\n") if b"7 cat" in line)
+    yield "a long input", run(["7 cat"], MANY), (0, lines, b"")
+    mebibyte = b"x" * (1 << 20) + b" cat\n"
+    yield "a line of a mebibyte", run(["cat"], mebibyte + b"dog\n"), (0, mebibyte, b"")
+    with open("/dev/full", "wb") as full:
+        yield "a full device", run(["cat"], b"cat\n", stdout=full), (2, None, b"")
+    no_output, no_input = {"preexec_fn": lambda: os.close(1)}, {"preexec_fn": lambda: os.close(0)}
+    yield "a closed output", run(["cat"], b"cat\n", **no_output), (2, b"", b"")
+    yield "a closed output, not used", run(["cat"], b"dog\n", **no_output), (1, b"", b"")
+    yield "a closed input", run(["cat"], **no_input), (2, b"", UNREADABLE)
+    folder = os.open("/", os.O_RDONLY)
+    yield "a folder as input", run(["cat"], folder), (2, b"", UNREADABLE)
+    os.close(folder)
+    reader, writer = os.pipe()
+    os.close(reader)
+    yield "a pipe that nobody reads", run(["cat"], MANY, stdout=writer), (2, None, b"")
+    os.close(writer)
+
+
+def streams():
+    """Inputs without an end: lines come at once, and `-q` and `-l` stop reading."""
+    pipes = {"stdin": subprocess.PIPE, "stdout": subprocess.PIPE}
+    with subprocess.Popen([LITGREP, "-n", "cat"], **pipes) as program:
+        for line, shown in (b"a cat\nno dog\nhalf", b"1:a cat\n"), (b" a cat\n", b"3:half a cat\n"):
+            program.stdin.write(line)
+            program.stdin.flush()
+            is_there = bool(select.select([program.stdout], [], [], 30)[0])
+            yield f"{shown} at once", is_there and os.read(program.stdout.fileno(), 100), shown
+        program.stdin.close()
+        yield "the end of a stream", program.wait(30), 0
+    for words, shown in (["-q", "cat"], b""), (["-l", "cat"], b"(standard input)\n"):
+        with subprocess.Popen(["yes", "cat"], stdout=subprocess.PIPE, stderr=subprocess.DEVNULL) as endless:
+            yield f"{words} of an endless input", run(words, endless.stdout), (0, shown, b"")
+            endless.kill()
+
+
+def at_once(program, shown):
+    """Whether the program shows that text next, and before it ends."""
+    got = b""
+    while len(got) < len(shown) and select.select([program.stdout], [], [], 30)[0]:
+        got += os.read(program.stdout.fileno(), 100) or b"the end"
+    return got == shown
+
+
+def prompt():
+    """Lines are written in their place among messages, and before `litgrep` waits for more input."""
+    with tempfile.TemporaryDirectory() as folder:
+        lay_out(folder, {"f": b"cat\n", "000": b"cat\ndog\n", "long": b"cat\n" * 20000, "d": None})
+        pipes = {"cwd": folder, "stdin": subprocess.PIPE, "stdout": subprocess.PIPE}
+        mixed = run(["cat", "f", "none", "000"], cwd=folder, stderr=subprocess.STDOUT)
+        yield "messages in their place", mixed[1], b"f:cat\nlitgrep: none: cannot be read\n000:cat\n"
+        mixed = run(["-c", "cat", "f", "d", "000"], cwd=folder, stderr=subprocess.STDOUT)
+        yield "a message after its file's count", mixed[1], b"f:1\nd:0\nlitgrep: d: cannot be read\n000:1\n"
+        with subprocess.Popen([LITGREP, "cat", "f", "-", "000"], **pipes) as program:
+            yield "a file before standard input", at_once(program, b"f:cat\n"), True
+            program.stdin.close()
+            yield "a file after it", (program.stdout.read(), program.wait(30)), (b"000:cat\n", 0)
+        os.mkfifo(os.path.join(folder, "pipe"))
+        with subprocess.Popen([LITGREP, "cat", "f", "pipe"], **pipes) as program:
+            yield "a file before a named pipe that nobody opened", at_once(program, b"f:cat\n"), True
+            with open(os.path.join(folder, "pipe"), "wb", 0) as pipe:
+                pipe.write(b"cat\n")
+                yield "the first line of a named pipe", at_once(program, b"pipe:cat\n"), True
+                pipe.write(b"2 cat\n")
+                yield "and the second", at_once(program, b"pipe:2 cat\n"), True
+        yield "lines of a long file", run(["cat", "f", "long"], cwd=folder), (0, b"f:cat\n" + b"long:cat\n" * 20000, b"")
+
+
+def own_outputs():
+    """A file that is also standard output counts as missing, under any name, where lines go there; else it is read."""
+    with tempfile.TemporaryDirectory() as folder:
+        whole = os.path.join(folder, "all")
+        refused = b"litgrep: %s: cannot be read\n"
+        for words, status, messages, added in (
+            (["cat", "f", "all", "g"], 2, refused % b"all", b"f:cat\ng:2 cat\n"),
+            (["cat", "./all", "link"], 2, refused % b"./all" + refused % b"link", b""),
+            (["-s", "-n", "cat", "all", "f"], 2, b"", b"f:1:cat\n"),
+            (["-v", "-f", "all", "f"], 2, refused % b"all", b""),
+            (["-c", "cat", "all", "f"], 0, b"", b"all:1\nf:1\n"),
+            (["-l", "cat", "all", "f"], 0, b"", b"all\nf\n"),
+            (["-q", "cat", "all"], 0, b"", b""),
+            (["-v", "cat", "-"], 1, b"", b""),
+        ):
+            lay_out(folder, {"f": b"cat\n", "g": b"2 cat\n", "all": b"old cat\n"})
+            if not os.path.exists(whole.replace("all", "link")):
+                os.link(whole, os.path.join(folder, "link"))
+            with open(whole, "rb") as given, open(whole, "ab") as out:
+                got = run(words, given, cwd=folder, stdout=out)
+            with open(whole, "rb") as file:
+                yield f"{words} >> all", (*got, file.read()), (status, None, messages, b"old cat\n" + added)
+        with open("/dev/null", "wb") as out:
+            yield "a device for both", run(["cat", "/dev/null"], stdout=out), (1, None, b"")
+
+
+TESTS = (edges, streams, prompt, own_outputs)

@@ -1,0 +1,253 @@
+"""Help, manuals and completions: same options and commands, true examples, one version; installing and removing them."""
+
+import glob
+import os
+import re
+import shlex
+import shutil
+import subprocess
+import tempfile
+
+from support.programs import TOP, program_at
+
+PROGRAMS = ("litgrep", "litplan", "scand")
+
+
+def ran(*words, **how):
+    """Runs a program. Answers its status, output and messages, as texts."""
+    done = subprocess.run(words, capture_output=True, timeout=60, **how)
+    return done.returncode, done.stdout.decode(), done.stderr.decode()
+
+
+def text_of(*names):
+    """The text of a file of the repository."""
+    with open(os.path.join(TOP, *names)) as file:
+        return file.read()
+
+
+def help_of(program, command):
+    """The help text of a program, or of its command."""
+    return ran(program_at(program), *command, "--help")[2]
+
+
+def heads_of_help(program, command):
+    """The options of a help text, each with its spellings and its argument."""
+    heads = re.findall(r"^ +(-\S.*?)(?:  .*)?$", help_of(program, command), re.M)
+    return [re.sub("[<>]", "", head) for head in heads]
+
+
+def commands_of_help(program):
+    """The commands that the help of a program lists."""
+    listed = re.search(r"^Commands:\n((?:  .*\n)+)", help_of(program, ()), re.M)
+    return re.findall(r"^  (\w+)", listed[1], re.M) if listed else []
+
+
+def usages_of_help(program):
+    """The usage lines of a program's help."""
+    usage = re.search(r"^Usage: (.*\n(?: {7}.*\n)*)", help_of(program, ()), re.M)[1]
+    return [line.strip() for line in usage.splitlines()]
+
+
+def cleaned(line):
+    """A line of a manual without its macro, quotes and escapes."""
+    return " ".join(re.sub(r'^\.[A-Z]+ |[\\"]', "", line).split()).replace(" ,", ",")
+
+
+def manual_of(program):
+    return text_of("man", f"{program}.1")
+
+
+def section_of(program, command):
+    """The part of a manual that lists the options of a program, or of its command."""
+    head = rf"\.SS {program} {command[0]}\b.*" if command else r"\.SH OPTIONS"
+    return re.search(rf"^{head}\n((?:(?!\.S[SH]).*\n)*)", manual_of(program), re.M)[1]
+
+
+def heads_of_manual(program, command):
+    """The options of a manual, in the form of a help text."""
+    tags = re.findall(r"^\.TP\n(.*)", section_of(program, command), re.M)
+    return [cleaned(tag) for tag in tags if cleaned(tag).startswith("-")]
+
+
+def names_in(heads):
+    """The spellings of options."""
+    return sorted(re.findall(r"(?<![^\s,])--?\w[\w-]*", "\n".join(heads)))
+
+
+def in_bash(program, *words):
+    """The completions that bash offers for the last word."""
+    script = 'source "$0"; COMP_WORDS=("$@"); COMP_CWORD=$(($# - 1)); "_$1" 2> /dev/null; printf "%s\n" "${COMPREPLY[@]}"'
+    shown = ran("bash", "-c", script, os.path.join(TOP, "completions", "bash", program), program, *words)[1]
+    return shown.split()
+
+
+def in_zsh(program, command):
+    """The options in the completion for zsh. bash runs its script here."""
+    script = '_arguments() { printf "%s\n" "$@"; }; source "$0"'
+    if command:
+        script += f" > /dev/null; _{program}_{command[0]}"
+    shown = ran("bash", "-c", script, os.path.join(TOP, "completions", "zsh", f"_{program}"))[1]
+    return sorted(re.findall(r"^(?:\*|\([^)]*\))?(--?\w[\w-]*)[+=]?\[", shown, re.M))
+
+
+def in_fish(program, command):
+    """The options that the completion for fish declares for a program, or for its command."""
+    names = []
+    for line in text_of("completions", "fish", f"{program}.fish").splitlines():
+        words = shlex.split(line, comments=True)
+        given = {word: value for word, value in zip(words, words[1:]) if re.fullmatch("-[nsl]", word)}
+        wanted = given.get("-n", "__fish_use_subcommand").split()
+        if (not command and wanted == ["__fish_use_subcommand"]) or (command and command[0] in wanted[1:]):
+            names += [f"-{given[word]}" if word == "-s" else f"--{given[word]}" for word in given if word != "-n"]
+    return sorted(names)
+
+
+def options():
+    """Help and manual list the same options in the same order, and completions offer the same options."""
+    for program in PROGRAMS:
+        for command in [(), *((name,) for name in commands_of_help(program) if name != "help")]:
+            name = " ".join([program, *command])
+            helped = heads_of_help(program, command)
+            yield f"options of the manual, {name}", heads_of_manual(program, command), helped
+            yield f"{name} in bash", sorted(in_bash(program, *command, "-")), names_in(helped)
+            yield f"{name} in zsh", in_zsh(program, command), names_in(helped)
+            yield f"{name} in fish", in_fish(program, command), names_in(helped)
+            if shutil.which("fish"):
+                file = os.path.join(TOP, "completions", "fish", f"{program}.fish")
+                shown = ran("fish", "-c", f"source {file}; complete -C '{name} -'")[1]
+                yield f"{name} by fish", sorted(re.findall("^-\\S+", shown, re.M)), names_in(helped)
+
+
+def commands():
+    """Help, manual and completions name the same commands, and the manual shows them as the usage does."""
+    listed = commands_of_help("litplan")
+    headed = [cleaned(line) for line in re.findall(r"^\.SS .*", manual_of("litplan"), re.M)]
+    yield "commands of the manual", [head.split()[1] for head in headed], listed
+    yield "commands as the usage has them", headed[: len(listed) - 1], usages_of_help("litplan")
+    yield "commands in bash", in_bash("litplan", ""), listed
+    yield "commands to be helped with, in bash", in_bash("litplan", "help", ""), listed[:-1]
+    zsh, fish = text_of("completions", "zsh", "_litplan"), text_of("completions", "fish", "litplan.fish")
+    yield "commands in zsh", re.findall(r'(\w+)\\:"', zsh), listed
+    yield "commands to be helped with, in zsh", re.findall(r"'1:command:\(([^()]*)\)'", zsh), [" ".join(listed[:-1])]
+    yield "commands in fish", re.findall(r"use_subcommand -a (\w+)", fish), listed
+    yield "commands to be helped with, in fish", re.findall(r"from help' -f -a '(.*)'", fish), [" ".join(listed[:-1])]
+
+
+def words_in_bash():
+    """Words that bash completes, and words that it leaves to its own completion of file names."""
+    workers = [str(number) for number in range(1, 17)]
+    for words, want in (
+        (["litgrep", "--fi"], ["--fixed-strings", "--file", "--files-with-matches"]),
+        (["litgrep", "-n", "cat", "--v"], ["--version"]),
+        (["litgrep", "--x"], []),
+        (["litgrep", "f"], []),
+        (["litgrep", "-f", "-"], []),
+        (["litgrep", "--regexp", "-"], []),
+        (["litgrep", "--file", "=", "-"], []),
+        (["litgrep", "--file", "="], []),
+        (["litgrep", "-n", "--", "-"], []),
+        (["litplan", "p"], ["plan", "pack"]),
+        (["litplan", "plan", ""], []),
+        (["litplan", "check", "--i"], ["--ignore-case"]),
+        (["litplan", "scan", "--", "-"], []),
+        (["litplan", "scan", "--workers", ""], workers),
+        (["litplan", "scan", "--workers", "="], workers),
+        (["litplan", "scan", "--workers", "=", "1"], [number for number in workers if number.startswith("1")]),
+        (["scand", "--st"], ["--stdio"]),
+        (["scand", "--port", ""], []),
+        (["scand", "--plans", "-"], []),
+        (["scand", "--plans", "=", "-"], []),
+        (["scand", "--connections", "="], []),
+    ):
+        yield f"{words} in bash", in_bash(*words), want
+
+
+def pages():
+    """mandoc finds no lint in any page, and zsh and fish can read their completions, where these programs exist."""
+    for page in sorted(glob.glob(os.path.join(TOP, "man", "*"))):
+        if shutil.which("mandoc"):
+            yield f"lint of {page}", ran("mandoc", "-Tlint", "-Wall", page), (0, "", "")
+    for shell in "zsh", "fish":
+        for file in glob.glob(os.path.join(TOP, "completions", shell, "*")):
+            if shutil.which(shell):
+                yield f"{shell} reads {file}", ran(shell, "-n", file), (0, "", "")
+
+
+def example_of(page, number):
+    """The example of a manual with this number."""
+    return re.findall(r"^\.EX\n(.*?)^\.EE$", text_of("man", page), re.M | re.S)[number]
+
+
+def bytes_in(lines):
+    """The bytes that lines have in hexadecimal."""
+    return bytes.fromhex("".join(re.findall(r"^[> ] *((?:[0-9A-F]{2} ?)+)$", "\n".join(lines), re.M)))
+
+
+def examples():
+    """The certificate, the plan file and the session that the manuals show."""
+    planned = ran(program_at("litplan"), "plan", "-", input=b"horse\ncat\ndog\n")
+    yield "the certificate of the manual", planned, (0, example_of("litplan-plans.5", 0), "")
+    shown = re.findall("^(?:[0-9A-F]{2} {1,2})+", example_of("litplan-plans.5", 1), re.M)
+    whole = "".join(shown + shown[-1:] * 8)
+    done = subprocess.run([program_at("litplan"), "pack", "-", "/dev/stdout"], input=b"a\n", capture_output=True, timeout=60)
+    yield "the plan file of the manual", (done.returncode, done.stdout.hex()), (0, bytes.fromhex(whole).hex())
+    lines, is_asked, sides = example_of("scand-protocol.7", 0).splitlines(), False, {True: [], False: []}
+    for line in lines:
+        is_asked = line.startswith(">") or (is_asked and not re.match("  [0-9A-F]{2} ", line))
+        sides[is_asked].append(line)
+    done = subprocess.run([program_at("scand"), "--stdio"], input=bytes_in(sides[True]), capture_output=True, timeout=60)
+    yield "the session of the manual", (done.returncode, done.stdout.hex(" ")), (1, bytes_in(sides[False]).hex(" "))
+
+
+def versions():
+    """Each program, each page, and the first heading of the changelog have the version of the code."""
+    version = re.search(r'VERSION: &str = "(.*)"', text_of("crates", "program_words", "src", "reading.rt"))[1]
+    for program in PROGRAMS:
+        yield f"{program} --version", ran(program_at(program), "--version"), (2, "", f"{program} {version}\n")
+    for page in sorted(os.listdir(os.path.join(TOP, "man"))):
+        head = re.search(r"^\.TH .*", text_of("man", page), re.M)[0]
+        name, section = page.upper().rsplit(".", 1)
+        dated = re.fullmatch(rf'\.TH {name} {section} "\w+ \d+, \d+" "Fiolargu (.*)"', head)
+        yield f"the version of {page}", dated and dated[1], version
+    yield "the version of the last changes", re.search(r"^## (\S+)", text_of("CHANGELOG.md"), re.M)[1], version
+
+
+def files_below(folder):
+    """The files below a folder, each with its rights."""
+    found = {}
+    for parent, _, names in os.walk(folder):
+        for name in names:
+            path = os.path.join(parent, name)
+            found[os.path.relpath(path, folder)] = oct(os.stat(path).st_mode & 0o777)
+    return found
+
+
+def to_install():
+    """The files to install, each with its rights."""
+    share = {f"share/man/man{page[-1]}/{page}" for page in os.listdir(os.path.join(TOP, "man"))}
+    share |= {f"share/bash-completion/completions/{program}" for program in PROGRAMS}
+    share |= {f"share/zsh/site-functions/_{program}" for program in PROGRAMS}
+    share |= {f"share/fish/vendor_completions.d/{program}.fish" for program in PROGRAMS}
+    return {**dict.fromkeys(share, "0o644"), **{f"bin/{program}": "0o755" for program in PROGRAMS}}
+
+
+def installing():
+    """make installs programs without symbols, manuals and completions, and removes exactly these files."""
+    env = {name: value for name, value in os.environ.items() if not name.startswith("MAKE")}
+    with tempfile.TemporaryDirectory() as folder:
+        below = os.path.join(folder, "a b", "usr")
+        make = ["make", "-s", "-C", TOP, "PREFIX=/usr", f"DESTDIR={folder}/a b"]
+        yield "make install", ran(*make, "install", env=env), (0, "", "")
+        yield "what is installed", files_below(below), to_install()
+        for program in PROGRAMS:
+            path = os.path.join(below, "bin", program)
+            with open(path, "rb") as file:
+                yield f"{program} without symbols", b".symtab\0" in file.read(), False
+            yield f"{program} as installed", ran(path, "--version"), ran(program_at(program), "--version")
+        with open(os.path.join(below, "bin", "other"), "w"):
+            os.chmod(os.path.join(below, "bin", "other"), 0o600)
+        yield "make uninstall", ran(*make, "uninstall", env=env), (0, "", "")
+        yield "the remaining files", files_below(below), {"bin/other": "0o600"}
+
+
+TESTS = (options, commands, words_in_bash, pages, examples, versions, installing)

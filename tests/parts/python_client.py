@@ -1,0 +1,399 @@
+"""clients/python over pipes and connections to `scand`, with lost connections, and with servers that reply wrongly."""
+
+import os
+import pickle
+import random
+import socket
+import subprocess
+import sys
+import tempfile
+
+from cases import session_cases
+from cases.canned_replies import CANNED
+from oracles import plain_plan, sessions
+from support.pyclient import MANY, PRONOUNS, PYTHON, Client, Hit, PlanShown, Resumed, fault_of, plain_hits, scand_client
+from support.servers import SCAND, SECONDS, SERVER, Server
+
+FOUND = [Hit(0, 4), Hit(2, 4), Hit(3, 6)]
+
+
+def frames():
+    """The client sends the frames of the model."""
+    for literals in [], [b"cat"], [b"", b"a" * 4096], session_cases.PAIRS, [b"a"] * 4097:
+        for is_folded in False, True:
+            got = scand_client.publish_frame(literals, is_folded)
+            yield f"a Publish of {len(literals)}", got, sessions.publish(literals, is_folded)
+    yield "an Open", scand_client.open_frame(7, 1 << 63), sessions.open_stream(7, 1 << 63)
+    yield "a full Feed", scand_client.feed_frame(0xFFFFFFFF, b"a" * 65536), sessions.feed(0xFFFFFFFF, b"a" * 65536)
+    yield "a Feed too large", fault_of(scand_client.feed_frame, 0, bytes(65537))[0], "ValueError"
+    yield "the greatest Publish", len(scand_client.publish_frame([b"a" * 65531])), 65545
+    for literals in b"cat", "cat", ["cat"]:
+        yield f"a list {literals!r}", fault_of(Resumed, None, literals)[0], "TypeError"
+    for literals in [b"a" * 65532], [b""] * 32767, [b"a"] * 70000:
+        yield "a Publish too large", fault_of(scand_client.publish_frame, literals)[0], "ValueError"
+
+
+def talk(way, client):
+    """Plans published, opened, fed and shown."""
+    plan = client.publish(PRONOUNS)
+    ends, price, _ = plain_plan.plan_of(plan.literals)
+    yield f"{way}: the order of literals", plan.literals, (b"he", b"his", b"she", b"hers")
+    with client.open(plan) as first, client.open(plan.number, 0xFFFFFFFF) as second:
+        yield f"{way}: hits", (first.feed(b"ush"), first.feed(b"ers"), first.place), ([], FOUND, 6)
+        yield f"{way}: hits across pieces", list(second.scan([b"u", b"sh", b"", b"ers"])), FOUND
+        yield f"{way}: a plan shown", first.show_plan(), PlanShown(False, 4, price, tuple(ends))
+        yield f"{way}: numbers of streams", (first.number, second.number), (0, 0xFFFFFFFF)
+    with client.open(client.publish([b"Cat", b"cAT", b"dog"], ignore_case=True), 0) as third:
+        yield f"{way}: case ignored", third.feed(b"CAT DOG"), [Hit(0, 3), Hit(1, 7)]
+        yield f"{way}: its plan", third.show_plan()[:2], (True, 2)
+    with client.open(client.publish(MANY)) as fourth:
+        count = sum(1 for _ in fourth.scan([b"a" * 100000], ahead=3))
+        yield f"{way}: many hits", (count, fourth.place), (12 * 100000 - 66, 100000)
+        hits = fourth.scan([b"a" * 65536] * 9)
+        yield f"{way}: the first of many", next(hits), Hit(0, 100001)
+        yield f"{way}: a request inside a scan", fault_of(fourth.show_plan)[0], "RuntimeError"
+        hits.close()
+        place = fourth.place
+        yield f"{way}: a scan left", fourth.feed(b"a")[0], Hit(0, place + 1)
+    client.close()
+    yield f"{way}: a stream of a closed client", fault_of(fourth.feed, b"a")[0], "ConnectionLost"
+
+
+def talks():
+    """The same talk over pipes and over a connection; and a client opens the plan of another one."""
+    with Client.spawn(SERVER) as client:
+        yield from talk("pipes", client)
+    with Server(3) as server, server.client():
+        with Client.connect("127.0.0.1", server.port) as client, Client.connect("127.0.0.1", server.port) as other:
+            number = other.publish(PRONOUNS).number
+            with client.open(number) as stream:
+                yield "another client's plan", stream.feed(b"ushers"), FOUND
+            yield from talk("a connection", client)
+
+
+def refusals():
+    """Each refusal raises the right class, and the session goes on after it."""
+    with Client.spawn(SERVER) as client:
+        for literals, want in (
+            ([], ("NoLiterals", 0)),
+            ([b"a", b""], ("EmptyLiteral", 1)),
+            ([b"a", b"b", b"a" * 4096], ("LiteralTooLong", 2)),
+            (session_cases.DIFFERENT, ("TooManyLiterals", 0)),
+            ([b"a"] * 4097, ("TooManyPatterns", 0)),
+        ):
+            yield f"a Publish of {literals!r:.40}", fault_of(client.publish, literals), want
+        plans = [client.publish([b"%d" % number]) for number in range(64)]
+        yield "the 65th Publish", fault_of(client.publish, [b"cat"]), ("PlanQuota", 0)
+        yield "an Open of no plan", fault_of(client.open, 64), ("NoSuchPlan", 0)
+        streams = [client.open(plan) for plan in plans]
+        yield "an Open of an open stream", fault_of(client.open, plans[0], 9), ("StreamInUse", 0)
+        yield "the 65th Open", fault_of(client.open, plans[0]), ("StreamQuota", 0)
+        streams[9].close()
+        yield "a Feed of a closed stream", fault_of(streams[9].feed, bytes(200000)), ("NoSuchStream", 0)
+        yield "another Close of it", fault_of(streams[9].close), ("NoSuchStream", 0)
+        fault = pickle.loads(pickle.dumps(scand_client.EmptyLiteral(4, 7)))
+        yield "a refusal that was pickled", (type(fault).__name__, fault.code, fault.detail), ("EmptyLiteral", 4, 7)
+        yield "the session goes on", streams[63].feed(b"63"), [Hit(0, 2)]
+        yield "a free number", client.open(plans[9]).number, 9
+        client._send(bytes(4))
+        yield "a bad frame", fault_of(client._expect, 0, ()), ("BadFrame", scand_client.Cause.LENGTH)
+        yield "a stream after a bad frame", fault_of(streams[63].feed, b"a")[0], "ConnectionLost"
+
+
+def random_talks():
+    """Random lists and texts in random pieces, several Feeds ahead, compared with plain search."""
+    source = random.Random(11)
+    with Client.spawn(SERVER) as client:
+        for number in range(60):
+            literals = [session_cases.word(source, b"abABc", 4) or b"a" for _ in range(source.randrange(1, 9))]
+            is_folded, text = source.random() < 0.5, session_cases.word(source, b"abABc", 3000)
+            pieces = [text[at : at + 100] for at in range(0, len(text), 100)]
+            plan = client.publish(literals, is_folded)
+            with client.open(plan) as stream:
+                got = list(stream.scan(pieces, ahead=source.randrange(1, 9)))
+            yield f"the order of {literals}", plan.literals, tuple(plain_plan.literals_of(literals, is_folded))
+            yield f"hits of {literals} in {text!r:.60}", got, plain_hits(literals, is_folded, text)
+
+
+def over(peer, timeout=SECONDS):
+    """A client over a socket."""
+    peer.setblocking(False)
+    return Client(scand_client._Link(peer.recv, peer.send, peer.fileno(), peer.fileno()), peer.close, timeout)
+
+
+def asks_all(client):
+    """A publish, an open, a feed and a plan shown."""
+    with client:
+        stream = client.open(client.publish([b"cat"]))
+        stream.feed(b"cat")
+        stream.show_plan()
+
+
+def canned():
+    """Servers that reply what they should not, reply nothing, or reply no whole frame."""
+    for name, text, want in CANNED:
+        near, far = socket.socketpair()
+        with near, far:
+            far.sendall(text)
+            far.shutdown(socket.SHUT_WR)
+            yield f"a server that sends {name}", fault_of(asks_all, over(near))[0], want
+    near, far = socket.socketpair()
+    with near, far:
+        far.sendall(CANNED[-1][1])
+        far.shutdown(socket.SHUT_RD)
+        yield "a server that replies and takes nothing more", fault_of(asks_all, over(near))[0], "nothing"
+    near, far = socket.socketpair()
+    with near, far:
+        client = over(near, 0.05)
+        yield "a server that is silent", fault_of(client.publish, [b"cat"])[0], "TimedOut"
+        yield "the client after it", fault_of(client.publish, [b"cat"])[0], "ConnectionLost"
+    with socket.socket() as taken:
+        taken.bind(("127.0.0.1", 0))
+        yield "a port that nobody serves", fault_of(Client.connect, "127.0.0.1", taken.getsockname()[1])[0], "ConnectionLost"
+    dialed = []
+    with Resumed(lambda: dialed.append(1) or Client.spawn(["/none"]), PRONOUNS) as stream:
+        got = fault_of(stream.feed, b"a")[0], len(dialed)
+    yield "a program that is not there, which is not tried again", got, ("NotStarted", 1)
+    with tempfile.TemporaryFile() as file:
+        with Client.spawn([*SERVER, "--plans", "/none"], stderr=file) as client:
+            yield "a plan file that is not there", fault_of(client.open, 0)[0], "ConnectionLost"
+        file.seek(0)
+        yield "the message of the server", file.read(), b"scand: /none: cannot be read\n"
+
+
+def message_of(call, *words, **named):
+    """The text of the exception of a call."""
+    try:
+        return f"nothing: {call(*words, **named)!r}"
+    except Exception as fault:
+        return str(fault)
+
+
+def names():
+    """Each fault names its server."""
+    for port in 0, -1, 65536:
+        yield f"port {port}", message_of(Client.connect, "127.0.0.1", port), f"127.0.0.1:{port}: a port is a number from 1 to 65535"
+    with socket.socket() as listener:
+        listener.bind(("127.0.0.1", 0))
+        port = listener.getsockname()[1]
+        name = f"127.0.0.1:{port}"
+        yield "nobody listens", message_of(Client.connect, "127.0.0.1", port), f"{name}: Connection refused"
+        listener.listen()
+        for reply, want in (
+            (b"", f"{name} ended the connection"),
+            (b"HTTP/1.1 400", f"{name} sent what is no reply to what was asked: a length of {0x48545450}"),
+            (None, f"{name}: no byte went either way for 0.1 seconds"),
+        ):
+            with Client.connect("127.0.0.1", port, timeout=0.1 if reply is None else SECONDS) as client:
+                peer, _ = listener.accept()
+                with peer:
+                    client._send(sessions.publish(PRONOUNS))
+                    client._turn()
+                    peer.recv(1000)
+                    if reply is not None:
+                        peer.sendall(reply)
+                        peer.shutdown(socket.SHUT_WR)
+                    yield f"a server that sends {reply!r}", message_of(client._expect, 0, ()), want
+            yield "and is closed", message_of(client.publish, PRONOUNS), f"the connection to {name} is closed"
+    yield "a host that is not there", message_of(Client.connect, "none.invalid", 7000).partition(":7000: ")[0], "none.invalid"
+    yield "a program that is not there", message_of(Client.spawn, ["/none"]), "/none: No such file or directory"
+    with Client.spawn(["true"]) as client:
+        yield "a program that ends", message_of(client.publish, PRONOUNS), "true ended the connection"
+
+
+class Cut:
+    """Servers over pipes. Each ends after a number of bytes of replies, or of requests; None is no limit. After the last
+    of them come servers that stay."""
+
+    def __init__(self, *limits):
+        self.limits, self.clients = iter([*limits, *[(None, None)] * 100]), []
+
+    @property
+    def dialed(self):
+        return len(self.clients)
+
+    def dial(self):
+        self.clients.append(self.started())
+        return self.clients[-1]
+
+    def started(self):
+        """A client of the next server."""
+        replies, requests = next(self.limits)
+        child = subprocess.Popen(SERVER, stdin=subprocess.PIPE, stdout=subprocess.PIPE, bufsize=0)
+        reader, writer = child.stdout.fileno(), child.stdin.fileno()
+        os.set_blocking(reader, False)
+        os.set_blocking(writer, False)
+        left = {"replies": replies, "requests": requests}
+
+        def may(way, size):
+            if left[way] is None:
+                return size
+            if left[way] == 0:
+                child.kill()
+                raise ConnectionResetError("cut")
+            return min(size, left[way])
+
+        def moved(way, size):
+            if left[way] is not None:
+                left[way] -= size
+
+        def take(most):
+            piece = os.read(reader, may("replies", most))
+            moved("replies", len(piece))
+            return piece
+
+        def give(text):
+            size = os.write(writer, text[: may("requests", len(text))])
+            moved("requests", size)
+            return size
+
+        def leave():
+            child.kill()
+            child.communicate()
+
+        return Client(scand_client._Link(take, give, reader, writer), leave, SECONDS)
+
+
+def resumed(literals, is_folded, pieces, ahead, *limits):
+    """The hits of a stream over servers with these limits, its position, and how many connections were lost."""
+    way = Cut(*limits)
+    with Resumed(way.dial, literals, is_folded, pause=0) as stream:
+        return list(stream.scan(pieces, ahead)), stream.place, stream.losses
+
+
+def lost_everywhere():
+    """A stream whose first connection is lost, at each byte of the replies and of the requests."""
+    literals, text = [*PRONOUNS, b"e", b"rsus"], b"ushers" * 6
+    pieces = [text[:1], b"", text[1:8], text[8:10], text[10:29], text[29:]]
+    want = plain_hits(literals, False, text)
+    requests = [sessions.publish(literals), sessions.open_stream(0, 0), *(sessions.feed(0, piece) for piece in pieces)]
+    given = b"".join(requests)
+    taken = b"".join(sessions.conversation(given)[0])
+    for place in range(len(taken)):
+        got = resumed(literals, False, pieces, place % 5 + 1, (place, None))
+        yield f"lost at byte {place} of the replies", got, (want, len(text), 1)
+    for place in range(len(given)):
+        got = resumed(literals, False, pieces, place % 5 + 1, (None, place))
+        yield f"lost at byte {place} of the requests", got, (want, len(text), 1)
+    yield "lost after all", resumed(literals, False, pieces, 2, (len(taken), len(given))), (want, len(text), 0)
+
+
+def lost_often():
+    """Random streams that are lost several times, some of them with hits that take many frames."""
+    source = random.Random(12)
+    for number in range(40):
+        literals = [session_cases.word(source, b"abAB", 5) or b"a" for _ in range(source.randrange(1, 9))]
+        literals += [b"ab" * source.randrange(1, 60)] * (number % 3 == 0)
+        is_folded = source.random() < 0.5
+        text = session_cases.word(source, b"aaab", 4000) + session_cases.word(source, b"ABab", 3000)
+        pieces, at = [], 0
+        while at < len(text):
+            pieces.append(text[at : at + source.randrange(1, 900)])
+            at += len(pieces[-1])
+        limits = [(source.randrange(60000), None) if source.random() < 0.5 else (None, source.randrange(6000)) for _ in range(5)]
+        got = resumed(literals, is_folded, pieces, source.randrange(1, 6), *limits)
+        yield f"{literals!r:.60}, lost at {limits}", got[:2], (plain_hits(literals, is_folded, text), len(text))
+    long = [b"x" * 4095, b"y"]
+    text = b"x" * 9000 + b"y"
+    pieces = [text[at : at + 1000] for at in range(0, len(text), 1000)]
+    for requests in range(4200, 13000, 400):
+        got = resumed(long, False, pieces, 3, (None, requests))
+        yield f"a literal of 4,095 bytes, lost at {requests}", got, (plain_hits(long, False, text), 9001, 1)
+
+
+def resuming():
+    """How often a stream is tried and when not again, a silent server, streams begun again, and scans cut short."""
+    way = Cut(*[(20, None)] * 3)
+    with Resumed(way.dial, PRONOUNS, tries=3, pause=0) as stream:
+        yield "three tries fail", (fault_of(stream.feed, b"ushers")[0], stream.losses, way.dialed), ("ConnectionLost", 3, 3)
+        again = fault_of(stream.feed, b"ushers")[0], stream.losses, way.dialed
+        yield "and no more", again, ("ConnectionLost", 3, 3)
+    way = Cut(*[(60, None)] * 7)
+    with Resumed(way.dial, PRONOUNS, tries=2, pause=0) as stream:
+        got = list(stream.scan([b"%d" % digit for digit in range(10)] + [b"ushers"], 1))
+        want = [Hit(hit.literal, hit.end + 10) for hit in FOUND]
+        yield "losses with progress between them", (got, stream.losses > 2), (want, True)
+    way = Cut()
+    with Resumed(way.dial, [b"a", b""]) as stream:
+        yield "a list that is refused", (fault_of(stream.feed, b"a"), way.dialed), (("EmptyLiteral", 1), 1)
+        yield "and its connection", way.clients[0]._is_open, False
+    near, far = socket.socketpair()
+    with near, far:
+        dials = iter([lambda: over(near, 0.05), Cut().dial])
+        with Resumed(lambda: next(dials)(), PRONOUNS, pause=0) as stream:
+            yield "after a silent server", (stream.feed(b"ushers"), stream.losses), (FOUND, 1)
+    way = Cut()
+    with Resumed(way.dial, PRONOUNS) as stream:
+        for _ in range(3):
+            yield "a stream begun again", (stream.feed(b"ush"), stream.feed(b"ers"), stream.place, way.dialed), ([], FOUND, 6, 1)
+            stream.restart()
+    yield from by_number()
+    for limits in (), [(130, None)], [(None, 150)]:
+        with Resumed(Cut(*limits).dial, PRONOUNS, pause=0) as stream:
+            hits = stream.scan([b"ushers"] * 9, 3)
+            first = [next(hits), next(hits)]
+            hits.close()
+            sent = stream.place + sum(map(len, stream._unfed))
+            rest = stream.feed(b"ushers")
+            want = [hit for hit in plain_hits(PRONOUNS, False, b"ushers" * 10) if sent < hit.end <= sent + 6]
+            yield f"a scan that is left, lost at {limits}", (first, rest, stream.place), (FOUND[:2], want, sent + 6)
+
+
+def by_number():
+    """Streams by the number of a plan, which the client checks."""
+    with Server(6) as server, server.client() as first:
+        first.asks(sessions.publish(PRONOUNS))
+
+        def dial():
+            return Client.connect("127.0.0.1", server.port)
+
+        with Resumed(dial, PRONOUNS, number=0) as stream:
+            yield "a stream by a number", (stream.feed(b"ush"), stream.place), ([], 3)
+            stream._client.close()
+            yield "taken up by its number", (stream.feed(b"ers"), stream.losses), (FOUND, 1)
+        for literals, is_folded in (PRONOUNS[:3], False), (PRONOUNS, True):
+            with Resumed(dial, literals, is_folded, number=0) as stream:
+                yield f"another plan than {literals}, {is_folded}", fault_of(stream.feed, b"a")[0], "BadReply"
+        with Resumed(dial, PRONOUNS, number=1) as stream:
+            yield "a number of no plan", fault_of(stream.feed, b"a")[0], "NoSuchPlan"
+
+
+def files():
+    """The example that scans files: hits, counts, and what cannot be read."""
+    script = os.path.join(PYTHON, "scan_files.py")
+    texts = {"first": b"ushers " * 12000, "second": b"", "third": b"USHERS he"}
+    with tempfile.TemporaryDirectory() as folder, Server(9) as server, server.client():
+        for name, text in {**texts, "words": b"he\nhis\n\nshe\nhers"}.items():
+            with open(os.path.join(folder, name), "wb") as file:
+                file.write(text)
+
+        def run(*words, stdin=b""):
+            done = subprocess.run([sys.executable, script, *words], cwd=folder, input=stdin, capture_output=True, timeout=60)
+            return done.returncode, done.stdout, done.stderr
+
+        def lines(is_folded, *names):
+            front = "{}:" if len(names) > 1 else ""
+            rows = ((name, hit) for name in names for hit in plain_hits(PRONOUNS, is_folded, texts[name]))
+            return "".join(f"{front.format(name)}{hit.literal} {hit.end}\n" for name, hit in rows).encode()
+
+        port = ["--port", str(server.port), "-f", "words"]
+        own = ["--stdio", SCAND, "-f", "words"]
+        for way in port, own:
+            yield f"{way[0]}: a file", run(*way, "first"), (0, lines(False, "first"), b"")
+            yield f"{way[0]}: files", run(*way, "-i", *texts), (0, lines(True, *texts), b"")
+        yield "counts", run(*own, "-c", *texts), (0, b"first:36000\nsecond:0\nthird:1\n", b"")
+        yield "standard input", run(*own, "-", stdin=b"ushers"), (0, b"0 4\n2 4\n3 6\n", b"")
+        yield "no hit", run(*own, "second"), (1, b"", b"")
+        missing = b"scan_files: none: No such file or directory\n"
+        yield "a file that is missing", run(*own, "none", "third"), (2, b"third:0 9\n", missing)
+        yield "a list that is missing", run("--stdio", SCAND, "-f", "none", "third"), (2, b"", missing)
+        refused = b"scan_files: second: NoLiterals (5), detail 0, stream 0\n"
+        yield "a list that is refused", run(*own[:3], "second", "third"), (2, b"", refused)
+        yield "a list that fits no frame", run(*own[:3], "first", "third")[:2], (2, b"")
+        missing = b"scan_files: /none: No such file or directory\n"
+        yield "a server that is missing", run("--stdio", "/none", "-f", "words", "third"), (2, b"", missing)
+        ended = b"scan_files: true ended the connection\n"
+        yield "a program that is no server", run("--stdio", "true", "-f", "words", "third"), (2, b"", ended)
+
+
+TESTS = (frames, talks, refusals, random_talks, canned, names, lost_everywhere, lost_often, resuming, files)
