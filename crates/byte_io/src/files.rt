@@ -23,6 +23,3 @@ pub trait Files: Opener {
         ensures gives { IfSome (Self.sources self.old) (λ s. CreatesAs Self.Output.written (can_create name.now s.creatable) result) }
         ensures fresh { IfOk result (λ output. Self.Output.has_failed output ≡ false) };
 }
-
-#[cfg(test)]
-mod tests;

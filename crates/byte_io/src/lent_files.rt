@@ -120,6 +120,3 @@ fn take_first<'a, T: Drop>(entries: &mut Vec<(&'a str, Option<T>)>, name: &str) 
     }
     None
 }
-
-#[cfg(test)]
-mod tests;

@@ -96,6 +96,3 @@ fn regular_id(metadata: io::Result<Metadata>) -> Option<FileId> {
         _ => None,
     }
 }
-
-#[cfg(test)]
-mod tests;

@@ -143,6 +143,3 @@ fn read_chunk<R: ByteIn, A: Allocator>(
         }
     }
 }
-
-#[cfg(test)]
-mod tests;

@@ -38,6 +38,3 @@ pub use one_byte::{ExactByte, OneByte};
 pub use pair::BytePair;
 pub use sieve::Sieve;
 pub use triple::ByteTriple;
-
-#[cfg(test)]
-mod tests;

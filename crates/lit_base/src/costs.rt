@@ -130,6 +130,3 @@ fn bucket_cost(list: &LitList, numbers: &[u8], number: u8) -> u64
     }
     if count == 0 { 0 } else { cost(count, shortest) }
 }
-
-#[cfg(test)]
-mod tests;

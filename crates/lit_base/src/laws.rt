@@ -51,6 +51,3 @@ pub fn potentials_law(list: &LitList, most: usize, potentials: &[u64])
 {
     let _count = list.len();
 }
-
-#[cfg(test)]
-mod tests;

@@ -261,6 +261,3 @@ pub struct Normal {
     /// For each raw pattern its place in the normal form; for a null one none.
     pub place_of: Vec<Option<u16>>,
 }
-
-#[cfg(test)]
-mod tests;

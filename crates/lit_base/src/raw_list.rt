@@ -191,6 +191,3 @@ fn push_copy(list: &mut Vec<Vec<u8>>, pattern: &[u8]) -> Result<(), AllocError>
     list.push(copy)?;
     Ok(())
 }
-
-#[cfg(test)]
-mod tests;

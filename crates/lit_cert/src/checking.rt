@@ -179,6 +179,3 @@ fn first_run(list: &LitList, potentials: &[u64], r: usize, p: usize) -> Option<u
     }
     None
 }
-
-#[cfg(test)]
-mod tests;

@@ -77,6 +77,3 @@ fn read_longest<R: ByteIn>(alloc: Global, input: &mut R) -> Result<Certificate, 
         Err(ReadError::OutOfMemory) => Err(Fault::OutOfMemory),
     }
 }
-
-#[cfg(test)]
-mod tests;

@@ -12,6 +12,3 @@ mod masks;
 
 pub use candidates::candidate_law;
 pub use masks::{Masks, plain_byte};
-
-#[cfg(test)]
-mod tests;

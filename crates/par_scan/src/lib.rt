@@ -6,6 +6,3 @@ mod parts;
 
 pub use gate::{Gate, NoGate};
 pub use parts::{MAX_WORKERS, scan_parts};
-
-#[cfg(test)]
-mod tests;

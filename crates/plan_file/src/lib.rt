@@ -16,6 +16,3 @@ pub use encoding::{encode, write_plans};
 pub use fault::{Cause, Fault};
 pub use limits::{MAX_PLANS, limits_law};
 pub use reading::read_plans;
-
-#[cfg(test)]
-mod tests;

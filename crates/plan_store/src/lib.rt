@@ -14,6 +14,3 @@ pub use laws::{
 };
 pub use store::PlanStore;
 pub use ticket::Ticket;
-
-#[cfg(test)]
-mod tests;

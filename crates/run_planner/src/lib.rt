@@ -12,6 +12,3 @@ mod tail_row;
 pub use fault::Fault;
 pub use meter::{ListMeter, Meter};
 pub use planning::{plan, plan_counted};
-
-#[cfg(test)]
-mod tests;

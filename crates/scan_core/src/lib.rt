@@ -21,6 +21,3 @@ pub use refusal::Refusal;
 pub use session::Session;
 pub use together::{Answered, answered_at_once, fit_law, together_law};
 pub use world::{event_law, world_law};
-
-#[cfg(test)]
-mod tests;

@@ -17,6 +17,3 @@ pub use fault::{Cause, Fault};
 pub use frames::next;
 pub use laws::limits_law;
 pub use message::{Lent, MAX_HITS, MAX_PAYLOAD, Reply, Request};
-
-#[cfg(test)]
-mod tests;

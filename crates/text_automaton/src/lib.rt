@@ -10,6 +10,3 @@ mod telling;
 
 pub use automaton::Automaton;
 pub use reading::Reading;
-
-#[cfg(test)]
-mod tests;

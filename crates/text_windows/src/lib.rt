@@ -20,8 +20,6 @@ mod windows;
 pub use choosing::{LOOK_COST, MARK_COST, SIEVE_COST, START_COST, cost_of_blocks, cost_of_both};
 pub use looks::Looks;
 pub use rate::EndRate;
+pub use runs::cut_runs;
 pub use shift_or::{SHIFT_OR_COST, ShiftOr};
 pub use windows::Windows;
-
-#[cfg(test)]
-mod tests;

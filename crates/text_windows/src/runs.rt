@@ -16,7 +16,7 @@ const WEIGHTS: [usize; 10] = [
 /// bucket where each look meets one of its literals: the more they are the sooner, and the sooner the fewer bytes the shortest
 /// has. Of lists of a text's own words, 100 to 1,000 in log lines, English, JSON and source code, this leaves 0.02 to 0.8 of
 /// the ends that runs of as many leave, and 0.001 to 0.34 where a tenth of them is short (counted on one seed).
-pub(crate) fn cut_runs(list: &LitList, buckets: &mut Vec<u8>)
+pub fn cut_runs(list: &LitList, buckets: &mut Vec<u8>)
     requires { vec_len buckets.old ≡ length list.now.texts }
     ensures { vec_len buckets.new ≡ vec_len buckets.old }
 {

@@ -1,253 +1,46 @@
-//! What no clause says: worked rows, and the texts of faults.
-mod columns;
-mod finding;
-mod numbers;
-mod whole_lines;
-
+//! What needs a picker's own fields. All other tests of pickers stand in `search_tests`.
 use super::*;
-use crate::matcher::{is_in_lines, standing_law};
-use list_plan::compile;
-use lit_base::{Fold, LitList, RawList};
-use std::alloc::AllocError;
-use std::test::Fail;
 
-const PARTS: LineRule = LineRule {
-    invert: false,
-    whole: false,
-};
-
-const WHOLE: LineRule = LineRule {
-    invert: false,
-    whole: true,
-};
-
-/// What a sink answers to a line.
-#[derive(Clone, Copy)]
-enum Mood {
-    Takes,
-    StopsAt(u64),
-    FailsAt(u64, Fault),
-}
-
-/// A sink that keeps each line behind its number.
+/// A sink that counts lines.
 #[derive(Drop)]
-struct Kept {
-    alloc: Global,
-    text: Vec<u8>,
-    mood: Mood,
+struct Counter {
+    lines: u64,
 }
 
-impl Kept {
-    fn new(alloc: Global, mood: Mood) -> Kept {
-        Kept {
-            alloc,
-            text: Vec::new(alloc),
-            mood,
-        }
-    }
-
-    fn keep(&mut self, number: u64, bytes: &[u8]) -> Result<(), AllocError> {
-        let prefix = format!(in self.alloc; "{number}:")?;
-        self.text.extend_from_slice(prefix.as_bytes())?;
-        self.text.extend_from_slice(bytes)?;
-        self.text.push(b'\n')?;
-        Ok(())
-    }
-}
-
-impl Sink for Kept {
+impl Sink for Counter {
     ghost takes = { λ _ _ _ _ _. Unit {0} };
 
-    fn line(&mut self, number: u64, bytes: &[u8]) -> Result<Next, Fault> {
-        self.keep(number, bytes)?;
-        match self.mood {
-            Mood::StopsAt(last) if last == number => Ok(Next::Stop),
-            Mood::FailsAt(last, Fault::WriteFault) if last == number => Err(Fault::WriteFault),
-            Mood::FailsAt(last, _) if last == number => Err(Fault::OutOfMemory),
-            _ => Ok(Next::More),
-        }
+    fn line(&mut self, _number: u64, _bytes: &[u8]) -> Result<Next, Fault> {
+        self.lines = self.lines.saturating_add(1);
+        Ok(Next::More)
     }
 }
 
-/// The plan of one literal, of which case counts.
-fn plan_of_one(alloc: Global, literal: &[u8]) -> Option<Compiled> {
-    plan_under(alloc, literal, Fold::No)
-}
-
-/// The plan of one literal under a fold.
-fn plan_under(alloc: Global, literal: &[u8], fold: Fold) -> Option<Compiled> {
-    let mut raw = RawList::new(alloc);
-    raw.push(literal).ok()?;
-    let (list, _) = LitList::normal(alloc, &raw, fold).ok()?;
-    compile(alloc, list).ok()
-}
-
-/// A call of a picker, with a piece or at the end, and its answer with what the sink has kept then.
-type Turn = (Option<&'static [u8]>, Result<Next, Fault>, &'static [u8]);
-
-/// The first of the turns, from 0, whose answer or kept lines are others.
-fn first_wrong(
-    picker: &mut Picker<'_>,
-    sink: &mut Kept,
-    turns: &[Turn],
-) -> Result<Option<usize>, AllocError> {
-    for (place, turn) in turns.iter().enumerate() {
-        let (piece, answer, kept) = *turn;
-        let given = match piece {
-            Some(piece) => picker.feed(piece, sink),
-            None => picker.finish(sink),
-        };
-        if given == answer && sink.text.as_slice() == kept {
-            continue;
-        }
-        if given == Err(Fault::OutOfMemory) && kept.starts_with(sink.text.as_slice()) {
-            return Err(AllocError);
-        }
-        return Ok(Some(place));
-    }
-    Ok(None)
-}
-
-/// What stands for the first wrong turn where a plan is none of a picker's.
-const NO_PICKER: Option<usize> = Some(usize::MAX);
-
-/// The first wrong turn of a picker by this plan, with a sink of this mood.
-fn first_wrong_by(
-    alloc: Global,
-    compiled: &Compiled,
-    rule: LineRule,
-    mood: Mood,
-    turns: &[Turn],
-) -> Result<Option<usize>, AllocError> {
-    if !is_in_lines(compiled) {
-        return Ok(NO_PICKER);
-    }
-    let mut picker = Picker::new(alloc, Some(compiled), false, rule);
-    let mut sink = Kept::new(alloc, mood);
-    first_wrong(&mut picker, &mut sink, turns)
-}
-
-/// That of a picker for this literal.
-fn first_wrong_of(
-    alloc: Global,
-    literal: &[u8],
-    rule: LineRule,
-    mood: Mood,
-    turns: &[Turn],
-) -> Result<Option<usize>, AllocError> {
-    match plan_of_one(alloc, literal) {
-        Some(compiled) => first_wrong_by(alloc, &compiled, rule, mood, turns),
-        None => Err(AllocError),
-    }
-}
-
-/// Turns of which the sink gets the second line alone.
-static IN_PIECES: [Turn; 6] = [
-    (Some(b"conc"), Ok(Next::More), b""),
-    (Some(b"at\nca"), Ok(Next::More), b""),
-    (Some(b"t"), Ok(Next::More), b""),
-    (None, Ok(Next::More), b"2:cat\n"),
-    (None, Ok(Next::Stop), b"2:cat\n"),
-    (Some(b"cat\n"), Ok(Next::Stop), b"2:cat\n"),
-];
-
-#[test]
-fn compares_a_line_in_pieces_as_a_whole(rt: HostRuntime) -> Result<(), Fail> {
-    let wrong = first_wrong_of(rt.alloc(), b"cat", WHOLE, Mood::Takes, &IN_PIECES)?;
-    assert_eq!(rt; wrong, None);
-    Ok(())
-}
-
-/// Turns of which the sink gets the empty line alone.
-static EMPTY_LINE: [Turn; 2] = [
-    (Some(b"\na\n"), Ok(Next::More), b"1:\n"),
-    (None, Ok(Next::More), b"1:\n"),
-];
-
-#[test]
-fn takes_the_null_pattern_as_the_empty_line(rt: HostRuntime) -> Result<(), Fail> {
-    let mut picker = Picker::new(rt.alloc(), None, true, WHOLE);
-    let mut sink = Kept::new(rt.alloc(), Mood::Takes);
-    assert_eq!(rt; first_wrong(&mut picker, &mut sink, &EMPTY_LINE)?, None);
-    Ok(())
-}
-
-/// Turns that go on behind a stop.
-static STOPPED: [Turn; 3] = [
-    (Some(b"a\nb\na\na\n"), Ok(Next::Stop), b"1:a\n3:a\n"),
-    (Some(b"a\n"), Ok(Next::Stop), b"1:a\n3:a\n"),
-    (None, Ok(Next::Stop), b"1:a\n3:a\n"),
-];
-
-#[test]
-fn lends_nothing_after_a_stop(rt: HostRuntime) -> Result<(), Fail> {
-    let wrong = first_wrong_of(rt.alloc(), b"a", PARTS, Mood::StopsAt(3), &STOPPED)?;
-    assert_eq!(rt; wrong, None);
-    Ok(())
-}
-
-/// Turns that go on behind a line that cannot be written.
-static UNWRITTEN: [Turn; 4] = [
-    (Some(b"a"), Ok(Next::More), b""),
-    (Some(b"\naa\na\n"), Err(Fault::WriteFault), b"1:a\n2:aa\n"),
-    (Some(b"a\n"), Err(Fault::WriteFault), b"1:a\n2:aa\n"),
-    (None, Err(Fault::WriteFault), b"1:a\n2:aa\n"),
-];
-
-/// Turns that go on behind a line for which there is no memory.
-static UNKEPT: [Turn; 4] = [
-    (Some(b"a"), Ok(Next::More), b""),
-    (Some(b"\naa\na\n"), Err(Fault::OutOfMemory), b"1:a\n2:aa\n"),
-    (Some(b"a\n"), Err(Fault::OutOfMemory), b"1:a\n2:aa\n"),
-    (None, Err(Fault::OutOfMemory), b"1:a\n2:aa\n"),
-];
-
-#[test]
-fn answers_a_fault_of_the_sink_again(rt: HostRuntime) -> Result<(), Fail> {
-    let unwritten = Mood::FailsAt(2, Fault::WriteFault);
-    let wrong = first_wrong_of(rt.alloc(), b"a", PARTS, unwritten, &UNWRITTEN)?;
-    assert_eq!(rt; wrong, None);
-    let unkept = Mood::FailsAt(2, Fault::OutOfMemory);
-    let wrong = first_wrong_of(rt.alloc(), b"a", PARTS, unkept, &UNKEPT)?;
-    assert_eq!(rt; wrong, None);
-    Ok(())
-}
-
-/// Turns that go on behind the last place.
-static TOO_LONG: [Turn; 4] = [
-    (Some(b"a\nb"), Ok(Next::More), b"1:a\n"),
-    (Some(b""), Ok(Next::More), b"1:a\n"),
-    (Some(b"\n"), Err(Fault::StreamTooLong), b"1:a\n"),
-    (None, Err(Fault::StreamTooLong), b"1:a\n"),
-];
-
-#[test]
-fn fails_where_the_stream_is_too_long(rt: HostRuntime) -> Result<(), Fail> {
-    let mut picker = Picker::new(rt.alloc(), None, true, PARTS);
+/// What a picker answers to two pieces that reach the last position, to one byte more, and at the end, and how many lines
+/// the sink has then. Null patterns select each line.
+fn answers_at_the_last_position(alloc: Global) -> ([Result<Next, Fault>; 4], u64) {
+    let rule = LineRule {
+        invert: false,
+        whole: false,
+    };
+    let mut picker = Picker::new(alloc, None, true, rule);
     picker.progress.bytes = u64::MAX - 3;
-    let mut sink = Kept::new(rt.alloc(), Mood::Takes);
-    assert_eq!(rt; first_wrong(&mut picker, &mut sink, &TOO_LONG)?, None);
-    Ok(())
-}
-
-/// Whether a fault has this number and text.
-fn is_named(alloc: Global, fault: Fault, number: u8, text: &str) -> Option<bool> {
-    let shown = format!(in alloc; "{fault}").ok()?;
-    Some(fault.number() == number && shown.as_str() == text)
+    let mut sink = Counter { lines: 0 };
+    let first = picker.feed(b"a\nb", &mut sink);
+    let second = picker.feed(b"", &mut sink);
+    let third = picker.feed(b"\n", &mut sink);
+    ([first, second, third, picker.finish(&mut sink)], sink.lines)
 }
 
 #[test]
-fn names_its_faults(rt: HostRuntime) {
-    let alloc = rt.alloc();
-    standing_law();
-    assert_eq!(rt;
-        is_named(alloc, Fault::OutOfMemory, 1, "out of memory"),
-        Some(true)
-    );
-    assert_eq!(rt;
-        is_named(alloc, Fault::WriteFault, 18, "a write failed"),
-        Some(true)
-    );
-    let too_long = is_named(alloc, Fault::StreamTooLong, 20, "the stream is too long");
-    assert_eq!(rt; too_long, Some(true));
+fn fails_where_the_stream_is_too_long(rt: HostRuntime) {
+    let too_long = Err(Fault::StreamTooLong);
+    let (answers, lines) = answers_at_the_last_position(rt.alloc());
+    if answers[0] != Err(Fault::OutOfMemory) {
+        assert_eq!(rt;
+            answers,
+            [Ok(Next::More), Ok(Next::More), too_long, too_long]
+        );
+        assert_eq!(rt; lines, 1);
+    }
 }

@@ -1,0 +1,142 @@
+//! The tables of worked lists, their filter bytes, and the law of candidates.
+use lit_base::{Ends, Fault, Fold, LitList, RawList, is_cut};
+use nib_mask::{Masks, candidate_law, plain_byte};
+use std::alloc::Global;
+use std::test::Fail;
+
+/// The table that has bucket 0 everywhere.
+const ALL: [u8; 16] = [1; 16];
+
+/// The table that has bucket 0 at these places alone.
+fn only(places: &[usize]) -> [u8; 16] {
+    let mut table = [0; 16];
+    for place in places {
+        if let Some(entry) = table.get_mut(*place) {
+            *entry = 1;
+        }
+    }
+    table
+}
+
+/// The normal form of the words of a text.
+fn list_of(alloc: Global, fold: Fold, words: &str) -> Result<LitList, Fault> {
+    let mut raw = RawList::new(alloc);
+    for word in words.split(' ') {
+        raw.push(word.as_bytes())?;
+    }
+    let (list, _) = LitList::normal(alloc, &raw, fold)?;
+    Ok(list)
+}
+
+/// The ends as a list of at most eight.
+fn ends_of(places: &[u16]) -> Ends {
+    let mut ends = Ends::new();
+    for place in places {
+        let _pushed = ends.try_push(*place);
+    }
+    ends
+}
+
+/// The tables for the words in these runs, if the ends are a cut of them.
+fn masks_of(
+    alloc: Global,
+    fold: Fold,
+    words: &str,
+    places: &[u16],
+) -> Result<Option<Masks>, Fault> {
+    let list = list_of(alloc, fold, words)?;
+    let ends = ends_of(places);
+    if is_cut(&list, &ends) {
+        Ok(Some(Masks::of(&list, &ends)))
+    } else {
+        Ok(None)
+    }
+}
+
+#[test]
+fn marks_the_halves_of_one_literal(rt: HostRuntime) -> Result<(), Fail> {
+    let found = masks_of(rt.alloc(), Fold::No, "ab", &[1])?;
+    let wanted = Masks {
+        low: [ALL, only(&[1]), only(&[2])],
+        high: [ALL, only(&[6]), only(&[6])],
+    };
+    assert_eq!(rt; found, Some(wanted));
+    assert_eq!(rt; plain_byte(&wanted, b'x', b'a', b'b'), 1);
+    assert_eq!(rt; plain_byte(&wanted, b'x', b'a', b'c'), 0);
+    assert_eq!(rt; plain_byte(&wanted, b'x', b'A', b'b'), 0);
+    Ok(())
+}
+
+#[test]
+fn marks_both_cases_under_folding(rt: HostRuntime) -> Result<(), Fail> {
+    let found = masks_of(rt.alloc(), Fold::Ascii, "ab", &[1])?;
+    let wanted = Masks {
+        low: [ALL, only(&[1]), only(&[2])],
+        high: [ALL, only(&[4, 6]), only(&[4, 6])],
+    };
+    assert_eq!(rt; found, Some(wanted));
+    assert_eq!(rt; plain_byte(&wanted, b'x', b'a', b'b'), 1);
+    assert_eq!(rt; plain_byte(&wanted, b'x', b'a', b'c'), 0);
+    assert_eq!(rt; plain_byte(&wanted, b'x', b'A', b'b'), 1);
+    Ok(())
+}
+
+#[test]
+fn marks_the_halves_of_two_literals(rt: HostRuntime) -> Result<(), Fail> {
+    let words = "abcdefgh abcdefxy";
+    let low = [only(&[6]), only(&[7, 8]), only(&[8, 9])];
+    let found = masks_of(rt.alloc(), Fold::No, words, &[2])?;
+    let wanted = Masks {
+        low,
+        high: [only(&[6]), only(&[6, 7]), only(&[6, 7])],
+    };
+    assert_eq!(rt; found, Some(wanted));
+    // Halves of two literals pass together, though no literal ends so.
+    assert_eq!(rt; plain_byte(&wanted, b'f', b'g', b'y'), 1);
+    assert_eq!(rt; plain_byte(&wanted, b'F', b'g', b'y'), 0);
+
+    let found = masks_of(rt.alloc(), Fold::Ascii, words, &[2])?;
+    let wanted = Masks {
+        low,
+        high: [only(&[4, 6]), only(&[4, 5, 6, 7]), only(&[4, 5, 6, 7])],
+    };
+    assert_eq!(rt; found, Some(wanted));
+    assert_eq!(rt; plain_byte(&wanted, b'f', b'g', b'y'), 1);
+    assert_eq!(rt; plain_byte(&wanted, b'F', b'G', b'Y'), 1);
+    Ok(())
+}
+
+#[test]
+fn leaves_out_what_a_short_literal_does_not_reach(rt: HostRuntime) -> Result<(), Fail> {
+    let found = masks_of(rt.alloc(), Fold::No, "b ab", &[2])?;
+    let together = Masks {
+        low: [ALL, ALL, only(&[2])],
+        high: [ALL, ALL, only(&[6])],
+    };
+    assert_eq!(rt; found, Some(together));
+    assert_eq!(rt; plain_byte(&together, b'x', b'x', b'b'), 1);
+    assert_eq!(rt; plain_byte(&together, b'x', b'a', b'x'), 0);
+
+    let apart = masks_of(rt.alloc(), Fold::No, "b ab", &[1, 2])?;
+    let apart = apart.ok_or("the ends are a cut")?;
+    assert_eq!(rt; plain_byte(&apart, b'x', b'x', b'b'), 1);
+    assert_eq!(rt; plain_byte(&apart, b'x', b'a', b'b'), 3);
+    assert_eq!(rt; plain_byte(&apart, b'b', b'a', b'x'), 0);
+    assert_eq!(rt; apart.low[0], [3; 16]);
+    Ok(())
+}
+
+#[test]
+fn holds_where_a_literal_ends(rt: HostRuntime) -> Result<(), Fail> {
+    let text = b"ushers";
+    let list = list_of(rt.alloc(), Fold::No, "he his she hers")?;
+    let ends = ends_of(&[1, 4]);
+    assert!(rt; is_cut(&list, &ends));
+    let place = list.next_ending(text, 4, 1).ok_or("`she` ends there")?;
+    assert_eq!(rt; place, 2);
+    candidate_law(&list, &ends, text, place as u16, 4, *b"..");
+    // The first run has a shorter literal, the second is that of `she`.
+    let masks = Masks::of(&list, &ends);
+    assert_eq!(rt; plain_byte(&masks, b's', b'h', b'e'), 3);
+    Ok(())
+}
