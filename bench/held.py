@@ -1,4 +1,4 @@
-"""What holds a row of a table in which another program is ahead, in a word or two: README.md says of each what was tried.
+"""What holds a row of a table in which another program is ahead, in a word or two: CHANGES.md says what was tried.
 
     python3 bench/held.py        says it anew in the tables PROGRAMS.md, LISTS.md, LEARNED.md and SCANNING.md
 """

@@ -25,6 +25,8 @@ PARTS = "src", "specs", "proofs"
 MOST_JOBS = 4
 # How many lines of a crate take as long as what each check does first.
 LINES_OF_A_CHECK = 1000
+# A crate whose chain is shorter than this part of the longest one gives way to the others.
+SHORT_CHAIN = 0.7
 
 
 def path(*parts):
@@ -134,8 +136,8 @@ def command(crate, cpu, jobs):
     return ["rt", "run", f"--cpu={cpu}", "--jobs", str(jobs), "--", *words]
 
 
-def proved(crate, crates, cpu, jobs):
-    """Proves a crate, and answers what went wrong, if anything did."""
+def proved(crate, crates, cpu, jobs, is_urgent):
+    """Proves a crate, giving way to others if it is not urgent, and answers what went wrong, if anything did."""
     out = os.path.join(crate.folder, "out")
     stdin = os.path.join(crate.folder, "stdin")
     with tempfile.TemporaryDirectory(prefix=f"prove-{crate.name}-") as folder:
@@ -147,7 +149,8 @@ def proved(crate, crates, cpu, jobs):
         try:
             with open(stdin if os.path.isfile(stdin) else os.devnull, "rb") as given:
                 with open(os.path.join(kept, "build.stdout"), "wb") as said, open(os.path.join(kept, "build.log"), "wb") as log:
-                    status = subprocess.run(command(crate, cpu, jobs), cwd=at, stdin=given, stdout=said, stderr=log).returncode
+                    words = [*([] if is_urgent else ["nice"]), *command(crate, cpu, jobs)]
+                    status = subprocess.run(words, cwd=at, stdin=given, stdout=said, stderr=log).returncode
         finally:
             # What an earlier run kept is not lost, however this one ends.
             shutil.move(kept, out)
@@ -180,16 +183,19 @@ def chains(crates, names):
 def build(crates, names, cpu, processors):
     """Proves crates side by side, those with the longest chain first, and answers whether all were proved."""
     left = [name for name in sorted(names, key=lambda name: -crates[name].above)]
-    done, running, idle, is_well = set(), {}, processors, True
+    # Proofs have parts that use one processor, so twice as many processes keep all of them busy.
+    done, running, idle, is_well = set(), {}, 2 * processors, True
     with concurrent.futures.ThreadPoolExecutor(processors) as pool:
         while left and is_well or running:
             ready = [name for name in left if is_well and all(low in done or low not in names for low in crates[name].uses)]
             for place, name in enumerate(ready):
-                jobs = min(idle // (len(ready) - place) or min(idle, 1), MOST_JOBS)
+                others = len(ready) - place - 1
+                jobs = min(max(idle - others, min(idle, 1)), processors, MOST_JOBS)
                 if jobs:
                     left.remove(name)
                     idle -= jobs
-                    run = pool.submit(proved, crates[name], crates, cpu, jobs)
+                    longest = max(crates[other].above for other in [name, *left, *(it[0] for it in running.values())])
+                    run = pool.submit(proved, crates[name], crates, cpu, jobs, crates[name].above >= SHORT_CHAIN * longest)
                     running[run] = name, jobs, time.monotonic()
             for run in concurrent.futures.wait(running, return_when=concurrent.futures.FIRST_COMPLETED).done:
                 name, jobs, since = running.pop(run)

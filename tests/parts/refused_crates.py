@@ -19,38 +19,38 @@ FIRST, FACTOR = 400, 1.3
 # Long tests, which do the same thousands of times: only this number of first growths is refused. Here and below the name of
 # a test follows the name of the crate.
 LONG, FIRST_OF_LONG = re.compile("flow_scan::tests::choosing::.*"
-                                 "|par_scan::tests::(agrees_with_a_plain_loop_from_seed_.|finds_an_end_wherever_parts_meet)"), 20
+                                 "|search_tests::parts::(agrees_with_a_plain_loop_from_seed_.|finds_an_end_wherever_parts_meet)"), 20
 # How a test that fails shows its answer: a fault, or a value that it makes of one.
 STARVED = re.compile(rb"(error|there is memory): (OutOfMemory|AllocError|AllocFailed|Kind\(OutOfMemory\))|left: (Err|Some)\(OutOfMemory\)$", re.M)
 # What tests of a crate may show instead: the fault, or its number 1, among values that are as they must be.
 ALSO_STARVED = {
-    "lit_base": rb"Some\(\(Err\(OutOfMemory\), 2, true\)\)|Some\(Err\(1\)\)",
-    "scan_core": rb"\[Some\(OutOfMemory\), None, None\]",
+    "base_tests": rb"Some\(\(Err\(OutOfMemory\), 2, true\)\)|Some\(Err\(1\)\)",
+    "serve_tests": rb"\[Some\(OutOfMemory\), None, None\]",
 }
 # Tests of calls that answer None for want of memory, where a value is wanted. The last is a test of mistaken_tests.c.
 ANSWER_NONE = re.compile(
     "flow_scan::tests::.*"
-    "|line_pick::picker::tests::(finding::.*|names_its_faults|numbers::.*|whole_lines::selects_.*)"
-    "|lit_base::(costs|lit_list|raw_list)::tests::.*"
-    "|plan_store::tests::(finds_.*_published|shows_in_one_thread_what_another_published|tells_two_threads_two_numbers)"
-    "|scan_core::tests::opens_.*_published"
-    "|text_(automaton|windows)::tests::.*"
+    "|base_tests::(costs|lit_lists|raw_lists)::.*"
+    "|search_tests::(automata|scanning|windows)::.*"
+    "|search_tests::picking::(finding::.*|names_its_faults|numbers::.*|whole_lines::selects_.*)"
+    "|serve_tests::sessions::opens_.*_published"
+    "|serve_tests::stores::(finds_.*_published|shows_in_one_thread_what_another_published|tells_two_threads_two_numbers)"
     "|mistaken::answers none"
 )
 NO_VALUE = re.compile(rb"left: None\n right: Some\(")
 # Tests that do not report want of memory. Some have workers that wait for each other, where one worker does everything if
 # memory for a thread is refused. One has threads that publish as much as they can.
 LEFT_OUT = {
-    "par_scan::tests::runs_two_workers_at_once",
-    "par_scan::tests::runs_sixteen_workers_at_once",
-    "plan_store::tests::finds_what_eight_threads_published",
+    "search_tests::parts::runs_two_workers_at_once",
+    "search_tests::parts::runs_sixteen_workers_at_once",
+    "serve_tests::stores::finds_what_eight_threads_published",
 }
 # Tests that may pass where all growths after one are refused. They do without a thread that does not start, and the first
 # and the last want to find nothing at their ends.
 MAY_PASS = {
-    "par_scan::tests::finds_the_worked_hits",
-    "plan_store::tests::finds_in_each_of_two_threads_what_the_other_published",
-    "plan_store::tests::shows_in_one_thread_what_another_published",
+    "search_tests::parts::finds_the_worked_hits",
+    "serve_tests::stores::finds_in_each_of_two_threads_what_the_other_published",
+    "serve_tests::stores::shows_in_one_thread_what_another_published",
 }
 
 

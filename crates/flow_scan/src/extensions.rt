@@ -11,8 +11,8 @@ ghost use Rattle.flow_scan.specs.Extensions.{AreExtensions, IsLongestSuffix};
 
 use lit_base::{LitList, MAX_LITERALS};
 
-/// So many suffixes of a literal are looked for among the others. In lists of words a literal has one or two; of a list in which
-/// one has more nothing is told, so that a list of literals each of which is a suffix of the next takes no long time.
+/// A list in which one literal has this many suffixes among the others has no output links: a list of literals each of which is
+/// a suffix of the next would take long. In lists of words a literal has one or two.
 const MOST_SUFFIXES: usize = 16;
 
 /// So many of the literals that extend one are compared with a text; the others are looked for as literals are that

@@ -15,7 +15,7 @@ use std::simd::prelude::*;
 /// A pair of bytes of a literal, and the rarest one beside these. Where the literal has no third byte, the third is one of the pair.
 ///
 /// Of some pairs of bytes a text has eight in a kilobyte, where three bytes stand together less than once: of sixteen rare words of
-/// each of four texts, four pairs stood more often than five times. `docs/DECISIONS.md` has what a search takes by three bytes and by two.
+/// each of four texts, four pairs stood more often than five times. `bench/CHANGES.md` has what a search takes by three bytes and by two.
 #[derive(Clone, Copy, Debug, PartialEq, Eq)]
 pub struct ByteTriple {
     pair: BytePair,
