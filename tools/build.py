@@ -3,9 +3,10 @@
 
 Each rt command locks its crate and every crate below it until it ends. All crates stand on byte_io, so in one tree only
 one crate is proved at a time. Here each is proved in a copy of it and of the crates below, which has locks of its own;
-what was made is then moved back. Up to N processors (all by default) prove crates side by side, first those with the
-longest chain of crates above. A crate is proved again where a file of it changed, or a crate below was proved again.
-A library keeps its statements alone, so that the crates above do not read its proofs again.
+what was made is then moved back. N processors (all by default) prove crates side by side. The crates at the bottom of a
+long chain decide how long that takes: each of them gets all processors, and the others fill what is idle. A crate is
+proved again where a file of it changed, or a crate below was proved again. A library keeps its statements alone, so that
+the crates above do not read its proofs again.
 """
 
 import argparse
@@ -23,10 +24,10 @@ TOP = os.path.dirname(os.path.dirname(os.path.abspath(__file__)))
 PARTS = "src", "specs", "proofs"
 # A proof gains nothing from more processors than these.
 MOST_JOBS = 4
-# How many lines of a crate take as long as what each check does first.
-LINES_OF_A_CHECK = 1000
+# What a crate counts that tools/seconds.txt does not list.
+SECONDS = 60
 # A crate whose chain is shorter than this part of the longest one gives way to the others.
-SHORT_CHAIN = 0.7
+SHORT_CHAIN = 0.85
 
 
 def path(*parts):
@@ -36,13 +37,15 @@ def path(*parts):
 class Crate:
     """A crate of crates.txt: its line there, and the libraries of this repository that it stands on."""
 
-    def __init__(self, line, listed):
+    def __init__(self, line, listed, seconds):
         self.line = line
         self.name = re.match(r"\w+", line)[0]
         self.uses = [word for word in line.partition(":")[2].split() if word in listed]
         self.folder = path("crates", self.name)
         self.is_program = os.path.isfile(os.path.join(self.folder, "src", "main.rt"))
-        self.above = 0
+        self.seconds = seconds.get(self.name, SECONDS)
+        # What the longest chain of crates takes that begins with this one.
+        self.chain = 0
 
     @functools.cached_property
     def files(self):
@@ -52,16 +55,6 @@ class Crate:
             for at, _, names in os.walk(os.path.join(self.folder, part)):
                 found += [os.path.join(at, name) for name in names]
         return [name for name in found if os.path.isfile(name)]
-
-    @functools.cached_property
-    def work(self):
-        """What its proof takes, in lines."""
-        lines = 0
-        for name in self.files:
-            if name.endswith((".rt", ".antt")):
-                with open(name, "rb") as file:
-                    lines += file.read().count(b"\n")
-        return LINES_OF_A_CHECK + lines
 
     @property
     def mark(self):
@@ -80,12 +73,18 @@ class Crate:
             return False
 
 
+def lines_of(*parts):
+    """The lines of a file that are no comments."""
+    with open(path(*parts), encoding="utf-8") as file:
+        return [line.strip() for line in file if line.strip() and not line.startswith("#")]
+
+
 def all_crates():
     """The crates of crates.txt by their names."""
-    with open(path("crates.txt"), encoding="utf-8") as file:
-        lines = [line.strip() for line in file if ":" in line and not line.startswith("#")]
+    seconds = {name: int(count) for name, count in map(str.split, lines_of("tools", "seconds.txt"))}
+    lines = lines_of("crates.txt")
     listed = {re.match(r"\w+", line)[0] for line in lines}
-    return {crate.name: crate for crate in (Crate(line, listed) for line in lines)}
+    return {crate.name: crate for crate in (Crate(line, listed, seconds) for line in lines)}
 
 
 def below(crates, names):
@@ -172,34 +171,30 @@ def proved(crate, crates, cpu, jobs, is_urgent):
 
 
 def chains(crates, names):
-    """Notes for each crate the work of the longest chain that begins with it."""
+    """Notes for each crate what the longest chain takes that begins with it."""
     for name in reversed(names):
         crate = crates[name]
-        crate.above += crate.work
+        crate.chain += crate.seconds
         for low in crate.uses:
-            crates[low].above = max(crates[low].above, crate.above)
+            crates[low].chain = max(crates[low].chain, crate.chain)
 
 
 def build(crates, names, cpu, processors):
     """Proves crates side by side, those with the longest chain first, and answers whether all were proved."""
-    left = [name for name in sorted(names, key=lambda name: -crates[name].above)]
-    # Proofs have parts that use one processor, so twice as many processes keep all of them busy.
-    done, running, idle, is_well = set(), {}, 2 * processors, True
-    with concurrent.futures.ThreadPoolExecutor(processors) as pool:
+    left = sorted(names, key=lambda name: -crates[name].chain)
+    done, running, is_well = set(), {}, True
+    with concurrent.futures.ThreadPoolExecutor(len(names) or 1) as pool:
         while left and is_well or running:
             ready = [name for name in left if is_well and all(low in done or low not in names for low in crates[name].uses)]
-            for place, name in enumerate(ready):
-                others = len(ready) - place - 1
-                jobs = min(max(idle - others, min(idle, 1)), processors, MOST_JOBS)
-                if jobs:
+            longest = max(crates[name].chain for name in [*left, *(name for name, _ in running.values())])
+            for name in ready:
+                is_urgent = crates[name].chain >= SHORT_CHAIN * longest
+                if is_urgent or len(running) < processors:
                     left.remove(name)
-                    idle -= jobs
-                    longest = max(crates[other].above for other in [name, *left, *(it[0] for it in running.values())])
-                    run = pool.submit(proved, crates[name], crates, cpu, jobs, crates[name].above >= SHORT_CHAIN * longest)
-                    running[run] = name, jobs, time.monotonic()
+                    jobs = min(processors, MOST_JOBS) if is_urgent else 1
+                    running[pool.submit(proved, crates[name], crates, cpu, jobs, is_urgent)] = name, time.monotonic()
             for run in concurrent.futures.wait(running, return_when=concurrent.futures.FIRST_COMPLETED).done:
-                name, jobs, since = running.pop(run)
-                idle += jobs
+                name, since = running.pop(run)
                 wrong = run.result()
                 done.add(name)
                 is_well = is_well and not wrong
