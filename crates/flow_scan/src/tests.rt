@@ -3,6 +3,7 @@
 mod choosing;
 mod finding;
 mod going_on;
+mod owning;
 mod scanned;
 mod streamed;
 mod ways;

@@ -1,5 +1,7 @@
 //! Searches that change their way at places drawn by chance in the middle of a text: by the plan alone, by windows that
 //! some piece of the text chooses, by shift-or, by the automaton, by a search that learns. What they find together is what the plan alone finds.
+ghost use Rattle.std.specs.Prelude.{◌≡◌};
+
 use crate::compiled::Compiled;
 use crate::end_finder::EndFinder;
 use crate::met::Met;
@@ -8,6 +10,7 @@ use crate::shifted::next_end_by_shift_or;
 use crate::tests::finding::{
     CAPITALS, Draws, FIGURES, Told, WORDS, pieces_of, plain_in, plan_of_pieces, text_of, with_end,
 };
+use crate::tests::owning::{How, agrees};
 use crate::windowed::next_end_by_windows;
 use lit_base::Fold;
 use std::alloc::Global;
@@ -60,19 +63,32 @@ fn by_windows(
     progress: Progress,
     count: usize,
 ) -> Option<Progress> {
-    let list = compiled.list();
-    let mut windows = Windows::new(alloc, list).ok()?;
+    let mut windows = Windows::new(alloc, compiled.list()).ok()?;
     windows.learn(sample, EndRate::nothing());
+    Some(ends_by_windows(&windows, compiled, text, progress, count))
+}
+
+/// Those that these windows find.
+fn ends_by_windows(
+    windows: &Windows<'_>,
+    compiled: &Compiled,
+    text: &[u8],
+    progress: Progress,
+    count: usize,
+) -> Progress
+    requires { windows.now.literals ≡ compiled.now.literals }
+{
     let (mut from, mut told) = progress;
     let mut met = Met::nothing();
     for _ in 0..count {
-        let Some((end, _)) = next_end_by_windows(&windows, list, text, from, &mut met) else {
-            return Some((text.len(), told));
+        let found = next_end_by_windows(windows, compiled.list(), text, from, &mut met);
+        let Some((end, _)) = found else {
+            return (text.len(), told);
         };
         told = with_end(told, end);
         from = end;
     }
-    Some((from, told))
+    (from, told)
 }
 
 /// So many, by shift-or whose looks a sample chooses.
@@ -84,19 +100,32 @@ fn by_shift_or(
     progress: Progress,
     count: usize,
 ) -> Option<Progress> {
-    let list = compiled.list();
-    let mut shift_or = ShiftOr::new(alloc, list).ok()?;
+    let mut shift_or = ShiftOr::new(alloc, compiled.list()).ok()?;
     shift_or.learn(sample, EndRate::nothing());
+    Some(ends_by_shift_or(&shift_or, compiled, text, progress, count))
+}
+
+/// Those that this shift-or finds.
+fn ends_by_shift_or(
+    shift_or: &ShiftOr<'_>,
+    compiled: &Compiled,
+    text: &[u8],
+    progress: Progress,
+    count: usize,
+) -> Progress
+    requires { shift_or.now.literals ≡ compiled.now.literals }
+{
     let (mut from, mut told) = progress;
     let mut met = Met::nothing();
     for _ in 0..count {
-        let Some((end, _)) = next_end_by_shift_or(&shift_or, list, text, from, &mut met) else {
-            return Some((text.len(), told));
+        let found = next_end_by_shift_or(shift_or, compiled.list(), text, from, &mut met);
+        let Some((end, _)) = found else {
+            return (text.len(), told);
         };
         told = with_end(told, end);
         from = end;
     }
-    Some((from, told))
+    (from, told)
 }
 
 /// So many, by the automaton, by which the text is read anew behind each.
@@ -108,9 +137,20 @@ fn by_automaton(
     count: usize,
 ) -> Option<Progress> {
     let mut automaton = Automaton::new(alloc, compiled.list()).ok()?;
-    if !automaton.learn() {
-        return None;
+    if automaton.learn() {
+        ends_by_automaton(&automaton, text, progress, count)
+    } else {
+        None
     }
+}
+
+/// Those that this automaton finds.
+fn ends_by_automaton(
+    automaton: &Automaton<'_>,
+    text: &[u8],
+    progress: Progress,
+    count: usize,
+) -> Option<Progress> {
     let (mut from, mut told) = progress;
     for _ in 0..count {
         if from > text.len() {
@@ -134,8 +174,13 @@ fn sample_of<'t>(draws: &mut Draws, text: &'t [u8]) -> Option<&'t [u8]> {
 }
 
 /// The ends that such a search finds in a text.
-fn changing_in(alloc: Global, compiled: &Compiled, draws: &mut Draws, text: &[u8]) -> Option<Told> {
-    let mut finder = EndFinder::new(alloc, compiled).ok()?;
+fn changing_in(
+    alloc: Global,
+    compiled: &Compiled,
+    finder: &mut EndFinder<'_>,
+    draws: &mut Draws,
+    text: &[u8],
+) -> Option<Told> {
     let mut progress = (0, (0, 0));
     for _ in 0..text.len() {
         let (from, told) = progress;
@@ -145,7 +190,7 @@ fn changing_in(alloc: Global, compiled: &Compiled, draws: &mut Draws, text: &[u8
         let count = draws.below(100).saturating_add(1);
         progress = match draws.below(5) {
             0 => by_plan(compiled, text, progress, count),
-            1 => by_learning(&mut finder, text, progress, count),
+            1 => by_learning(finder, text, progress, count),
             3 => by_automaton(alloc, compiled, text, progress, count)?,
             2 => {
                 let sample = sample_of(draws, text)?;
@@ -160,8 +205,21 @@ fn changing_in(alloc: Global, compiled: &Compiled, draws: &mut Draws, text: &[u8
     None
 }
 
-/// Whether it finds what the plan alone finds in a text whose halves are of these words, some of which are its literals.
-fn agrees(
+/// Whether such a search, with changes drawn from a seed on, finds what the plan alone finds.
+pub(super) fn changes_the_same(
+    alloc: Global,
+    compiled: &Compiled,
+    finder: &mut EndFinder<'_>,
+    text: &[u8],
+    seed: u64,
+) -> Option<bool> {
+    let mut draws = Draws { state: seed };
+    let wanted = plain_in(compiled, text, text.len());
+    Some(changing_in(alloc, compiled, finder, &mut draws, text)? == wanted)
+}
+
+/// Whether it does in a text whose halves are of these words, some of which are its literals.
+fn agree(
     alloc: Global,
     fold: Fold,
     halves: [&[&[u8]]; 2],
@@ -173,15 +231,14 @@ fn agrees(
     let text = text_of(alloc, &mut draws, first, second)?;
     let raw = pieces_of(alloc, &mut draws, &text, least, 1)?;
     let compiled = plan_of_pieces(alloc, &raw, fold)?;
-    let wanted = plain_in(&compiled, &text, text.len());
-    Some(changing_in(alloc, &compiled, &mut draws, &text)? == wanted)
+    agrees(alloc, &compiled, &text, How::Changing(seed))
 }
 
 #[test]
 fn loses_no_end_between_two_choices(rt: HostRuntime) {
     for seed in 1..3 {
         assert_eq!(rt;
-            agrees(rt.alloc(), Fold::No, [&WORDS, &FIGURES], 4, seed),
+            agree(rt.alloc(), Fold::No, [&WORDS, &FIGURES], 4, seed),
             Some(true)
         );
     }
@@ -191,7 +248,7 @@ fn loses_no_end_between_two_choices(rt: HostRuntime) {
 fn loses_no_short_end_between_two_choices(rt: HostRuntime) {
     for seed in 1..3 {
         assert_eq!(rt;
-            agrees(rt.alloc(), Fold::No, [&FIGURES, &WORDS], 2, seed),
+            agree(rt.alloc(), Fold::No, [&FIGURES, &WORDS], 2, seed),
             Some(true)
         );
     }
@@ -201,7 +258,7 @@ fn loses_no_short_end_between_two_choices(rt: HostRuntime) {
 fn loses_no_end_in_either_case_between_two_choices(rt: HostRuntime) {
     for seed in 1..3 {
         assert_eq!(rt;
-            agrees(rt.alloc(), Fold::Ascii, [&CAPITALS, &WORDS], 4, seed),
+            agree(rt.alloc(), Fold::Ascii, [&CAPITALS, &WORDS], 4, seed),
             Some(true)
         );
     }

@@ -3,6 +3,7 @@
 use crate::compiled::Compiled;
 use crate::end_finder::EndFinder;
 use crate::searching::next_end;
+use crate::tests::owning::{How, agrees};
 use lit_base::{Fold, LitList, RawList};
 use run_planner::plan;
 use std::alloc::Global;
@@ -110,6 +111,15 @@ pub(super) fn plan_of_pieces(alloc: Global, raw: &RawList, fold: Fold) -> Option
     Compiled::new(list, certificate).ok()
 }
 
+/// The plan of these literals, in which case counts.
+pub(super) fn plan_of(alloc: Global, literals: &[&[u8]]) -> Option<Compiled> {
+    let mut raw = RawList::new(alloc);
+    for literal in literals {
+        raw.push(literal).ok()?;
+    }
+    plan_of_pieces(alloc, &raw, Fold::No)
+}
+
 /// How many ends there are, and a sum that tells their places.
 pub(super) type Told = (usize, u64);
 
@@ -169,16 +179,19 @@ pub(super) fn plain_in(compiled: &Compiled, text: &[u8], size: usize) -> Told {
 }
 
 /// Whether both find the same in a text as a whole, four times, and then in pieces of so many bytes.
-fn find_the_same(alloc: Global, compiled: &Compiled, text: &[u8], size: usize) -> Option<bool> {
-    let mut finder = EndFinder::new(alloc, compiled).ok()?;
+pub(super) fn find_the_same(
+    compiled: &Compiled,
+    finder: &mut EndFinder<'_>,
+    text: &[u8],
+    size: usize,
+) -> bool {
     let wanted = plain_in(compiled, text, text.len());
     for _ in 0..4 {
-        if learned_in(&mut finder, text, text.len()) != wanted {
-            return Some(false);
+        if learned_in(finder, text, text.len()) != wanted {
+            return false;
         }
     }
-    let wanted = plain_in(compiled, text, size);
-    Some(learned_in(&mut finder, text, size) == wanted)
+    learned_in(finder, text, size) == plain_in(compiled, text, size)
 }
 
 /// Whether they do for forty pieces of a text whose halves are of these words.
@@ -195,7 +208,7 @@ fn agree(
     let text = text_of(alloc, &mut draws, first, second)?;
     let raw = pieces_of(alloc, &mut draws, &text, least, spoilt)?;
     let compiled = plan_of_pieces(alloc, &raw, fold)?;
-    find_the_same(alloc, &compiled, &text, size)
+    agrees(alloc, &compiled, &text, How::Ends(size))
 }
 
 #[test]

@@ -3,6 +3,7 @@ use super::finding::{CAPITALS, Draws, Told, WORDS, pieces_of, plan_of_pieces, te
 use crate::compiled::Compiled;
 use crate::end_finder::EndFinder;
 use crate::searching::next_end;
+use crate::tests::owning::{How, agrees};
 use crate::text_search::TextSearch;
 use lit_base::Fold;
 use std::alloc::Global;
@@ -49,15 +50,14 @@ fn anew(compiled: &Compiled, text: &[u8], skip: usize) -> Told {
 }
 
 /// Whether all three find the same at each of these distances.
-fn find_the_same(alloc: Global, compiled: &Compiled, text: &[u8]) -> Option<bool> {
-    let mut finder = EndFinder::new(alloc, compiled).ok()?;
+pub(super) fn go_on_the_same(compiled: &Compiled, finder: &mut EndFinder<'_>, text: &[u8]) -> bool {
     for skip in [0, 1, 7, 31, 61, 62, 63, 64, 65, 66, 127, 128, 129, 1000] {
         let wanted = anew(compiled, text, skip);
-        if by_plan(compiled, text, skip) != wanted || by_finder(&mut finder, text, skip) != wanted {
-            return Some(false);
+        if by_plan(compiled, text, skip) != wanted || by_finder(finder, text, skip) != wanted {
+            return false;
         }
     }
-    Some(true)
+    true
 }
 
 /// Whether they do for forty pieces of a text whose halves are of these words, the shortest of so many bytes.
@@ -67,7 +67,7 @@ fn agree(alloc: Global, fold: Fold, halves: [&[&[u8]]; 2], least: usize) -> Opti
     let text = text_of(alloc, &mut draws, first, second)?;
     let raw = pieces_of(alloc, &mut draws, &text, least, 1)?;
     let compiled = plan_of_pieces(alloc, &raw, fold)?;
-    find_the_same(alloc, &compiled, &text)
+    agrees(alloc, &compiled, &text, How::EndsGoingOn)
 }
 
 #[test]

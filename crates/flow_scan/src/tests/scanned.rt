@@ -3,7 +3,10 @@ use crate::compiled::Compiled;
 use crate::end_finder::EndFinder;
 use crate::hit::Hit;
 use crate::scanning::scan_all;
-use crate::tests::finding::{CAPITALS, Draws, FIGURES, WORDS, pieces_of, plan_of_pieces, text_of};
+use crate::tests::finding::{
+    CAPITALS, Draws, FIGURES, WORDS, pieces_of, plan_of, plan_of_pieces, text_of,
+};
+use crate::tests::owning::{How, agrees};
 use lit_base::Fold;
 use std::alloc::Global;
 
@@ -26,32 +29,49 @@ fn are_found(
 }
 
 /// Whether a finder that is asked four times finds the hits of a text, and then those behind a place of it.
-fn scans_the_same(alloc: Global, compiled: &Compiled, text: &[u8]) -> Option<bool> {
+pub(super) fn scans_the_same(
+    alloc: Global,
+    compiled: &Compiled,
+    finder: &mut EndFinder<'_>,
+    text: &[u8],
+) -> Option<bool> {
     let wanted = scan_all(alloc, compiled, text).ok()?;
-    let mut finder = EndFinder::new_unless_few(alloc, compiled).ok()??;
     for _ in 0..4 {
-        if !are_found(alloc, &mut finder, text, 0, &wanted)? {
+        if !are_found(alloc, finder, text, 0, &wanted)? {
             return Some(false);
         }
     }
-    let are_behind = are_found(alloc, &mut finder, text, 70_001, &wanted)?;
+    let are_behind = are_found(alloc, finder, text, 70_001, &wanted)?;
     Some(wanted.len() > 100 && are_behind)
 }
 
+/// Whether so many literals have a finder unless they are few.
+fn has_finder(alloc: Global, literals: &[&[u8]]) -> Option<bool> {
+    let compiled = plan_of(alloc, literals)?;
+    Some(EndFinder::new_unless_few(alloc, &compiled).ok()?.is_some())
+}
+
+#[test]
+fn has_no_finder_for_three_literals(rt: HostRuntime) {
+    let (few, _) = WORDS.split_at(3);
+    assert_eq!(rt; has_finder(rt.alloc(), few), Some(false));
+    assert_eq!(rt; has_finder(rt.alloc(), &WORDS), Some(true));
+}
+
 /// Whether it does for forty pieces of a text whose halves are of these words.
-fn agrees(alloc: Global, fold: Fold, halves: [&[&[u8]]; 2], least: usize) -> Option<bool> {
+fn agree(alloc: Global, fold: Fold, halves: [&[&[u8]]; 2], least: usize) -> Option<bool> {
     let [first, second] = halves;
     let mut draws = Draws { state: 7 };
     let text = text_of(alloc, &mut draws, first, second)?;
     let raw = pieces_of(alloc, &mut draws, &text, least, 1)?;
     let compiled = plan_of_pieces(alloc, &raw, fold)?;
-    scans_the_same(alloc, &compiled, &text)
+    agrees(alloc, &compiled, &text, How::Hits)
 }
 
 #[test]
 fn finds_the_hits_of_the_plan_alone(rt: HostRuntime) {
     assert_eq!(rt;
-        agrees(rt.alloc(), Fold::No, [&WORDS, &FIGURES], 4),
+        agree(rt.alloc(), Fold::No, [&WORDS, &FIGURES], 4),
         Some(true)
     );
 }
@@ -59,7 +79,7 @@ fn finds_the_hits_of_the_plan_alone(rt: HostRuntime) {
 #[test]
 fn finds_short_hits_in_either_case(rt: HostRuntime) {
     assert_eq!(rt;
-        agrees(rt.alloc(), Fold::Ascii, [&CAPITALS, &WORDS], 2),
+        agree(rt.alloc(), Fold::Ascii, [&CAPITALS, &WORDS], 2),
         Some(true)
     );
 }

@@ -8,6 +8,7 @@ use crate::hit::Hit;
 use crate::learning::Way;
 use crate::scanner::Scanner;
 use crate::scanning::scan_all;
+use crate::tests::owning::{How, agrees};
 use lit_base::Fold;
 use std::alloc::Global;
 
@@ -48,12 +49,18 @@ fn are_fed(
 }
 
 /// Whether streams of one text, in pieces of all these sizes and one after the other by the same finder, have the text's hits.
-fn feed_the_same(alloc: Global, compiled: &Compiled, text: &[u8]) -> Option<bool> {
+pub(super) fn feed_the_same(
+    alloc: Global,
+    compiled: &Compiled,
+    finder: &mut EndFinder<'_>,
+    text: &[u8],
+) -> Option<bool>
+    requires { finder.old ≡ compiled.now }
+{
     let wanted = scan_all(alloc, compiled, text).ok()?;
-    let mut finder = EndFinder::new(alloc, compiled).ok()?;
     'sizes: for size in [65536, 20_000, 65536, 1000, 61] {
         let scanner = Scanner::new(alloc, compiled).ok()?;
-        if !are_fed(scanner, &mut finder, Vec::new(alloc), text, size, &wanted)? {
+        if !are_fed(scanner, finder, Vec::new(alloc), text, size, &wanted)? {
             return Some(false);
         }
     }
@@ -61,19 +68,19 @@ fn feed_the_same(alloc: Global, compiled: &Compiled, text: &[u8]) -> Option<bool
 }
 
 /// Whether they do for forty pieces of a text whose halves are of these words.
-fn agrees(alloc: Global, fold: Fold, halves: [&[&[u8]]; 2], least: usize) -> Option<bool> {
+fn agree(alloc: Global, fold: Fold, halves: [&[&[u8]]; 2], least: usize) -> Option<bool> {
     let [first, second] = halves;
     let mut draws = Draws { state: 11 };
     let text = text_of(alloc, &mut draws, first, second)?;
     let raw = pieces_of(alloc, &mut draws, &text, least, 1)?;
     let compiled = plan_of_pieces(alloc, &raw, fold)?;
-    feed_the_same(alloc, &compiled, &text)
+    agrees(alloc, &compiled, &text, How::Stream)
 }
 
 #[test]
 fn finds_the_hits_of_the_whole_text(rt: HostRuntime) {
     assert_eq!(rt;
-        agrees(rt.alloc(), Fold::No, [&WORDS, &FIGURES], 4),
+        agree(rt.alloc(), Fold::No, [&WORDS, &FIGURES], 4),
         Some(true)
     );
 }
@@ -81,17 +88,24 @@ fn finds_the_hits_of_the_whole_text(rt: HostRuntime) {
 #[test]
 fn finds_short_hits_of_a_stream_in_either_case(rt: HostRuntime) {
     assert_eq!(rt;
-        agrees(rt.alloc(), Fold::Ascii, [&CAPITALS, &WORDS], 2),
+        agree(rt.alloc(), Fold::Ascii, [&CAPITALS, &WORDS], 2),
         Some(true)
     );
 }
 
 /// Whether a search learns from a text that comes in pieces of so many bytes, and finds the text's hits.
-fn learns_in_pieces(alloc: Global, compiled: &Compiled, text: &[u8], size: usize) -> Option<bool> {
+pub(super) fn learns_in_pieces(
+    alloc: Global,
+    compiled: &Compiled,
+    finder: &mut EndFinder<'_>,
+    text: &[u8],
+    size: usize,
+) -> Option<bool>
+    requires { finder.old ≡ compiled.now }
+{
     let wanted = scan_all(alloc, compiled, text).ok()?;
-    let mut finder = EndFinder::new(alloc, compiled).ok()?;
     let scanner = Scanner::new(alloc, compiled).ok()?;
-    let are_fed = are_fed(scanner, &mut finder, Vec::new(alloc), text, size, &wanted)?;
+    let are_fed = are_fed(scanner, finder, Vec::new(alloc), text, size, &wanted)?;
     Some(are_fed && finder.way() != Way::Plan)
 }
 
@@ -101,7 +115,7 @@ fn learns(alloc: Global, size: usize) -> Option<bool> {
     let text = text_of(alloc, &mut draws, &WORDS, &WORDS)?;
     let raw = pieces_of(alloc, &mut draws, &text, 4, 1)?;
     let compiled = plan_of_pieces(alloc, &raw, Fold::No)?;
-    learns_in_pieces(alloc, &compiled, &text, size)
+    agrees(alloc, &compiled, &text, How::StreamTuned(size))
 }
 
 #[test]

@@ -1,0 +1,55 @@
+//! The one place in which these tests own a finder: each function that does has to show at each of its ends that all of
+//! the finder may be let go, which takes long to prove.
+ghost use Rattle.std.specs.Prelude.{◌≡◌};
+
+use crate::compiled::Compiled;
+use crate::end_finder::EndFinder;
+use crate::tests::choosing::changes_the_same;
+use crate::tests::finding::find_the_same;
+use crate::tests::going_on::go_on_the_same;
+use crate::tests::scanned::scans_the_same;
+use crate::tests::streamed::{feed_the_same, learns_in_pieces};
+use std::alloc::Global;
+
+/// How a finder is tried.
+#[derive(Clone, Copy)]
+pub(super) enum How {
+    /// End after end, at last in pieces of so many bytes.
+    Ends(usize),
+    /// One search that goes on behind each end.
+    EndsGoingOn,
+    /// All hits.
+    Hits,
+    /// As streams.
+    Stream,
+    /// As a stream in pieces of so many bytes, of which it must learn.
+    StreamTuned(usize),
+    /// With changes of the engine drawn from a seed on.
+    Changing(u64),
+}
+
+/// Whether a new finder finds in a text what the plan alone finds.
+pub(super) fn agrees(alloc: Global, compiled: &Compiled, text: &[u8], how: How) -> Option<bool> {
+    let mut finder = EndFinder::new(alloc, compiled).ok()?;
+    agrees_by(alloc, compiled, &mut finder, text, how)
+}
+
+/// The same of this one.
+fn agrees_by(
+    alloc: Global,
+    compiled: &Compiled,
+    finder: &mut EndFinder<'_>,
+    text: &[u8],
+    how: How,
+) -> Option<bool>
+    requires { finder.old ≡ compiled.now }
+{
+    match how {
+        How::Ends(size) => Some(find_the_same(compiled, finder, text, size)),
+        How::EndsGoingOn => Some(go_on_the_same(compiled, finder, text)),
+        How::Hits => scans_the_same(alloc, compiled, finder, text),
+        How::Stream => feed_the_same(alloc, compiled, finder, text),
+        How::StreamTuned(size) => learns_in_pieces(alloc, compiled, finder, text, size),
+        How::Changing(seed) => changes_the_same(alloc, compiled, finder, text, seed),
+    }
+}
