@@ -1,6 +1,7 @@
 //! Costs in figures.
 use lit_base::{
-    Ends, Fold, LitList, RawList, assign_cost, cost, cut_cost, is_assignment, is_cut, weight,
+    Ends, Fold, LitList, Profile, RawList, assign_cost, cost, cut_cost, is_assignment, is_cut,
+    weight,
 };
 use std::alloc::Global;
 use std::process::Abort;
@@ -32,7 +33,7 @@ fn first_wrong_row() -> Option<usize> {
 #[test]
 fn weighs_and_prices_by_the_table(rt: HostRuntime) {
     assert_eq!(rt; first_wrong_row(), None);
-    assert_eq!(rt; (weight(4095), cost(1024, 1)), (8, 4_294_967_496));
+    assert_eq!(rt; (weight(4095), cost(4096, 1)), (8, 68_719_476_936));
 }
 
 /// The normal form of the words of a text.
@@ -46,28 +47,30 @@ fn list_of(alloc: Global, words: &str) -> Option<LitList> {
 }
 
 /// What the cut costs, if the ends are one.
-fn price_of(list: &LitList, ends: &[u16]) -> Option<u64> {
+fn price_of(list: &LitList, profile: Profile, ends: &[u16]) -> Option<u64> {
     let mut cut = Ends::new();
     for end in ends {
         cut.try_push(*end).ok()?;
     }
-    if is_cut(list, &cut) {
+    if is_cut(list, profile, &cut) {
         return Some(cut_cost(list, &cut));
     }
     None
 }
 
 /// What the words cost in these runs, if the ends are a cut of them.
-fn price_of_words(alloc: Global, words: &str, ends: &[u16]) -> Option<u64> {
+fn price_of_words(alloc: Global, profile: Profile, words: &str, ends: &[u16]) -> Option<u64> {
     let list = list_of(alloc, words)?;
-    price_of(&list, ends)
+    price_of(&list, profile, ends)
 }
 
 const NINE: &str =
     "aaaaaaaa bbbbbbbb cccccccc dddddddd eeeeeeee ffffffff gggggggg hhhhhhhh iiiiiiii";
 
-/// Words, the ends of runs, and what they cost.
-static CUTS: [(&str, &[u16], Option<u64>); 14] = [
+const LETTERS: &str = "a b c d e f g h i";
+
+/// Words, the ends of at most eight runs, and what they cost.
+static CUTS: [(&str, &[u16], Option<u64>); 16] = [
     ("cat dog horse", &[1, 2, 3], Some(934)),
     ("cat dog horse", &[2, 3], Some(1036)),
     ("cat dog horse", &[3], Some(1559)),
@@ -82,20 +85,29 @@ static CUTS: [(&str, &[u16], Option<u64>); 14] = [
     (NINE, &[4, 9], Some(728)),
     (NINE, &[5, 9], Some(728)),
     (NINE, &[9], Some(848)),
+    (LETTERS, &[1, 2, 3, 4, 5, 6, 7, 9], Some(46656)),
+    (LETTERS, &[1, 2, 3, 4, 5, 6, 7, 8, 9], None),
 ];
 
 #[test]
 fn prices_cuts(rt: HostRuntime) {
     for (words, ends, wanted) in &CUTS {
-        let price = price_of_words(rt.alloc(), words, ends);
+        let price = price_of_words(rt.alloc(), Profile::Eight, words, ends);
         assert_eq!(rt; price, *wanted, "{words} cut at {ends:?}");
     }
 }
 
+#[test]
+fn prices_a_cut_into_nine_runs(rt: HostRuntime) {
+    let ends = [1, 2, 3, 4, 5, 6, 7, 8, 9];
+    let price = price_of_words(rt.alloc(), Profile::Sixteen, LETTERS, &ends);
+    assert_eq!(rt; price, Some(38664));
+}
+
 /// What the literals cost in these buckets, if the numbers assign them.
-fn price_in_buckets(list: &LitList, numbers: &[u8]) -> Option<u64> {
-    if is_assignment(list, numbers) {
-        return Some(assign_cost(list, numbers));
+fn price_in_buckets(list: &LitList, profile: Profile, numbers: &[u8]) -> Option<u64> {
+    if is_assignment(list, profile, numbers) {
+        return Some(assign_cost(list, profile, numbers));
     }
     None
 }
@@ -119,14 +131,14 @@ fn first_wrong(list: &LitList) -> Option<u16> {
     for number in 0..512_u16 {
         let [cat, dog, horse] = [number / 64, number / 8, number].map(|digits| (digits % 8) as u8);
         let wanted = price_of_animals(cat, dog, horse);
-        if price_in_buckets(list, &[cat, dog, horse]) != Some(wanted) {
+        if price_in_buckets(list, Profile::Eight, &[cat, dog, horse]) != Some(wanted) {
             return Some(number);
         }
     }
     None
 }
 
-/// That of a list of the three.
+/// The same for a list of the three.
 fn first_wrong_of_animals(alloc: Global) -> Option<Option<u16>> {
     let list = list_of(alloc, "cat dog horse")?;
     Some(first_wrong(&list))
@@ -138,15 +150,20 @@ fn prices_every_assignment_of_three_literals(rt: HostRuntime) {
 }
 
 /// What `a` and `the` cost in these buckets, if the numbers assign them.
-fn price_of_two(alloc: Global, numbers: &[u8]) -> Option<Option<u64>> {
+fn price_of_two(alloc: Global, profile: Profile, numbers: &[u8]) -> Option<Option<u64>> {
     let list = list_of(alloc, "a the")?;
-    Some(price_in_buckets(&list, numbers))
+    Some(price_in_buckets(&list, profile, numbers))
 }
 
 /// Asserts that it is this.
-fn assert_two<R: Abort + AllocGlobal>(rt: &R, numbers: &[u8], price: Option<u64>) {
+fn assert_two<R: Abort + AllocGlobal>(
+    rt: &R,
+    profile: Profile,
+    numbers: &[u8],
+    price: Option<u64>,
+) {
     assert_eq!(*rt;
-        price_of_two(rt.alloc(), numbers),
+        price_of_two(rt.alloc(), profile, numbers),
         Some(price),
         "{numbers:?}"
     );
@@ -154,9 +171,18 @@ fn assert_two<R: Abort + AllocGlobal>(rt: &R, numbers: &[u8], price: Option<u64>
 
 #[test]
 fn prices_a_bucket_by_its_shortest(rt: HostRuntime) {
-    assert_two(&rt, &[0, 0], Some(16584));
-    assert_two(&rt, &[7, 7], Some(16584));
-    assert_two(&rt, &[0, 1], Some(4647));
-    assert_two(&rt, &[0, 8], None);
-    assert_two(&rt, &[0], None);
+    let eight = Profile::Eight;
+    assert_two(&rt, eight, &[0, 0], Some(16584));
+    assert_two(&rt, eight, &[7, 7], Some(16584));
+    assert_two(&rt, eight, &[0, 1], Some(4647));
+    assert_two(&rt, eight, &[0, 8], None);
+    assert_two(&rt, eight, &[0], None);
+}
+
+#[test]
+fn prices_the_buckets_after_the_eighth(rt: HostRuntime) {
+    let sixteen = Profile::Sixteen;
+    assert_two(&rt, sixteen, &[0, 8], Some(4647));
+    assert_two(&rt, sixteen, &[15, 15], Some(16584));
+    assert_two(&rt, sixteen, &[0, 16], None);
 }

@@ -1,10 +1,10 @@
-//! That files can tell each ask that they get, whatever they are asked for.
+//! Files can know each ask that they get, of every kind.
 ghost use Rattle.std.specs.Prelude.{◌≡◌, [], ◌∷◌, ◌++◌, string_bytes};
 
 use byte_io::{ByteIn, CutIn, CutOut, Failed, Files, Missing, Opener};
 use std::process::Abort;
 
-/// What was asked for: a file, standard input, or a new file.
+/// An ask: a file, standard input, or a new file.
 #[derive(Drop)]
 enum Asked {
     File(String),
@@ -12,7 +12,7 @@ enum Asked {
     Made(String),
 }
 
-/// Files of nothing, which keep what they are asked for.
+/// Files of nothing, which keep their asks.
 #[derive(Drop)]
 struct NoFiles<'a, R> {
     rt: &'a R,

@@ -43,7 +43,7 @@ fn are_one_in_turn(
     Ok([first, second, is_one(alloc, files, "f")?])
 }
 
-/// That, and behind it what standard input gives twice.
+/// That, and after it what standard input gives twice.
 fn given_in_turn(alloc: Global) -> Result<([Option<bool>; 3], [Option<usize>; 2]), ReadError> {
     let mut files = files(alloc)?;
     let named = are_one_in_turn(alloc, &mut files)?;
@@ -57,7 +57,7 @@ fn gives_what_stands_under_a_name_in_order(rt: HostRuntime) {
     assert_eq!(rt; given_in_turn(rt.alloc()), Ok(wanted));
 }
 
-/// What a file answers to `abc` and to `de`, and whether it then has the first four of these.
+/// The answers of a file to `abc` and to `de`, and whether it then has the first four bytes.
 type Written = (Result<(), Failed>, Result<(), Failed>, bool);
 
 fn written(mut made: CutOut<'_>) -> Written {
@@ -66,14 +66,14 @@ fn written(mut made: CutOut<'_>) -> Written {
     (first, second, made.written() == b"abcd".as_slice())
 }
 
-/// Files of these bytes under `f`, to be written.
+/// Files of the bytes under `f`, to be written.
 fn files_in(alloc: Global, bytes: &mut [u8]) -> Result<LentFiles<'_>, AllocError> {
     let mut creatable = Vec::new(alloc);
     creatable.push(("f", Some(CutOut::within(bytes))))?;
     Ok(LentFiles::new(Vec::new(alloc), Vec::new(alloc), creatable))
 }
 
-/// That of a file made in four bytes, if it is, and whether it can be made again.
+/// The answers of a file made in four bytes, if it is, and whether it can be made again.
 fn made_in_turn(alloc: Global) -> Result<(Option<Written>, bool), ReadError> {
     let mut bytes = [0; 4];
     let mut files = files_in(alloc, &mut bytes)?;

@@ -1,5 +1,5 @@
-//! Tests of the crates that every search stands on: devices, lists and costs, certificates, plans, masks. They call what is
-//! public. A crate with tests is proved twice, with them and without, so these stand in a crate of their own.
+//! Tests of the crates that every search stands on: devices, lists and costs, certificates, plans, masks. They make
+//! public calls. A crate with tests is proved twice, with them and without, so these stand in a crate of their own.
 #![tactic(auto)]
 
 #[cfg(test)]

@@ -14,6 +14,6 @@ fn states_the_limits(rt: HostRuntime) -> Result<(), Fail> {
         MAX_LITERALS,
         MAX_TEXT_LEN,
     ];
-    assert_eq!(rt; limits, [4096, 4095, 1_048_576, 1024, 1_052_672]);
+    assert_eq!(rt; limits, [4096, 4095, 1_048_576, 4096, 1_052_672]);
     Ok(())
 }

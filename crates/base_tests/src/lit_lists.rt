@@ -6,7 +6,7 @@ use lit_base::{Fold, LitList, Normal, RawList};
 use std::alloc::Global;
 use std::process::Abort;
 
-/// A raw list of these patterns.
+/// A raw list of the patterns.
 fn raw_of(alloc: Global, patterns: &[&[u8]]) -> Option<RawList> {
     let mut raw = RawList::new(alloc);
     for pattern in patterns {
@@ -77,8 +77,8 @@ fn takes_a_list_without_literals(rt: HostRuntime) {
     assert_eq!(rt; is_told, Some(true));
 }
 
-/// So many patterns of two bytes that are no letters, each different, and two of one letter that
-/// differ in case.
+/// `count` patterns of two bytes, each different and the first 1,024 without letters, and two of one letter that differ
+/// in case.
 fn pairs(alloc: Global, count: u16) -> Option<RawList> {
     let mut raw = RawList::new(alloc);
     for number in 0..count {
@@ -91,7 +91,7 @@ fn pairs(alloc: Global, count: u16) -> Option<RawList> {
     Some(raw)
 }
 
-/// How many literals such a list has, or the number of its refusal.
+/// How many literals a list like that has, or the number of its refusal.
 fn literals_of_pairs(alloc: Global, count: u16, fold: Fold) -> Option<Result<usize, u8>> {
     let raw = pairs(alloc, count)?;
     match LitList::normal(alloc, &raw, fold) {
@@ -100,19 +100,20 @@ fn literals_of_pairs(alloc: Global, count: u16, fold: Fold) -> Option<Result<usi
     }
 }
 
-/// Asserts that it is so many, or that number.
+/// Asserts that number of literals, or that refusal.
 fn assert_pairs<R: Abort + AllocGlobal>(rt: &R, count: u16, fold: Fold, wanted: Result<usize, u8>) {
     assert_eq!(*rt; literals_of_pairs(rt.alloc(), count, fold), Some(wanted));
 }
 
 #[test]
-fn takes_1024_literals_and_refuses_more_by_6(rt: HostRuntime) {
+fn takes_as_many_literals_as_patterns(rt: HostRuntime) {
     assert_pairs(&rt, 1023, Fold::Ascii, Ok(1024));
-    assert_pairs(&rt, 1023, Fold::No, Err(6));
-    assert_pairs(&rt, 1024, Fold::Ascii, Err(6));
+    assert_pairs(&rt, 1023, Fold::No, Ok(1025));
+    assert_pairs(&rt, 1024, Fold::Ascii, Ok(1025));
+    assert_pairs(&rt, 4094, Fold::No, Ok(4096));
 }
 
-/// So many patterns of 256 bytes, of which 1,024 differ.
+/// `count` patterns of 256 bytes; 1,024 of them differ.
 fn megabyte(alloc: Global, count: u16) -> Option<RawList> {
     let mut raw = RawList::new(alloc);
     for number in 0..count {
@@ -164,7 +165,7 @@ fn digits_in(list: &LitList, text: &[u8]) -> u64 {
     digits
 }
 
-/// That for the normal form of these patterns.
+/// The same for the normal form of the patterns.
 fn digits_of(alloc: Global, fold: Fold, patterns: &[&[u8]], text: &[u8]) -> Option<u64> {
     let list = normal_of(alloc, &raw_of(alloc, patterns)?, fold)?;
     Some(digits_in(&list, text))
@@ -207,14 +208,14 @@ fn letters(alloc: Global) -> Option<RawList> {
     Some(raw)
 }
 
-/// How many of them end at a place of so many letters `a`.
+/// How many of them end at a position of `count` letters `a`.
 fn letters_at(alloc: Global, count: usize, end: usize) -> Option<usize> {
     let list = normal_of(alloc, &letters(alloc)?, Fold::No)?;
     let text = vec![in alloc; b'a'; count].ok()?;
     Some(count_at(&list, &text, end))
 }
 
-/// Asserts that so many end at a place of 80.
+/// Asserts how many end at a position of 80.
 fn assert_letters<R: Abort + AllocGlobal>(rt: &R, end: usize, wanted: usize) {
     assert_eq!(*rt; letters_at(rt.alloc(), 80, end), Some(wanted));
 }

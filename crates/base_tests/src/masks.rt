@@ -1,14 +1,14 @@
 //! The tables of worked lists, their filter bytes, and the law of candidates.
-use lit_base::{Ends, Fault, Fold, LitList, RawList, is_cut};
-use nib_mask::{Masks, candidate_law, plain_byte};
+use lit_base::{Ends, Fault, Fold, LitList, Profile, RawList, is_cut};
+use nib_mask::{ByteMasks, Masks, candidate_law, plain_byte};
 use std::alloc::Global;
 use std::test::Fail;
 
 /// The table that has bucket 0 everywhere.
-const ALL: [u8; 16] = [1; 16];
+const ALL: [u16; 16] = [1; 16];
 
 /// The table that has bucket 0 at these places alone.
-fn only(places: &[usize]) -> [u8; 16] {
+fn only(places: &[usize]) -> [u16; 16] {
     let mut table = [0; 16];
     for place in places {
         if let Some(entry) = table.get_mut(*place) {
@@ -28,7 +28,7 @@ fn list_of(alloc: Global, fold: Fold, words: &str) -> Result<LitList, Fault> {
     Ok(list)
 }
 
-/// The ends as a list of at most eight.
+/// The ends as a list of at most sixteen.
 fn ends_of(places: &[u16]) -> Ends {
     let mut ends = Ends::new();
     for place in places {
@@ -46,7 +46,7 @@ fn masks_of(
 ) -> Result<Option<Masks>, Fault> {
     let list = list_of(alloc, fold, words)?;
     let ends = ends_of(places);
-    if is_cut(&list, &ends) {
+    if is_cut(&list, Profile::Sixteen, &ends) {
         Ok(Some(Masks::of(&list, &ends)))
     } else {
         Ok(None)
@@ -131,12 +131,66 @@ fn holds_where_a_literal_ends(rt: HostRuntime) -> Result<(), Fail> {
     let text = b"ushers";
     let list = list_of(rt.alloc(), Fold::No, "he his she hers")?;
     let ends = ends_of(&[1, 4]);
-    assert!(rt; is_cut(&list, &ends));
+    assert!(rt; is_cut(&list, Profile::Sixteen, &ends));
     let place = list.next_ending(text, 4, 1).ok_or("`she` ends there")?;
     assert_eq!(rt; place, 2);
     candidate_law(&list, &ends, text, place as u16, 4, *b"..");
-    // The first run has a shorter literal, the second is that of `she`.
+    // The first run has a shorter literal; the second has `she`.
     let masks = Masks::of(&list, &ends);
     assert_eq!(rt; plain_byte(&masks, b's', b'h', b'e'), 3);
+    Ok(())
+}
+
+#[test]
+fn gives_the_ninth_bucket_a_bit_of_its_own(rt: HostRuntime) -> Result<(), Fail> {
+    let found = masks_of(
+        rt.alloc(),
+        Fold::No,
+        "a b c d e f g h i",
+        &[1, 2, 3, 4, 5, 6, 7, 8, 9],
+    )?;
+    let found = found.ok_or("the ends are a cut")?;
+    assert_eq!(rt; (found.low[2][9], found.high[2][6]), (0x100, 0x1FF));
+    assert_eq!(rt; plain_byte(&found, b'x', b'x', b'i'), 0x100);
+    assert_eq!(rt; found.first_eight().plain(b'x', b'x', b'i'), 0);
+    assert_eq!(rt; found.last_eight().plain(b'x', b'x', b'i'), 1);
+    assert_eq!(rt; found.first_eight().plain(b'x', b'x', b'h'), 0x80);
+    Ok(())
+}
+
+/// The tables by the fronts of all words, where there is an offset and a bucket for each.
+fn fronts_of(
+    alloc: Global,
+    fold: Fold,
+    words: &str,
+    offsets: &[u8],
+    buckets: &[u8],
+) -> Result<Option<ByteMasks>, Fault> {
+    let list = list_of(alloc, fold, words)?;
+    let count = list.len();
+    if offsets.len() < count || buckets.len() < count {
+        return Ok(None);
+    }
+    Ok(Some(ByteMasks::of_fronts(&list, count, offsets, buckets)))
+}
+
+#[test]
+fn marks_fronts_in_their_own_buckets_alone(rt: HostRuntime) -> Result<(), Fail> {
+    let found = fronts_of(rt.alloc(), Fold::No, "abc xyzt", &[0, 1], &[0, 9])?;
+    let found = found.ok_or("there is a bucket for each word")?;
+    assert_eq!(rt; found.plain(b'a', b'b', b'c'), 1);
+    assert_eq!(rt; found.plain(b'x', b'y', b'z'), 2);
+    assert_eq!(rt; found.plain(b'a', b'y', b'c'), 0);
+    assert_eq!(rt; found.plain(b'y', b'z', b't'), 0);
+    assert_eq!(rt; found.plain(b'A', b'b', b'c'), 0);
+    Ok(())
+}
+
+#[test]
+fn marks_short_fronts_in_either_case(rt: HostRuntime) -> Result<(), Fail> {
+    let found = fronts_of(rt.alloc(), Fold::Ascii, "ab", &[0], &[3])?;
+    let found = found.ok_or("there is a bucket for the word")?;
+    assert_eq!(rt; found.plain(b'.', b'a', b'B'), 8);
+    assert_eq!(rt; found.plain(b'.', b'b', b'b'), 0);
     Ok(())
 }

@@ -15,7 +15,7 @@ fn are_patterns(raw: &RawList, patterns: &[&[u8]]) -> bool {
     true
 }
 
-/// The answer to a pattern of so many bytes, and how many the list has then, the first two as before.
+/// The answer to a pattern, and how many patterns the list has then, the first two as before.
 fn pushed(raw: &mut RawList, pattern: &[u8]) -> (Result<(), Fault>, usize, bool) {
     let answer = raw.push(pattern);
     let are_kept = raw.len() >= 2 && raw.get(0) == b"a".as_slice() && raw.get(1).is_empty();
@@ -71,7 +71,7 @@ fn reads_a_pattern_file_by_lines(rt: HostRuntime) {
     assert_eq!(rt; files_have(rt.alloc(), &[b""], &[]), Some(true));
 }
 
-/// The numbers of the refusals of an option's list and a pattern file of so many newlines; 0 of none.
+/// The numbers of the refusals of an option's list and a pattern file of `len` newlines; 0 for none.
 fn refusals_of(alloc: Global, len: usize) -> Option<(u8, u8)> {
     let newlines = vec![in alloc; b'\n'; len].ok()?;
     let mut raw = RawList::new(alloc);

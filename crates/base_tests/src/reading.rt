@@ -1,6 +1,8 @@
 //! Texts of certificates read and written, bad lines, and reads that fail.
+mod sixteen;
+
 use arrayvec::ArrayVec;
-use lit_base::{CutIn, CutOut};
+use lit_base::{CutIn, CutOut, Profile};
 use lit_cert::{Certificate, Fault, read_cert, write_cert};
 use std::alloc::{AllocError, Global};
 use std::test::Fail;
@@ -30,7 +32,8 @@ const POTENTIALS: [u64; 24] = [
 fn is_read_as_three(alloc: Global) -> Result<bool, Fault> {
     let certificate = read_cert(alloc, &mut CutIn::whole(TEXT))?;
     Ok(
-        certificate.ends.as_slice() == [1, 2, 3].as_slice()
+        certificate.profile == Profile::Eight
+            && certificate.ends.as_slice() == [1, 2, 3].as_slice()
             && certificate.cost == 934
             && certificate.potentials.as_slice() == POTENTIALS.as_slice(),
     )
@@ -42,13 +45,14 @@ fn reads_the_certificate_of_three_literals(rt: HostRuntime) -> Result<(), Fail> 
     Ok(())
 }
 
-/// What is written of the certificate of three literals where there is so much room, and the answer.
+/// The text written of the certificate of three literals where there is room for `room` bytes, and the answer.
 fn written_of_three(alloc: Global, room: usize) -> Result<(Vec<u8>, Option<Fault>), AllocError> {
     let mut ends = ArrayVec::new();
     ends.push(1);
     ends.push(2);
     ends.push(3);
     let certificate = Certificate {
+        profile: Profile::Eight,
         ends,
         cost: 934,
         potentials: POTENTIALS.to_vec(alloc)?,
@@ -128,34 +132,34 @@ fn names_the_line_that_is_cut_off_or_missing(rt: HostRuntime) -> Result<(), Fail
     Ok(())
 }
 
-/// The text of three literals with another line at this place, from 1.
-fn with_line(alloc: Global, place: usize, line: &[u8]) -> Result<Vec<u8>, AllocError> {
-    let lines: Vec<&[u8]> = TEXT.split(|byte| *byte == b'\n').collect(alloc)?;
-    let mut text = Vec::new(alloc);
+/// The text with another line at this place, from 1.
+fn with_line(alloc: Global, text: &[u8], place: usize, line: &[u8]) -> Result<Vec<u8>, AllocError> {
+    let lines: Vec<&[u8]> = text.split(|byte| *byte == b'\n').collect(alloc)?;
+    let mut other = Vec::new(alloc);
     for (i, old) in lines.iter().enumerate() {
         if i > 0 {
-            text.push(b'\n')?;
+            other.push(b'\n')?;
         }
-        text.extend_from_slice(if i + 1 == place { line } else { old })?;
+        other.extend_from_slice(if i + 1 == place { line } else { old })?;
     }
-    Ok(text)
+    Ok(other)
 }
 
-/// The bad line of the text with another line at this place.
+/// The bad line of the text of three literals with another line at this place.
 fn line_of_other(alloc: Global, place: usize, line: &[u8]) -> Result<u32, Fault> {
-    let text = with_line(alloc, place, line)?;
+    let text = with_line(alloc, TEXT, place, line)?;
     bad_line(alloc, &text)
 }
 
 /// Lines that are wrong, by their places in the text of three literals.
 static WRONG_LINES: [(usize, &[u8]); 30] = [
-    (1, b"litcert 2"),
+    (1, b"litcert 3"),
     (1, b"litcert  1"),
     (1, b" litcert 1"),
     (2, b"literals 0"),
     (2, b"literals 03"),
     (2, b"literals +3"),
-    (2, b"literals 1025"),
+    (2, b"literals 4097"),
     (2, b"literals 18446744073709551619"),
     (2, b"literals"),
     (2, b"literals 3 "),
@@ -187,6 +191,14 @@ fn names_the_first_bad_line(rt: HostRuntime) -> Result<(), Fail> {
         let named = line_of_other(rt.alloc(), *place, line)?;
         assert_eq!(rt; named as usize, *place, "{line:?}");
     }
+    Ok(())
+}
+
+#[test]
+fn names_the_line_that_another_number_makes_wrong(rt: HostRuntime) -> Result<(), Fail> {
+    // Sixteen rows are wanted, the ninth in place of the end; and more numbers in each row.
+    assert_eq!(rt; line_of_other(rt.alloc(), 1, b"litcert 2")?, 13);
+    assert_eq!(rt; line_of_other(rt.alloc(), 2, b"literals 4096")?, 5);
     Ok(())
 }
 
@@ -228,7 +240,7 @@ fn is_refusal_told(alloc: Global, call: u64) -> Result<bool, AllocError> {
     if cost == Err(Fault::OutOfMemory) {
         return Err(AllocError);
     }
-    // Reads of at most 50 bytes, and the one that finds the end.
+    // Reads of at most 50 bytes, and the read that finds the end.
     let is_read = call >= TEXT.len().div_ceil(50) as u64 + 1;
     Ok(
         cost == if is_read {

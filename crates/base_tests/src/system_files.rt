@@ -1,5 +1,5 @@
-//! Files of the system: what is there opens, what is not is missing, and what is made holds what it was
-//! given.
+//! Files of the system: a file that is there opens, another is missing, and a file that is made holds the bytes written
+//! to it.
 use byte_io::{Files, Missing, Opener, ReadError, SystemFiles, read_to_end, write_all};
 use std::fs;
 use std::path::PathBuf;

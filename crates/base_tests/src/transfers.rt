@@ -17,12 +17,12 @@ fn len_in_text(bytes: &[u8]) -> Option<usize> {
     None
 }
 
-/// How many bytes there are behind the old ones, if `TEXT` begins with them.
+/// How many bytes there are after the old bytes, if `TEXT` begins with them.
 fn len_behind(old: &[u8], bytes: &[u8]) -> Option<usize> {
     len_in_text(bytes.strip_prefix(old)?)
 }
 
-/// What is read to the end of the input, behind old bytes.
+/// Reads to the end of the input, after old bytes.
 fn read_behind(
     alloc: Global,
     old: &[u8],
@@ -36,7 +36,7 @@ fn read_behind(
     }
 }
 
-/// What is to be read with this limit.
+/// The bytes and the answer wanted with this limit.
 fn wanted_within(limit: usize) -> Moved<ReadError> {
     if limit < 7 {
         return (Err(ReadError::TooLong), Some(limit + 1));
@@ -62,7 +62,7 @@ fn reads_as_many_bytes_as_the_limit_and_one_more(rt: HostRuntime) {
     assert_eq!(rt; first_wrong_limit(rt.alloc()), Ok(None));
 }
 
-/// What is to be read with this limit, where each read behind so many bytes fails.
+/// The bytes and the answer wanted with this limit, where each read after `count` bytes fails.
 fn wanted_before(count: usize, limit: usize) -> Moved<ReadError> {
     if limit < count {
         return (Err(ReadError::TooLong), Some(limit + 1));
@@ -88,8 +88,8 @@ fn keeps_the_bytes_before_a_fault(rt: HostRuntime) {
     assert_eq!(rt; first_wrong_fault(rt.alloc()), Ok(None));
 }
 
-/// What is to be read where the read of this number fails: there are four of at most two bytes, and the
-/// one that finds the end.
+/// The bytes and the answer wanted where the read of this number fails: there are four of at most two bytes, and a last
+/// that finds the end.
 fn wanted_of_reads(call: u8) -> Moved<ReadError> {
     if call < 5 {
         return (Err(ReadError::Failed), Some(7.min(2 * call as usize)));
@@ -113,7 +113,7 @@ fn answers_each_refused_read(rt: HostRuntime) {
     assert_eq!(rt; first_wrong_read(rt.alloc()), Ok(None));
 }
 
-/// Whether a text of so many bytes is read to its end, and as it is.
+/// Whether a text of `len` bytes is read to its end, and as it is.
 fn is_read_whole(alloc: Global, len: usize) -> Result<bool, ReadError> {
     let long = vec![in alloc; b'x'; len]?;
     let mut text = Vec::new(alloc);
@@ -126,13 +126,13 @@ fn reads_a_text_longer_than_one_read(rt: HostRuntime) {
     assert_eq!(rt; is_read_whole(rt.alloc(), 49_157), Ok(true));
 }
 
-/// What is written of `TEXT`.
+/// Writes `TEXT`.
 fn written(mut out: CutOut<'_>) -> Moved<Failed> {
     let answer = write_all(&mut out, TEXT);
     (answer, len_in_text(out.written()))
 }
 
-/// What is to be written where the write of this number fails, of three of at most three bytes.
+/// The bytes and the answer wanted where the write of this number fails, of three of at most three bytes.
 fn wanted_of_writes(call: u8) -> Moved<Failed> {
     if call < 3 {
         return (Err(Failed), Some(3 * call as usize));
@@ -157,7 +157,7 @@ fn answers_each_refused_write(rt: HostRuntime) {
     assert_eq!(rt; first_wrong_write(), None);
 }
 
-/// What is to be written where there is room for so many bytes.
+/// The bytes and the answer wanted where there is room for `len` bytes.
 fn wanted_in_room(len: usize) -> Moved<Failed> {
     if len < 7 {
         return (Err(Failed), Some(len));

@@ -1,12 +1,12 @@
-//! How long the checker of certificates takes, beside a plain pass over as many numbers as it has
-//! conditions, and the planner, beside the whole table of potentials. It prints nothing without
-//! arguments; `bench/README.md` says how it is run.
+//! How long the checker of certificates takes, compared with a plain pass over as many numbers as it has conditions;
+//! and the planner, compared with the whole table of potentials. It prints nothing without arguments; `bench/README.md`
+//! says how to run it.
 #![tactic(auto)]
 
 mod table;
 
 use anyhow::{Context, Result, ensure};
-use lit_base::{Fold, LitList, RawList};
+use lit_base::{Fold, LitList, Profile, RawList, buckets};
 use lit_cert::{Certificate, check};
 use run_planner::plan;
 use std::alloc::Global;
@@ -27,15 +27,24 @@ fn main(rt: HostRuntime) -> Result<()> {
         .as_str()
         .parse::<u16>()
         .context("the number of literals")?;
-    ensure!((1..=1024).contains(&count), "1 to 1024 literals");
+    ensure!((1..=4096).contains(&count), "1 to 4096 literals");
     measure(&rt, count)
 }
 
 fn measure<R: Clock + Print + AllocGlobal>(rt: &R, count: u16) -> Result<()> {
     let list = list_of(rt.alloc(), count)?;
-    let certificate = certificate_of(rt.alloc(), &list)?;
-    measure_check(rt, &list, &certificate)?;
-    measure_plan(rt, &list, &certificate)
+    measure_under(rt, &list, Profile::Eight)?;
+    measure_under(rt, &list, Profile::Sixteen)
+}
+
+fn measure_under<R: Clock + Print + AllocGlobal>(
+    rt: &R,
+    list: &LitList,
+    profile: Profile,
+) -> Result<()> {
+    let certificate = certificate_of(rt.alloc(), list, profile)?;
+    measure_check(rt, list, &certificate)?;
+    measure_plan(rt, list, &certificate)
 }
 
 fn measure_check<R: Clock + Print>(
@@ -44,7 +53,8 @@ fn measure_check<R: Clock + Print>(
     certificate: &Certificate,
 ) -> Result<()> {
     let count = list.len() as u64;
-    let conditions = 4 * count * count;
+    let rows = buckets(certificate.profile) as u64;
+    let conditions = rows * count * count / 2;
     let turns = conditions / (certificate.potentials.len() as u64).max(1);
     let (mut checks, mut passes) = (u128::MAX, u128::MAX);
     for _ in 0..ROUNDS {
@@ -56,7 +66,9 @@ fn measure_check<R: Clock + Print>(
         passes = passes.min(start.elapsed(rt)?.as_nanos());
         ensure!(sum != 1, "a pass that is not left out");
     }
-    println!(rt; "{count} literals, {conditions} conditions, the least of {ROUNDS} rounds")?;
+    println!(rt;
+        "{count} literals, {rows} buckets, {conditions} conditions, the least of {ROUNDS} rounds"
+    )?;
     println!(rt; "check {checks} ns, a plain pass over as many u64 {passes} ns")?;
     Ok(())
 }
@@ -69,11 +81,11 @@ fn measure_plan<R: Clock + Print + AllocGlobal>(
     let (mut plans, mut tables) = (u128::MAX, u128::MAX);
     for _ in 0..ROUNDS {
         let start = Instant::now(rt)?;
-        let planned = plan(rt.alloc(), list)?;
+        let planned = plan(rt.alloc(), list, certificate.profile)?;
         plans = plans.min(start.elapsed(rt)?.as_nanos());
         ensure!(planned.cost == certificate.cost, "the table is wrong");
         let start = Instant::now(rt)?;
-        let whole = certificate_of(rt.alloc(), list)?;
+        let whole = certificate_of(rt.alloc(), list, certificate.profile)?;
         tables = tables.min(start.elapsed(rt)?.as_nanos());
         ensure!(whole.cost == certificate.cost, "the table is wrong");
     }
@@ -92,7 +104,7 @@ fn plain_pass(certificate: &Certificate, turns: u64) -> u64 {
     sum
 }
 
-/// So many different literals of two bytes.
+/// `count` different literals of two bytes.
 fn list_of(alloc: Global, count: u16) -> Result<LitList> {
     let mut raw = RawList::new(alloc);
     for number in 0..count {

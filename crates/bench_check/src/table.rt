@@ -1,6 +1,6 @@
 //! A certificate by the plain table: every potential from every run that begins at its place.
 use arrayvec::ArrayVec;
-use lit_base::{BUCKETS, LitList, cost};
+use lit_base::{LitList, Profile, buckets, cost};
 use lit_cert::Certificate;
 use std::alloc::{AllocError, Global};
 
@@ -23,11 +23,11 @@ fn potential(list: &LitList, before: &[u64], start: usize) -> u64 {
     least
 }
 
-/// The rows of potentials, one behind the other.
-fn potentials(alloc: Global, list: &LitList) -> Result<Vec<u64>, AllocError> {
+/// The rows of potentials, one after the other.
+fn potentials(alloc: Global, list: &LitList, profile: Profile) -> Result<Vec<u64>, AllocError> {
     let mut all = Vec::new(alloc);
     let mut before: Vec<u64> = Vec::new(alloc);
-    for _ in 0..BUCKETS {
+    for _ in 0..buckets(profile) {
         let mut row = Vec::new(alloc);
         for start in 0..list.len() {
             row.push(potential(list, &before, start))?;
@@ -38,7 +38,7 @@ fn potentials(alloc: Global, list: &LitList) -> Result<Vec<u64>, AllocError> {
     Ok(all)
 }
 
-/// The first end at which a run and what stands behind it reach the potential.
+/// The first end at which a run and what stands after it reach the potential.
 fn reached(list: &LitList, before: &[u64], start: usize, potential: u64) -> usize {
     for (end, behind) in before.iter().enumerate() {
         if end > start && run_cost(list, start, end).saturating_add(*behind) == potential {
@@ -49,16 +49,20 @@ fn reached(list: &LitList, before: &[u64], start: usize, potential: u64) -> usiz
 }
 
 /// A certificate of the list.
-pub fn certificate_of(alloc: Global, list: &LitList) -> Result<Certificate, AllocError> {
+pub fn certificate_of(
+    alloc: Global,
+    list: &LitList,
+    profile: Profile,
+) -> Result<Certificate, AllocError> {
     let count = list.len();
-    let potentials = potentials(alloc, list)?;
+    let potentials = potentials(alloc, list, profile)?;
     let row = |r: usize| potentials
         .get(r * count..(r + 1) * count)
         .unwrap_or_default();
-    let cost = row(BUCKETS - 1).first().copied().unwrap_or(0);
+    let cost = row(buckets(profile) - 1).first().copied().unwrap_or(0);
     let mut ends = ArrayVec::new();
     let mut start = 0;
-    for r in (0..BUCKETS).rev() {
+    for r in (0..buckets(profile)).rev() {
         let here = row(r).get(start).copied().unwrap_or(0);
         let before = if r == 0 { &[] } else { row(r - 1) };
         start = reached(list, before, start, here);
@@ -70,6 +74,7 @@ pub fn certificate_of(alloc: Global, list: &LitList) -> Result<Certificate, Allo
         }
     }
     Ok(Certificate {
+        profile,
         ends,
         cost,
         potentials,

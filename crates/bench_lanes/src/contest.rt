@@ -4,16 +4,16 @@ ghost use Rattle.std.specs.Prelude.{◌≤◌, ◌^◌};
 use crate::texts::{literals, quiet_text, rare_text};
 use anyhow::{Result, ensure};
 use lane_filter::{Candidates, Sieve, filter, filter_wide};
-use lit_base::{Ends, LitList, is_cut};
+use lit_base::{Ends, LitList, Profile, is_cut};
 use memchr::memchr;
 use nib_mask::Masks;
 use std::rt::Clock;
 use std::time::Instant;
 
-/// How often each contestant has its turn. The median counts.
+/// How many turns each contestant has. The median counts.
 const TURNS: usize = 31;
 
-/// About how many bytes a turn goes over.
+/// About how many bytes a turn reads.
 const BYTES: u64 = 1 << 22;
 
 #[derive(Clone, Copy)]
@@ -57,11 +57,14 @@ pub fn measure<R: Clock + Print + AllocGlobal>(rt: &R, len: usize, count: u16) -
 {
     let list = literals(rt.alloc(), count)?;
     let ends = equal_runs(&list);
-    ensure!(is_cut(&list, &ends), "no cut of the literals");
+    ensure!(
+        is_cut(&list, Profile::Sixteen, &ends),
+        "no cut of the literals"
+    );
     let masks = Masks::of(&list, &ends);
     let mut quiet = quiet_text(rt.alloc(), len + 2)?;
     let mut rare = rare_text(rt.alloc(), len + 2, &list)?;
-    let mut out: Vec<u8> = vec![in rt.alloc(); 0; len]?;
+    let mut out: Vec<u16> = vec![in rt.alloc(); 0; len]?;
     let mut times = [[0; TURNS]; 6];
     let mut sum = 0u64;
     for turn in 0..TURNS {
@@ -96,13 +99,13 @@ fn equal_runs(list: &LitList) -> Ends {
     ends
 }
 
-/// How often a contestant goes over a text in its turn: until about `BYTES` bytes were read.
+/// How often a contestant reads a text in its turn: until about `BYTES` bytes were read.
 fn rounds(len: usize) -> u64 {
     (BYTES / (len as u64).max(1)).max(1)
 }
 
 /// The text changes in each round, so that none can be left out.
-fn take_turn(contestant: Contestant, masks: &Masks, text: &mut [u8], out: &mut [u8]) -> u64 {
+fn take_turn(contestant: Contestant, masks: &Masks, text: &mut [u8], out: &mut [u16]) -> u64 {
     let mut sum = 0u64;
     for round in 0..rounds(out.len()) {
         if let Some(byte) = text.get_mut(round as usize) {
@@ -140,9 +143,9 @@ fn median(mut numbers: [u64; TURNS]) -> u64 {
     numbers[TURNS / 2]
 }
 
-/// How many places a contestant finds, or one of the bytes that it writes.
+/// How many places a contestant finds, or one of the numbers that it writes.
 #[inline(never)]
-fn go_over(contestant: Contestant, masks: &Masks, text: &[u8], out: &mut [u8]) -> u64 {
+fn go_over(contestant: Contestant, masks: &Masks, text: &[u8], out: &mut [u16]) -> u64 {
     let len = out.len();
     let (Some(x0), Some(x1), Some(x2)) = (
         text.get(..len),
@@ -163,9 +166,9 @@ fn go_over(contestant: Contestant, masks: &Masks, text: &[u8], out: &mut [u8]) -
 
 /// The filter by six look-ups for each place.
 #[inline(never)]
-fn filter_scalar(masks: &Masks, x0: &[u8], x1: &[u8], x2: &[u8], out: &mut [u8]) {
-    for (((a, b), c), byte) in x0.iter().zip(x1).zip(x2).zip(out.iter_mut()) {
-        *byte = masks.low[0][usize::from(*a & 15)]
+fn filter_scalar(masks: &Masks, x0: &[u8], x1: &[u8], x2: &[u8], out: &mut [u16]) {
+    for (((a, b), c), number) in x0.iter().zip(x1).zip(x2).zip(out.iter_mut()) {
+        *number = masks.low[0][usize::from(*a & 15)]
             & masks.high[0][usize::from(*a >> 4)]
             & masks.low[1][usize::from(*b & 15)]
             & masks.high[1][usize::from(*b >> 4)]
@@ -174,10 +177,10 @@ fn filter_scalar(masks: &Masks, x0: &[u8], x1: &[u8], x2: &[u8], out: &mut [u8])
     }
 }
 
-/// How many candidates a text has.
+/// How many candidates a text has, by the tables of at most eight runs.
 #[inline(never)]
 fn candidates(masks: &Masks, text: &[u8]) -> u64 {
-    let sieve = Sieve::Nibbles(*masks);
+    let sieve = Sieve::Nibbles(masks.first_eight());
     let mut cursor = Candidates::new(&sieve, text, 0);
     let mut count = 0u64;
     for _ in 0..=text.len() {

@@ -1,5 +1,5 @@
-//! How fast the filters of `lane_filter` are, beside a scalar loop over the same tables and a search
-//! for one byte. It prints nothing without arguments; `bench/README.md` says how it is run.
+//! How fast the filters of `lane_filter` are, compared with a scalar loop over the same tables and a search for one
+//! byte. It prints nothing without arguments; `bench/README.md` says how to run it.
 #![tactic(auto)]
 
 mod contest;

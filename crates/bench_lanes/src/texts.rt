@@ -31,7 +31,7 @@ impl Numbers {
     }
 }
 
-/// So many words of six to nine small letters, compared byte by byte.
+/// `count` words of six to nine small letters, compared byte by byte.
 pub fn literals(alloc: Global, count: u16) -> Result<LitList>
     ensures { IfOk result (λ list. list.folding ≡ No) }
 {
@@ -49,7 +49,7 @@ pub fn literals(alloc: Global, count: u16) -> Result<LitList>
     Ok(list)
 }
 
-/// A text of so many capitals, digits and spaces, in which no literal occurs and no filter finds one.
+/// A text of `len` capitals, digits and spaces, in which no literal occurs and no filter finds one.
 pub fn quiet_text(alloc: Global, len: usize) -> Result<Vec<u8>, AllocError>
     ensures { IfOk result (λ text. length text.items ≡ len) }
 {

@@ -1,13 +1,13 @@
-//! How long a scan takes: `bench_scan TEXT LITERALS all|learned|stream|learned-stream|WORKERS TURNS` reads both files and
-//! prints the median seconds of a scan and the number of hits. A number of workers from 1 to 16 share
-//! the text. A stream comes in pieces of 64 KiB, or as `stream:1000` in pieces of so many bytes. It prints nothing without
-//! arguments; `bench/README.md` says what it is measured beside.
+//! How long a scan takes: `bench_scan TEXT LITERALS all|learned|stream|learned-stream|WORKERS TURNS [8|16]` reads both files
+//! and prints the median seconds of a scan and the number of hits. A number of workers from 1 to 16 share the text. A
+//! stream comes in pieces of 64 KiB, or as `stream:1000` in pieces of so many bytes. The plan has eight buckets unless the
+//! last word is 16. It prints nothing without arguments; `bench/README.md` says what it is measured beside.
 #![tactic(auto)]
 
-use anyhow::{Result, ensure};
+use anyhow::{Result, bail, ensure};
 use flow_scan::{Compiled, EndFinder, Hit, Scanner, scan_all};
 use list_plan::compile;
-use lit_base::{Fold, LitList, RawList};
+use lit_base::{Fold, LitList, Profile, RawList};
 use par_scan::{MAX_WORKERS, NoGate, scan_parts};
 use std::alloc::Global;
 use std::rt::{Clock, Files};
@@ -25,22 +25,24 @@ enum Mode {
     Whole,
     /// In one call that learns from the text.
     Learned,
-    /// As a stream, in pieces of so many bytes.
+    /// As a stream, in pieces of this many bytes.
     Pieces(usize),
     /// As a stream, in pieces that are learned from.
     LearnedPieces(usize),
-    /// By so many workers, each of which scans a part.
+    /// By this many workers; each scans a part.
     Parts(usize),
 }
 
 fn main(rt: HostRuntime) -> Result<()> {
     let words: Vec<String> = env::args(&rt)?.skip(1).collect(rt.alloc())?;
-    let [text, literals, mode, turns] = words.as_slice() else {
+    let [text, literals, mode, turns, buckets @ ..] = words.as_slice() else {
         return Ok(());
     };
     let mode = mode_of(mode.as_str())?;
+    let profile = profile_of(buckets)?;
     let text = fs::read(&rt, text.as_str())?;
-    let compiled = compiled_of(rt.alloc(), fs::read(&rt, literals.as_str())?.as_slice())?;
+    let literals = fs::read(&rt, literals.as_str())?;
+    let compiled = compiled_of(rt.alloc(), literals.as_slice(), profile)?;
     measure(
         &rt,
         &compiled,
@@ -66,12 +68,25 @@ fn mode_of(word: &str) -> Result<Mode> {
     })
 }
 
+/// The profile of as many buckets as the word says, eight without a word.
+fn profile_of(words: &[String]) -> Result<Profile> {
+    let Some(word) = words.first() else {
+        return Ok(Profile::Eight);
+    };
+    ensure!(words.len() == 1, "too many words");
+    match word.as_str() {
+        "8" => Ok(Profile::Eight),
+        "16" => Ok(Profile::Sixteen),
+        _ => bail!("8 or 16 buckets"),
+    }
+}
+
 /// The literals of a file with their plan.
-fn compiled_of(alloc: Global, file: &[u8]) -> Result<Compiled> {
+fn compiled_of(alloc: Global, file: &[u8], profile: Profile) -> Result<Compiled> {
     let mut raw = RawList::new(alloc);
     raw.add_file_bytes(file)?;
     let (list, _) = LitList::normal(alloc, &raw, Fold::No)?;
-    Ok(compile(alloc, list)?)
+    Ok(compile(alloc, list, profile)?)
 }
 
 fn measure<R: Clock + Print + AllocGlobal + Threads + Sync>(

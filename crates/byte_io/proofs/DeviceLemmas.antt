@@ -1,4 +1,4 @@
--- Lemmas on what devices tell: one call after another, and what a device of the tests gives.
+-- Lemmas on the known bytes of devices: one call after another, and the bytes that a device of the tests gives.
 use Rattle.std.proofs.Common.{◌≡◌, ◌≢◌, ℕ, ◌<◌, false, List, ◌++◌, Option, None, Some, Result, Ok, Err, refl, sym, ap, ◌∙◌, length, take, drop, take-append-drop, rules, tests}
 use Rattle.std.proofs.lemmas.List.{nil_from_length}
 use Rattle.std.specs.Io.KnownBytes.{ReadConsumes}
@@ -14,7 +14,7 @@ unsure-Clean e = cc
 unsure-Faulty : Unsure ≢ Faulty
 unsure-Faulty e = cc
 
--- a read of known bytes gives the next ones of a text whose end is unsure
+-- a read of known bytes gives the next bytes of a text whose end is unsure
 pub unsure-reads : (a b : Option (List ℕ)) (r : Result ℕ Failed) (buf : List ℕ) → ReadConsumes a b r buf → Told (unsure a) (unsure b) (λ old new. ReadGives old new r buf)
 unsure-reads None b r buf p = tt
 unsure-reads (Some x) None (Ok n) buf p = absurd p.0
@@ -27,11 +27,11 @@ unsure-reads (Some x) (Some y) (Err e) buf p =
 clean-Faulty : Clean ≢ Faulty
 clean-Faulty e = cc
 
--- bytes from the front of a text are the next ones
+-- bytes from the front of a text are the next bytes
 gives_front : (text buf : List ℕ) (n : ℕ) (e : Ending) → take n buf ≡ take n text → Gives (record { text = text; ending = e }) (record { text = drop n text; ending = e }) (take n buf)
 gives_front text buf n e p = record { text = sym (take-append-drop n text) ∙ ap (λ l. l ++ drop n text) (sym p); ending = refl }
 
--- a read that is not cut gives the next bytes, where the reader tells them
+-- a read that is not cut gives the next bytes, if they are known
 pub cut-reads : (cut : Cut) (text buf : List ℕ) (n : ℕ) → fails_now cut (length text) ≡ false → take n buf ≡ take n text → (n ≡ 0 → 0 < length buf → length text ≡ 0)
     → Told (told_by cut text) (told_by (cut_after cut) (drop n text)) (λ old new. ReadGives old new (Ok n) buf)
 cut-reads Never text buf n live front none =

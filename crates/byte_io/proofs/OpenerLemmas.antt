@@ -1,4 +1,4 @@
--- What an opener tells from one ask to the next.
+-- The known sources of an opener, from one ask to the next.
 use Rattle.std.proofs.Common.{◌≡◌, ℕ, true, false, cond, List, [], ◌∷◌, ◌++◌, All, Option, None, Some, IfSome, Ok, Err, refl, sym, ap, ◌∙◌, append_assoc, append-nil, lit<, arith}
 use Rattle.std.specs.Str.{bytes_eq}
 use Rattle.std.proofs.lemmas.List.Elements.{All-cons, All-tail}
@@ -48,13 +48,13 @@ short-after (Named name) s h = record { named = short-rest name s.named h.named;
 short-after Standard s h = record { named = h.named; standard = short-after_first s.standard h.standard }
 short-after (Created name) s h = record { named = h.named; standard = h.standard }
 
--- an ask is told behind the ones before
+-- an ask is added after the earlier asks
 after-asks : (a : Ask) (s : Sources) → (after a s).asks ≡ s.asks ++ a ∷ []
 after-asks (Named name) s = refl
 after-asks Standard s = refl
 after-asks (Created name) s = refl
 
--- one ask behind others
+-- one ask after others
 pub after_all-append : (asks more : List Ask) (s : Sources) → after_all (asks ++ more) s ≡ after_all more (after_all asks s)
 after_all-append [] more s = refl
 after_all-append (a ∷ asks) more s = after_all-append asks more (after a s)
@@ -62,7 +62,7 @@ after_all-append (a ∷ asks) more s = after_all-append asks more (after a s)
 pub after_all-one : (asks : List Ask) (a : Ask) (s : Sources) → after_all (asks ++ a ∷ []) s ≡ after a (after_all asks s)
 after_all-one asks a s = after_all-append asks (a ∷ []) s
 
--- after several asks those are told, behind the ones before
+-- several asks are added after the earlier asks
 pub after_all-asks : (asks : List Ask) (s : Sources) → (after_all asks s).asks ≡ s.asks ++ asks
 after_all-asks [] s = sym (append-nil s.asks)
 after_all-asks (a ∷ asks) s = after_all-asks asks (after a s) ∙ ap (λ l. l ++ asks) (after-asks a s) ∙ append_assoc s.asks (a ∷ []) asks

@@ -1,4 +1,4 @@
--- What is written, whole or from its front.
+-- A text that is written, whole or from its front.
 use Rattle.std.proofs.Common.{◌≡◌, ℕ, Bool, true, false, ◌||◌, List, [], Option, Result, Ok, Err, OnOk, OnErr, is_err, refl, sym, ◌∙◌, append-nil, take, drop, take-append-drop}
 use Rattle.std.specs.Io.KnownBytes.{Appends}
 use Rattle.std.proofs.KnownBytes.{Appends-nil}

@@ -9,7 +9,7 @@ source_of-first : {T : Type 0} (name : List ℕ) (e : List ℕ × Option T) (res
 source_of-first name e rest same = ap (λ b. cond b e.1 (source_of name rest)) same
 
 module _ {X T : Type 0} (f : X → List ℕ × Option T) (name : List ℕ) (xs : List X) (place : ℕ) (inside : place < length xs) where
-  -- the entry at a place, and those behind it
+  -- the entry at a place, and those after it
   entries-at : (x : X) → x ≡ get_or xs place x → map f (drop place xs) ≡ f x ∷ map f (drop (place + 1) xs)
   entries-at x at = ap (map f) (drop_more xs place x inside) ∙ ap (λ y. f y ∷ map f (drop (place + 1) xs)) (sym at)
 

@@ -1,4 +1,4 @@
--- What a device or an opener tells from one step to the next.
+-- Known values of a device or an opener, from one step to the next.
 use Rattle.std.specs.Prelude.{Option, None, Some}
 use Rattle.byte_io.specs.Devices.{Told}
 

@@ -14,7 +14,7 @@ pub OnErr-any : {T E P : Type 0} (r : Result T E) → P → OnErr r P
 OnErr-any (Ok x) p = tt
 OnErr-any (Err e) p = p
 
--- a front of the piece was written, and this rest is left
+-- a front of the piece was written, and this rest remains
 pub record WritesFront (old new : Option (List ℕ)) (piece rest : List ℕ) : Type 0 where
   pub done : List ℕ
   pub split : piece ≡ done ++ rest
@@ -55,7 +55,7 @@ Gives-trans a b c bs cs p q =
     Told-then a b c (λ x y. Gives x y bs) (λ x y. Gives x y cs) (λ x y. Gives x y (bs ++ cs)) p q
     (λ x y z p q. record { text = p.text ∙ ap (λ l. bs ++ l) q.text ∙ sym (append_assoc bs cs z.text); ending = q.ending ∙ p.ending })
 
--- what is gained in two steps is gained in one
+-- bytes gained in two steps are gained in one
 pub ReadsInto-more : {a b : Option Coming} (c : Option Coming) {xs ys zs : List ℕ} → ReadsInto a b xs ys → ReadsInto b c ys zs → ReadsInto a c xs zs
 ReadsInto-more {a} {b} c {xs} {ys} {zs} r s = record {
   bytes = r.bytes ++ s.bytes;
@@ -63,11 +63,11 @@ ReadsInto-more {a} {b} c {xs} {ys} {zs} r s = record {
   given = Gives-trans a b c r.bytes s.bytes r.given s.given;
 }
 
--- a fact on what is told last
+-- a fact on the last known value
 pub Told-last : (P : Coming → Coming → Type 0) (a b c : Option Coming) (Q : Coming → Type 0) → Told a b P → Told b c (λ _ y. Q y) → Told a c (λ _ y. Q y)
 Told-last P a b c Q p q = Told-then a b c P (λ _ y. Q y) (λ _ y. Q y) p q (λ x y z p q. q)
 
--- all was read where a clean end stands behind what was
+-- all bytes were read where a clean end stands after them
 pub ReadsInto-all : (a b : Option Coming) (xs ys : List ℕ) (limit : ℕ) → ReadsInto a b xs ys → Told a b (λ _ y. EndsHere y) → length ys ≤ length xs + limit → IfSome a (ReadsAll limit xs ys)
 ReadsInto-all None b xs ys limit r end short = tt
 ReadsInto-all (Some x) None xs ys limit r end short = absurd end
@@ -79,7 +79,7 @@ ReadsInto-all (Some x) (Some y) xs ys limit r end short =
       ending = λ fault. end.ending (r.given.ending ∙ fault);
     }
 
--- a fault follows where a read failed behind what was read
+-- a fault follows where a read failed after the bytes that were read
 pub ReadsInto-fault : (a b : Option Coming) (xs ys : List ℕ) (limit : ℕ) → ReadsInto a b xs ys → Told a b (λ _ y. MayFail y) → length ys ≤ length xs + limit → IfSome a (FaultFollows limit xs ys)
 ReadsInto-fault None b xs ys limit r end short = tt
 ReadsInto-fault (Some x) None xs ys limit r end short = absurd end
@@ -98,7 +98,7 @@ ReadsInto-many (Some x) None xs ys limit most r many = absurd r.given
 ReadsInto-many (Some x) (Some y) xs ys limit most r many =
     λ few. absurd (omega (arith, ap length r.text, length-append xs r.bytes, ap length r.given.text, length-append r.bytes y.text))
 
--- what is kept of a list, where the part behind `old` was filled and only its first k bytes count
+-- the kept part of a list, where the part after `old` was filled and only its first k bytes count
 take-filled : (old buf whole post rest : List ℕ) (start len k : ℕ) → start ≡ length old → take start whole ≡ old → k ≤ length buf → start + length buf ≤ len
     → take (start + k) (take len (take start whole ++ (buf ++ post) ++ rest)) ≡ old ++ take k buf
 take-filled old buf whole post rest start len k at front some fits =
@@ -109,7 +109,7 @@ take-filled old buf whole post rest start len k at front some fits =
     ∙ take-append-add old ((buf ++ post) ++ rest) k
     ∙ ap (λ l. old ++ l) (take-append-le k (buf ++ post) rest (omega (arith, length-append buf post)) ∙ take-append-le k buf post some)
 
--- a read into the room behind the text, of which what was read is kept
+-- a read into the room after the text, which keeps the bytes that were read
 pub ReadsInto-read : (a b : Option Coming) (old now buf whole post rest : List ℕ) (start len n : ℕ) → Told a b (λ x y. ReadGives x y (Ok n) buf)
     → now ≡ take (start + n) (take len (take start whole ++ (buf ++ post) ++ rest)) → start ≡ length old → take start whole ≡ old → n ≤ length buf → start + length buf ≤ len
     → ReadsInto a b old now

@@ -1,11 +1,11 @@
--- The devices of the tests: what they are seen as, and what one call of theirs does.
+-- The devices of the tests: how contracts see them, and the exact answer of one call.
 use Rattle.std.specs.Prelude.{ℕ, ◌+◌, ◌-◌, min, Bool, true, false, ◌||◌, ◌&&◌, ◌==◌, nat_lt, if◌then◌else◌, List, ◌++◌, length, take, drop, Option, Some, None, Result, Ok, Err}
 use Rattle.byte_io.specs.declared.device.Failed.{Failed}
 use Rattle.byte_io.specs.declared.cut_device.Cut.{Cut}
 use Rattle.byte_io.specs.declared.cut_device.Cut.TheVariants.{Never, AtEnd, InCalls, Past}
 use Rattle.byte_io.specs.Devices.{Coming, Clean, Faulty}
 
--- whether the next call is the one that is cut, with so many bytes left
+-- whether the next call is cut, with `left` bytes left
 abbrev pub fails_now : Cut → ℕ → Bool
 fails_now Never left = false
 fails_now AtEnd left = left == 0
@@ -27,7 +27,7 @@ pub record CutReader : Type 0 where
   pub given : ℕ
   pub has_failed : Bool
 
--- what the reader tells: with a call that is cut nothing, else its bytes and their end
+-- the known bytes of the reader and their end; with a call that is cut none are known
 abbrev pub told_by : Cut → List ℕ → Option Coming
 told_by Never text = Some (record { text = text; ending = Clean })
 told_by AtEnd text = Some (record { text = text; ending = Faulty })
@@ -49,7 +49,7 @@ after_read d room =
     then record d { cut = cut_after d.cut; has_failed = true }
     else record d { cut = cut_after d.cut; text = drop (read_len d room) d.text; given = d.given + read_len d room }
 
--- a writer: what it has taken, how many more bytes it takes, where it fails, and how many a call takes at most
+-- a writer: the bytes that it has taken, how many more it takes, where it fails, and how many a call takes at most
 pub record CutWriter : Type 0 where
   pub taken : List ℕ
   pub room : ℕ

@@ -1,4 +1,5 @@
--- What a reader and a writer of bytes tell: the bytes to come and how they end, and the flag of a failed call.
+-- Readers and writers of bytes as contracts see them: the bytes to come and how they end, and the flag of a failed
+-- call.
 use Rattle.std.specs.Prelude.{◌≡◌, ◌≢◌, ℕ, ◌<◌, ◌++◌, List, [], length, take, ⊤, Option, Some, None, Result, Ok, Err, MatchResult}
 use Rattle.std.specs.Option.{option_map}
 use Rattle.byte_io.specs.declared.device.Failed.{Failed}
@@ -24,16 +25,18 @@ pub record EndsHere (c : Coming) : Type 0 where
   pub text : c.text ≡ []
   pub ending : c.ending ≢ Faulty
 
--- a call may fail here: a fault comes behind all bytes, and never before a clean end
+-- a call may fail here: a fault comes after all bytes, and never before a clean end
 abbrev pub MayFail : Coming → Type 0
 MayFail c = (c.ending ≢ Clean) × (c.ending ≡ Faulty → c.text ≡ [])
 
--- a read at told bytes gave the next ones, 0 into a nonempty buffer only at a clean end; where it failed, nothing is lost
+-- a read at known bytes gave the next bytes, 0 into a nonempty buffer only at a clean end; where it failed, nothing is
+-- lost
 abbrev pub ReadGives : Coming → Coming → Result ℕ Failed → List ℕ → Type 0
 ReadGives old new r buf =
     MatchResult r (λ n. Gives old new (take n buf) × (n ≡ 0 → 0 < length buf → EndsHere old)) (λ _. MayFail old × (new ≡ old))
 
--- what a device told it tells on, and the two are so related; of a device that tells nothing nothing is said
+-- a known value stays known, and the old and the new value are related by P; where the old value is unknown, nothing is
+-- said
 abbrev pub Told : {T : Type 0} → Option T → Option T → (T → T → Type 0) → Type 0
 Told None new P = ⊤
 Told (Some x) None P = ⊥
@@ -44,6 +47,6 @@ abbrev pub count_of : Result ℕ Failed → ℕ
 count_of (Ok n) = n
 count_of (Err _) = 0
 
--- bytes to come, where they are known, of which it is not known how they end
+-- bytes to come, where they are known, but not how they end
 abbrev pub unsure : Option (List ℕ) → Option Coming
 unsure known = option_map (λ text. record { text = text; ending = Unsure }) known

@@ -1,15 +1,15 @@
--- The files of the tests: what they are seen as.
+-- The files of the tests, as contracts see them.
 use Rattle.std.specs.Prelude.{ℕ, ◌-◌, ◌^◌, false, List, [], ◌∷◌, Option}
 use Rattle.byte_io.specs.declared.cut_device.Cut.TheVariants.{Never}
 use Rattle.byte_io.specs.CutDevices.{CutReader, CutWriter}
 
--- readers under names, those of one name in order, readers of standard input, and writers under names
+-- readers under names, several under one name in order, readers of standard input, and writers under names
 pub record LentSources : Type 0 where
   pub named : List (List ℕ × Option CutReader)
   pub standard : List CutReader
   pub creatable : List (List ℕ × Option CutWriter)
 
--- the first reader of standard input, or one of nothing where none is left
+-- the first reader of standard input, or an empty one where none remains
 abbrev pub reader_of : List CutReader → CutReader
 reader_of [] = record { text = []; cut = Never; step = 2 ^ 64 - 1; given = 0; has_failed = false }
 reader_of (d ∷ rest) = d

@@ -1,4 +1,5 @@
--- What a program is given to read and to make: what stands under each name, what standard input holds each time that it is asked for, and the asks made.
+-- The files and the standard input of a program: the content under each name, the content of standard input at each
+-- ask, and the asks made.
 use Rattle.std.specs.Prelude.{◌≡◌, ℕ, ◌^◌, ◌<◌, Bool, true, false, List, [], ◌∷◌, ◌++◌, All, length, codes, if◌then◌else◌, Option, Some, None, IfSome, Result, IsErr, IsOkAnd}
 use Rattle.std.specs.Str.{bytes_eq}
 use Rattle.byte_io.specs.Devices.{Coming, Clean, Faulty}
@@ -9,14 +10,14 @@ pub record Content : Type 0 where
   pub text : List ℕ
   pub is_faulty : Bool
 
--- what is asked for: the file of a name, standard input, or a new file of a name
+-- an ask: for the file of a name, for standard input, or for a new file of a name
 pub data Ask : Type 0 where
   Named : List ℕ → Ask
   Standard : Ask
   Created : List ℕ → Ask
 
--- the sources still to come: under names, those of one name in order, None where it cannot be opened; and on standard input.
--- Beside them the names under which a file can be made, and the asks made so far, in order
+-- the sources still to come: under names, several under one name in order, None where it cannot be opened; and on
+-- standard input. Also the names under which a file can be made, and the asks made so far, in order
 pub record Sources : Type 0 where
   pub named : List (List ℕ × Option Content)
   pub standard : List Content
@@ -28,22 +29,22 @@ abbrev pub source_of : {T : Type 0} → List ℕ → List (List ℕ × Option T)
 source_of name [] = None
 source_of name (e ∷ rest) = if bytes_eq e.0 name then e.1 else source_of name rest
 
--- what it leaves: all other sources
+-- the sources after it: all others
 abbrev pub without_first : {T : Type 0} → List ℕ → List (List ℕ × Option T) → List (List ℕ × Option T)
 without_first name [] = []
 without_first name (e ∷ rest) = if bytes_eq e.0 name then rest else e ∷ without_first name rest
 
--- what an ask for standard input takes: the first content, or an empty one where none is left
+-- what an ask for standard input takes: the first content, or an empty one where none remains
 abbrev pub content_of : List Content → Content
 content_of [] = record { text = []; is_faulty = false }
 content_of (c ∷ rest) = c
 
--- what it leaves
+-- the contents after it
 abbrev pub after_first : List Content → List Content
 after_first [] = []
 after_first (c ∷ rest) = rest
 
--- whether a file can be made under a name: it can as often as it is asked for
+-- whether a file can be made under a name, however often
 abbrev pub can_create : List ℕ → List (List ℕ) → Bool
 can_create name [] = false
 can_create name (n ∷ rest) = if bytes_eq n name then true else can_create name rest
@@ -76,11 +77,11 @@ pub record AsksFront (all : List Ask) (s left : Sources) : Type 0 where
 abbrev pub ask_of : List ℕ → Ask
 ask_of operand = if bytes_eq operand (codes "-") then Standard else Named operand
 
--- what a device tells that reads a content from its front
+-- the known bytes of a device that reads a content from its front
 abbrev pub coming_of : Content → Coming
 coming_of c = record { text = c.text; ending = if c.is_faulty then Faulty else Clean }
 
--- an ask answers its source, as the device tells it
+-- an ask gives its source, with known bytes
 abbrev pub OpensAs : {I : Type 0} → (I → Option Coming) → Option Content → Result I Missing → Type 0
 OpensAs coming None result = IsErr result
 OpensAs coming (Some c) result = IsOkAnd result (λ input. coming input ≡ Some (coming_of c))

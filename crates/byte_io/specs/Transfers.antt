@@ -3,13 +3,13 @@ use Rattle.std.specs.Prelude.{◌≡◌, ◌≢◌, ℕ, ◌<◌, ◌≤◌, ◌
 use Rattle.std.specs.Io.KnownBytes.{Appends}
 use Rattle.byte_io.specs.Devices.{Coming, Clean, Faulty, Gives, Told}
 
--- known bytes grow by a front of the piece that is not all of it
+-- known bytes grow by a prefix of the piece that is not all of it
 pub record AppendsPrefix (old new : Option (List ℕ)) (piece : List ℕ) : Type 0 where
   pub count : ℕ
   pub fewer : count < length piece
   pub text : Appends old new (take count piece)
 
--- known bytes grew by a front of the text, which may be none or all of it
+-- known bytes grew by a prefix of the text, which may be none or all of it
 pub record AppendsFront (old new : Option (List ℕ)) (text : List ℕ) : Type 0 where
   pub front : List ℕ
   pub rest : List ℕ

@@ -1,4 +1,4 @@
-//! The devices of the tests, over lent bytes, which fail where a test says.
+//! The devices of the tests, over borrowed bytes, which fail where a test says.
 ghost use Rattle.std.specs.Prelude.{◌≡◌, ◌+◌, ◌-◌, ◌<◌, ◌≤◌, ◌||◌, [], length, take, false, IfOk, is_err, min};
 ghost use Rattle.std.specs.Io.KnownBytes.{WriteAppends};
 ghost use Rattle.byte_io.specs.CutDevices.{after_read, after_write, cut_after, fails_now, read_answer, told_by, write_answer};
@@ -12,16 +12,16 @@ use std::marker::Model;
 pub enum Cut {
     /// At no call.
     Never,
-    /// At each call behind the last byte.
+    /// At each call after the last byte.
     AtEnd,
-    /// At one call, before which so many do not fail.
+    /// At one call, after this many calls that do not fail.
     InCalls(u64),
     /// That call has failed, and no other does.
     Past,
 }
 
 impl Cut {
-    /// Whether the next call fails, with so many bytes left.
+    /// Whether the next call fails, with `left` bytes left.
     fn is_now(self, left: usize) -> bool
         ensures { result ≡ fails_now self left }
     {
@@ -44,7 +44,7 @@ impl Cut {
     }
 }
 
-/// A reader for tests, over bytes that are lent to it.
+/// A reader for tests, over borrowed bytes.
 ///
 /// It gives as many bytes as a call has room for, or fewer after `with_step`.
 #[derive(Drop)]
@@ -87,7 +87,7 @@ impl<'a> CutIn<'a> {
         CutIn::with_cut(bytes, Cut::Never)
     }
 
-    /// A reader of the first `count` bytes, or of all if there are fewer. Behind them each call
+    /// A reader of the first `count` bytes, or of all if there are fewer. After them each call
     /// fails.
     pub fn failing_after(bytes: &'a [u8], count: usize) -> Self
         ensures { result ≡ record {
@@ -101,8 +101,8 @@ impl<'a> CutIn<'a> {
         CutIn::with_cut(&bytes[..count.min(bytes.len())], Cut::AtEnd)
     }
 
-    /// A reader of the bytes whose call of that number fails, counted from 0. It takes no byte away,
-    /// and the calls after it go on. Such a reader does not tell its bytes.
+    /// A reader of the bytes whose call of that number fails, counted from 0. It takes no byte away, and the calls
+    /// after it go on. Contracts do not know the bytes of this reader.
     pub fn failing_at(bytes: &'a [u8], call: u64) -> Self
         ensures { result ≡ record {
           text = bytes.now;
@@ -185,7 +185,7 @@ impl ByteIn for CutIn<'_> {
     }
 }
 
-/// A writer for tests, into bytes that are lent to it. It fails where they are full.
+/// A writer for tests, into borrowed bytes. It fails where they are full.
 ///
 /// It takes as much of a piece as there is room for, or less after `with_step`.
 #[derive(Drop)]
@@ -260,7 +260,7 @@ impl<'a> CutOut<'a> {
         }
     }
 
-    /// What it has taken.
+    /// The bytes that it has taken.
     pub fn written(&self) -> &[u8]
         ensures { result.now ≡ self.now.taken }
     {

@@ -3,13 +3,13 @@ ghost use Rattle.std.specs.Prelude.{◌≡◌, ℕ, ◌+◌, ◌<◌, ◌≤◌,
 ghost use Rattle.std.specs.Io.KnownBytes.{WriteAppends};
 ghost use Rattle.byte_io.specs.Devices.{Coming, ReadGives, Told, count_of};
 
-/// A call of a device that failed. Why is not told: the message that follows names the file alone.
+/// A call of a device that failed, for a reason that is not given: the message that follows names only the file.
 #[derive(Clone, Copy, Debug, PartialEq, Eq)]
 pub struct Failed;
 
 /// What bytes are read from.
 pub trait ByteIn {
-    /// The bytes to come and how they end, where the device tells them.
+    /// The bytes to come and how they end, if they are known.
     ghost coming: { Self → Option Coming };
 
     /// How many bytes it has given.
@@ -18,8 +18,8 @@ pub trait ByteIn {
     /// Whether a call has failed.
     ghost has_failed: { Self → Bool };
 
-    /// Reads some of the next bytes into the front of the buffer, and answers how many. 0 into a
-    /// nonempty buffer is the end.
+    /// Reads some of the next bytes into the front of the buffer, and returns how many. 0 into a nonempty buffer is the
+    /// end.
     fn read_some(&mut self, buf: &mut [u8]) -> Result<usize, Failed>
         ensures within { IfOk result (λ n. n ≤ length buf.new) }
         ensures bytes { Told (coming self.old) (coming self.new)
@@ -30,14 +30,14 @@ pub trait ByteIn {
 
 /// What bytes are written to.
 pub trait ByteOut {
-    /// The bytes written, where the device tells them.
+    /// The bytes written, if they are known.
     ghost written: { Self → Option (List ℕ) };
 
     /// Whether a call has failed.
     ghost has_failed: { Self → Bool };
 
-    /// Writes some bytes from the front of the piece, and answers how many. To take nothing of a
-    /// nonempty piece is a failure.
+    /// Writes some bytes from the front of the piece, and returns how many. To take nothing of a nonempty piece is a
+    /// failure.
     fn write_some(&mut self, piece: &[u8]) -> Result<usize, Failed>
         ensures within { IfOk result (λ n. n ≤ length piece.now) }
         ensures takes { 0 < length piece.now → IfOk result (λ n. 0 < n) }

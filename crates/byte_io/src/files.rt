@@ -8,10 +8,10 @@ use crate::opener::{Missing, Opener};
 
 /// The files that a command reads and writes: an opener that makes files too.
 ///
-/// Its `sources` tell besides under which names a file can be made, and a file that is made is one of
-/// the asks, in order with the others. What a file was given its device tells.
+/// Its `sources` also have the names under which a file can be made. A file that is made is one of the asks, in order
+/// with the others. Its device knows the bytes that were written to it.
 pub trait Files: Opener {
-    /// What is written to.
+    /// The writer of a file that is made.
     type Output: ByteOut + Drop;
 
     /// Makes the file of a name, or empties it, for writing.

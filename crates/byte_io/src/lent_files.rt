@@ -1,4 +1,4 @@
-//! Files for tests, over bytes that are lent to them.
+//! Files for tests, over borrowed bytes.
 ghost use Rattle.std.specs.Prelude.{◌≡◌, IfOk, MatchOption, false, map};
 ghost use Rattle.byte_io.specs.Lent.{reader_of, readers_after};
 ghost use Rattle.byte_io.specs.Sources.{source_of, without_first};
@@ -8,11 +8,10 @@ use crate::files::Files;
 use crate::opener::{Missing, Opener};
 use std::marker::Model;
 
-/// Files for tests: readers that stand under names, those of one name in order, readers that standard
-/// input gives, in order, and writers under names. What stands for nothing cannot be opened or made;
-/// with no reader left standard input is empty.
+/// Files for tests: readers under names, several under one name in order; readers that standard input gives, in order;
+/// and writers under names. A name without one cannot be opened or made. After its last reader standard input is empty.
 ///
-/// It tells no asks, since it keeps none.
+/// Its asks are not known, since it keeps none.
 #[derive(Drop)]
 pub struct LentFiles<'a> {
     named: Vec<(&'a str, Option<CutIn<'a>>)>,
@@ -34,7 +33,7 @@ impl<'a> Model for LentFiles<'a> {
 }
 
 impl<'a> LentFiles<'a> {
-    /// Files of these readers and writers.
+    /// Files with the given readers and writers.
     pub fn new(
         named: Vec<(&'a str, Option<CutIn<'a>>)>,
         standard: Vec<CutIn<'a>>,
@@ -64,7 +63,7 @@ impl<'a> Opener for LentFiles<'a> {
     fn open_named(&mut self, name: &str) -> Result<CutIn<'a>, Missing>
         ensures fresh { IfOk result (λ input. input.has_failed ≡ false) }
 
-        // What it answers, exactly.
+        // The exact answer.
         ensures answer { MatchOption (source_of name.now self.old.named) (result ≡ Err (record {}))
             (λ d. result ≡ Ok (record d { has_failed = false })) }
         ensures after { self.new ≡ record self.old { named = without_first name.now self.old.named } }
@@ -78,7 +77,7 @@ impl<'a> Opener for LentFiles<'a> {
     fn standard_input(&mut self) -> CutIn<'a>
         ensures fresh { result.has_failed ≡ false }
 
-        // What it answers, exactly.
+        // The exact answer.
         ensures answer { result ≡ record (reader_of self.old.standard) { has_failed = false } }
         ensures after { self.new ≡ record self.old { standard = readers_after self.old.standard } }
     {
@@ -95,7 +94,7 @@ impl<'a> Files for LentFiles<'a> {
     fn create_named(&mut self, name: &str) -> Result<CutOut<'a>, Missing>
         ensures fresh { IfOk result (λ output. output.has_failed ≡ false) }
 
-        // What it answers, exactly.
+        // The exact answer.
         ensures answer { MatchOption (source_of name.now self.old.creatable) (result ≡ Err (record {}))
             (λ d. result ≡ Ok (record d { has_failed = false })) }
         ensures after { self.new ≡ record self.old { creatable = without_first name.now self.old.creatable } }

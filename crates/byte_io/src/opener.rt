@@ -5,7 +5,7 @@ ghost use Rattle.byte_io.specs.Sources.{Named, OpensAs, Standard, after, ask_of,
 
 use crate::device::ByteIn;
 
-/// A name under which no file can be opened or made. Why is not told: a message names the file alone.
+/// A name under which no file can be opened or made, for a reason that is not given: a message names only the file.
 #[derive(Clone, Copy, Debug, PartialEq, Eq)]
 pub struct Missing;
 
@@ -14,11 +14,11 @@ pub trait Opener {
     ghost use Rattle.std.specs.Prelude.{Option};
     ghost use Rattle.byte_io.specs.Sources.{Sources};
 
-    /// What is read from.
+    /// The reader of an input.
     type Input: ByteIn + Drop;
 
-    /// What there is to read, where the opener tells it: the sources still to come under each name
-    /// and on standard input, and the asks made so far, in order.
+    /// The sources still to come under each name and on standard input, and the asks made so far, in order, if they are
+    /// known.
     ghost sources: { Self → Option Sources };
 
     /// Opens the file of a name, for reading: the next source under it.

@@ -9,7 +9,7 @@ use crate::limits::MAX_TURNS;
 use std::io;
 use std::io::{Error, ErrorKind, Read, Write};
 
-/// A file or standard input, as one reader, which tells what the one that it is tells.
+/// A file or standard input, as one reader. Its known bytes are the known bytes of either.
 #[derive(Drop)]
 pub enum FileOrInput<F: Drop, S: Drop> {
     File(F),
@@ -42,8 +42,8 @@ pub struct FromRead<R: Read + Drop> {
 }
 
 impl<R: Read + Drop> FromRead<R> {
-    /// The device over a reader. It tells the bytes that the reader tells, but not how they end,
-    /// since a reader of std's may fail all the same.
+    /// The device over a reader. If the reader's bytes are known, so are the device's, but not how they end, since a
+    /// reader of std's may fail all the same.
     pub fn new(reader: R) -> Self
         ensures coming { ⟦<FromRead<R> as ByteIn>⟧.coming result
             ≡ unsure (R.remaining reader) }
@@ -57,7 +57,7 @@ impl<R: Read + Drop> FromRead<R> {
         }
     }
 
-    /// One read that is counted. The flag is left to the caller.
+    /// One read that is counted. The caller sets the flag.
     fn read_counted(&mut self, buf: &mut [u8]) -> Result<usize, Failed>
         ensures within { IfOk result (λ n. n ≤ length buf.new) }
         ensures bytes { ReadConsumes (R.remaining self.old.reader)
@@ -99,7 +99,7 @@ pub struct ToWrite<W: Write + Drop> {
 }
 
 impl<W: Write + Drop> ToWrite<W> {
-    /// The device over a writer. It tells the bytes that the writer tells.
+    /// The device over a writer. Its bytes are known if the writer's are.
     pub fn new(writer: W) -> Self
         ensures written { ⟦<ToWrite<W> as ByteOut>⟧.written result ≡ W.contents writer }
         ensures flag { ⟦<ToWrite<W> as ByteOut>⟧.has_failed result ≡ false }

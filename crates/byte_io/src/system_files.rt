@@ -18,10 +18,10 @@ struct FileId {
     inode: u64,
 }
 
-/// The files of the system, and its standard input. Contracts tell nothing of what they hold.
+/// The files of the system, and its standard input. Contracts say nothing of their contents.
 ///
-/// Standard input is a handle of a few bytes: a reader with a buffer of its own is as large as that,
-/// also where a file stands in its place, and 10,000 small files then take 1.35 times as long.
+/// Standard input is a handle of a few bytes. A reader with a buffer of its own takes as much room where a file stands
+/// in its place, and 10,000 small files then take 1.35 times as long.
 #[derive(Drop)]
 pub struct SystemFiles<'a, R, S: Drop> {
     rt: &'a R,
@@ -39,9 +39,8 @@ impl<'a, R: std::rt::Files, S: Read + Copy + Drop> SystemFiles<'a, R, S> {
         }
     }
 
-    /// The files of the system but for a regular file that is also standard output: whoever reads
-    /// such a file while writing what it holds never comes to its end. Its names are missing, for
-    /// reading. Standard input is read whatever it is.
+    /// The files of the system, except a regular file that is also standard output: a run that copies this file into itself
+    /// never ends. Its names are missing, for reading. Standard input is read whatever it is.
     pub fn without_output(self) -> SystemFiles<'a, R, S> {
         SystemFiles {
             output: regular_id(fs::metadata(self.rt, OUTPUT)),
@@ -49,7 +48,7 @@ impl<'a, R: std::rt::Files, S: Read + Copy + Drop> SystemFiles<'a, R, S> {
         }
     }
 
-    /// Whether the file is the one that is also standard output.
+    /// Whether the file is also standard output.
     fn is_output(&self, file: &R::File) -> bool {
         self.output.is_some() && regular_id(file.metadata()) == self.output
     }

@@ -48,15 +48,15 @@ pub fn write_all<W: ByteOut>(out: &mut W, piece: &[u8]) -> Result<(), Failed>
     Ok(())
 }
 
-/// Writes a text, as far as that is possible. What cannot be written is not written again: the flag of
-/// the device alone tells it.
+/// Writes a text, as far as that is possible. What cannot be written is not tried again: only the flag of the device
+/// shows it.
 pub fn say_text<W: ByteOut>(text: &str, out: &mut W)
     ensures { Says (W.has_failed out.new) (W.written out.old) (W.written out.new) text.now }
 {
     let _ = write_all(out, text.as_bytes());
 }
 
-/// Reads to the end, and appends what it reads to `text`: at most `limit` bytes.
+/// Reads to the end, and appends the bytes to `text`: at most `limit` bytes.
 ///
 /// # Errors
 /// - `Failed` where a read failed, or the end did not come in `MAX_TURNS` reads.
@@ -73,7 +73,7 @@ pub fn read_to_end<R: ByteIn, A: Allocator>(
         text.old.items text.new.items }
     ensures count { R.given input.new + vec_len text.old ≡ R.given input.old + vec_len text.new }
 
-    // What comes, where the device tells it.
+    // The bytes, if they are known.
     ensures ok { OnOk result
         (IfSome (R.coming input.old) (ReadsAll limit text.old.items text.new.items)) }
     ensures failed { result ≡ Err ReadError.Failed → IfSome (R.coming input.old)
@@ -87,7 +87,7 @@ pub fn read_to_end<R: ByteIn, A: Allocator>(
     ensures one_more { result ≡ Err ReadError.TooLong
         → vec_len text.new ≡ vec_len text.old + limit + 1 }
 
-    // The flag, or the turns, tell a failure.
+    // The flag, or the turns, show a failure.
     ensures flag { result ≢ Err ReadError.Failed
         → R.has_failed input.new ≡ R.has_failed input.old }
     ensures fault { result ≡ Err ReadError.Failed → IsTrue (R.has_failed input.new)
@@ -108,7 +108,7 @@ pub fn read_to_end<R: ByteIn, A: Allocator>(
     Err(ReadError::Failed)
 }
 
-/// One read of at most so many bytes to the end of `text`. The room for them is made first.
+/// One read of at most `most` bytes to the end of `text`. The room for them is made first.
 fn read_chunk<R: ByteIn, A: Allocator>(
     input: &mut R,
     most: usize,

@@ -2,6 +2,7 @@
 ghost use Rattle.std.specs.Prelude.{◌≡◌, ℕ, ◌↔◌, IfOk, IsErrOf};
 ghost use Rattle.lit_base.specs.Assignments.{NoAssignmentBelow, assign_price, assignment_of};
 ghost use Rattle.lit_base.specs.Literals.{lengths};
+ghost use Rattle.lit_base.specs.Profiles.{buckets};
 ghost use Rattle.lit_cert.specs.Certified.{IsFirstFailure};
 ghost use Rattle.lit_cert.specs.declared.reason.Reason.{Reason};
 
@@ -28,10 +29,11 @@ pub fn read<R: std::rt::Files + AllocGlobal>(
 /// What the cheapest grouping of the literals costs, if the certificate shows it: whoever made it need not be trusted,
 /// nor what he planned with. Else the first condition of the check that fails.
 pub fn least_cost(list: &LitList, certificate: &Certificate) -> Result<u64, Reason>
-    // No assignment of the literals to at most eight buckets costs less, and the certificate's runs cost just that.
-    ensures least { IfOk result (NoAssignmentBelow 8 list.now) }
-    ensures reached { IfOk result (λ cost. assign_price 8 (lengths list.now) (assignment_of certificate.now.ends) ≡ cost) }
-    ensures refused { (reason : Reason) → IsErrOf result reason ↔ IsFirstFailure 8 list.now certificate.now reason }
+    // No assignment of the literals to at most as many buckets as the certificate's profile has costs less, and the
+    // certificate's runs cost just that.
+    ensures least { IfOk result (NoAssignmentBelow (buckets certificate.now.profile) list.now) }
+    ensures reached { IfOk result (λ cost. assign_price (buckets certificate.now.profile) (lengths list.now) (assignment_of certificate.now.ends) ≡ cost) }
+    ensures refused { (reason : Reason) → IsErrOf result reason ↔ IsFirstFailure list.now certificate.now reason }
 {
     check(list, certificate)?;
     Ok(certificate.cost)

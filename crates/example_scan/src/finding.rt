@@ -5,8 +5,8 @@ use byte_io::{ByteIn, ByteOut, write_all};
 use flow_scan::{Compiled, Fault, Hit, Scanner};
 use std::alloc::Global;
 
-/// Feeds the input to a scan by the plan, to its end, and writes the lines of the hits. The buffer has what is read at
-/// once: of any length the hits are the same. What ends in a piece is written before the next one is read.
+/// Feeds the input to a scan by the plan, to its end, and writes the lines of the hits. The buffer takes one read; the
+/// hits are the same for any length of it. The hits of a piece are written before the next one is read.
 pub fn find<I: ByteIn, O: ByteOut>(
     alloc: Global,
     plan: &Compiled,

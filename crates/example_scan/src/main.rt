@@ -51,7 +51,7 @@ fn find_all(rt: &HostRuntime, plan: &Compiled, lines: &[u64]) -> Result<()> {
     )
 }
 
-/// So many bytes.
+/// A buffer of `len` bytes.
 fn buffer_of(alloc: Global, len: usize) -> Result<Vec<u8>, AllocError> {
     vec![in alloc; 0; len]
 }

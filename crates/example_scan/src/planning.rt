@@ -2,22 +2,22 @@
 use anyhow::Result;
 use flow_scan::Compiled;
 use list_plan::compile;
-use lit_base::{Fold, LitList, Normal, RawList};
+use lit_base::{Fold, LitList, Normal, Profile, RawList};
 use std::alloc::{AllocError, Global};
 
 /// The plan of the patterns that are a file's lines, and for each of its literals the first line that asks for it.
 pub fn plan_of(alloc: Global, file: &[u8]) -> Result<(Compiled, Vec<u64>)> {
     let mut raw = RawList::new(alloc);
     raw.add_file_bytes(file)?;
-    // The literals are what is searched for: the patterns in small letters, each once, by length and then by bytes.
+    // The scan searches for literals: the patterns in small letters, each once, by length and then by bytes.
     let (list, normal) = LitList::normal(alloc, &raw, Fold::Ascii)?;
     let lines = first_lines(alloc, list.len(), &normal)?;
     // The plan groups them, with a certificate that no grouping is cheaper.
-    let plan = compile(alloc, list)?;
+    let plan = compile(alloc, list, Profile::Eight)?;
     Ok((plan, lines))
 }
 
-/// For each of so many literals the first line that asks for it, counted from 1. A null pattern has no literal.
+/// For each of `count` literals the first line that asks for it, counted from 1. A null pattern has no literal.
 fn first_lines(alloc: Global, count: usize, normal: &Normal) -> Result<Vec<u64>, AllocError> {
     let mut lines = vec![in alloc; 0; count]?;
     let mut number = 0u64;

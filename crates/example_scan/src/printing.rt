@@ -1,4 +1,4 @@
-//! From hits to what is printed of them.
+//! From hits to the lines printed of them.
 ghost use Rattle.std.specs.Prelude.{◌≡◌, ◌++◌, ◌∷◌, [], OnOk, decimal};
 ghost use Rattle.example_scan.specs.Lines.{hit_line, hit_lines, line_text};
 

@@ -12,10 +12,9 @@ use Rattle.nib_mask.specs.Fronts.{CoversFronts}
 use Rattle.nib_mask.specs.declared.masks.Masks.{Masks}
 use Rattle.lane_filter.specs.Bits.{SplitsLowest}
 use Rattle.lane_filter.specs.Lanes.{TellsBits}
-use Rattle.text_windows.specs.Windows.{AreMarksOf, AreSievedMarks, AreStridedMarks, AreWithin, IsWithin, Windowing, offset_at}
-use Rattle.text_windows.proofs.WindowLemmas.{literal_is, marked_left, marked_right}
-use Rattle.flow_scan.specs.NextEnds.{IsNextEnd}
-use Rattle.text_windows.specs.NoEnds.{NoEndUpTo}
+use Rattle.text_windows.specs.Windows.{AreMarks, AreMarksOf, AreWithin, Windowing, offset_at}
+use Rattle.text_windows.proofs.WindowLemmas.{literal_is}
+use Rattle.lit_base.specs.NextEnds.{IsNextEnd, NoEndUpTo}
 use Rattle.flow_scan.specs.Windowed.{AreClaimed, AreClaims}
 use Rattle.flow_scan.specs.declared.windowed.Claims.{Claims}
 use Rattle.flow_scan.proofs.MarkSteps.{marked_above, marked_below}
@@ -25,124 +24,92 @@ pub listed : (l : Literals) (text : List ℕ) (place end : ℕ) → Occurs l tex
 listed l text place end occurs = slice_get_within l.texts place occurs.literal occurs.stands
 
 -- its last window stands at most seven places before its end, and behind the text's front
-module _ (w : Windowing) (within : AreWithin w) (text : List ℕ) (place end : ℕ) (occurs : Occurs w.literals text place end) where
-  fits : (stride : ℕ) → 0 < stride → IsWithin w stride place → (offset_at w place ≤ 7) × (offset_at w place < end)
-  fits stride some is =
-      let len = ap (λ (t : List ℕ). length t) (literal_is w.literals text place end occurs) in
-      (omega (arith, is.near, some), omega (arith, is.within, some, len, occurs.begins))
-
-  pub window_near : (offset_at w place ≤ 7) × (offset_at w place < end)
-  window_near = elim (cases_lt place w.split) [
-    | inl before ↦ fits 1 (omega arith) (within.sieved place before)
-    | inr behind ↦ fits w.stride within.some (within.strided place behind (listed w.literals text place end occurs))
-  ]
+pub window_near : (w : Windowing) → AreWithin w → (text : List ℕ) (place end : ℕ) → Occurs w.literals text place end → (offset_at w place ≤ 7) × (offset_at w place < end)
+window_near w within text place end occurs =
+    let is = within.all place (listed w.literals text place end occurs) in
+    let len = ap (λ (t : List ℕ). length t) (literal_is w.literals text place end occurs) in
+    (omega (arith, is.near, within.some), omega (arith, is.within, within.some, len, occurs.begins))
 
 -- what stands eight places before a place, or further back, claims no end behind it
-pub none_claimed : (low high : ℕ) (w : Windowing) (text : List ℕ) (from : ℕ) → AreWithin w → AreClaimed low high w text from (from - 7) (from - 7 + 1) 0
-none_claimed low high w text from within place end counted below occurs after behind before =
+pub none_claimed : (w : Windowing) (text : List ℕ) (from : ℕ) → AreWithin w → AreClaimed w text from (from - 7) (from - 7 + 1) 0
+none_claimed w text from within place end occurs after behind before =
     let near = window_near w within text place end occurs in
     absurd (omega (arith, near, after, before))
 
 -- an end that is claimed by no bit is none
-pub unclaimed : (w : Windowing) (text : List ℕ) (from seen last : ℕ) → from ≤ seen → AreClaimed 0 (length w.literals.texts) w text from seen (last + 1) 0 → NoEndUpTo w.literals text seen last
+pub unclaimed : (w : Windowing) (text : List ℕ) (from seen last : ℕ) → from ≤ seen → AreClaimed w text from seen (last + 1) 0 → NoEndUpTo w.literals text seen last
 unclaimed w text from seen last sooner none end after within here =
-    let set = none here.0 end (omega arith) (listed w.literals text here.0 end here.1) here.1 (omega (arith, after, sooner)) after (omega (arith, within)) in
+    let set = none here.0 end here.1 (omega (arith, after, sooner)) after (omega (arith, within)) in
     absurd (omega (arith, set, bit_at-zero (end - (seen + 1))))
 
-module _ (low high : ℕ) (w : Windowing) (text : List ℕ) where
+-- marks that tell of all windows of a literal tell of its last one
+pub marks_of_last : (w : Windowing) (text : List ℕ) (at marks : ℕ) → 0 < w.stride → AreMarks w text at marks → AreMarksOf 1 w text at marks
+marks_of_last w text at marks some are place back far near occurs = are place back far (omega (arith, near, some)) occurs
+
+module _ (w : Windowing) (text : List ℕ) where
   -- without a bit, nothing is claimed behind a place further on either
-  pub none_further : (from seen later next : ℕ) → seen ≤ later → AreClaimed low high w text from seen next 0 → AreClaimed low high w text from later next 0
-  none_further from seen later next ahead none place end counted below occurs after behind before =
-      let set = none place end counted below occurs after (omega (arith, behind, ahead)) before in
+  pub none_further : (from seen later next : ℕ) → seen ≤ later → AreClaimed w text from seen next 0 → AreClaimed w text from later next 0
+  none_further from seen later next ahead none place end occurs after behind before =
+      let set = none place end occurs after (omega (arith, behind, ahead)) before in
       absurd (omega (arith, set, bit_at-zero (end - (seen + 1))))
 
   -- a look without a mark claims nothing
-  pub none_marked : (from seen at stride marks : ℕ) → marks ≡ 0 → AreMarksOf low high stride w text at marks → AreClaimed low high w text from seen at 0 → AreClaimed low high w text from seen (at + stride) 0
-  none_marked from seen at stride marks none are claimed place end counted below occurs after behind before = elim (cases_lt end (at + offset_at w place)) [
-    | inl sooner ↦ claimed place end counted below occurs after behind sooner
+  pub none_marked : (from seen at stride marks : ℕ) → marks ≡ 0 → AreMarksOf stride w text at marks → AreClaimed w text from seen at 0 → AreClaimed w text from seen (at + stride) 0
+  none_marked from seen at stride marks none are claimed place end occurs after behind before = elim (cases_lt end (at + offset_at w place)) [
+    | inl sooner ↦ claimed place end occurs after behind sooner
     | inr later ↦
         let there : end ≡ at + (end - at) = omega (arith, later) in
-        let set = are place (end - at) counted below (omega (arith, later)) (omega (arith, later, before)) (subst (Occurs w.literals text place) there occurs) in
+        let set = are place (end - at) (omega (arith, later)) (omega (arith, later, before)) (subst (Occurs w.literals text place) there occurs) in
         absurd (omega (arith, ap (λ m. bit_at m (end - at)) none, set, bit_at-zero (end - at)))
   ]
 
-  -- the claims behind some of the ends are those of the bits above
-  pub claims_above : (from seen count next marks above : ℕ) → ((back : ℕ) → bit_at above back ≡ bit_at marks (count + back)) → AreClaimed low high w text from seen next marks → AreClaimed low high w text from (seen + count) next above
-  claims_above from seen count next marks above same claimed place end counted below occurs after behind before =
-      let there : count + (end - (seen + count + 1)) ≡ end - (seen + 1) = omega (arith, behind) in
-      same (end - (seen + count + 1)) ∙ ap (bit_at marks) there ∙ claimed place end counted below occurs after (omega (arith, behind)) before
-
-  -- those of fewer literals
-  pub claims_of : (less more from seen next marks : ℕ) → low ≤ less → more ≤ high → AreClaimed low high w text from seen next marks → AreClaimed less more w text from seen next marks
-  claims_of less more from seen next marks above under claimed place end counted below occurs after behind before =
-      claimed place end (omega (arith, above, counted)) (omega (arith, under, below)) occurs after behind before
-
-  -- claims stay where others are joined with them
-  pub claims_kept : (from seen next marks more : ℕ) → AreWithin w → next ≤ seen + 57 → ((back : ℕ) → back < 64 → bit_at marks back ≡ 1 → bit_at more back ≡ 1) → AreClaimed low high w text from seen next marks → AreClaimed low high w text from seen next more
-  claims_kept from seen next marks more within few kept claimed place end counted below occurs after behind before =
-      let near = window_near w within text place end occurs in
-      kept (end - (seen + 1)) (omega (arith, near, before, few, behind)) (claimed place end counted below occurs after behind before)
-
-  -- a look joins the claims of the windows of its stride
-  pub claims_further : (from seen back stride marks look : ℕ) → back < 56 → ((place : ℕ) → low ≤ place → place < high → offset_at w place + stride ≤ 8) → AreMarksOf low high stride w text (seen + 1 + back) look
-      → AreClaimed low high w text from seen (seen + 1 + back) marks → AreClaimed low high w text from seen (seen + 1 + (back + stride)) (bit_or marks (look * 2 ^ back % 2 ^ 64))
-  claims_further from seen back stride marks look few near are claimed place end counted below occurs after behind before =
-      let short : end - (seen + 1) < 64 = omega (arith, near place counted below, few, before, behind) in
+  -- a look joins the claims of so many windows
+  pub claims_further : (from seen back stride marks look : ℕ) → back < 56 → ((place : ℕ) → place < length w.literals.texts → offset_at w place + stride ≤ 8) → AreMarksOf stride w text (seen + 1 + back) look
+      → AreClaimed w text from seen (seen + 1 + back) marks → AreClaimed w text from seen (seen + 1 + (back + stride)) (bit_or marks (look * 2 ^ back % 2 ^ 64))
+  claims_further from seen back stride marks look few near are claimed place end occurs after behind before =
+      let short : end - (seen + 1) < 64 = omega (arith, near place (listed w.literals text place end occurs), few, before, behind) in
       elim (cases_lt end (seen + 1 + back + offset_at w place)) [
-        | inl sooner ↦ marked_below marks look back (end - (seen + 1)) short (claimed place end counted below occurs after behind sooner)
+        | inl sooner ↦ marked_below marks look back (end - (seen + 1)) short (claimed place end occurs after behind sooner)
         | inr later ↦
             let ahead : ℕ = end - (seen + 1 + back) in
             let there : end ≡ seen + 1 + back + ahead = omega (arith, later) in
-            let set = are place ahead counted below (omega (arith, later)) (omega (arith, later, before)) (subst (Occurs w.literals text place) there occurs) in
+            let set = are place ahead (omega (arith, later)) (omega (arith, later, before)) (subst (Occurs w.literals text place) there occurs) in
             let above : end - (seen + 1) - back ≡ ahead = omega (arith, later) in
             marked_above marks look back (end - (seen + 1)) short (omega (arith, later)) (ap (bit_at look) above ∙ set)
       ]
 
--- the claims of the literals before a split and of those from there on are the claims of all
-pub claims_joined : (split high : ℕ) (w : Windowing) (text : List ℕ) (from seen next marks : ℕ) → AreClaimed 0 split w text from seen next marks → AreClaimed split high w text from seen next marks → AreClaimed 0 high w text from seen next marks
-claims_joined split high w text from seen next marks sieved strided place end counted below occurs after behind before = elim (cases_lt place split) [
-  | inl first ↦ sieved place end counted first occurs after behind before
-  | inr second ↦ strided place end second below occurs after behind before
-]
-
--- the marks of both kinds of literals at a place are those of all
-pub marks_joined : (w : Windowing) (text : List ℕ) (at strided sieved : ℕ) → 0 < w.stride → AreStridedMarks w text at strided → AreSievedMarks w text at sieved → AreMarksOf 0 (length w.literals.texts) 1 w text at (bit_or strided sieved)
-marks_joined w text at strided sieved some of_strided of_sieved place back counted below far near occurs = elim (cases_lt place w.split) [
-  | inl first ↦ marked_right strided sieved back (of_sieved place back counted first far near occurs)
-  | inr second ↦ marked_left strided sieved back (of_strided place back second below far (omega (arith, near, some)) occurs)
-]
-
--- a place behind a text's front passes where a sieved literal has its last window before it
-module _ (w : Windowing) (masks : Masks) (text : List ℕ) (seen passing : ℕ) (covers : CoversFronts w.literals w.split w.offsets masks) (within : AreWithin w) (bytes : All (λ b. b < 256) text) (tells : TellsBits (IsCandidate masks text) (seen + 1) 64 passing) where
-  pub passes : (place end : ℕ) → place < w.split → Occurs w.literals text place end → seen < end - offset_at w place → end - offset_at w place ≤ seen + 64 → bit_at passing (end - offset_at w place - (seen + 1)) ≡ 1
-  passes place end before occurs behind inside =
-      let is = within.sieved place before in
+-- a place behind a text's front passes where a literal has its last window before it
+module _ (w : Windowing) (masks : Masks) (text : List ℕ) (seen passing : ℕ) (covers : CoversFronts w.literals (length w.literals.texts) w.offsets masks) (within : AreWithin w) (bytes : All (λ b. b < 256) text) (tells : TellsBits (IsCandidate masks text) (seen + 1) 64 passing) where
+  pub passes : (place end : ℕ) → Occurs w.literals text place end → seen < end - offset_at w place → end - offset_at w place ≤ seen + 64 → bit_at passing (end - offset_at w place - (seen + 1)) ≡ 1
+  passes place end occurs behind inside =
+      let before = listed w.literals text place end occurs in
+      let is = within.all place before in
       let there : end - offset_at w place ≡ seen + 1 + (end - offset_at w place - (seen + 1)) = omega (arith, behind) in
-      (tells (end - offset_at w place - (seen + 1))).1 (omega (arith, behind, inside), subst (IsCandidate masks text) there (covers text place end bytes before (omega (arith, is.within)) occurs))
+      (tells (end - offset_at w place - (seen + 1))).1 (omega (arith, behind, inside), subst (IsCandidate masks text) there (covers text place end bytes before (omega (arith, is.within, within.some)) occurs))
 
   -- where none passes, none of them claims an end
-  pub none_passes : (from base : ℕ) → passing ≡ 0 → AreClaimed 0 w.split w text from base (seen + 1) 0 → AreClaimed 0 w.split w text from base (seen + 64 + 1) 0
-  none_passes from base none claimed place end counted below occurs after behind before = elim (cases_lt end (seen + 1 + offset_at w place)) [
-    | inl sooner ↦ claimed place end counted below occurs after behind sooner
+  pub none_passes : (from base : ℕ) → passing ≡ 0 → AreClaimed w text from base (seen + 1) 0 → AreClaimed w text from base (seen + 64 + 1) 0
+  none_passes from base none claimed place end occurs after behind before = elim (cases_lt end (seen + 1 + offset_at w place)) [
+    | inl sooner ↦ claimed place end occurs after behind sooner
     | inr later ↦
-        let set = passes place end below occurs (omega (arith, later)) (omega (arith, before, later)) in
+        let set = passes place end occurs (omega (arith, later)) (omega (arith, before, later)) in
         absurd (omega (arith, ap (λ m. bit_at m (end - offset_at w place - (seen + 1))) none, set, bit_at-zero (end - offset_at w place - (seen + 1))))
   ]
 
--- each sieved literal that has its last window in a block is claimed, or its place is left
+-- each literal that has its last window in a block is claimed, or its place is left
 abbrev pub AreLeft : Windowing → List ℕ → ℕ → ℕ → ℕ → Type 0
-AreLeft w text seen found rest = (place end : ℕ) → place < w.split → Occurs w.literals text place end → seen < end - offset_at w place → end - offset_at w place ≤ seen + 56
+AreLeft w text seen found rest = (place end : ℕ) → Occurs w.literals text place end → seen < end - offset_at w place → end - offset_at w place ≤ seen + 56
     → (bit_at found (end - (seen + 1)) ≡ 1) ⊎ (bit_at rest (end - offset_at w place - (seen + 1)) ≡ 1)
 
 module _ (w : Windowing) (text : List ℕ) (seen : ℕ) (within : AreWithin w) where
   -- the lowest place that is left is looked at
-  pub left_further : (found rest back others look : ℕ) → SplitsLowest rest back others → AreSievedMarks w text (seen + 1 + back) look → AreLeft w text seen found rest → AreLeft w text seen (bit_or found (look * 2 ^ back % 2 ^ 64)) others
-  left_further found rest back others look split are left place end before occurs behind inside =
+  pub left_further : (found rest back others look : ℕ) → SplitsLowest rest back others → AreMarks w text (seen + 1 + back) look → AreLeft w text seen found rest → AreLeft w text seen (bit_or found (look * 2 ^ back % 2 ^ 64)) others
+  left_further found rest back others look split are left place end occurs behind inside =
       let near = window_near w within text place end occurs in
       let off : ℕ = offset_at w place in
       let at : ℕ = end - off - (seen + 1) in
       let short : end - (seen + 1) < 64 = omega (arith, near, behind, inside) in
-      elim (left place end before occurs behind inside) [
+      elim (left place end occurs behind inside) [
         | inl set ↦ inl (marked_below found look back (end - (seen + 1)) short set)
         | inr has ↦ elim (cases_lt back at) [
           | inl later ↦ inr ((split.others at).1 (later, has))
@@ -150,7 +117,7 @@ module _ (w : Windowing) (text : List ℕ) (seen : ℕ) (within : AreWithin w) w
             | inl sooner ↦ absurd (omega (arith, split.lowest at sooner, has))
             | inr same ↦
                 let there : end ≡ seen + 1 + back + off = omega (arith, here, same, behind) in
-                let set = are place off (omega arith) before (omega arith) (omega arith) (subst (Occurs w.literals text place) there occurs) in
+                let set = are place off (omega arith) (omega (arith, within.some)) (subst (Occurs w.literals text place) there occurs) in
                 let above : end - (seen + 1) - back ≡ off = omega (arith, there) in
                 inl (marked_above found look back (end - (seen + 1)) short (omega (arith, there)) (ap (bit_at look) above ∙ set))
           ]
@@ -159,28 +126,28 @@ module _ (w : Windowing) (text : List ℕ) (seen : ℕ) (within : AreWithin w) w
 
   -- where the places left are none of the block's, all are claimed
   pub all_left : (found rest : ℕ) → ((k : ℕ) → k < 56 → bit_at rest k ≡ 0) → AreLeft w text seen found rest
-      → (place end : ℕ) → place < w.split → Occurs w.literals text place end → seen < end - offset_at w place → end - offset_at w place ≤ seen + 56 → bit_at found (end - (seen + 1)) ≡ 1
-  all_left found rest none left place end before occurs behind inside =
+      → (place end : ℕ) → Occurs w.literals text place end → seen < end - offset_at w place → end - offset_at w place ≤ seen + 56 → bit_at found (end - (seen + 1)) ≡ 1
+  all_left found rest none left place end occurs behind inside =
       let at : ℕ = end - offset_at w place - (seen + 1) in
-      elim (left place end before occurs behind inside) [
+      elim (left place end occurs behind inside) [
         | inl set ↦ set
         | inr has ↦ absurd (omega (arith, none at (omega (arith, behind, inside)), has))
       ]
 
-  -- so the block's claims are those of the sieved literals
+  -- so the block's claims are those of the literals
   pub sieve_claims : (from marks found rest : ℕ) → ((k : ℕ) → k < 56 → bit_at rest k ≡ 0) → AreLeft w text seen found rest → ((back : ℕ) → back < 64 → bit_at marks back ≡ 1 → bit_at found back ≡ 1)
-      → AreClaimed 0 w.split w text from seen (seen + 1) marks → AreClaimed 0 w.split w text from seen (seen + 56 + 1) found
-  sieve_claims from marks found rest none left kept claimed place end counted below occurs after behind before =
+      → AreClaimed w text from seen (seen + 1) marks → AreClaimed w text from seen (seen + 56 + 1) found
+  sieve_claims from marks found rest none left kept claimed place end occurs after behind before =
       let near = window_near w within text place end occurs in
       elim (cases_lt end (seen + 1 + offset_at w place)) [
-        | inl sooner ↦ kept (end - (seen + 1)) (omega (arith, near, sooner, behind)) (claimed place end counted below occurs after behind sooner)
-        | inr later ↦ all_left found rest none left place end below occurs (omega (arith, later)) (omega (arith, before, later))
+        | inl sooner ↦ kept (end - (seen + 1)) (omega (arith, near, sooner, behind)) (claimed place end occurs after behind sooner)
+        | inr later ↦ all_left found rest none left place end occurs (omega (arith, later)) (omega (arith, before, later))
       ]
 
 -- an end that is claimed has its bit
 pub claimed_bit : (w : Windowing) (text : List ℕ) (c : Claims) → AreClaims w text c → (end : ℕ) → c.seen < end → end ≤ c.seen + c.count → HasEnd w.literals text end → bit_at c.marks (end - (c.seen + 1)) ≡ 1
 claimed_bit w text c are end after within here =
-    are.claimed here.0 end (omega arith) (listed w.literals text here.0 end here.1) here.1 after after (omega (arith, within))
+    are.claimed here.0 end here.1 after after (omega (arith, within))
 
 -- the first of some ends in a row at which a literal ends, or none of them
 pub next_within : (l : Literals) (text : List ℕ) (seen count : ℕ) (found : Option (ℕ × ℕ))
@@ -192,12 +159,12 @@ next_within l text seen count None none = λ end after within here.
 next_within l text seen count (Some hit) next = next
 
 -- what a search goes on with behind some of the ends of a block that was claimed behind a place
-pub claims_from : (w : Windowing) (text : List ℕ) (from seen count marks passed : ℕ) (rest : Claims) → AreClaimed 0 (length w.literals.texts) w text from seen (seen + count + 1) marks → from ≤ seen + passed → passed ≤ count → seen + count ≤ length text → count ≤ 56
+pub claims_from : (w : Windowing) (text : List ℕ) (from seen count marks passed : ℕ) (rest : Claims) → AreClaimed w text from seen (seen + count + 1) marks → from ≤ seen + passed → passed ≤ count → seen + count ≤ length text → count ≤ 56
     → rest.seen ≡ seen + passed → rest.count ≡ count - passed → ((back : ℕ) → bit_at rest.marks back ≡ bit_at marks (passed + back)) → AreClaims w text rest
 claims_from w text from seen count marks passed rest claimed sooner less inside few at left same = record {
-  claimed = λ place end low below occurs after behind before.
+  claimed = λ place end occurs after behind before.
       let there : passed + (end - (rest.seen + 1)) ≡ end - (seen + 1) = omega (arith, behind, at) in
-      same (end - (rest.seen + 1)) ∙ ap (bit_at marks) there ∙ claimed place end low below occurs (omega (arith, after, at, sooner)) (omega (arith, behind, at)) (omega (arith, before, at, left, less));
+      same (end - (rest.seen + 1)) ∙ ap (bit_at marks) there ∙ claimed place end occurs (omega (arith, after, at, sooner)) (omega (arith, behind, at)) (omega (arith, before, at, left, less));
   inside = omega (arith, inside, at, left, less);
   few = omega (arith, few, left);
 }

@@ -7,7 +7,7 @@ use Rattle.std.proofs.lemmas.Bool.{cases_eq, cases_lt}
 use Rattle.std.proofs.lemmas.List.{drop-map, get_or-map, get_or-replicate, get_or-set_other, get_or-set_same, length-drop, length-map, length-replicate, length-set, take_all}
 use Rattle.std.proofs.lemmas.Option.{get_or_from_slice_get, slice_get_within}
 use Rattle.lit_base.specs.Chains.{IsChained, IsNextWith, literal_at}
-use Rattle.lit_base.specs.declared.limits.TheConstants.{MAX_LITERALS}
+use Rattle.flow_scan.specs.declared.extensions.TheConstants.{MOST_LITERALS}
 use Rattle.lit_base.specs.Folding.{folded, folded_text}
 use Rattle.lit_base.specs.Literals.{Literals, lengths}
 use Rattle.lit_base.specs.Occurrences.{IsFirstEnding, NoneEnds, Occurs}
@@ -110,7 +110,7 @@ ends_with_literal l text short long end normal p o =
 
 -- the last of the suffixes that were found is the longest, if none from a place on is one that stands before the literal
 pub longest_of_last : (l : Literals) (literal : List ℕ) (place suffix from : ℕ) → literal ≡ literal_at l place
-    → (suffix < place) ⊎ (suffix ≡ MAX_LITERALS) → (suffix < place → Occurs l literal suffix (length literal))
+    → (suffix < place) ⊎ (suffix ≡ MOST_LITERALS) → (suffix < place → Occurs l literal suffix (length literal))
     → ((other : ℕ) → other < from → Occurs l literal other (length literal) → (suffix < place) × (other ≤ suffix))
     → ((other : ℕ) → from ≤ other → other < place → ¬ Occurs l literal other (length literal))
     → IsLongestSuffix l place suffix
@@ -216,7 +216,7 @@ behind_suffix l text end last heads links next inside walk =
     let here = slice_get_within l.texts last walk.here.literal walk.here.stands in
     elim (walk.are.longest next inside).before [
       | inl before ↦ omega (arith, before, has)
-      | inr none ↦ absurd (omega (arith, none, has, here, walk.are.normal.few))
+      | inr none ↦ absurd (omega (arith, none, has, here, walk.are.few))
     ]
 
 -- where the walk is at its end, none behind the literal ends there

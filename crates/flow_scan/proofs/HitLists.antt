@@ -11,7 +11,7 @@ use Rattle.std.proofs.lemmas.List.Elements.{All-from_recursion, recursion_from_A
 use Rattle.lit_base.specs.Literals.{Literals}
 use Rattle.lit_base.specs.Occurrences.{IsFirstEnding, NoneEnds, Occurs, hit_cmp}
 use Rattle.lit_base.specs.Occurrences.{HasEnd}
-use Rattle.flow_scan.specs.NextEnds.{NoEndAfter}
+use Rattle.lit_base.specs.NextEnds.{NoEndAfter}
 use Rattle.flow_scan.specs.HitsAt.{AreHitsAt}
 use Rattle.flow_scan.specs.Tails.{AreHitsBehind}
 use Rattle.flow_scan.proofs.Occurring.{occurs_in_front, occurs_of_front}

@@ -1,4 +1,4 @@
--- Marks that a search by strides meets: which places they leave.
+-- Marks that a search meets: which places they leave.
 use Rattle.std.proofs.Common.{◌≡◌, ℕ, suc, ◌+◌, ◌-◌, ◌*◌, ◌/◌, ◌%◌, ◌^◌, ◌<◌, ◌≤◌, List, inl, inr, sym, ap, ◌∙◌, subst, arith, shr-shr}
 use Rattle.std.specs.Int.{bit_at}
 use Rattle.std.specs.Int.RustNames.{bit_or}
@@ -7,10 +7,6 @@ use Rattle.std.proofs.lemmas.Nat.{pow_pos}
 use Rattle.std.proofs.lemmas.Nat.Bits.{bit_at-lt, bit_at-suc, bit_at-zero, bit_at_cat_high, bit_at_cat_low, bit_at_or}
 use Rattle.lit_base.specs.Literals.{Literals}
 use Rattle.lit_base.specs.Occurrences.{HasEnd}
-
--- without a mark none ends there
-pub none_unmarked : (l : Literals) (text : List ℕ) (seen stride marks : ℕ) → marks ≡ 0 → ((back : ℕ) → back < stride → HasEnd l text (seen + 1 + back) → bit_at marks back ≡ 1) → (back : ℕ) → back < stride → ¬ HasEnd l text (seen + 1 + back)
-none_unmarked l text seen stride marks none covers back near here = absurd (omega (arith, sym (ap (λ m. bit_at m back) none) ∙ covers back near here, bit_at-zero back))
 
 -- the bits above one of them
 pub shifted_bit : (n by i : ℕ) → bit_at (n / 2 ^ by / 2) i ≡ bit_at n (by + 1 + i)

@@ -1,14 +1,12 @@
 -- Where literals occur in a text and in its parts.
-use Rattle.std.proofs.Common.{◌≡◌, ℕ, ◌+◌, ◌-◌, ◌<◌, ◌≤◌, List, ◌++◌, Option, Some, None, IfSome, MatchOption, All, length, take, drop, slice_range, sym, ap, ◌∙◌, subst, arith}
+use Rattle.std.proofs.Common.{◌≡◌, ℕ, ◌+◌, ◌-◌, ◌<◌, ◌≤◌, List, ◌++◌, Some, All, length, take, drop, slice_range, sym, ap, ◌∙◌, subst, arith}
 use Rattle.std.proofs.Math.Seq.{drop-append-add}
 use Rattle.std.proofs.lemmas.List.{length-append, length-drop, length-take, drop-append-le, take-append-le, append_assoc, take-append-drop}
 use Rattle.std.specs.List.{slice_get}
 use Rattle.std.proofs.lemmas.Option.{get_or_from_slice_get, slice_get_within}
 use Rattle.lit_base.specs.Folding.{folded_text}
 use Rattle.lit_base.specs.Literals.{Literals}
-use Rattle.flow_scan.specs.NextEnds.{IsNextEnd, IsPassed, NoEndAfter}
-use Rattle.text_windows.specs.NoEnds.{NoEndUpTo}
-use Rattle.lit_base.specs.Occurrences.{IsFirstEnding, Occurs}
+use Rattle.lit_base.specs.Occurrences.{Occurs}
 use Rattle.flow_scan.specs.Tails.{HasBounds, carry_of, last_bytes}
 
 -- what holds of all literals holds of one
@@ -69,64 +67,6 @@ occurs_of_front l a b place e o = record {
   ends = omega (arith, o.ends, length-append a b);
   bytes = ap (folded_text l.folding) (range_before a b (e - length o.literal) e (omega arith) o.ends) ∙ o.bytes;
 }
-
--- the first end in a front of a text is the first one in the text
-pub next_of_front : (l : Literals) (text : List ℕ) (last from e : ℕ) → IsNextEnd l (take last text) from e → IsNextEnd l text from e
-next_of_front l text last from e next =
-    let front = take last text in
-    let rest = drop last text in
-    subst (λ t. IsNextEnd l t from e) (take-append-drop last text) (record {
-      after = next.after;
-      within = omega (arith, next.within, length-append front rest);
-      here = (next.here.0, occurs_of_front l front rest next.here.0 e next.here.1);
-      first = λ other after before here.
-          next.first other after before (here.0, occurs_in_front l front rest here.0 other (omega (arith, before, next.within)) here.1);
-    })
-
--- where the front has none, the text has none up to the front's last place
-none_of_front : (l : Literals) (text : List ℕ) (last from : ℕ) → last ≤ length text → NoEndAfter l (take last text) from
-    → NoEndUpTo l text from last
-none_of_front l text last from inside none end after within here =
-    let front = take last text in
-    let rest = drop last text in
-    let there = subst (λ t. Occurs l t here.0 end) (sym (take-append-drop last text)) here.1 in
-    none end after (here.0, occurs_in_front l front rest here.0 end (omega (arith, within, length-take last text)) there)
-
--- what is found in a front is found in the text
-pub found_in_front : (l : Literals) (text front : List ℕ) (last from : ℕ) (found : Option (ℕ × ℕ)) → last ≤ length text → front ≡ take last text
-    → MatchOption found (NoEndAfter l front from) (λ hit. IsNextEnd l front from hit.0)
-    → MatchOption found (NoEndUpTo l text from last) (λ hit. IsNextEnd l text from hit.0)
-found_in_front l text front last from None inside is none = none_of_front l text last from inside (subst (λ t. NoEndAfter l t from) is none)
-found_in_front l text front last from (Some hit) inside is next = next_of_front l text last from hit.0 (subst (λ t. IsNextEnd l t from hit.0) is next)
-
--- a search that has come to a place of the front has come there in the text
-pub passed_in_front : (l : Literals) (text front : List ℕ) (last from at : ℕ) → front ≡ take last text → IsPassed l front from at → IsPassed l text from at
-passed_in_front l text front last from at is passed =
-    let rest = drop last text in
-    let whole : front ++ rest ≡ text = ap (λ t. t ++ rest) is ∙ take-append-drop last text in
-    record {
-      after = passed.after;
-      within = omega (arith, passed.within, length-append front rest, ap length whole);
-      none = λ end after within here.
-          passed.none end after within (here.0, occurs_in_front l front rest here.0 end (omega (arith, within, passed.within)) (subst (λ t. Occurs l t here.0 end) (sym whole) here.1));
-    }
-
--- and the first literal that ends there is the same one
-pub first_in_front : (l : Literals) (text front : List ℕ) (last e place : ℕ) → front ≡ take last text → IsFirstEnding l front 0 e place → IsFirstEnding l text 0 e place
-first_in_front l text front last e place is found =
-    let rest = drop last text in
-    let whole : front ++ rest ≡ text = ap (λ t. t ++ rest) is ∙ take-append-drop last text in
-    subst (λ t. IsFirstEnding l t 0 e place) whole (record {
-      counted = found.counted;
-      occurs = occurs_of_front l front rest place e found.occurs;
-      first = λ other from before here. found.first other from before (occurs_in_front l front rest other e found.occurs.ends here);
-    })
-
--- with what is found comes the first literal that ends there
-pub firsts_in_front : (l : Literals) (text front : List ℕ) (last : ℕ) (found : Option (ℕ × ℕ)) → front ≡ take last text
-    → IfSome found (λ hit. IsFirstEnding l front 0 hit.0 hit.1) → IfSome found (λ hit. IsFirstEnding l text 0 hit.0 hit.1)
-firsts_in_front l text front last None is none = none
-firsts_in_front l text front last (Some hit) is first = first_in_front l text front last hit.0 hit.1 is first
 
 -- the bytes before the last ones of a text
 pub before_last : ℕ → List ℕ → List ℕ

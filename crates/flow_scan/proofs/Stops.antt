@@ -3,7 +3,7 @@ use Rattle.std.proofs.Common.{◌≡◌, ℕ, ◌+◌, ◌-◌, ◌<◌, ◌≤�
 use Rattle.std.proofs.lemmas.Bool.{cases_lt}
 use Rattle.std.proofs.lemmas.List.{append-nil, length-append, length-take, take-take, take_all}
 use Rattle.lit_base.specs.Literals.{Literals}
-use Rattle.flow_scan.specs.NextEnds.{IsNextEnd, NoEndAfter}
+use Rattle.lit_base.specs.NextEnds.{IsNextEnd, NoEndAfter}
 use Rattle.flow_scan.specs.HitsAt.{GainsHitsAt}
 use Rattle.flow_scan.specs.Tails.{AreAdded, AreHitsBehind, GainsHitsBehind, HasBounds, StopsAt, StopsIn, carry_of}
 use Rattle.flow_scan.proofs.HitLists.{gained_both, gained_more, hits_ended, hits_further, hits_joined, hits_none, none_past}

@@ -5,7 +5,7 @@ use Rattle.std.proofs.lemmas.List.Folds.{concat-append}
 use Rattle.std.proofs.lemmas.List.{append-nil, append_assoc, length-append, length-take, take-append-drop, take_at, drop_at, drop-append-le, drop-drop}
 use Rattle.lit_base.specs.Literals.{Literals}
 use Rattle.lit_base.specs.Occurrences.{IsHits, Occurs}
-use Rattle.flow_scan.specs.NextEnds.{NoEndAfter}
+use Rattle.lit_base.specs.NextEnds.{NoEndAfter}
 use Rattle.flow_scan.specs.Tails.{AreAdded, AreHitsBehind, AreSteps, Continues, GainsHits, GainsHitsBehind, HasBounds, carry_of, last_bytes}
 use Rattle.flow_scan.proofs.Occurring.{last_len, occurs_behind, occurs_behind_all, occurs_behind_last, occurs_of_front}
 use Rattle.flow_scan.proofs.HitLists.{hits_joined, hits_none, none_past}

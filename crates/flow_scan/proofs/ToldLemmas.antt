@@ -7,9 +7,8 @@ use Rattle.std.proofs.lemmas.Map.Keys.{below_from_sorted, sorted_from_strictly_i
 use Rattle.std.proofs.lemmas.Map.Views.{length-le_from_below}
 use Rattle.std.proofs.lemmas.Option.{slice_get_within}
 use Rattle.lit_base.specs.Literals.{Literals}
-use Rattle.lit_base.specs.Occurrences.{HasEnd, IsFirstEnding, NoneEnds, Occurs}
-use Rattle.text_automaton.specs.Automata.{AreEnding, IsNextTold, Telling, told_by}
-use Rattle.flow_scan.specs.NextEnds.{IsNextEnd}
+use Rattle.lit_base.specs.Occurrences.{IsFirstEnding, NoneEnds, Occurs}
+use Rattle.text_automaton.specs.Automata.{AreEnding}
 
 -- a literal stands before those behind it
 pub told_below : (l : Literals) (text : List ℕ) (end : ℕ) (told : List ℕ) (i j : ℕ) → AreEnding l text end told → i < j → j < length told → slice_index told i < slice_index told j
@@ -60,16 +59,3 @@ told_few l text end told are =
     let same = get_or_default_zero told k d within in
     let small = told_within l text end told k are within in
     omega (arith, same, small))
-
--- where some are told, one ends there
-pub told_some : (l : Literals) (text : List ℕ) (end : ℕ) (told : List ℕ) → AreEnding l text end told → 0 < length told → HasEnd l text end
-told_some l text end told are some = (slice_index told 0, told_ends l text end told 0 are some)
-
--- the next place at which some are told is the next end
-pub next_of_told : (a : Telling) (text : List ℕ) (from end state : ℕ) → IsNextTold a text from (end, state) → IsNextEnd a.literals text from end
-next_of_told a text from end state next = record {
-  after = next.after;
-  within = next.within;
-  here = told_some a.literals text end (told_by a state) next.state.ending next.some;
-  first = next.none;
-}

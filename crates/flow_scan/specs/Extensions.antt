@@ -3,7 +3,7 @@ use Rattle.std.specs.Prelude.{◌≡◌, ℕ, ◌<◌, ◌≤◌, ◌⊎◌, Lis
 use Rattle.lit_base.specs.Chains.{IsChained, literal_at}
 use Rattle.lit_base.specs.Literals.{IsNormal, Literals}
 use Rattle.lit_base.specs.Occurrences.{Occurs}
-use Rattle.lit_base.specs.declared.limits.TheConstants.{MAX_LITERALS}
+use Rattle.flow_scan.specs.declared.extensions.TheConstants.{MOST_LITERALS}
 
 -- the literal at one place of the list is a suffix of that at another: it ends where this ends, taken as a text
 abbrev pub IsSuffix : Literals → ℕ → ℕ → Type 0
@@ -11,13 +11,14 @@ IsSuffix l place longer = Occurs l (literal_at l longer) place (length (literal_
 
 -- of the literals before a place the longest that is a suffix of the one there, or a number that stands for none
 pub record IsLongestSuffix (l : Literals) (place suffix : ℕ) : Type 0 where
-  pub before : (suffix < place) ⊎ (suffix ≡ MAX_LITERALS)
+  pub before : (suffix < place) ⊎ (suffix ≡ MOST_LITERALS)
   pub ends : suffix < place → IsSuffix l suffix place
   pub longest : (other : ℕ) → other < place → IsSuffix l other place → (suffix < place) × (other ≤ suffix)
 
 -- all literals, in normal form, are chained, each with those that have the same longest suffix
 pub record AreExtensions (l : Literals) (heads links : List ℕ) : Type 0 where
   pub normal : IsNormal l
+  pub few : length l.texts ≤ MOST_LITERALS
   pub room : length l.texts ≤ length heads
   pub suffixes : List ℕ
   pub longest : (place : ℕ) → place < length l.texts → IsLongestSuffix l place (slice_index suffixes place)

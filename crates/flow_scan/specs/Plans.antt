@@ -5,7 +5,7 @@ use Rattle.lit_cert.specs.Certificates.{CertificateParts}
 use Rattle.lit_cert.specs.Certified.{IsCertified, IsFirstFailure}
 use Rattle.lit_cert.specs.declared.reason.Reason.{Reason}
 use Rattle.nib_mask.specs.Candidates.{CoversBy}
-use Rattle.lane_filter.specs.Sieves.{Passes}
+use Rattle.lane_filter.specs.Sieves.{IsSieveOf, Passes}
 use Rattle.lane_filter.specs.declared.sieve.Sieve.{Sieve}
 use Rattle.flow_scan.specs.declared.extensions.Extensions.{Extensions}
 use Rattle.flow_scan.specs.Extensions.{AreExtensions}
@@ -17,9 +17,10 @@ pub record Plan : Type 0 where
   pub literals : Literals
   pub certificate : CertificateParts
 
--- what its fields keep: the certificate holds, no occurrence goes past the sieve, and the extensions, where they are told, are the list's
+-- what its fields keep: the certificate holds, the sieve is the one of its runs, no occurrence goes past it, and the extensions, where they are told, are the list's
 pub record IsCompiled (list : Literals) (certificate : CertificateParts) (sieve : Sieve) (extensions : Option Extensions) : Type 0 where
-  pub certified : IsCertified 8 list certificate
+  pub certified : IsCertified list certificate
+  pub sieved : IsSieveOf list certificate.ends sieve
   pub covers : CoversBy list (Passes sieve)
   pub extended : IfSome extensions (λ found. AreExtensions list found.heads found.links)
 
@@ -27,6 +28,6 @@ pub record IsCompiled (list : Literals) (certificate : CertificateParts) (sieve 
 pub record IsRefusalOf (list : Literals) (certificate : CertificateParts) (fault : Fault) (old_list : Literals) (old_certificate : CertificateParts) : Type 0 where
   pub reason : Reason
   pub told : fault ≡ NotCertified reason
-  pub first : IsFirstFailure 8 list certificate reason
+  pub first : IsFirstFailure list certificate reason
   pub same_list : old_list ≡ list
   pub same_certificate : old_certificate ≡ certificate

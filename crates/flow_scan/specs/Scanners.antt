@@ -1,8 +1,8 @@
--- What a contract sees of a `Scanner`, and what a piece makes of it.
-use Rattle.std.specs.Prelude.{◌≡◌, ℕ, ◌+◌, ◌^◌, ◌<◌, List, [], length, min}
+-- What a contract sees of a `Scanner` or a `Stream`, and what a piece makes of it.
+use Rattle.std.specs.Prelude.{◌≡◌, ℕ, ◌+◌, ◌^◌, ◌<◌, List, [], ◌++◌, length, min}
 use Rattle.flow_scan.specs.Plans.{Plan}
 use Rattle.flow_scan.specs.Seams.{Seaming}
-use Rattle.flow_scan.specs.Tails.{carry_of, tail_after}
+use Rattle.flow_scan.specs.Tails.{last_bytes, tail_after}
 
 -- a plan, the place that counting began with, the place reached, and the last bytes fed, as many as a hit in the next piece may need
 pub record Scanning : Type 0 where
@@ -19,8 +19,28 @@ started plan base = record { plan = plan; base = base; place = base; tail = [] }
 abbrev pub fed : Scanning → List ℕ → Scanning
 fed s piece = record s { place = s.place + length piece; tail = tail_after s.plan.literals s.tail piece }
 
--- what its fields keep: the seam carries as much as the plan asks for, its tail has as many bytes as were fed, up to the carry, and the place is a u64
-pub record IsScanner (plan : Plan) (base count : ℕ) (seam : Seaming) : Type 0 where
-  pub carry : seam.carry ≡ carry_of plan.literals
-  pub tail : length seam.tail ≡ min count (carry_of plan.literals)
+-- ---- inside the crate: what a scan keeps beside its plan
+
+-- the position that counting began with, the position reached, how many of the last bytes are kept, and these bytes
+pub record Reached : Type 0 where
+  pub base : ℕ
+  pub place : ℕ
+  pub carry : ℕ
+  pub tail : List ℕ
+
+-- nothing was fed yet
+abbrev pub started_at : ℕ → ℕ → Reached
+started_at carry base = record { base = base; place = base; carry = carry; tail = [] }
+
+-- one more piece was fed
+abbrev pub advanced : Reached → List ℕ → Reached
+advanced r piece = record r { place = r.place + length piece; tail = last_bytes r.carry (r.tail ++ piece) }
+
+-- a scan by a plan
+abbrev pub scanning : Plan → Reached → Scanning
+scanning plan r = record { plan = plan; base = r.base; place = r.place; tail = r.tail }
+
+-- what the fields keep: the tail has as many bytes as were fed, up to the carry, and the position is a u64
+pub record IsProgress (base count : ℕ) (seam : Seaming) : Type 0 where
+  pub tail : length seam.tail ≡ min count seam.carry
   pub place : base + count < 2 ^ 64

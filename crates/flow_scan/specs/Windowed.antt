@@ -6,16 +6,16 @@ use Rattle.flow_scan.specs.declared.claiming.TheConstants.{BLOCK}
 use Rattle.flow_scan.specs.declared.windowed.Claims.{Claims}
 use Rattle.text_windows.specs.Windows.{Windowing, offset_at}
 
--- the ends of the literals from one place of the list up to another are claimed: such a literal that ends behind two places of the text, with its last window before the next place to look at, has a bit for its end. Bit k stands for the end k + 1 places behind the second of these places
-abbrev pub AreClaimed : ℕ → ℕ → Windowing → List ℕ → ℕ → ℕ → ℕ → ℕ → Type 0
-AreClaimed low high w text from seen next marks = (place end : ℕ) → low ≤ place → place < high → Occurs w.literals text place end → from < end → seen < end → end < next + offset_at w place → bit_at marks (end - (seen + 1)) ≡ 1
+-- ends are claimed: a literal that ends behind two places of the text, with its last window before the next place to look at, has a bit for its end. Bit k stands for the end k + 1 places behind the second of these places
+abbrev pub AreClaimed : Windowing → List ℕ → ℕ → ℕ → ℕ → ℕ → Type 0
+AreClaimed w text from seen next marks = (place end : ℕ) → Occurs w.literals text place end → from < end → seen < end → end < next + offset_at w place → bit_at marks (end - (seen + 1)) ≡ 1
 
--- the places of a block that pass: the last window of a sieved literal ends at a place with a bit. Bit k stands for the place k + 1 places behind
+-- the places of a block that pass: the last window of a literal ends at a place with a bit. Bit k stands for the place k + 1 places behind
 abbrev pub ArePassing : Windowing → List ℕ → ℕ → ℕ → Type 0
-ArePassing w text seen passing = (place end : ℕ) → place < w.split → Occurs w.literals text place end → seen < end - offset_at w place → end - offset_at w place ≤ seen + BLOCK → bit_at passing (end - offset_at w place - (seen + 1)) ≡ 1
+ArePassing w text seen passing = (place end : ℕ) → Occurs w.literals text place end → seen < end - offset_at w place → end - offset_at w place ≤ seen + BLOCK → bit_at passing (end - offset_at w place - (seen + 1)) ≡ 1
 
 -- what a search goes on with: the next ends of the text, so many, are claimed by looks at all places up to the last of them
 pub record AreClaims (w : Windowing) (text : List ℕ) (c : Claims) : Type 0 where
-  pub claimed : AreClaimed 0 (length w.literals.texts) w text c.seen c.seen (c.seen + c.count + 1) c.marks
+  pub claimed : AreClaimed w text c.seen c.seen (c.seen + c.count + 1) c.marks
   pub inside : c.seen + c.count ≤ length text
   pub few : c.count ≤ BLOCK

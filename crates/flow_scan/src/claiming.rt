@@ -3,14 +3,15 @@
 //! A look at the marks of a place claims the ends, up to seven places further on, at which a literal may end that has one
 //! of its windows before that place. The claims of all looks of a block are joined in one word, without a jump on what is found.
 ghost use Rattle.std.specs.Prelude.{◌≡◌, ℕ, ◌+◌, ◌-◌, ◌<◌, ◌≤◌, length, min};
-ghost use Rattle.std.specs.Int.{bit_at};
-ghost use Rattle.text_windows.specs.NoEnds.{NoEndUpTo};
+ghost use Rattle.nib_mask.specs.Fronts.{CoversFronts};
+ghost use Rattle.nib_mask.specs.Halves.{widened};
+ghost use Rattle.lit_base.specs.NextEnds.{NoEndUpTo};
 ghost use Rattle.flow_scan.specs.Windowed.{AreClaimed, ArePassing};
 ghost use Rattle.flow_scan.specs.declared.claiming.TheConstants.{BLOCK};
 
 use crate::met::Met;
 use lane_filter::{BlockFilter, split_lowest};
-use lit_base::LitList;
+use nib_mask::ByteMasks;
 use text_windows::Windows;
 
 /// So many places are looked at together: the marks of the last of them have room above it in a word.
@@ -22,10 +23,6 @@ const PLACES: u64 = 0x00ff_ffff_ffff_ffff;
 /// So many places are told by one step of the filter.
 const STEP: usize = 64;
 
-/// Where some literals are sieved and the others strided, so many bytes are skipped for the first ones and then for the others. The
-/// number was not varied.
-const SPAN: usize = 256;
-
 /// The bytes of a window, but for one: a place with no more before it is looked at by itself.
 const FRONT: usize = 3;
 
@@ -33,23 +30,21 @@ const FRONT: usize = 3;
 #[inline(always)]
 pub(crate) fn claims_behind(
     windows: &Windows<'_>,
-    list: &LitList,
     text: &[u8],
     seen: usize,
     marks: u64,
     met: &mut Met,
 ) -> u64
-    requires list { windows.now.literals ≡ list.now }
-    requires inside { seen ≤ length text.now }
-    ensures { let all = length windows.now.literals.texts in (from : ℕ)
-        → AreClaimed 0 all windows.now text.now from seen (seen + 1) marks
-        → AreClaimed 0 all windows.now text.now from seen (seen + min BLOCK (length text.now - seen) + 1) result }
+    requires { seen ≤ length text.now }
+    ensures { (from : ℕ)
+        → AreClaimed windows.now text.now from seen (seen + 1) marks
+        → AreClaimed windows.now text.now from seen (seen + min BLOCK (length text.now - seen) + 1) result }
 {
     let left = text.len() - seen;
     if seen < FRONT || left < STEP {
         return look_at_each(windows, text, seen, BLOCK.min(left), marks);
     }
-    look_at_block(windows, list, text, seen, marks, met)
+    look_at_block(windows, text, seen, marks, met)
 }
 
 /// The same near the front or the end of a text, for so many places: each is looked at by itself.
@@ -57,96 +52,90 @@ pub(crate) fn claims_behind(
 fn look_at_each(windows: &Windows<'_>, text: &[u8], seen: usize, count: usize, marks: u64) -> u64
     requires few { count ≤ BLOCK }
     requires inside { seen + count ≤ length text.now }
-    ensures { let all = length windows.now.literals.texts in (from : ℕ)
-        → AreClaimed 0 all windows.now text.now from seen (seen + 1) marks
-        → AreClaimed 0 all windows.now text.now from seen (seen + count + 1) result }
+    ensures { (from : ℕ)
+        → AreClaimed windows.now text.now from seen (seen + 1) marks
+        → AreClaimed windows.now text.now from seen (seen + count + 1) result }
 {
-    let _split = windows.split();
+    let _stride = windows.stride();
     let mut found = marks;
     let mut back = 0;
     'places: while back < count {
-        let strided = windows.marks_at(text, seen + 1 + back);
-        let sieved = windows.sieved_marks_at(text, seen + 1 + back);
-        found |= ((strided | sieved) as u64) << back;
+        let look = windows.marks_at(text, seen + 1 + back);
+        found |= (look as u64) << back;
         back += 1;
     }
     found
 }
 
-/// The same for a whole block within the text: sieved literals are looked for at the places that pass, the others at places
+/// The same for a whole block within the text: sieved literals are looked for at the places that pass, strided ones at places
 /// that are a stride apart.
 #[inline(always)]
-fn look_at_block(
+fn look_at_block(windows: &Windows<'_>, text: &[u8], seen: usize, marks: u64, met: &mut Met) -> u64
+    requires behind { 3 ≤ seen }
+    requires inside { seen + 64 ≤ length text.now }
+    ensures { (from : ℕ)
+        → AreClaimed windows.now text.now from seen (seen + 1) marks
+        → AreClaimed windows.now text.now from seen (seen + BLOCK + 1) result }
+{
+    match windows.masks() {
+        Some(masks) => sieve_block(windows, masks, text, seen, marks, met),
+        None => stride(windows, text, seen, marks),
+    }
+}
+
+/// The claims of a block by the masks that sieve the literals.
+#[inline(always)]
+fn sieve_block(
     windows: &Windows<'_>,
-    list: &LitList,
+    masks: &ByteMasks,
     text: &[u8],
     seen: usize,
     marks: u64,
     met: &mut Met,
 ) -> u64
-    requires list { windows.now.literals ≡ list.now }
+    requires covers { CoversFronts windows.now.literals (length windows.now.literals.texts) windows.now.offsets (widened masks.now) }
     requires behind { 3 ≤ seen }
     requires inside { seen + 64 ≤ length text.now }
-    ensures { let all = length windows.now.literals.texts in (from : ℕ)
-        → AreClaimed 0 all windows.now text.now from seen (seen + 1) marks
-        → AreClaimed 0 all windows.now text.now from seen (seen + BLOCK + 1) result }
+    ensures { (from : ℕ)
+        → AreClaimed windows.now text.now from seen (seen + 1) marks
+        → AreClaimed windows.now text.now from seen (seen + BLOCK + 1) result }
 {
-    let split = windows.split();
-    let sieved = sieve_if_any(windows, text, seen, marks, met);
-    if split == list.len() {
-        return sieved;
-    }
-    stride(windows, text, seen, sieved)
-}
-
-/// The claims of sieved literals, if there are some.
-#[inline(always)]
-fn sieve_if_any(windows: &Windows<'_>, text: &[u8], seen: usize, marks: u64, met: &mut Met) -> u64
-    requires behind { 3 ≤ seen }
-    requires inside { seen + 64 ≤ length text.now }
-    ensures claimed { (from : ℕ) → AreClaimed 0 windows.now.split windows.now text.now from seen (seen + 1) marks
-        → AreClaimed 0 windows.now.split windows.now text.now from seen (seen + BLOCK + 1) result }
-    ensures kept { (back : ℕ) → back < 64 → bit_at marks back ≡ 1 → bit_at result back ≡ 1 }
-{
-    if windows.split() == 0 {
-        return marks;
-    }
-    let passing = BlockFilter::new(windows.masks()).passing(text, seen + 1);
+    let _stride = windows.stride();
+    let passing = BlockFilter::new(masks).passing(text, seen + 1);
     met.pass(passing);
     sieve(windows, text, seen, marks, passing)
 }
 
-/// The claims of sieved literals by looks at the places of a block that pass.
+/// The claims of a block by looks at the places of it that pass.
 #[inline(always)]
 fn sieve(windows: &Windows<'_>, text: &[u8], seen: usize, marks: u64, passing: u64) -> u64
     requires behind { 3 ≤ seen }
     requires inside { seen + 64 ≤ length text.now }
     requires passing { ArePassing windows.now text.now seen passing }
-    ensures claimed { (from : ℕ) → AreClaimed 0 windows.now.split windows.now text.now from seen (seen + 1) marks
-        → AreClaimed 0 windows.now.split windows.now text.now from seen (seen + BLOCK + 1) result }
-    ensures kept { (back : ℕ) → back < 64 → bit_at marks back ≡ 1 → bit_at result back ≡ 1 }
+    ensures { (from : ℕ)
+        → AreClaimed windows.now text.now from seen (seen + 1) marks
+        → AreClaimed windows.now text.now from seen (seen + BLOCK + 1) result }
 {
-    let _split = windows.split();
+    let _stride = windows.stride();
     let mut found = marks;
     let mut rest = passing & PLACES;
     'places: while rest != 0 {
         let (back, others) = split_lowest(rest);
-        let look = windows.sieved_marks_behind_front(text, seen + 1 + back);
+        let look = windows.marks_by_widths(text, seen + 1 + back);
         found |= (look as u64) << back;
         rest = others;
     }
     found
 }
 
-/// The claims of strided literals, by a loop for lists that have short ones or by one for those that have not.
+/// The claims of a block by looks at strides, by a loop for lists that have short literals or by one for those that have not.
 #[inline(always)]
 fn stride(windows: &Windows<'_>, text: &[u8], seen: usize, marks: u64) -> u64
     requires behind { 3 ≤ seen }
     requires inside { seen + 64 ≤ length text.now }
-    ensures claimed { let all = length windows.now.literals.texts in (from : ℕ)
-        → AreClaimed windows.now.split all windows.now text.now from seen (seen + 1) marks
-        → AreClaimed windows.now.split all windows.now text.now from seen (seen + BLOCK + 1) result }
-    ensures kept { (back : ℕ) → back < 64 → bit_at marks back ≡ 1 → bit_at result back ≡ 1 }
+    ensures { (from : ℕ)
+        → AreClaimed windows.now text.now from seen (seen + 1) marks
+        → AreClaimed windows.now text.now from seen (seen + BLOCK + 1) result }
 {
     if windows.has_short() {
         return stride_by_all_widths(windows, text, seen, marks);
@@ -159,10 +148,9 @@ fn stride(windows: &Windows<'_>, text: &[u8], seen: usize, marks: u64) -> u64
 fn stride_by_all_widths(windows: &Windows<'_>, text: &[u8], seen: usize, marks: u64) -> u64
     requires behind { 3 ≤ seen }
     requires inside { seen + 64 ≤ length text.now }
-    ensures claimed { let all = length windows.now.literals.texts in (from : ℕ)
-        → AreClaimed windows.now.split all windows.now text.now from seen (seen + 1) marks
-        → AreClaimed windows.now.split all windows.now text.now from seen (seen + BLOCK + 1) result }
-    ensures kept { (back : ℕ) → back < 64 → bit_at marks back ≡ 1 → bit_at result back ≡ 1 }
+    ensures { (from : ℕ)
+        → AreClaimed windows.now text.now from seen (seen + 1) marks
+        → AreClaimed windows.now text.now from seen (seen + BLOCK + 1) result }
 {
     stride_over(windows, text, seen, marks, true)
 }
@@ -172,10 +160,9 @@ fn stride_by_all_widths(windows: &Windows<'_>, text: &[u8], seen: usize, marks: 
 fn stride_over(windows: &Windows<'_>, text: &[u8], seen: usize, marks: u64, has_short: bool) -> u64
     requires behind { 3 ≤ seen }
     requires inside { seen + 64 ≤ length text.now }
-    ensures claimed { let all = length windows.now.literals.texts in (from : ℕ)
-        → AreClaimed windows.now.split all windows.now text.now from seen (seen + 1) marks
-        → AreClaimed windows.now.split all windows.now text.now from seen (seen + BLOCK + 1) result }
-    ensures kept { (back : ℕ) → back < 64 → bit_at marks back ≡ 1 → bit_at result back ≡ 1 }
+    ensures { (from : ℕ)
+        → AreClaimed windows.now text.now from seen (seen + 1) marks
+        → AreClaimed windows.now text.now from seen (seen + BLOCK + 1) result }
 {
     let stride = windows.stride();
     let mut found = marks;
@@ -193,49 +180,50 @@ fn stride_over(windows: &Windows<'_>, text: &[u8], seen: usize, marks: u64, has_
 #[inline(always)]
 pub(crate) fn next_claims(
     windows: &Windows<'_>,
-    list: &LitList,
     text: &[u8],
     seen: usize,
     marks: u64,
     met: &mut Met,
 ) -> (usize, u64)
-    requires list { windows.now.literals ≡ list.now }
-    requires inside { seen ≤ length text.now }
+    requires { seen ≤ length text.now }
     ensures ahead { seen ≤ result.0 }
     ensures inside { result.0 ≤ length text.now }
-    ensures none { let all = length windows.now.literals.texts in AreClaimed 0 all windows.now text.now seen seen (seen + 1) marks
+    ensures none { AreClaimed windows.now text.now seen seen (seen + 1) marks
         → NoEndUpTo windows.now.literals text.now seen result.0 }
-    ensures claimed { let all = length windows.now.literals.texts in AreClaimed 0 all windows.now text.now seen seen (seen + 1) marks
-        → AreClaimed 0 all windows.now text.now seen result.0 (result.0 + min BLOCK (length text.now - result.0) + 1) result.1 }
+    ensures claimed { AreClaimed windows.now text.now seen seen (seen + 1) marks
+        → AreClaimed windows.now text.now seen result.0 (result.0 + min BLOCK (length text.now - result.0) + 1) result.1 }
 {
-    if seen >= FRONT && windows.split() == list.len() {
-        return sieve_ahead(windows, text, seen, marks, met);
+    if seen < FRONT {
+        return (seen, claims_behind(windows, text, seen, marks, met));
     }
-    let at = skip_quiet(windows, text, seen, marks);
-    (at, claims_behind(windows, list, text, at, marks, met))
+    match windows.masks() {
+        Some(masks) => sieve_ahead(windows, masks, text, seen, marks, met),
+        None => stride_ahead(windows, text, seen, marks, met),
+    }
 }
 
-/// The same where all literals are sieved: blocks of which no place passes are skipped, if no end is claimed in them.
+/// The same where literals are sieved: blocks of which no place passes are skipped, if no end is claimed in them.
 #[inline(always)]
 fn sieve_ahead(
     windows: &Windows<'_>,
+    masks: &ByteMasks,
     text: &[u8],
     seen: usize,
     marks: u64,
     met: &mut Met,
 ) -> (usize, u64)
-    requires sieved { windows.now.split ≡ length windows.now.literals.texts }
+    requires covers { CoversFronts windows.now.literals (length windows.now.literals.texts) windows.now.offsets (widened masks.now) }
     requires behind { 3 ≤ seen }
     requires inside { seen ≤ length text.now }
     ensures ahead { seen ≤ result.0 }
     ensures inside { result.0 ≤ length text.now }
-    ensures none { let all = length windows.now.literals.texts in AreClaimed 0 all windows.now text.now seen seen (seen + 1) marks
+    ensures none { AreClaimed windows.now text.now seen seen (seen + 1) marks
         → NoEndUpTo windows.now.literals text.now seen result.0 }
-    ensures claimed { let all = length windows.now.literals.texts in AreClaimed 0 all windows.now text.now seen seen (seen + 1) marks
-        → AreClaimed 0 all windows.now text.now seen result.0 (result.0 + min BLOCK (length text.now - result.0) + 1) result.1 }
+    ensures claimed { AreClaimed windows.now text.now seen seen (seen + 1) marks
+        → AreClaimed windows.now text.now seen result.0 (result.0 + min BLOCK (length text.now - result.0) + 1) result.1 }
 {
-    let _split = windows.split();
-    let filter = BlockFilter::new(windows.masks());
+    let _stride = windows.stride();
+    let filter = BlockFilter::new(masks);
     let mut at = seen;
     'blocks: while text.len() - at >= STEP {
         let passing = filter.passing(text, at + 1);
@@ -249,137 +237,90 @@ fn sieve_ahead(
     (at, look_at_each(windows, text, at, count, marks))
 }
 
-/// A place from `seen` on up to which nothing ends: where no end is claimed, places are skipped of which none passes, and strides
-/// whose looks have no mark.
+/// The same where literals are strided: strides whose looks have no mark are skipped, if no end is claimed.
+#[inline(always)]
+fn stride_ahead(
+    windows: &Windows<'_>,
+    text: &[u8],
+    seen: usize,
+    marks: u64,
+    met: &mut Met,
+) -> (usize, u64)
+    requires behind { 3 ≤ seen }
+    requires inside { seen ≤ length text.now }
+    ensures ahead { seen ≤ result.0 }
+    ensures inside { result.0 ≤ length text.now }
+    ensures none { AreClaimed windows.now text.now seen seen (seen + 1) marks
+        → NoEndUpTo windows.now.literals text.now seen result.0 }
+    ensures claimed { AreClaimed windows.now text.now seen seen (seen + 1) marks
+        → AreClaimed windows.now text.now seen result.0 (result.0 + min BLOCK (length text.now - result.0) + 1) result.1 }
+{
+    let at = skip_quiet(windows, text, seen, marks);
+    (at, claims_behind(windows, text, at, marks, met))
+}
+
+/// A place from `seen` on up to which nothing ends: where no end is claimed, strides are skipped whose looks have no mark.
 #[inline(always)]
 fn skip_quiet(windows: &Windows<'_>, text: &[u8], seen: usize, marks: u64) -> usize
+    requires behind { 3 ≤ seen }
     requires inside { seen ≤ length text.now }
     ensures ahead { seen ≤ result }
     ensures inside { result ≤ length text.now }
-    ensures none { let all = length windows.now.literals.texts in AreClaimed 0 all windows.now text.now seen seen (seen + 1) marks
+    ensures none { AreClaimed windows.now text.now seen seen (seen + 1) marks
         → NoEndUpTo windows.now.literals text.now seen result }
-    ensures claimed { let all = length windows.now.literals.texts in AreClaimed 0 all windows.now text.now seen seen (seen + 1) marks
-        → AreClaimed 0 all windows.now text.now seen result (result + 1) marks }
+    ensures claimed { AreClaimed windows.now text.now seen seen (seen + 1) marks
+        → AreClaimed windows.now text.now seen result (result + 1) marks }
 {
-    if marks != 0 || seen < FRONT {
+    if marks != 0 {
         return seen;
     }
-    skip_spans(windows, text, seen)
+    skip_strides(windows, text, seen)
 }
 
-/// The same where no end is claimed, span by span.
+/// A place from `seen` on up to which no look has a mark.
 #[inline(always)]
-fn skip_spans(windows: &Windows<'_>, text: &[u8], seen: usize) -> usize
+fn skip_strides(windows: &Windows<'_>, text: &[u8], seen: usize) -> usize
     requires behind { 3 ≤ seen }
     requires inside { seen ≤ length text.now }
     ensures ahead { seen ≤ result }
     ensures inside { result ≤ length text.now }
-    ensures claimed { let all = length windows.now.literals.texts in AreClaimed 0 all windows.now text.now seen seen (seen + 1) 0
-        → AreClaimed 0 all windows.now text.now seen seen (result + 1) 0 }
-{
-    let _split = windows.split();
-    let span = span_of(windows);
-    let mut at = seen;
-    'spans: loop {
-        let stop = text.len().min(at.saturating_add(span));
-        let unpassed = skip_unpassed(windows, text, at, stop);
-        let next = skip_strides(windows, text, at, unpassed);
-        if next - at < span / 2 {
-            return next;
-        }
-        at = next;
-    }
-}
-
-/// How many bytes are skipped at once: all, if no literal is sieved, and else a span, since what is skipped for sieved literals
-/// beyond a mark of the others is in vain.
-fn span_of(windows: &Windows<'_>) -> usize
-    ensures { 1 < result }
-{
-    if windows.split() == 0 {
-        usize::MAX
-    } else {
-        SPAN
-    }
-}
-
-/// A place from `seen` on and up to `last` up to which no place passes, 64 of them at a time: the last one, if no literal is sieved.
-#[inline(always)]
-fn skip_unpassed(windows: &Windows<'_>, text: &[u8], seen: usize, last: usize) -> usize
-    requires behind { 3 ≤ seen }
-    requires ahead { seen ≤ last }
-    requires inside { last ≤ length text.now }
-    ensures ahead { seen ≤ result }
-    ensures inside { result ≤ last }
-    ensures claimed { (from : ℕ) → AreClaimed 0 windows.now.split windows.now text.now from from (seen + 1) 0
-        → AreClaimed 0 windows.now.split windows.now text.now from from (result + 1) 0 }
-{
-    if windows.split() == 0 {
-        return last;
-    }
-    let filter = BlockFilter::new(windows.masks());
-    let mut at = seen;
-    'blocks: while last - at >= STEP {
-        if filter.passing(text, at + 1) != 0 {
-            return at;
-        }
-        at += STEP;
-    }
-    at
-}
-
-/// A place from `seen` on and up to `last` up to which no look has a mark.
-#[inline(always)]
-fn skip_strides(windows: &Windows<'_>, text: &[u8], seen: usize, last: usize) -> usize
-    requires behind { 3 ≤ seen }
-    requires ahead { seen ≤ last }
-    requires inside { last ≤ length text.now }
-    ensures ahead { seen ≤ result }
-    ensures inside { result ≤ last }
-    ensures claimed { let all = length windows.now.literals.texts in (from : ℕ)
-        → AreClaimed windows.now.split all windows.now text.now from from (seen + 1) 0
-        → AreClaimed windows.now.split all windows.now text.now from from (result + 1) 0 }
+    ensures claimed { (from : ℕ)
+        → AreClaimed windows.now text.now from from (seen + 1) 0
+        → AreClaimed windows.now text.now from from (result + 1) 0 }
 {
     if windows.has_short() {
-        return skip_by_all_widths(windows, text, seen, last);
+        return skip_by_all_widths(windows, text, seen);
     }
-    skip_unmarked(windows, text, seen, last, false)
+    skip_unmarked(windows, text, seen, false)
 }
 
 /// The place of `skip_unmarked` for lists that have short literals.
 #[inline(never)]
-fn skip_by_all_widths(windows: &Windows<'_>, text: &[u8], seen: usize, last: usize) -> usize
+fn skip_by_all_widths(windows: &Windows<'_>, text: &[u8], seen: usize) -> usize
     requires behind { 3 ≤ seen }
-    requires ahead { seen ≤ last }
-    requires inside { last ≤ length text.now }
+    requires inside { seen ≤ length text.now }
     ensures ahead { seen ≤ result }
-    ensures inside { result ≤ last }
-    ensures claimed { let all = length windows.now.literals.texts in (from : ℕ)
-        → AreClaimed windows.now.split all windows.now text.now from from (seen + 1) 0
-        → AreClaimed windows.now.split all windows.now text.now from from (result + 1) 0 }
+    ensures inside { result ≤ length text.now }
+    ensures claimed { (from : ℕ)
+        → AreClaimed windows.now text.now from from (seen + 1) 0
+        → AreClaimed windows.now text.now from from (result + 1) 0 }
 {
-    skip_unmarked(windows, text, seen, last, true)
+    skip_unmarked(windows, text, seen, true)
 }
 
-/// A place from `seen` on and up to `last` up to which no look has a mark, two of them at a time.
+/// A place from `seen` on up to which no look has a mark, two of them at a time.
 #[inline(always)]
-fn skip_unmarked(
-    windows: &Windows<'_>,
-    text: &[u8],
-    seen: usize,
-    last: usize,
-    has_short: bool,
-) -> usize
+fn skip_unmarked(windows: &Windows<'_>, text: &[u8], seen: usize, has_short: bool) -> usize
     requires behind { 3 ≤ seen }
-    requires ahead { seen ≤ last }
-    requires inside { last ≤ length text.now }
+    requires inside { seen ≤ length text.now }
     ensures ahead { seen ≤ result }
-    ensures inside { result ≤ last }
-    ensures claimed { let all = length windows.now.literals.texts in (from : ℕ)
-        → AreClaimed windows.now.split all windows.now text.now from from (seen + 1) 0
-        → AreClaimed windows.now.split all windows.now text.now from from (result + 1) 0 }
+    ensures inside { result ≤ length text.now }
+    ensures claimed { (from : ℕ)
+        → AreClaimed windows.now text.now from from (seen + 1) 0
+        → AreClaimed windows.now text.now from from (result + 1) 0 }
 {
     let stride = windows.stride();
+    let last = text.len();
     if seen == last {
         return seen;
     }

@@ -3,6 +3,7 @@ ghost use Rattle.std.specs.Prelude.{◌≡◌, ℕ, ◌<◌, ◌↔◌, IfErr, I
 ghost use Rattle.std.specs.List.{slice_get};
 ghost use Rattle.std.specs.Option.{IsSome};
 ghost use Rattle.lit_base.specs.Literals.{lengths};
+ghost use Rattle.lit_base.specs.Profiles.{buckets};
 ghost use Rattle.lit_base.specs.Assignments.{NoAssignmentBelow, assign_price, assignment_of};
 ghost use Rattle.lit_base.specs.Occurrences.{Occurs};
 ghost use Rattle.lit_cert.specs.Certified.{IsCertified};
@@ -50,10 +51,10 @@ impl Compiled {
         list: LitList,
         certificate: Certificate,
     ) -> Result<Compiled, (Fault, LitList, Certificate)>
-        ensures certified { IsOk result ↔ IsCertified 8 list certificate }
+        ensures certified { IsOk result ↔ IsCertified list certificate }
         ensures ok { IfOk result (λ p. p ≡ record { literals = list; certificate = certificate }) }
         ensures refused { IfErr result (λ refusal. IsRefusalOf list certificate refusal.0 refusal.1 refusal.2) }
-        ensures least { OnOk result (NoAssignmentBelow 8 list certificate.cost) }
+        ensures least { OnOk result (NoAssignmentBelow (buckets certificate.profile) list certificate.cost) }
     {
         match check(&list, &certificate) {
             Ok(()) => Ok(Compiled::certified(list, certificate)),
@@ -63,7 +64,7 @@ impl Compiled {
 
     /// The plan of a certificate that is known to hold, as one that was just made: it is not checked again. It takes no memory.
     pub fn certified(list: LitList, certificate: Certificate) -> Compiled
-        requires { IsCertified 8 list certificate }
+        requires { IsCertified list certificate }
         ensures { result ≡ record { literals = list; certificate = certificate } }
     {
         let sieve = Sieve::of(&list, &certificate.ends);
@@ -86,7 +87,7 @@ impl Compiled {
     /// The certificate of the plan.
     pub fn certificate(&self) -> &Certificate
         ensures same { result.now ≡ self.now.certificate }
-        ensures certified { IsCertified 8 self.now.literals self.now.certificate }
+        ensures certified { IsCertified self.now.literals self.now.certificate }
     {
         &self.certificate
     }
@@ -143,12 +144,12 @@ impl Compiled {
     }
 }
 
-/// The law that a plan is the cheapest: no assignment of its literals to at most eight buckets costs
+/// The law that a plan is the cheapest: no assignment of its literals to at most as many buckets as its profile has costs
 /// less than its certificate says, and its runs, read as an assignment, cost exactly that.
 pub fn least_law(compiled: &Compiled)
-    ensures certified { IsCertified 8 compiled.now.literals compiled.now.certificate }
-    ensures least { NoAssignmentBelow 8 compiled.now.literals compiled.now.certificate.cost }
-    ensures reached { assign_price 8 (lengths compiled.now.literals) (assignment_of compiled.now.certificate.ends) ≡ compiled.now.certificate.cost }
+    ensures certified { IsCertified compiled.now.literals compiled.now.certificate }
+    ensures least { NoAssignmentBelow (buckets compiled.now.certificate.profile) compiled.now.literals compiled.now.certificate.cost }
+    ensures reached { assign_price (buckets compiled.now.certificate.profile) (lengths compiled.now.literals) (assignment_of compiled.now.certificate.ends) ≡ compiled.now.certificate.cost }
 {
     certified_law(compiled.list(), compiled.certificate());
 }

@@ -3,62 +3,30 @@ ghost use Rattle.std.specs.Prelude.{◌≡◌, ◌+◌, ◌-◌, ◌^◌, ◌<�
 ghost use Rattle.std.specs.Option.{IfNone};
 ghost use Rattle.flow_scan.specs.declared.fault.Fault.TheVariants.{OutOfMemory};
 ghost use Rattle.flow_scan.specs.HitsAt.{Extends};
-ghost use Rattle.flow_scan.specs.NextEnds.{IsNextEnd, NoEndAfter};
+ghost use Rattle.lit_base.specs.NextEnds.{IsNextEnd, NoEndAfter};
 ghost use Rattle.flow_scan.specs.Tails.{AreHitsBehind, Continues, StopsAt};
 
 use crate::compiled::Compiled;
-use crate::endings::Backoff;
+use crate::endings::SievedEnds;
+use crate::ends::{Ends, add_hits_of};
 use crate::fault::Fault;
 use crate::hit::Hit;
 use crate::hit_search::HitSearch;
-use crate::learning::{
-    Learning, Way, cost_by_automaton, cost_by_windows, cost_of_dense_ends, cost_of_plain_ends,
+use crate::prices::{cost_by_automaton, cost_by_plan, cost_by_windows, cost_of_dense_ends};
+use crate::sampling::Sample;
+use crate::searching::skip_short_ends;
+use crate::shifted::ShiftedEnds;
+use crate::strategy::{
+    Engine, Step, Strategy, Wanted, has_use, least_gathered, sample_len, span_behind,
+    wants_automaton, wants_automaton_first, wants_shift_or,
 };
-use crate::met::Met;
-use crate::pace::MOST_BY_BYTES;
-use crate::sampling::{LEAST_SAMPLE, Sample, least_gathered};
-use crate::searching::{add_hits, add_hits_at, skip_short_ends};
-use crate::shifted::{add_hits_by_shift_or, next_end_by_shift_or};
 use crate::text_search::TextSearch;
-use crate::told::add_hits_by_automaton;
-use crate::windowed::{Claims, next_end_by_windows};
+use crate::told::ToldEnds;
+use crate::windowed::WindowedEnds;
 use std::alloc::{AllocError, Global};
 use std::marker::Model;
 use text_automaton::Automaton;
-use text_windows::{EndRate, SHIFT_OR_COST, ShiftOr, Windows};
-
-/// So many bytes of a text are learned from at most.
-const SAMPLE: usize = 65536;
-
-/// So many are where literals are few: their rare windows are told by less of a text.
-const SAMPLE_OF_FEW: usize = 32768;
-
-/// So many literals at most are few.
-const FEW: usize = 32;
-
-/// A scan goes on in the way that was chosen for so many bytes: no more than are learned from, so that a plan that does not suit a text
-/// is found out early.
-const SPAN: usize = SAMPLE;
-
-/// The first span of a text at hand goes in so many parts, since it may learn behind each. The number was not varied.
-const FIRST_SPANS: usize = 4;
-
-/// Fewer bytes are scanned by the plan, whichever way was chosen, such as those at the seam of two pieces: windows look at each of them by
-/// itself. The number was not varied.
-const LEAST_CHOSEN: usize = 64;
-
-/// Fewer bytes are scanned by the plan where a scan goes by the automaton: to begin to read takes longer. With 512 a hundred frequent literals in
-/// pieces of 250 bytes took 2.1 times as long as by the plan alone, since they were learned of again and again.
-const LEAST_TOLD: usize = 128;
-
-/// What a search is asked for.
-#[derive(Clone, Copy)]
-enum Wanted {
-    /// One end after the other.
-    Ends,
-    /// All hits behind a place.
-    Hits,
-}
+use text_windows::{EndRate, ShiftOr, Windows};
 
 /// A search through the texts of one run for the literals of a plan. It begins as `next_end` does; where what
 /// it meets in a text ends nothing too often, it learns which windows of the literals are rare there, what shift-or would
@@ -72,7 +40,7 @@ pub struct EndFinder<'p> {
     automaton: Automaton<'p>,
     /// What is gathered of a stream in small pieces. It is taken out while it is learned from.
     sample: Option<Sample>,
-    learning: Learning,
+    strategy: Strategy,
 }
 
 impl<'p> Model for EndFinder<'p> {
@@ -102,7 +70,7 @@ impl<'p> EndFinder<'p> {
             shift_or,
             automaton,
             sample: Some(sample),
-            learning: Learning::new(),
+            strategy: Strategy::new(),
         })
     }
 
@@ -115,7 +83,7 @@ impl<'p> EndFinder<'p> {
         ensures few { IfOk result (λ finder. IfNone finder (length compiled.now.literals.texts ≤ 3)) }
         ensures many { IfOk result (λ finder. IfSome finder (λ _. 3 < length compiled.now.literals.texts)) }
     {
-        if compiled.list().len() <= MOST_BY_BYTES {
+        if !has_use(compiled.list().len()) {
             return Ok(None);
         }
         Ok(Some(EndFinder::new(alloc, compiled)?))
@@ -128,20 +96,10 @@ impl<'p> EndFinder<'p> {
         self.compiled
     }
 
-    /// How it searches.
+    /// The engine in use.
     #[inline(always)]
-    pub(crate) fn way(&self) -> Way {
-        self.learning.way()
-    }
-
-    /// How it scans so many bytes.
-    #[inline(always)]
-    fn way_of(&self, rest: usize) -> Way {
-        if rest < LEAST_CHOSEN {
-            Way::Plan
-        } else {
-            self.way()
-        }
+    pub(crate) fn engine(&self) -> Engine {
+        self.strategy.engine()
     }
 
     /// The first place of the text behind `from` at which some literal ends, wherever it begins, if
@@ -178,7 +136,7 @@ impl<'p> EndFinder<'p> {
         }
     }
 
-    /// The search of `next_end_of` in the way that was chosen.
+    /// The search of `next_end_of` by the engine that was chosen.
     fn next_behind(&mut self, search: &mut TextSearch<'_>, from: usize) -> Option<(usize, usize)>
         requires plan { search.old.plan ≡ self.old }
         requires inside { from < length search.old.text }
@@ -188,55 +146,29 @@ impl<'p> EndFinder<'p> {
             (NoEndAfter self.old.literals search.old.text from)
             (λ found. IsNextEnd self.old.literals search.old.text from found.0) }
     {
-        match self.way() {
-            Way::Windows => self.next_windowed(search.text(), from),
-            Way::ShiftOr => self.next_shifted(search.text(), from),
-            Way::Automaton | Way::Plan => self.next_by_plan(search, from),
+        match self.engine() {
+            Engine::Windows => self.next_windowed(search.text(), from),
+            Engine::ShiftOr => self.next_shifted(search.text(), from),
+            Engine::Automaton | Engine::Plan => self.next_by_plan(search, from),
         }
     }
 
     /// The search of `next_end_of` by the plan.
     fn next_by_plan(&mut self, search: &mut TextSearch<'_>, from: usize) -> Option<(usize, usize)>
         requires plan { search.old.plan ≡ self.old }
-        requires inside { from < length search.old.text }
+        requires inside { from ≤ length search.old.text }
         ensures same { self.new ≡ self.old }
         ensures search { search.new ≡ search.old }
         ensures next { MatchOption result
             (NoEndAfter self.old.literals search.old.text from)
             (λ found. IsNextEnd self.old.literals search.old.text from found.0) }
     {
-        match search.next_near(from) {
-            Ok(found) => {
-                self.learning.count_start();
-                Some(found)
-            }
-            Err(seen) => self.next_plainly(search, from, seen),
-        }
-    }
-
-    /// The search of `next_end_of` by the plan, from a place on up to which nothing was found. What is found near by marks
-    /// is no gain of windows: it counts as a hit, and what it took is not noted.
-    fn next_plainly(
-        &mut self,
-        search: &mut TextSearch<'_>,
-        from: usize,
-        seen: usize,
-    ) -> Option<(usize, usize)>
-        requires plan { search.old.plan ≡ self.old }
-        requires inside { seen ≤ length search.old.text }
-        ensures same { self.new ≡ self.old }
-        ensures search { search.new ≡ search.old }
-        ensures next { MatchOption result
-            (NoEndAfter self.old.literals search.old.text seen)
-            (λ found. IsNextEnd self.old.literals search.old.text seen found.0) }
-    {
-        let before = search.spent();
-        let found = search.next_far(from, seen);
-        self.learning.note(
-            passed(search.text(), seen, found),
-            search.spent().saturating_sub(before),
-            rate_of(found),
-        );
+        let before = search.missed();
+        let found = search.next_after(from);
+        let missed = search.missed().saturating_sub(before);
+        let count = passed(search.text(), from, found);
+        self.strategy
+            .note(count, cost_by_plan(missed, 0), rate_of(found));
         found
     }
 
@@ -288,13 +220,12 @@ impl<'p> EndFinder<'p> {
         ensures kept { Extends out.old.items out.new.items }
         ensures quiet { NoEndAfter self.old.literals text.now from → IsOk result }
     {
-        let mut backoff = Backoff::new();
-        let stop = add_hits(self.compiled, text, from, at, most, &mut backoff, out)?;
-        let passed = stop - from;
-        let cost = cost_of_plain_ends(backoff.ends());
-        let spent = backoff.spent().saturating_add(cost);
-        self.learning
-            .note(passed, spent, EndRate::of_scan(backoff.ends()));
+        let mut ends = SievedEnds::behind(self.compiled, text, from);
+        let stop = add_hits_of(&mut ends, text, from, at, most, out)?;
+        let met = ends.met();
+        let spent = cost_by_plan(met.passed, met.ends);
+        self.strategy
+            .note(stop - from, spent, EndRate::of_scan(met.ends));
         Ok(stop)
     }
 
@@ -314,52 +245,13 @@ impl<'p> EndFinder<'p> {
         ensures kept { Extends out.old.items out.new.items }
         ensures quiet { NoEndAfter self.old.literals text.now from → IsOk result }
     {
-        let mut met = Met::nothing();
-        let stop = self.add_hits_by_windows(text, from, at, most, &mut met, out)?;
+        let mut ends = WindowedEnds::behind(self.compiled, &self.windows, text, from);
+        let stop = add_hits_of(&mut ends, text, from, at, most, out)?;
+        let met = ends.met();
         let found = EndRate::of_scan(met.ends);
-        let spent = self.cost_by_windows(stop - from, met, found);
-        self.learning.note(stop - from, spent, found);
+        let spent = cost_by_windows(&self.windows, stop - from, met, found);
+        self.strategy.note(stop - from, spent, found);
         Ok(stop)
-    }
-
-    /// Adds hits by windows, as `add_hits` does, and to `met` what is met at which nothing ends.
-    fn add_hits_by_windows(
-        &self,
-        text: &[u8],
-        from: usize,
-        at: u64,
-        most: usize,
-        met: &mut Met,
-        out: &mut Vec<Hit>,
-    ) -> Result<usize, AllocError>
-        requires inside { from ≤ length text.now }
-        requires room { at + (length text.now - from) < 2 ^ 64 }
-        ensures ok { IfOk result (λ stop. StopsAt self.now.literals text.now from at most stop out.old.items out.new.items) }
-        ensures kept { Extends out.old.items out.new.items }
-        ensures quiet { NoEndAfter self.now.literals text.now from → IsOk result }
-    {
-        let list = self.compiled.list();
-        let before = out.len();
-        let mut claims = Claims::behind(&self.windows, list, text, from, met);
-        while let Some((end, first)) = claims.next_end(&self.windows, list, text, met) {
-            add_hits_at(
-                self.compiled,
-                text,
-                end,
-                first,
-                at + (end - from) as u64,
-                out,
-            )?;
-            if out.len() - before >= most {
-                return Ok(end);
-            }
-        }
-        Ok(text.len())
-    }
-
-    /// What a search by windows took that met so much in so many bytes, and found so many ends.
-    fn cost_by_windows(&self, count: usize, met: Met, found: EndRate) -> usize {
-        cost_by_windows(&self.windows, self.compiled.list().len(), count, met, found)
     }
 
     /// The search of `next_end` by windows.
@@ -370,12 +262,12 @@ impl<'p> EndFinder<'p> {
             (NoEndAfter self.old.literals text.now from)
             (λ found. IsNextEnd self.old.literals text.now from found.0) }
     {
-        let list = self.compiled.list();
-        let mut met = Met::nothing();
-        let found = next_end_by_windows(&self.windows, list, text, from, &mut met);
+        let mut ends = WindowedEnds::behind(self.compiled, &self.windows, text, from);
+        let found = ends.next_end();
+        let met = ends.met();
         let count = passed(text, from, found);
-        let spent = self.cost_by_windows(count, met, rate_of(found));
-        self.learning.note(count, spent, rate_of(found));
+        let spent = cost_by_windows(&self.windows, count, met, rate_of(found));
+        self.strategy.note(count, spent, rate_of(found));
         found
     }
 
@@ -395,20 +287,12 @@ impl<'p> EndFinder<'p> {
         ensures kept { Extends out.old.items out.new.items }
         ensures quiet { NoEndAfter self.old.literals text.now from → IsOk result }
     {
-        let mut met = Met::nothing();
-        let stop = add_hits_by_shift_or(
-            self.compiled,
-            &self.shift_or,
-            text,
-            from,
-            at,
-            most,
-            &mut met,
-            out,
-        )?;
+        let mut ends = ShiftedEnds::behind(self.compiled, &self.shift_or, text, from);
+        let stop = add_hits_of(&mut ends, text, from, at, most, out)?;
+        let met = ends.met();
         let found = EndRate::of_scan(met.ends);
         let spent = self.shift_or.cost_of(stop - from, met.marked, found);
-        self.learning.note(stop - from, spent, found);
+        self.strategy.note(stop - from, spent, found);
         Ok(stop)
     }
 
@@ -420,12 +304,12 @@ impl<'p> EndFinder<'p> {
             (NoEndAfter self.old.literals text.now from)
             (λ found. IsNextEnd self.old.literals text.now from found.0) }
     {
-        let list = self.compiled.list();
-        let mut met = Met::nothing();
-        let found = next_end_by_shift_or(&self.shift_or, list, text, from, &mut met);
+        let mut ends = ShiftedEnds::behind(self.compiled, &self.shift_or, text, from);
+        let found = ends.next_end();
         let count = passed(text, from, found);
-        let spent = self.shift_or.cost_of(count, met.marked, rate_of(found));
-        self.learning.note(count, spent, rate_of(found));
+        let marked = ends.met().marked;
+        let spent = self.shift_or.cost_of(count, marked, rate_of(found));
+        self.strategy.note(count, spent, rate_of(found));
         found
     }
 
@@ -445,30 +329,15 @@ impl<'p> EndFinder<'p> {
         ensures kept { Extends out.old.items out.new.items }
         ensures quiet { NoEndAfter self.old.literals text.now from → IsOk result }
     {
-        let rest = text.len() - from;
-        let reading = if rest < LEAST_TOLD {
-            None
-        } else {
-            self.automaton.reading_behind(text, from)
-        };
-        let Some(reading) = reading else {
+        let Some(reading) = self.automaton.reading_behind(text, from) else {
             return self.add_hits_plainly(text, from, at, most, out);
         };
-        let mut met = Met::nothing();
-        let stop = add_hits_by_automaton(
-            self.compiled,
-            &self.automaton,
-            reading,
-            text,
-            from,
-            at,
-            most,
-            &mut met,
-            out,
-        )?;
-        let spent = self.cost_to_tell(stop - from, met.ends);
-        self.learning
-            .note(stop - from, spent, EndRate::of_scan(met.ends));
+        let mut ends = ToldEnds::of(self.compiled, &self.automaton, text, reading);
+        let stop = add_hits_of(&mut ends, text, from, at, most, out)?;
+        let found = ends.ends();
+        let spent = self.cost_to_tell(stop - from, found);
+        self.strategy
+            .note(stop - from, spent, EndRate::of_scan(found));
         Ok(stop)
     }
 
@@ -477,8 +346,7 @@ impl<'p> EndFinder<'p> {
         requires { from ≤ length text.now }
         ensures { self.new ≡ self.old }
     {
-        let rest = text.len() - from;
-        if rest >= LEAST_SAMPLE && self.learning.is_due_before(rest) {
+        if self.strategy.tunes_before(text.len() - from) {
             self.learn(text, from, Wanted::Hits);
         }
     }
@@ -490,13 +358,10 @@ impl<'p> EndFinder<'p> {
         requires { from ≤ length text.now }
         ensures { self.new ≡ self.old }
     {
-        if !self.learning.is_due() {
-            return;
-        }
-        if text.len() - from >= LEAST_SAMPLE {
-            self.learn(text, from, wanted);
-        } else if let Wanted::Hits = wanted {
-            self.gather(text, from);
+        match self.strategy.step(text.len() - from, wanted) {
+            Step::GoOn => (),
+            Step::Gather => self.gather(text, from),
+            Step::Tune => self.learn(text, from, wanted),
         }
     }
 
@@ -527,36 +392,32 @@ impl<'p> EndFinder<'p> {
         ensures { self.new ≡ self.old }
     {
         let (_, behind) = text.split_at(from);
-        let most = if self.compiled.list().len() <= FEW {
-            SAMPLE_OF_FEW
-        } else {
-            SAMPLE
-        };
+        let most = sample_len(self.compiled.list().len());
         let (sample, _) = behind.split_at(behind.len().min(most));
-        let rate = self.learning.rate();
+        let rate = self.strategy.rate();
         let dense = cost_of_dense_ends(rate);
         let by_windows = self.windows.learn(sample, rate).saturating_add(dense);
         let told = self.cost_if_told(wanted, rate);
-        // What is not likely to take less is not learned: half a megabyte of entries, or the tables of the automaton.
-        let is_told = self.can_tell_below(told, by_windows.min(SHIFT_OR_COST));
-        let by_shift_or = if by_windows <= SHIFT_OR_COST || is_told {
-            usize::MAX
-        } else {
+        let is_told = self.makes_automaton(wants_automaton_first(told, by_windows));
+        let by_shift_or = if !is_told && wants_shift_or(by_windows) {
             self.shift_or.learn(sample, rate).saturating_add(dense)
+        } else {
+            usize::MAX
         };
-        let by_automaton = if self.can_tell_below(told, by_windows.min(by_shift_or)) {
+        let is_best = wants_automaton(told, by_windows, by_shift_or);
+        let by_automaton = if self.makes_automaton(is_best) {
             told
         } else {
             usize::MAX
         };
-        self.learning.choose(by_windows, by_shift_or, by_automaton);
+        self.strategy.choose(by_windows, by_shift_or, by_automaton);
     }
 
-    /// Whether the automaton takes less than that and its tables are made: they are, if that is possible.
-    fn can_tell_below(&mut self, told: usize, other: usize) -> bool
+    /// Whether the automaton is wanted and its tables are made: they are, if that is possible.
+    fn makes_automaton(&mut self, is_wanted: bool) -> bool
         ensures { self.new ≡ self.old }
     {
-        if told >= other {
+        if !is_wanted {
             return false;
         }
         self.automaton.learn()
@@ -588,23 +449,12 @@ impl<'p> HitSearch for EndFinder<'p> {
         out: &mut Vec<Hit>,
     ) -> Result<usize, AllocError> {
         self.learn_if_due(text, from, Wanted::Hits);
-        match self.way_of(text.len() - from) {
-            Way::Windows => self.add_hits_windowed(text, from, at, most, out),
-            Way::ShiftOr => self.add_hits_shifted(text, from, at, most, out),
-            Way::Automaton => self.add_hits_told(text, from, at, most, out),
-            Way::Plan => self.add_hits_plainly(text, from, at, most, out),
+        match self.strategy.engine_for(text.len() - from) {
+            Engine::Windows => self.add_hits_windowed(text, from, at, most, out),
+            Engine::ShiftOr => self.add_hits_shifted(text, from, at, most, out),
+            Engine::Automaton => self.add_hits_told(text, from, at, most, out),
+            Engine::Plan => self.add_hits_plainly(text, from, at, most, out),
         }
-    }
-}
-
-/// How many bytes of a text at hand are scanned in one way behind so many that were.
-fn span_behind(passed: usize) -> usize
-    ensures { 0 < result }
-{
-    if passed < SPAN {
-        SPAN / FIRST_SPANS
-    } else {
-        SPAN
     }
 }
 

@@ -6,10 +6,10 @@
 ghost use Rattle.std.specs.Prelude.{◌≡◌, ℕ, ◌+◌, ◌<◌, ◌≤◌, IfSome, MatchOption, length, slice_index};
 ghost use Rattle.lit_base.specs.Chains.{IsChained};
 ghost use Rattle.lit_base.specs.Occurrences.{IsFirstEnding, NoneEnds, Occurs};
-ghost use Rattle.lit_base.specs.declared.limits.TheConstants.{MAX_LITERALS};
+ghost use Rattle.flow_scan.specs.declared.extensions.TheConstants.{MOST_LITERALS};
 ghost use Rattle.flow_scan.specs.Extensions.{AreExtensions, IsLongestSuffix};
 
-use lit_base::{LitList, MAX_LITERALS};
+use lit_base::LitList;
 
 /// A list in which one literal has this many suffixes among the others has no output links: a list of literals each of which is
 /// a suffix of the next would take long. In lists of words a literal has one or two.
@@ -19,11 +19,14 @@ const MOST_SUFFIXES: usize = 16;
 /// begin anywhere. In lists of 1,000 of a text's own words a literal is extended by up to nine.
 const MOST_COMPARED: usize = 16;
 
+/// Longer lists have no output links, so that a plan stays small.
+const MOST_LITERALS: usize = 1024;
+
 /// Stands for no literal.
-const NONE: usize = MAX_LITERALS;
+const NONE: usize = MOST_LITERALS;
 
 /// A place for each literal, and one for none.
-const PLACES: usize = MAX_LITERALS + 1;
+const PLACES: usize = MOST_LITERALS + 1;
 
 /// The literals that extend each literal, in order. The number of literals stands for no more.
 #[derive(Debug, Drop)]
@@ -31,7 +34,7 @@ pub(crate) struct Extensions {
     /// The first that extends a literal, and behind these the first that extends none.
     pub heads: [u16; PLACES],
     /// The next that extends the same as a literal does.
-    pub links: [u16; MAX_LITERALS],
+    pub links: [u16; MOST_LITERALS],
 }
 
 impl Extensions {
@@ -41,7 +44,10 @@ impl Extensions {
     {
         list.normal_law();
         let count = list.len();
-        let mut suffixes = [0; MAX_LITERALS];
+        if count > MOST_LITERALS {
+            return None;
+        }
+        let mut suffixes = [0; MOST_LITERALS];
         'literals: for place in 0..count {
             suffixes[place] = longest_suffix(list, place)? as u16;
         }
@@ -49,14 +55,14 @@ impl Extensions {
     }
 
     /// The chains of so many literals that extend these, made from the last to the first.
-    fn chained(suffixes: &[u16; MAX_LITERALS], count: usize) -> Extensions
-        requires few { count ≤ MAX_LITERALS }
-        requires within { (place : ℕ) → place < count → slice_index suffixes.now place ≤ MAX_LITERALS }
+    fn chained(suffixes: &[u16; MOST_LITERALS], count: usize) -> Extensions
+        requires few { count ≤ MOST_LITERALS }
+        requires within { (place : ℕ) → place < count → slice_index suffixes.now place ≤ MOST_LITERALS }
         ensures room { count ≤ length result.heads }
         ensures chained { IsChained (slice_index suffixes.now) count 0 result.heads result.links }
     {
         let mut heads = [count as u16; PLACES];
-        let mut links = [count as u16; MAX_LITERALS];
+        let mut links = [count as u16; MOST_LITERALS];
         let mut low = count;
         while 0 < low {
             low -= 1;
@@ -102,9 +108,10 @@ impl Extensions {
 
 /// The longest of the literals before a place that is a suffix of the one there, or `NONE`, unless it has too many.
 fn longest_suffix(list: &LitList, place: usize) -> Option<usize>
-    requires { place < length list.now.texts }
+    requires within { place < length list.now.texts }
+    requires few { place < MOST_LITERALS }
     ensures longest { IfSome result (IsLongestSuffix list.now place) }
-    ensures within { IfSome result (λ suffix. suffix ≤ MAX_LITERALS) }
+    ensures within { IfSome result (λ suffix. suffix ≤ MOST_LITERALS) }
 {
     list.normal_law();
     let literal = list.get(place);

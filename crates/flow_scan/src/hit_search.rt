@@ -1,14 +1,14 @@
 //! What finds the hits of a text: a search by a plan, or one that learns.
 ghost use Rattle.std.specs.Prelude.{◌≡◌, ◌+◌, ◌-◌, ◌^◌, ◌<◌, ◌≤◌, IfOk, IsOk, length};
 ghost use Rattle.flow_scan.specs.HitsAt.{Extends};
-ghost use Rattle.flow_scan.specs.NextEnds.{NoEndAfter};
+ghost use Rattle.lit_base.specs.NextEnds.{NoEndAfter};
 ghost use Rattle.flow_scan.specs.Plans.{Plan};
 ghost use Rattle.flow_scan.specs.Tails.{StopsAt};
 
 use crate::compiled::Compiled;
-use crate::endings::Backoff;
+use crate::endings::SievedEnds;
+use crate::ends::add_hits_of;
 use crate::hit::Hit;
-use crate::searching::add_hits;
 use std::alloc::AllocError;
 
 /// What finds the hits of a text by a plan.
@@ -52,7 +52,7 @@ impl<'p> HitSearch for PlainSearch<'p> {
         most: usize,
         out: &mut Vec<Hit>,
     ) -> Result<usize, AllocError> {
-        let mut backoff = Backoff::new();
-        add_hits(self.compiled, text, from, at, most, &mut backoff, out)
+        let mut ends = SievedEnds::behind(self.compiled, text, from);
+        add_hits_of(&mut ends, text, from, at, most, out)
     }
 }

@@ -24,6 +24,12 @@ impl Met {
         self.passed = self.passed.saturating_add(mask.count_ones() as usize);
     }
 
+    /// It met one place more that passed the sieve.
+    #[inline(always)]
+    pub fn pass_one(&mut self) {
+        self.passed = self.passed.saturating_add(1);
+    }
+
     /// It met an end for each bit that is claimed.
     #[inline(always)]
     pub fn claim(&mut self, marks: u64) {
@@ -45,6 +51,12 @@ impl Met {
     /// A literal ended somewhere.
     #[inline(always)]
     pub fn end(&mut self) {
-        self.ends = self.ends.saturating_add(1);
+        self.count_ends(1);
+    }
+
+    /// Literals ended at so many places.
+    #[inline(always)]
+    pub fn count_ends(&mut self, count: usize) {
+        self.ends = self.ends.saturating_add(count);
     }
 }

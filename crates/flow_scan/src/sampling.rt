@@ -1,31 +1,7 @@
 //! A sample of a stream that comes in small pieces.
 
+use crate::tuning::LEAST_SAMPLE;
 use std::alloc::{AllocError, Global};
-
-/// Fewer bytes tell too little of a text: of a shorter text nothing is learned, and shorter pieces of a stream are gathered first.
-pub const LEAST_SAMPLE: usize = 16384;
-
-/// A piece with fewer bytes behind those at its seam is not gathered: what it takes besides its bytes is more than these gain. By what was learned
-/// scans of pieces of 250 bytes took 0.2 to 0.6 of the time with 100 and 1,000 rare literals, with 30 of them 0.8 to 1.5 times as long. The number
-/// was not varied.
-const LEAST_GATHERED: usize = 192;
-
-/// The same for lists of at most `FEW_BY_MASKS` literals, which the plan's masks serve well. By what was learned scans with 5 and 10 of them took
-/// 0.5 to 2.5 times as long in pieces of 1,000 bytes, and 0.5 to 0.9 of the time in pieces of 4,096, but for one list of seven, with 1.4. Neither
-/// number was varied.
-const LEAST_GATHERED_OF_FEW: usize = 3072;
-
-/// So many literals at most are few for masks: two for each bucket.
-const FEW_BY_MASKS: usize = 16;
-
-/// How many bytes a piece has at least, behind those at its seam, that is gathered for a list of so many literals.
-pub(crate) fn least_gathered(len: usize) -> usize {
-    if len <= FEW_BY_MASKS {
-        LEAST_GATHERED_OF_FEW
-    } else {
-        LEAST_GATHERED
-    }
-}
 
 /// Bytes of pieces that are too short to learn from, behind each other. All memory is taken when it is made.
 #[derive(Debug, Drop)]

@@ -1,8 +1,7 @@
 //! Scanning a stream that comes in pieces.
-ghost use Rattle.std.specs.Prelude.{◌≡◌, ◌↔◌, ◌+◌, ◌-◌, ◌^◌, ◌<◌, ◌≤◌, ◌⊎◌, ◌++◌, IfErr, IfOk, IsErrOf, IsOk, IsOkUnless, OnErr, OnOk, length, min, take};
+ghost use Rattle.std.specs.Prelude.{◌≡◌, ◌↔◌, ◌+◌, ◌-◌, ◌^◌, ◌≤◌, ◌⊎◌, ◌++◌, IfErr, IfOk, IsErrOf, IsOkUnless, OnErr, OnOk, length, min, take};
 ghost use Rattle.flow_scan.specs.declared.fault.Fault.TheVariants.{OutOfMemory, StreamTooLong};
-ghost use Rattle.flow_scan.specs.NextEnds.{NoEndAfter};
-ghost use Rattle.flow_scan.specs.HitsAt.{Extends};
+ghost use Rattle.lit_base.specs.NextEnds.{NoEndAfter};
 ghost use Rattle.flow_scan.specs.Scanners.{Scanning, fed, started};
 ghost use Rattle.flow_scan.specs.Tails.{GainsHits, StopsIn, carry_of};
 
@@ -10,9 +9,9 @@ use crate::compiled::Compiled;
 use crate::end_finder::EndFinder;
 use crate::fault::Fault;
 use crate::hit::Hit;
-use crate::hit_search::{HitSearch, PlainSearch};
-use crate::seam::Seam;
-use std::alloc::{AllocError, Global};
+use crate::hit_search::PlainSearch;
+use crate::progress::Progress;
+use std::alloc::Global;
 use std::marker::Model;
 
 /// A scan of one stream by a plan. It is fed the stream in pieces, cut anywhere, and gives every hit
@@ -21,26 +20,19 @@ use std::marker::Model;
 #[derive(Drop)]
 pub struct Scanner<'p> {
     compiled: &'p Compiled,
-    base: u64,
-    /// How many bytes were fed.
-    count: u64,
-    seam: Seam,
+    progress: Progress,
 }
 
 impl<'p> Model for Scanner<'p> {
-    ghost use Rattle.std.specs.Prelude.{◌+◌};
-    ghost use Rattle.flow_scan.specs.Scanners.{IsScanner, Scanning};
+    ghost use Rattle.std.specs.Prelude.{◌≡◌};
+    ghost use Rattle.flow_scan.specs.Scanners.{Scanning, scanning};
+    ghost use Rattle.flow_scan.specs.Tails.{carry_of};
 
     ghost Value = { Scanning };
 
-    ghost view = { λ s. record {
-      plan = s.compiled.now;
-      base = s.base;
-      place = s.base + s.count;
-      tail = s.seam.tail;
-    } };
+    ghost view = { λ s. scanning s.compiled.now s.progress };
 
-    ghost invariant = { λ s. IsScanner s.compiled.now s.base s.count s.seam };
+    ghost invariant = { λ s. s.progress.carry ≡ carry_of s.compiled.now.literals };
 }
 
 impl<'p> Scanner<'p> {
@@ -57,13 +49,8 @@ impl<'p> Scanner<'p> {
         ensures ok { IfOk result (λ s. s ≡ started compiled.now base) }
         ensures refused { IsOkUnless result OutOfMemory }
     {
-        let seam = Seam::new(alloc, compiled.carry())?;
-        Ok(Scanner {
-            compiled,
-            base,
-            count: 0,
-            seam,
-        })
+        let progress = Progress::new(alloc, compiled.carry(), base)?;
+        Ok(Scanner { compiled, progress })
     }
 
     /// Feeds the next piece, and adds the hits that end in it to `out`: in order, each once, their
@@ -114,7 +101,8 @@ impl<'p> Scanner<'p> {
         let mut search = PlainSearch {
             compiled: self.compiled,
         };
-        self.feed_by(&mut search, piece, most, out)
+        self.progress
+            .feed_by(&mut search, self.compiled, piece, most, out)
     }
 
     /// Feeds the next piece as `feed_until` does, by a search that learns from it: the finder is one by the scan's plan, and may
@@ -142,45 +130,8 @@ impl<'p> Scanner<'p> {
         ensures quiet { NoEndAfter self.old.plan.literals (self.old.tail ++ piece.now) (length self.old.tail)
             → IsOkUnless result StreamTooLong }
     {
-        self.feed_by(finder, piece, most, out)
-    }
-
-    /// Feeds the next piece as `feed_until` does, by a search for its hits.
-    fn feed_by<S: HitSearch>(
-        &mut self,
-        search: &mut S,
-        piece: &[u8],
-        most: usize,
-        out: &mut Vec<Hit>,
-    ) -> Result<usize, Fault>
-        requires { S.plan search.old ≡ self.old.plan }
-        ensures plan { S.plan search.new ≡ S.plan search.old }
-        ensures ok { IfOk result (λ count. self.new ≡ fed self.old (take count piece.now)) }
-        ensures hits { IfOk result (λ count. StopsIn self.old.plan.literals self.old.tail piece.now self.old.place most count out.old.items out.new.items) }
-        ensures too_long { IsErrOf result StreamTooLong ↔ (2 ^ 64 ≤ self.old.place + length piece.now) }
-        ensures faults { IfErr result (λ fault. (fault ≡ StreamTooLong) ⊎ (fault ≡ OutOfMemory)) }
-        ensures same { OnErr result (self.new ≡ self.old) }
-        ensures same_hits { OnErr result (out.new.items ≡ out.old.items) }
-        ensures quiet { NoEndAfter self.old.plan.literals (self.old.tail ++ piece.now) (length self.old.tail)
-            → IsOkUnless result StreamTooLong }
-    {
-        if piece.len() as u64 > u64::MAX - self.place() {
-            return Err(Fault::StreamTooLong);
-        }
-        self.seam.offer(piece);
-        let before = out.len();
-        let at = self.place();
-        match add_piece(search, self.compiled, &self.seam, piece, at, most, out) {
-            Ok(count) => {
-                self.seam.commit(piece, count);
-                self.count += count as u64;
-                Ok(count)
-            }
-            Err(_) => {
-                out.truncate(before);
-                Err(Fault::OutOfMemory)
-            }
-        }
+        self.progress
+            .feed_by(finder, self.compiled, piece, most, out)
     }
 
     /// The place reached: the base and how many bytes were fed.
@@ -188,7 +139,7 @@ impl<'p> Scanner<'p> {
         ensures place { result ≡ self.now.place }
         ensures tail { length self.now.tail ≡ min (result - self.now.base) (carry_of self.now.plan.literals) }
     {
-        self.base + self.count
+        self.progress.place()
     }
 
     /// An equal scan: from here on both give the same hits. The only refusal is `OutOfMemory`.
@@ -196,48 +147,10 @@ impl<'p> Scanner<'p> {
         ensures ok { IfOk result (λ s. s ≡ self.now) }
         ensures refused { IsOkUnless result OutOfMemory }
     {
-        let seam = self.seam.copy()?;
+        let progress = self.progress.copy()?;
         Ok(Scanner {
             compiled: self.compiled,
-            base: self.base,
-            count: self.count,
-            seam,
+            progress,
         })
     }
-}
-
-/// Adds the hits that end in a piece by a search, where its first bytes stand at the seam: those in its first bytes
-/// from there, and the others from the piece in place, up to the first end by which `out` gained at
-/// least `most` of them. The answer is how many bytes of the piece lie up to there, or its length.
-/// Where memory is refused, hits before were added.
-fn add_piece<S: HitSearch>(
-    search: &mut S,
-    compiled: &Compiled,
-    seam: &Seam,
-    piece: &[u8],
-    at: u64,
-    most: usize,
-    out: &mut Vec<Hit>,
-) -> Result<usize, AllocError>
-    requires plan { S.plan search.old ≡ compiled.now }
-    requires carry { seam.now.carry ≡ carry_of compiled.now.literals }
-    requires front { seam.now.front ≡ take seam.now.carry piece.now }
-    requires room { at + length piece.now < 2 ^ 64 }
-    ensures plan { S.plan search.new ≡ S.plan search.old }
-    ensures ok { IfOk result (λ count. StopsIn compiled.now.literals seam.now.tail piece.now at most count out.old.items out.new.items) }
-    ensures kept { Extends out.old.items out.new.items }
-    ensures quiet { NoEndAfter compiled.now.literals (seam.now.tail ++ piece.now) (length seam.now.tail) → IsOk result }
-{
-    let before = out.len();
-    let stop = search.add_hits(seam.text(), seam.tail_len(), at, most, out)?;
-    let gained = out.len() - before;
-    if gained >= most {
-        return Ok(stop - seam.tail_len());
-    }
-    let carry = compiled.carry();
-    if piece.len() <= carry {
-        return Ok(stop - seam.tail_len());
-    }
-    let in_place = search.add_hits(piece, carry, at + carry as u64, most - gained, out)?;
-    Ok(in_place)
 }

@@ -2,18 +2,19 @@
 ghost use Rattle.std.specs.Prelude.{◌≡◌, ◌^◌, ◌<◌, ◌≤◌, ◌⊎◌, IfErr, IfOk, IsErr, IsOk, IsOkUnless, length};
 ghost use Rattle.std.specs.List.{concat};
 ghost use Rattle.lit_base.specs.Assignments.{NoAssignmentBelow};
+ghost use Rattle.lit_base.specs.Profiles.{buckets};
 ghost use Rattle.lit_base.specs.Occurrences.{IsHits};
 ghost use Rattle.flow_scan.specs.declared.fault.Fault.TheVariants.{OutOfMemory, StreamTooLong};
-ghost use Rattle.flow_scan.specs.NextEnds.{NoEndAfter};
+ghost use Rattle.lit_base.specs.NextEnds.{NoEndAfter};
 ghost use Rattle.flow_scan.specs.Tails.{AreHitsBehind, Continues, PiecesLaw, bytes_of};
 
 use crate::carry::carry;
 use crate::compiled::{Compiled, least_law};
-use crate::endings::Backoff;
+use crate::endings::SievedEnds;
+use crate::ends::add_hits_of;
 use crate::fault::Fault;
 use crate::hit::Hit;
 use crate::scanner::Scanner;
-use crate::searching::add_hits;
 use lit_base::LitList;
 use std::alloc::Global;
 
@@ -49,16 +50,8 @@ pub fn scan_behind(
     let _carry = compiled.carry();
     let mut hits = Vec::new(alloc);
     let at = from as u64;
-    let mut backoff = Backoff::new();
-    add_hits(
-        compiled,
-        text,
-        from,
-        at,
-        usize::MAX,
-        &mut backoff,
-        &mut hits,
-    )?;
+    let mut ends = SievedEnds::behind(compiled, text, from);
+    add_hits_of(&mut ends, text, from, at, usize::MAX, &mut hits)?;
     Ok(hits)
 }
 
@@ -73,7 +66,7 @@ pub fn scan_pieces(
     compiled: &Compiled,
     pieces: &[Vec<u8>],
 ) -> Result<Vec<Hit>, Fault>
-    ensures least { NoAssignmentBelow 8 compiled.now.literals compiled.now.certificate.cost }
+    ensures least { NoAssignmentBelow (buckets compiled.now.certificate.profile) compiled.now.literals compiled.now.certificate.cost }
     ensures hits { IfOk result (λ hits. IsHits compiled.now.literals (concat (bytes_of pieces.now)) hits.items) }
     ensures refused { IfErr result (λ fault. (fault ≡ OutOfMemory)
         ⊎ ((fault ≡ StreamTooLong) × (2 ^ 64 ≤ length (concat (bytes_of pieces.now))))) }

@@ -84,6 +84,14 @@ impl Seam {
         self.ahead = 0;
     }
 
+    /// Forgets all bytes.
+    pub(crate) fn restart(&mut self)
+        ensures { self.new ≡ record self.old { tail = []; front = [] } }
+    {
+        self.held = 0;
+        self.ahead = 0;
+    }
+
     /// An equal seam.
     pub(crate) fn copy(&self) -> Result<Seam, AllocError>
         ensures { IfOk result (λ s. s ≡ self.now) }

@@ -2,15 +2,14 @@
 ghost use Rattle.std.specs.Prelude.{◌≡◌, ℕ, ◌+◌, ◌-◌, ◌^◌, ◌<◌, ◌≤◌, IfOk, IsOk, MatchOption, OnOk, List, length};
 ghost use Rattle.lit_base.specs.Occurrences.{IsFirstEnding};
 ghost use Rattle.flow_scan.specs.Extensions.{AreExtensions};
-ghost use Rattle.flow_scan.specs.NextEnds.{IsNextEnd, NoEndAfter};
-ghost use Rattle.text_windows.specs.NoEnds.{NoEndUpTo};
+ghost use Rattle.lit_base.specs.NextEnds.{IsNextEnd, NoEndAfter, NoEndUpTo};
 ghost use Rattle.flow_scan.specs.HitsAt.{Extends, GainsHitsAt};
-ghost use Rattle.flow_scan.specs.Tails.{StopsAt};
 
 use crate::compiled::Compiled;
-use crate::endings::{Backoff, next_verified};
+use crate::endings::next_verified;
 use crate::extensions::Extensions;
 use crate::hit::Hit;
+use crate::met::Met;
 use lane_filter::Candidates;
 use lit_base::LitList;
 use std::alloc::AllocError;
@@ -27,7 +26,7 @@ pub fn next_end(compiled: &Compiled, text: &[u8], from: usize) -> Option<usize>
     if start >= text.len() {
         return None;
     }
-    match next_plainly(compiled, text, start, &mut Backoff::new()) {
+    match next_plainly(compiled, text, start, &mut Met::nothing()) {
         Some((end, _)) => Some(end),
         None => None,
     }
@@ -40,7 +39,7 @@ pub(crate) fn next_plainly(
     compiled: &Compiled,
     text: &[u8],
     from: usize,
-    backoff: &mut Backoff,
+    met: &mut Met,
 ) -> Option<(usize, usize)>
     requires inside { from ≤ length text.now }
     ensures next { MatchOption result
@@ -48,7 +47,7 @@ pub(crate) fn next_plainly(
         (λ found. IsNextEnd compiled.now.literals text.now from found.0) }
 {
     let mut candidates = Candidates::new(compiled.sieve(), text, from);
-    next_verified(compiled.list(), text, &mut candidates, backoff)
+    next_verified(compiled.list(), text, &mut candidates, met)
 }
 
 /// A place from `from` on up to which no literal can end, as each is longer. A search that begins
@@ -61,38 +60,6 @@ pub(crate) fn skip_short_ends(list: &LitList, from: usize) -> usize
         return from;
     }
     from.max(list.shortest().saturating_sub(1))
-}
-
-/// Adds the hits that end in the text behind `from`, where this place counts as `at`, up to the first
-/// end by which `out` gained at least `most` of them. The answer is that end, or the text's length. `backoff` is one that
-/// has not searched yet, and tells behind it what was spent on what ended nothing, and how many ends were found.
-/// Memory is refused only after a hit was found, and then the hits before it were added.
-pub(crate) fn add_hits(
-    compiled: &Compiled,
-    text: &[u8],
-    from: usize,
-    at: u64,
-    most: usize,
-    backoff: &mut Backoff,
-    out: &mut Vec<Hit>,
-) -> Result<usize, AllocError>
-    requires inside { from ≤ length text.now }
-    requires room { at + (length text.now - from) < 2 ^ 64 }
-    ensures ok { IfOk result (λ stop. StopsAt compiled.now.literals text.now from at most stop out.old.items out.new.items) }
-    ensures kept { Extends out.old.items out.new.items }
-    ensures quiet { NoEndAfter compiled.now.literals text.now from → IsOk result }
-{
-    let list = compiled.list();
-    let mut candidates = Candidates::new(compiled.sieve(), text, from);
-    let before = out.len();
-    while let Some((end, first)) = next_verified(list, text, &mut candidates, backoff) {
-        backoff.count_end();
-        add_hits_at(compiled, text, end, first, at + (end - from) as u64, out)?;
-        if out.len() - before >= most {
-            return Ok(end);
-        }
-    }
-    Ok(text.len())
 }
 
 /// Adds the hits at one place of the text, which counts as `at`, `first` being the first literal

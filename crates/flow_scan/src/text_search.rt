@@ -1,11 +1,10 @@
 //! A search of one text for one end after the other.
-ghost use Rattle.std.specs.Prelude.{◌≡◌, ◌≤◌, IfErr, IfOk, MatchOption, length};
-ghost use Rattle.flow_scan.specs.NextEnds.{IsNextEnd, IsPassed, NoEndAfter};
+ghost use Rattle.std.specs.Prelude.{◌≡◌, ◌≤◌, MatchOption, length};
+ghost use Rattle.lit_base.specs.NextEnds.{IsNextEnd, NoEndAfter};
 
 use crate::compiled::Compiled;
-use crate::endings::{Backoff, next_verified};
-use crate::nearby::{is_near, next_nearby};
-use crate::pace::FALSE_COST;
+use crate::endings::next_verified;
+use crate::met::Met;
 use crate::searching::skip_short_ends;
 use lane_filter::Candidates;
 use std::marker::Model;
@@ -17,9 +16,7 @@ pub struct TextSearch<'a> {
     compiled: &'a Compiled,
     text: &'a [u8],
     candidates: Candidates<'a>,
-    backoff: Backoff,
-    /// Whether the next end is likely to be so near that looks at the places behind a hit find it sooner than the sieve does.
-    is_near: bool,
+    met: Met,
 }
 
 impl<'a> Model for TextSearch<'a> {
@@ -47,8 +44,7 @@ impl<'a> TextSearch<'a> {
             compiled,
             text,
             candidates,
-            backoff: Backoff::new(),
-            is_near: false,
+            met: Met::nothing(),
         }
     }
 
@@ -64,51 +60,28 @@ impl<'a> TextSearch<'a> {
         if start >= self.text.len() {
             return None;
         }
-        match self.next_far(start, start) {
+        match self.next_after(start) {
             Some((end, _)) => Some(end),
             None => None,
         }
     }
 
-    /// Where ends are near each other, a search behind a place of the text over some places without the sieve: an end, with the
-    /// first literal that ends there, or a place up to which there is none.
+    /// The search of `next_end` after a place within the text, with the first literal that ends at the place found.
     #[inline]
-    pub(crate) fn next_near(&mut self, from: usize) -> Result<(usize, usize), usize>
+    pub(crate) fn next_after(&mut self, from: usize) -> Option<(usize, usize)>
         requires { from ≤ length self.old.text }
         ensures same { self.new ≡ self.old }
-        ensures next { IfOk result (λ found. IsNextEnd self.old.plan.literals self.old.text from found.0) }
-        ensures passed { IfErr result (IsPassed self.old.plan.literals self.old.text from) }
-    {
-        if !self.is_near {
-            return Err(from);
-        }
-        let before = self.backoff.spent();
-        let found = next_nearby(self.compiled.list(), self.text, from, &mut self.backoff);
-        self.is_near = self.backoff.spent().saturating_sub(before) < FALSE_COST;
-        found
-    }
-
-    /// The search of `next_end` behind a place of the text up to which a search from another one found nothing, with the first
-    /// literal that ends at the place found.
-    #[inline]
-    pub(crate) fn next_far(&mut self, from: usize, seen: usize) -> Option<(usize, usize)>
-        requires { seen ≤ length self.old.text }
-        ensures same { self.new ≡ self.old }
         ensures next { MatchOption result
-            (NoEndAfter self.old.plan.literals self.old.text seen)
-            (λ found. IsNextEnd self.old.plan.literals self.old.text seen found.0) }
+            (NoEndAfter self.old.plan.literals self.old.text from)
+            (λ found. IsNextEnd self.old.plan.literals self.old.text from found.0) }
     {
-        let before = self.backoff.spent();
-        self.candidates.skip_to(seen);
-        let found = next_verified(
+        self.candidates.skip_to(from);
+        next_verified(
             self.compiled.list(),
             self.text,
             &mut self.candidates,
-            &mut self.backoff,
-        );
-        let spent = self.backoff.spent().saturating_sub(before);
-        self.is_near = is_near(self.compiled.list(), from, found, spent);
-        found
+            &mut self.met,
+        )
     }
 
     /// The text.
@@ -118,8 +91,8 @@ impl<'a> TextSearch<'a> {
         self.text
     }
 
-    /// What the search spent so far on candidates and marks at which nothing ended, and on looks, in tenths of a nanosecond.
-    pub(crate) fn spent(&self) -> usize {
-        self.backoff.spent()
+    /// How many candidates the search met so far at which nothing ended.
+    pub(crate) fn missed(&self) -> usize {
+        self.met.passed
     }
 }

@@ -1,52 +1,94 @@
 //! The search for ends by the automaton of the literals.
-ghost use Rattle.std.specs.Prelude.{◌≡◌, ◌+◌, ◌-◌, ◌^◌, ◌<◌, ◌≤◌, IfOk, IsOk, OnOk, length};
+ghost use Rattle.std.specs.Prelude.{◌≡◌, ◌+◌, ◌≤◌, OnOk, length, true};
 ghost use Rattle.flow_scan.specs.HitsAt.{Extends, GainsHitsAt};
-ghost use Rattle.flow_scan.specs.NextEnds.{NoEndAfter};
-ghost use Rattle.flow_scan.specs.Tails.{StopsAt};
-ghost use Rattle.text_automaton.specs.Automata.{AreEnding, IsReading, place_of};
+ghost use Rattle.text_automaton.specs.Automata.{AreEnding, IsReading, IsStateAt, place_of};
 
 use crate::compiled::Compiled;
+use crate::ends::Ends;
 use crate::hit::Hit;
-use crate::met::Met;
 use crate::searching::hit_of;
 use lit_base::LitList;
 use std::alloc::AllocError;
+use std::marker::Model;
 use text_automaton::{Automaton, Reading};
 
-/// Adds the hits that end in the text behind `from`, as `add_hits` of a plan does, and to `met` what is met: by the automaton, of which the
-/// text is read behind that place.
-pub(crate) fn add_hits_by_automaton(
-    compiled: &Compiled,
-    automaton: &Automaton<'_>,
-    start: Reading,
-    text: &[u8],
-    from: usize,
-    at: u64,
-    most: usize,
-    met: &mut Met,
-    out: &mut Vec<Hit>,
-) -> Result<usize, AllocError>
-    requires literals { automaton.now.literals ≡ compiled.now.literals }
-    requires inside { from ≤ length text.now }
-    requires room { at + (length text.now - from) < 2 ^ 64 }
-    requires reading { IsReading automaton.now text.now start }
-    requires place { place_of start ≡ from }
-    ensures ok { IfOk result (λ stop. StopsAt compiled.now.literals text.now from at most stop out.old.items out.new.items) }
-    ensures kept { Extends out.old.items out.new.items }
-    ensures quiet { NoEndAfter compiled.now.literals text.now from → IsOk result }
-{
-    let list = compiled.list();
-    let before = out.len();
-    let mut reading = start;
-    while let Some((end, state)) = automaton.next_end(text, &mut reading) {
-        met.end();
-        let told = automaton.told_by(state);
-        add_told(list, text, end, told, at + (end - from) as u64, out)?;
-        if out.len() - before >= most {
-            return Ok(end);
+/// The ends of a text by the automaton.
+#[derive(Drop)]
+pub(crate) struct ToldEnds<'a, 'p> {
+    compiled: &'a Compiled,
+    automaton: &'a Automaton<'p>,
+    text: &'a [u8],
+    reading: Reading,
+    ends: usize,
+}
+
+impl<'a, 'p> Model for ToldEnds<'a, 'p> {
+    ghost use Rattle.std.specs.Prelude.{◌≡◌};
+    ghost use Rattle.flow_scan.specs.Walks.{ToldWalk};
+    ghost use Rattle.text_automaton.specs.Automata.{IsReading, place_of};
+
+    ghost Value = { ToldWalk };
+
+    ghost view = { λ w. record {
+      walk = record { literals = w.compiled.now.literals; text = w.text.now; from = place_of w.reading };
+      telling = w.automaton.now;
+    } };
+
+    ghost invariant = { λ w. IsReading w.automaton.now w.text.now w.reading
+        × (w.automaton.now.literals ≡ w.compiled.now.literals) };
+}
+
+impl<'a, 'p> ToldEnds<'a, 'p> {
+    /// Those behind a place, from which on the text is read.
+    pub fn of(
+        compiled: &'a Compiled,
+        automaton: &'a Automaton<'p>,
+        text: &'a [u8],
+        reading: Reading,
+    ) -> ToldEnds<'a, 'p>
+        requires literals { automaton.now.literals ≡ compiled.now.literals }
+        requires reading { IsReading automaton.now text.now reading }
+        ensures { result.walk ≡ record { literals = compiled.now.literals; text = text.now; from = place_of reading } }
+    {
+        ToldEnds {
+            compiled,
+            automaton,
+            text,
+            reading,
+            ends: 0,
         }
     }
-    Ok(text.len())
+
+    /// How many ends were found so far.
+    pub fn ends(&self) -> usize {
+        self.ends
+    }
+}
+
+impl<'a, 'p> Ends for ToldEnds<'a, 'p> {
+    ghost walk = { λ w. w.walk };
+
+    ghost tells = { λ w end state. IsStateAt w.telling w.walk.text end state × (w.telling.is_made ≡ true)
+        × (w.telling.literals ≡ w.walk.literals) };
+
+    #[inline(always)]
+    fn next_end(&mut self) -> Option<(usize, usize)> {
+        let found = self.automaton.next_end(self.text, &mut self.reading);
+        self.ends = self.ends.saturating_add(usize::from(found.is_some()));
+        found
+    }
+
+    #[inline(always)]
+    fn add_hits_at(
+        &self,
+        end: usize,
+        told: usize,
+        at: u64,
+        out: &mut Vec<Hit>,
+    ) -> Result<(), AllocError> {
+        let places = self.automaton.told_by(told);
+        add_told(self.compiled.list(), self.text, end, places, at, out)
+    }
 }
 
 /// Adds the hits at one place of the text, which counts as `at`: the literals that end there are known. Where memory is refused the hits

@@ -1,16 +1,20 @@
 //! The search for ends by windows that were chosen from a text.
 ghost use Rattle.std.specs.Prelude.{◌≡◌, ℕ, ◌+◌, ◌-◌, ◌^◌, ◌<◌, ◌≤◌, IfSome, MatchOption, length, min};
 ghost use Rattle.std.specs.Int.{bit_at};
-ghost use Rattle.lit_base.specs.Occurrences.{IsFirstEnding};
-ghost use Rattle.flow_scan.specs.NextEnds.{IsNextEnd, NoEndAfter};
-ghost use Rattle.text_windows.specs.NoEnds.{NoEndUpTo};
+ghost use Rattle.lit_base.specs.Occurrences.{HasEnd, IsFirstEnding};
+ghost use Rattle.lit_base.specs.NextEnds.{IsNextEnd, NoEndAfter, NoEndUpTo};
 ghost use Rattle.flow_scan.specs.Windowed.{AreClaims};
 ghost use Rattle.flow_scan.specs.declared.claiming.TheConstants.{BLOCK};
 
 use crate::claiming::{BLOCK, claims_behind, next_claims};
+use crate::compiled::Compiled;
+use crate::ends::Ends;
+use crate::hit::Hit;
 use crate::met::Met;
-use crate::strides::first_marked;
+use crate::searching::add_hits_at;
 use lit_base::LitList;
+use std::alloc::AllocError;
+use std::marker::Model;
 use text_windows::Windows;
 
 /// Marks tell ends that stand at most so many places behind them.
@@ -29,21 +33,14 @@ pub(crate) struct Claims {
 
 impl Claims {
     /// Those of a search behind a place of a text. It takes no memory.
-    pub fn behind(
-        windows: &Windows<'_>,
-        list: &LitList,
-        text: &[u8],
-        from: usize,
-        met: &mut Met,
-    ) -> Claims
-        requires list { windows.now.literals ≡ list.now }
-        requires inside { from ≤ length text.now }
+    pub fn behind(windows: &Windows<'_>, text: &[u8], from: usize, met: &mut Met) -> Claims
+        requires { from ≤ length text.now }
         ensures claims { AreClaims windows.now text.now result }
         ensures seen { result.seen ≡ from }
     {
-        let _split = windows.split();
+        let _stride = windows.stride();
         let start = from.saturating_sub(REACH);
-        let marks = claims_behind(windows, list, text, start, 0, met);
+        let marks = claims_behind(windows, text, start, 0, met);
         let block = Claims {
             seen: start,
             count: BLOCK.min(text.len() - start),
@@ -101,7 +98,7 @@ impl Claims {
                 *self = claims;
                 return None;
             }
-            claims = claims.next_block(windows, list, text, met);
+            claims = claims.next_block(windows, text, met);
         }
     }
 
@@ -124,17 +121,16 @@ impl Claims {
 
     /// Those of the next block, where nothing ends in this one.
     #[inline(always)]
-    fn next_block(self, windows: &Windows<'_>, list: &LitList, text: &[u8], met: &mut Met) -> Claims
-        requires list { windows.now.literals ≡ list.now }
+    fn next_block(self, windows: &Windows<'_>, text: &[u8], met: &mut Met) -> Claims
         requires claims { AreClaims windows.now text.now self }
         requires left { self.seen + self.count < length text.now }
         ensures claims { AreClaims windows.now text.now result }
         ensures ahead { self.seen + self.count ≤ result.seen }
         ensures some { self.seen + self.count < result.seen + result.count }
-        ensures none { NoEndUpTo list.now text.now (self.seen + self.count) result.seen }
+        ensures none { NoEndUpTo windows.now.literals text.now (self.seen + self.count) result.seen }
     {
         let rest = self.but_first(self.count);
-        let (seen, marks) = next_claims(windows, list, text, rest.seen, rest.marks, met);
+        let (seen, marks) = next_claims(windows, text, rest.seen, rest.marks, met);
         met.claim(marks);
         Claims {
             seen,
@@ -144,24 +140,116 @@ impl Claims {
     }
 }
 
-/// The first place of the text behind `from` at which some literal ends, wherever it begins, with the first
-/// literal that ends there, if there is one. Adds to `met` what is met at which none does. It takes no memory.
-pub(crate) fn next_end_by_windows(
-    windows: &Windows<'_>,
+/// The ends of a text by windows.
+#[derive(Drop)]
+pub(crate) struct WindowedEnds<'a, 'p> {
+    compiled: &'a Compiled,
+    windows: &'a Windows<'p>,
+    text: &'a [u8],
+    claims: Claims,
+    met: Met,
+}
+
+impl<'a, 'p> Model for WindowedEnds<'a, 'p> {
+    ghost use Rattle.std.specs.Prelude.{◌≡◌};
+    ghost use Rattle.flow_scan.specs.Walks.{Walk};
+    ghost use Rattle.flow_scan.specs.Windowed.{AreClaims};
+
+    ghost Value = { Walk };
+
+    ghost view = { λ w. record { literals = w.compiled.now.literals; text = w.text.now; from = w.claims.seen } };
+
+    ghost invariant = { λ w. AreClaims w.windows.now w.text.now w.claims
+        × (w.windows.now.literals ≡ w.compiled.now.literals) };
+}
+
+impl<'a, 'p> WindowedEnds<'a, 'p> {
+    /// Those behind a place.
+    pub fn behind(
+        compiled: &'a Compiled,
+        windows: &'a Windows<'p>,
+        text: &'a [u8],
+        from: usize,
+    ) -> WindowedEnds<'a, 'p>
+        requires literals { windows.now.literals ≡ compiled.now.literals }
+        requires inside { from ≤ length text.now }
+        ensures { result ≡ record { literals = compiled.now.literals; text = text.now; from = from } }
+    {
+        let mut met = Met::nothing();
+        let claims = Claims::behind(windows, text, from, &mut met);
+        WindowedEnds {
+            compiled,
+            windows,
+            text,
+            claims,
+            met,
+        }
+    }
+
+    /// What was met so far.
+    pub fn met(&self) -> Met {
+        self.met
+    }
+}
+
+impl<'a, 'p> Ends for WindowedEnds<'a, 'p> {
+    ghost walk = { λ w. w };
+
+    ghost tells = { λ w end first. IsFirstEnding w.literals w.text 0 end first };
+
+    #[inline(always)]
+    fn next_end(&mut self) -> Option<(usize, usize)> {
+        let list = self.compiled.list();
+        self.claims
+            .next_end(self.windows, list, self.text, &mut self.met)
+    }
+
+    #[inline(always)]
+    fn add_hits_at(
+        &self,
+        end: usize,
+        told: usize,
+        at: u64,
+        out: &mut Vec<Hit>,
+    ) -> Result<(), AllocError> {
+        add_hits_at(self.compiled, self.text, end, told, at, out)
+    }
+}
+
+/// Of so many places behind `seen`, the first at which some literal ends, if there is one. The
+/// places where one ends are marked.
+#[inline(never)]
+fn first_marked(
     list: &LitList,
     text: &[u8],
-    from: usize,
-    met: &mut Met,
+    seen: usize,
+    count: usize,
+    marks: u64,
 ) -> Option<(usize, usize)>
-    requires { windows.now.literals ≡ list.now }
+    requires few { count ≤ 64 }
+    requires inside { seen < length text.now }
+    requires marked { (back : ℕ) → back < count → HasEnd list.now text.now (seen + 1 + back) → bit_at marks back ≡ 1 }
     ensures next { MatchOption result
-        (NoEndAfter list.now text.now from)
-        (λ found. IsNextEnd list.now text.now from found.0) }
+        ((back : ℕ) → back < count → ¬ HasEnd list.now text.now (seen + 1 + back))
+        (λ found. IsNextEnd list.now text.now seen found.0) }
+    ensures within { IfSome result (λ found. found.0 ≤ seen + count) }
     ensures first { IfSome result (λ found. IsFirstEnding list.now text.now 0 found.0 found.1) }
 {
-    if from >= text.len() {
-        return None;
+    let room = count.min(text.len() - seen);
+    let mut back = 0;
+    let mut rest = marks;
+    while rest != 0 {
+        let unmarked = rest.trailing_zeros() as usize;
+        back += unmarked;
+        if back >= room {
+            return None;
+        }
+        let end = seen + 1 + back;
+        if let Some(first) = list.next_ending(text, end, 0) {
+            return Some((end, first));
+        }
+        back += 1;
+        rest = rest >> unmarked >> 1;
     }
-    let mut claims = Claims::behind(windows, list, text, from, met);
-    claims.next_end(windows, list, text, met)
+    None
 }

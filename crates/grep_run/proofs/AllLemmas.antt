@@ -1,4 +1,4 @@
--- All inputs of a run: those of its operands, or standard input alone.
+-- All inputs of a run: of its operands, or standard input alone.
 use Rattle.std.proofs.Common.{◌≡◌, ℕ, ◌<◌, Bool, true, false, ◌&&◌, List, [], ◌∷◌, map, length, Option, Result, Ok, Err, eqb, refl, arith}
 use Rattle.byte_io.specs.Sources.{AreShort, Ask, Sources, after, ask_of, taken_by}
 use Rattle.std.proofs.lemmas.List.{length-map}
@@ -15,7 +15,7 @@ use Rattle.grep_run.specs.Sources.{found, name_of}
 use Rattle.grep_run.specs.Writers.{Writer}
 use Rattle.grep_run.proofs.SearchLemmas.{InputsSoFar-all, InputsSoFar-cut, InputsSoFar-last, InputsSoFar-more, InputsSoFar-none, StopsAt-none}
 
--- what is found in no input
+-- the findings in no input
 abbrev nothing : Found
 nothing = record { is_selected = false; is_error = false }
 
@@ -57,7 +57,7 @@ map-none f (x ∷ xs) e = absurd (omega (arith, is-zero (length (x ∷ xs)) e))
 pub map-some : {X : Type 0} (f : X → List ℕ) (xs : List X) → false ≡ eqb (length xs) 0 → 0 < length (map f xs)
 map-some f xs e = omega (arith, is-positive (length xs) e, length-map xs f)
 
--- where there is no memory to begin, nothing is asked for and nothing written
+-- where there is no memory to begin, there is no ask and nothing is written
 pub search-none : (o : GrepOptions) (test : List ℕ → Bool) (all : List Ask) (known : Option Sources) (out err : Writer)
     → Told known known (λ s l. AreShort s → StopsAt o test (searched o test (found all s)) s l out out err err)
 search-none o test all known out err =

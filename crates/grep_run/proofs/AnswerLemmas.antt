@@ -39,7 +39,7 @@ same-test : (o : GrepOptions) (s mid : Sources) (compiled : CompiledPatterns) �
 same-test o s mid compiled had = same-function _ _ (λ line. standing.selected o.fold (all_patterns o s) compiled.plan compiled.has_empty (record { invert = o.invert; whole = o.whole }) line had.stands)
 
 module _ (o : GrepOptions) (s mid left : Sources) (compiled : CompiledPatterns) (had : HasPatterns o s mid compiled) (out_old out_new err_old err_new : Writer) where
-  -- so the search is that of the run
+  -- so the search is the run's search
   same-search : (r : Result Found Stop) → SearchesAll o (tested_by o compiled) (searched o (tested_by o compiled) (found (searched_of o) mid)) mid left r out_old out_new err_old err_new
       → SearchesAll o (selects o (all_patterns o s)) (inputs_of o s) (behind_files o s) left r out_old out_new err_old err_new
   same-search r p =
@@ -132,7 +132,7 @@ memory-not : (why : NoPatterns) → is_memory_of why ≡ false → why ≢ Refus
 unfolding is_memory_of is_memory
 memory-not why e same = let both : true ≡ false = sym (ap is_memory_of same) ∙ e in (cc)
 
--- what is on a message is a front of it
+-- a front of the message stands there
 message-front : (o : GrepOptions) (s left : Sources) (why : NoPatterns) (is_memory : Bool) {err_old err_new : Writer} → LacksPatterns o s left why → IsRefusalCut why err_old err_new → is_memory_of why ≡ is_memory
     → WritesFront err_old err_new (unwrap_or (patterns_message o s) [])
 message-front o s left why true {err_old} {err_new} p q e = WritesFront-nothing err_old err_new _ (q.untold (memory-is why e))

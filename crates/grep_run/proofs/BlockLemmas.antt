@@ -37,7 +37,7 @@ block-parts o name lent =
           ]
     ]
 
--- where no line is wanted behind the first, nothing is written of lines
+-- where no line is wanted after the first, nothing is written of lines
 none-wanted : (quiet list count : Bool) (text : List ℕ) → (quiet || list) ≡ true → cond (quiet || (list || count)) [] text ≡ []
 none-wanted true list count text e = refl
 none-wanted false true count text e = refl
@@ -61,7 +61,7 @@ pub adds-none : (o : GrepOptions) (name : List ℕ) (lent : List (ℕ × List �
 adds-none o name [] e = refl
 adds-none o name (x ∷ lent) e = ap (λ t. t ++ flat_map (added_line o name) lent) (none-wanted o.quiet o.list o.count (written_line o name x) e) ∙ adds-none o name lent e
 
--- one of those before is one of all
+-- one of the earlier lines is one of all
 pub any-behind : (lent more : List (ℕ × List ℕ)) → 0 < length lent → has_any (lent ++ more) ≡ true
 any-behind lent more some = lt-ltb 0 (length (lent ++ more)) (omega (arith, length-append lent more))
 
@@ -141,7 +141,7 @@ lent-stop o name (LastOne last other) same named = record {
   count = omega (arith, last.count);
 }
 
--- and it holds what it held
+-- and it holds the same text
 pub lent-stop-text : (o : GrepOptions) (name : List ℕ) {old new : Block} {lines : List (ℕ × List ℕ)} → Lent TakesLine old lines (Ok Stop) new → old.options.now ≡ o → old.name.now ≡ name → new.text.items ≡ old.text.items ++ nothing
 lent-stop-text o name (OneMore first others) same named =
     let then = lent-stop o name others (first.options ∙ same) (first.name ∙ named) in

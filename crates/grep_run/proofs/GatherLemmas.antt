@@ -17,14 +17,14 @@ use Rattle.grep_run.specs.Gathering.{Explains, HasPatterns, StopsAtFile, TakesAl
 use Rattle.grep_run.specs.Grep.{asks}
 use Rattle.grep_run.specs.Messages.{patterns_refused}
 use Rattle.grep_run.specs.Options.{asks_for, lists_of}
-use Rattle.grep_run.specs.Patterns.{content_message, files_asked, files_message, files_read, first_of, lists_refusal, literals_refusal, pattern_files, patterns_from, patterns_in}
+use Rattle.grep_run.specs.Patterns.{content_message, files_asked, files_message, files_read, first_of, lists_refusal, pattern_files, patterns_from, patterns_in}
 use Rattle.grep_run.specs.Sources.{Input, found}
 
 -- the patterns of files
 abbrev pub all_from : List Input → List (List ℕ)
 all_from files = flat_map (λ file. patterns_from file.source) files
 
--- the files before those that are left are read, and gave these patterns
+-- the files before the remaining files are read, and gave these patterns
 pub record FilesSoFar (old now : List (List ℕ)) (all rest : List Ask) (s left : Sources) : Type 0 where
   pub message : files_message old (found all s) ≡ files_message now (found rest left)
   pub patterns : old ++ all_from (found all s) ≡ now ++ all_from (found rest left)
@@ -33,7 +33,7 @@ pub record FilesSoFar (old now : List (List ℕ)) (all rest : List Ask) (s left 
   pub after : left ≡ after_all made s
   pub short : AreShort left
 
--- a message that there is not: what stands behind it counts
+-- a message that there is not: what stands after it counts
 behind-none : (message second : Option (List ℕ)) → message ≡ None → first_of message second ≡ second
 behind-none None second e = refl
 behind-none (Some text) second e = (cc)
@@ -43,7 +43,7 @@ rest-read : (message : Option (List ℕ)) (files : List Input) → message ≡ N
 rest-read None files e = refl
 rest-read (Some text) files e = (cc)
 
--- one ask more, behind those that were made
+-- one ask more, after those that were made
 made-more : (made : List Ask) (a : Ask) (rest : List Ask) → made ++ (a ∷ rest) ≡ (made ++ a ∷ []) ++ rest
 made-more made a rest = sym (append_assoc made (a ∷ []) rest)
 
@@ -66,7 +66,7 @@ FilesSoFar-more {old} {now} {all} {s} {mid} new name rest left p e none grown =
       short = subst AreShort (sym e) (short-after (Named name) mid p.short);
     }
 
--- what is on a message is on the first of it and another
+-- a text that explains a message explains the first of it and another
 Explains-first : (why : NoPatterns) (message second : Option (List ℕ)) → Explains why message → Explains why (first_of message second)
 Explains-first (Unreadable name) message second e = ap (λ m. first_of m second) e
 Explains-first (Refused fault) message second e = λ other. ap (λ m. first_of m second) (e other)
@@ -76,7 +76,7 @@ has-message : (why : NoPatterns) (message : Option (List ℕ)) → why ≢ Refus
 has-message (Unreadable name) message other e = ap is_some e
 has-message (Refused fault) message other e = ap is_some (e (λ memory. other (ap Refused memory)))
 
--- where a file gives no patterns, it is the last that is asked for
+-- where a file gives no patterns, it is the last that is opened
 pub FilesSoFar-stop : {old now : List (List ℕ)} {all : List Ask} {s mid : Sources} (name : List ℕ) (rest : List Ask) (left : Sources) (why : NoPatterns)
     → FilesSoFar old now all (Named name ∷ rest) s mid → left ≡ after (Named name) mid → Explains why (content_message now name (source_of name mid.named))
     → StopsAtFile old s left (found all s) why
@@ -111,14 +111,10 @@ files-asked : (o : GrepOptions) (s : Sources) → lists_refusal [] (lists_of o) 
 files-asked o s e = all-read (lists_refusal [] (lists_of o)) _ e
 
 pub patterns-had : (o : GrepOptions) (s left : Sources) (patterns : List (List ℕ)) (compiled : CompiledPatterns) → lists_refusal [] (lists_of o) ≡ None
-    → TakesAllFiles (patterns_in (lists_of o)) patterns s left (pattern_files o s) → literals_refusal o.fold patterns ≡ None → StandsFor o.fold patterns compiled.plan compiled.has_empty
+    → TakesAllFiles (patterns_in (lists_of o)) patterns s left (pattern_files o s) → StandsFor o.fold patterns compiled.plan compiled.has_empty
     → HasPatterns o s left compiled
-patterns-had o s left patterns compiled none p few stands = record {
-  message =
-      none-refused (lists_refusal [] (lists_of o)) _ none
-      ∙ behind-none _ _ p.message
-      ∙ ap (λ ps. option_map patterns_refused (literals_refusal o.fold ps)) (sym p.patterns)
-      ∙ ap (option_map patterns_refused) few;
+patterns-had o s left patterns compiled none p stands = record {
+  message = none-refused (lists_refusal [] (lists_of o)) _ none ∙ p.message;
   stands = subst (λ ps. StandsFor o.fold ps compiled.plan compiled.has_empty) p.patterns stands;
   after = p.after ∙ ap (λ fs. after_all (asks fs) s) (sym (files-asked o s none));
 }
@@ -154,8 +150,8 @@ files-stop known mid left old now name all {here} {rest} why e before step =
 
 -- all patterns are had
 pub had-all : (o : GrepOptions) (known left : Option Sources) (start patterns : List (List ℕ)) (compiled : CompiledPatterns) → lists_refusal [] (lists_of o) ≡ None → start ≡ patterns_in (lists_of o)
-    → Told known left (λ s l. AreShort s → TakesAllFiles start patterns s l (pattern_files o s)) → literals_refusal o.fold patterns ≡ None → StandsFor o.fold patterns compiled.plan compiled.has_empty
+    → Told known left (λ s l. AreShort s → TakesAllFiles start patterns s l (pattern_files o s)) → StandsFor o.fold patterns compiled.plan compiled.has_empty
     → Told known left (λ s l. AreShort s → HasPatterns o s l compiled)
-had-all o known left start patterns compiled none e taken few stands =
+had-all o known left start patterns compiled none e taken stands =
     Told-weaker known left _ (λ s l. AreShort s → HasPatterns o s l compiled) taken (λ s l t short.
-    patterns-had o s l patterns compiled none (subst (λ ps. TakesAllFiles ps patterns s l (pattern_files o s)) e (t short)) few stands)
+    patterns-had o s l patterns compiled none (subst (λ ps. TakesAllFiles ps patterns s l (pattern_files o s)) e (t short)) stands)

@@ -15,10 +15,10 @@ lines-apart : (text : List ℕ) → All IsOnePiece (lines text)
 unfolding lines
 lines-apart text = kept-apart (pieces text) (pieces-apart text)
 
--- those of a list behind others
+-- the pieces of a list after others
 pub pieces-behind : (old new : List (List ℕ)) (text : List ℕ) → All IsOnePiece old → new ≡ old ++ pieces text → All IsOnePiece new
 pieces-behind old new text all e = subst (All IsOnePiece) (sym e) (All-append IsOnePiece old (pieces text) all (pieces-apart text))
 
--- those of a file behind others
+-- the lines of a file after others
 pub lines-behind : (old new : List (List ℕ)) (text : List ℕ) → All IsOnePiece old → new ≡ old ++ lines text → All IsOnePiece new
 lines-behind old new text all e = subst (All IsOnePiece) (sym e) (All-append IsOnePiece old (lines text) all (lines-apart text))

@@ -1,4 +1,4 @@
--- What is written where there are no patterns.
+-- The message where there are no patterns.
 use Rattle.std.proofs.Common.{◌≡◌, ◌≢◌, ℕ, List, [], Result, Ok, Err, OnOk, OnErr}
 use Rattle.std.specs.Borrow.{Bor}
 use Rattle.lit_base.specs.declared.fault.Fault.{Fault}

@@ -37,9 +37,9 @@ use Rattle.grep_run.specs.declared.request.End.{End}
 use Rattle.grep_run.specs.Searching.{IsCut, IsSearched}
 use Rattle.grep_run.specs.Writers.{Writer, Writes, WritesFront}
 use Rattle.grep_run.proofs.BlockLemmas.{HasMore, any-behind, block-parts, ending-any, lent-more, lent-stop, lent-stop-text, takes-bare, wants-none}
-use Rattle.grep_run.proofs.WriterLemmas.{Writes-nil, Writes-trans, WritesFront-all, WritesFront-behind, WritesFront-more, WritesFront-none}
+use Rattle.grep_run.proofs.WriterLemmas.{Writes-nil, Writes-trans, WritesFront-all, WritesFront-behind, WritesFront-more, WritesFront-none, apart}
 
--- the selected ones of lines that follow a text
+-- the selected lines among lines that follow a text
 abbrev pub picked_behind : (List ℕ → Bool) → List ℕ → List (List ℕ) → List (ℕ × List ℕ)
 picked_behind test text lines = numbered test (length (ended_lines text)) lines
 
@@ -70,7 +70,7 @@ module _ {o : GrepOptions} {test : List ℕ → Bool} {name text : List ℕ} {p 
   pub lent-behind : {t : Block} {answer : Result Next Failure} → Lent (as_numbered p.is_numbered TakesLine) b (picked p lines) answer t → Lent TakesLine b (picked_behind test text lines) answer t
   lent-behind h = lent-by p.is_numbered refl h
 
--- the picker behind one more piece
+-- the picker after one more piece
 fed-more : (test : List ℕ → Bool) (text piece : List ℕ) (p new : Picking) → HasFed test text p → new ≡ fed p piece → HasFed test (text ++ piece) new
 fed-more test text piece p new f e = subst (HasFed test (text ++ piece)) (sym e) (record {
   tests = f.tests;
@@ -81,12 +81,12 @@ fed-more test text piece p new f e = subst (HasFed test (text ++ piece)) (sym e)
   state = f.state;
 })
 
--- what a block holds that held nothing, behind lines that it took
+-- what a block holds that held nothing, after lines that it took
 held-lines : (o : GrepOptions) (name : List ℕ) (before_lines more : List (ℕ × List ℕ)) (old mid : Block) (before now : Writer) → HasTaken o name before_lines old before now → HasMore o name more old mid
     → mid.text.items ≡ flat_map (added_line o name) more
 held-lines o name before_lines more old mid before now t m = m.text ∙ ap (λ held. held ++ flat_map (added_line o name) more) t.empty
 
--- what all lines add, by those before and those behind
+-- what all lines add, by those before and those after
 added-all : (o : GrepOptions) (name : List ℕ) (before_lines more all : List (ℕ × List ℕ)) → all ≡ before_lines ++ more
     → flat_map (added_line o name) all ≡ flat_map (added_line o name) before_lines ++ flat_map (added_line o name) more
 added-all o name before_lines more all e = ap (flat_map (added_line o name)) e ∙ flat_map-append (added_line o name) before_lines more
@@ -110,7 +110,7 @@ lent-stopped (Whole h) = h
 
 module _ {o : GrepOptions} {test : List ℕ → Bool} {name text : List ℕ} (piece : List ℕ) {p : Picking} (new_p : Picking) {b : Block} (mid : Block) {before : Writer} (now : Writer)
     (s : StandsBehind o test name text p b before now) where
-  -- those of a piece stand behind those before
+  -- the lines of a piece stand after the earlier lines
   piece-lines : ended_in test (text ++ piece) ≡ ended_in test text ++ picked_behind test text (ended_lines (p.held ++ piece))
   piece-lines = ended-more test text piece p s.fed
 
@@ -140,7 +140,7 @@ module _ {o : GrepOptions} {test : List ℕ → Bool} {name text : List ℕ} (pi
       subst (WritesFront before after) (sym all-added)
       (WritesFront-behind before now after _ _ s.taken.written (subst (WritesFront now after) (held-lines o name (ended_in test text) (picked_behind test text (ended_lines (p.held ++ piece))) b mid before now s.taken m) cut))
 
-  -- where memory runs out, what was written is a front of all
+  -- where memory runs out, the text written is a front of all
   pub fed-starved : WritesFront before now (flat_map (added_line o name) (ended_in test (text ++ piece)))
   fed-starved = subst (WritesFront before now) (sym all-added)
       (WritesFront-more before now (flat_map (added_line o name) (ended_in test text)) (flat_map (added_line o name) (picked_behind test text (ended_lines (p.held ++ piece)))) (WritesFront-all before now _ s.taken.written))
@@ -203,7 +203,7 @@ read-whole o test name c b before out texts came held e few parts options named 
       error = error;
     }
 
--- the block of a content, where no line is wanted behind those that came
+-- the block of a content, where no line is wanted after those that came
 pub read-halted : (o : GrepOptions) (test : List ℕ → Bool) (name : List ℕ) (c : Content) (b : Block) (before out : Writer) (came more : List (ℕ × List ℕ)) → numbered test 0 (lines_of c) ≡ came ++ more
     → IsHalted o name came b before out → HasRead o test name c Clean b before out
 read-halted o test name c b before out came more e h =
@@ -220,7 +220,7 @@ read-halted o test name c b before out came more e h =
       error = sym (ap (λ w. c.is_faulty && not (w && has_any (numbered test 0 (lines_of c)))) wanted ∙ ap (λ a. c.is_faulty && not a) any ∙ and-false c.is_faulty);
     }
 
--- what was written is a front of the block
+-- the text written is a front of the block
 pub read-front : (o : GrepOptions) (test : List ℕ → Bool) (name : List ℕ) (c : Content) (before out : Writer) (came more : List (ℕ × List ℕ)) → numbered test 0 (lines_of c) ≡ came ++ more
     → WritesFront before out (flat_map (added_line o name) came) → WritesFront before out (block_in o test name (Some c))
 read-front o test name c before out came more e p =
@@ -231,7 +231,7 @@ read-front o test name c before out came more e p =
     ∙ append_assoc (flat_map (added_line o name) came) (flat_map (added_line o name) more) (ending_of o name (length all)) in
     subst (WritesFront before out) (sym parts) (WritesFront-more before out (flat_map (added_line o name) came) tail p)
 
--- what is answered is known
+-- the answer is the known answer
 pub feeds-as : {p new_p : Picking} {b new_b : Block} {piece : List ℕ} {answer known : Next} → answer ≡ known → Feeds TakesLine p piece b (Ok answer) new_p new_b → Feeds TakesLine p piece b (Ok known) new_p new_b
 feeds-as {p} {new_p} {b} {new_b} {piece} e f = subst (λ n. Feeds TakesLine p piece b (Ok n) new_p new_b) e f
 
@@ -280,13 +280,13 @@ pub ended-any : {o : GrepOptions} {test : List ℕ → Bool} {name : List ℕ} (
 ended-any c new_p new More clean short s f = ended-whole c new_p new clean short s f
 ended-any c new_p new Stop clean short s f = ended-halted c new_p new clean short s f
 
--- where no line is wanted behind the first, none came
+-- where no line is wanted after the first, none came
 not-ended : (quiet list : Bool) (came : List (ℕ × List ℕ)) → (cond (quiet || list) Stop More ≡ Stop → came ≡ []) → not ((quiet || list) && has_any came) ≡ true
 not-ended true list came none = ap (λ ls. not (has_any ls)) (none refl)
 not-ended false true came none = ap (λ ls. not (has_any ls)) (none refl)
 not-ended false false came none = refl
 
--- a content whose reading ended in a fault behind all its bytes
+-- a content whose reading ended in a fault after all its bytes
 pub read-fault : {o : GrepOptions} {test : List ℕ → Bool} {name : List ℕ} (c : Content) {p : Picking} {b : Block} {before now : Writer} → c.is_faulty ≡ true → IsShort c
     → StandsBehind o test name c.text p b before now → HasRead o test name c Fault b before now
 read-fault {o} {test} {name} c {p} {b} {before} {now} faulty short s =
@@ -300,11 +300,11 @@ known-step : {T : Type 0} (b : Option T) (P : T → T → Type 0) (x : T) → To
 known-step None P x t = absurd t
 known-step (Some y) P x t = (y, (refl, t))
 
--- what is told at a step, where it is known what was told before
+-- the value after a step, where the value before is known
 told-at : {T : Type 0} (a b : Option T) (P : T → T → Type 0) (x : T) → Told a b P → a ≡ Some x → (y : T) × ((b ≡ Some y) × P x y)
 told-at a b P x t e = known-step b P x (subst (λ k. Told k b P) e t)
 
--- the bytes so far of a content are dealt with, and these are left
+-- the bytes so far of a content are dealt with, and the rest remains
 pub record ReadSoFar (o : GrepOptions) (test : List ℕ → Bool) (name : List ℕ) (c : Content) (coming : Option Coming) (p : Picking) (b : Block) (turn : ℕ) (before now : Writer) : Type 0 where
   pub done : List ℕ
   pub rest : List ℕ
@@ -313,11 +313,11 @@ pub record ReadSoFar (o : GrepOptions) (test : List ℕ → Bool) (name : List �
   pub stands : StandsBehind o test name done p b before now
   pub turns : turn ≤ length done
 
--- what is left comes as it came
+-- the rest comes as it came
 same-coming : (y : Coming) (is_faulty : Bool) → y.ending ≡ cond is_faulty Faulty (Devices.Clean) → y ≡ coming_of (record { text = y.text; is_faulty = is_faulty })
 same-coming y is_faulty e = ap (λ (ending : Ending). let same : Coming = record { text = y.text; ending = ending } in same) e
 
--- those of the lines of a content that a front of its text ends come first
+-- the lines of a content that a front of its text ends come first
 lines-front : (test : List ℕ → Bool) (c : Content) (front rest : List ℕ) → c.text ≡ front ++ rest → (more : List (ℕ × List ℕ)) × (numbered test 0 (lines_of c) ≡ ended_in test front ++ more)
 lines-front test c front rest e =
     let behind : List (List ℕ) = ended_lines (open_rest front ++ rest) in
@@ -342,7 +342,7 @@ clean-ending false text h = (refl, h.text)
 
 module _ {o : GrepOptions} {test : List ℕ → Bool} {name : List ℕ} {c : Content} {coming : Option Coming} {p : Picking} {b : Block} {turn : ℕ} {before now : Writer}
     (later : Option Coming) (buf : List ℕ) (r : ReadSoFar o test name c coming p b turn before now) where
-  -- where nothing is left, all bytes are behind
+  -- where nothing remains, all bytes are after
   all-done : r.rest ≡ [] → StandsBehind o test name c.text p b before now
   all-done none = subst (λ t. StandsBehind o test name t p b before now) (sym (r.parts ∙ ap (λ t. r.done ++ t) none ∙ append-nil r.done)) r.stands
 
@@ -360,7 +360,7 @@ module _ {o : GrepOptions} {test : List ℕ → Bool} {name : List ℕ} {c : Con
       let ends = clean-ending c.is_faulty r.rest (step.1.1.1 none room) in
       (ends.0, all-done ends.1)
 
-  -- the bytes behind a read, and what is left of them
+  -- the bytes after a read, and the rest of them
   pub so_far-rest : (count : ℕ) → Told coming later (λ x y. ReadGives x y (Ok count) buf) → (rest : List ℕ) × ((r.rest ≡ take count buf ++ rest) × (later ≡ Some (coming_of (record { text = rest; is_faulty = c.is_faulty }))))
   so_far-rest count t =
       let step = told-at coming later _ _ t r.left in
@@ -380,11 +380,11 @@ module _ {o : GrepOptions} {test : List ℕ → Bool} {name : List ℕ} {c : Con
         turns = omega (arith, r.turns, length-append r.done (take count buf), length-take-le count buf within);
       }
 
-  -- all selected lines, behind those of the bytes up to one piece more
+  -- all selected lines, after the lines of the bytes up to one piece more
   front-of-all : (piece rest : List ℕ) → r.rest ≡ piece ++ rest → (more : List (ℕ × List ℕ)) × (numbered test 0 (lines_of c) ≡ ended_in test (r.done ++ piece) ++ more)
   front-of-all piece rest e = lines-front test c (r.done ++ piece) rest (r.parts ∙ ap (λ x. r.done ++ x) e ∙ sym (append_assoc r.done piece rest))
 
-  -- a piece behind which no line is wanted
+  -- a piece after which no line is wanted
   pub so_far-halted : (count : ℕ) (new : Block) (after : Writer) → Told coming later (λ x y. ReadGives x y (Ok count) buf)
       → IsHalted o name (ended_in test (r.done ++ take count buf)) new before after → HasRead o test name c Clean new before after
   so_far-halted count new after t h =
@@ -460,10 +460,10 @@ begin-stands {o} {test} {name} {p} {b} out f numbers options called count empty 
 -- where the block was cut there is no message
 pub search-cut : (o : GrepOptions) (test : List ℕ → Bool) (name : List ℕ) (source : Option Content) (out_old out_new err : Writer)
     → WritesFront out_old out_new (block_in o test name source) → IsCut o test name source out_old out_new err err
-search-cut o test name source out_old out_new err p = record { output = p; messages = WritesFront-none err (message_in o test name source) }
+search-cut o test name source out_old out_new err p = record { output = p; messages = WritesFront-none err (message_in o test name source); quiet = λ clear set. Writes-nil err }
 
 module _ {o : GrepOptions} {test : List ℕ → Bool} {name : List ℕ} {c : Content} {end : End} {b : Block} {before now : Writer} (h : HasRead o test name c end b before now) (after : Writer) where
-  -- what is written at the end, by the options and the name of all
+  -- the text at the end, by the options and the name of all
   abbrev ended : List ℕ
   ended = b.text.items ++ ending_of b.options.now b.name.now b.count
 
@@ -483,7 +483,11 @@ module _ {o : GrepOptions} {test : List ℕ → Bool} {name : List ℕ} {c : Con
 
     -- a front of the message was written
     pub message-cut : WritesFront err_old err_new (cond (is_error && not o.silent) (unreadable name) []) → IsCut o test name (Some c) before after err_old err_new
-    message-cut q = record { output = WritesFront-all before after _ (finished all); messages = subst (WritesFront err_old err_new) same-message q }
+    message-cut q = record {
+      output = WritesFront-all before after _ (finished all);
+      messages = subst (WritesFront err_old err_new) same-message q;
+      quiet = λ clear set. apart after.has_failed set ((finished all).flag ∙ clear);
+    }
 
     -- the message was written, if there is one
     pub message-whole : Writes err_old err_new (cond (is_error && not o.silent) (unreadable name) []) → IsSearched o test name (Some c) (record { is_selected = is_selected; is_error = is_error }) before after err_old err_new

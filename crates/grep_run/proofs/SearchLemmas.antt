@@ -1,4 +1,4 @@
--- Inputs one after another: what is written, what is found, and what is asked for.
+-- Inputs one after another: the text written, the findings, and the asks.
 use Rattle.std.proofs.Common.{◌≡◌, ℕ, ◌+◌, ◌<◌, String, string_bytes, length, get_or, drop, Bool, true, false, ◌||◌, ◌&&◌, cond, List, [], ◌∷◌, ◌++◌, map, flat_map, Option, Result, refl, sym, ap, ◌∙◌, subst, append_assoc, append-nil, arith}
 use Rattle.byte_io.specs.Sources.{AreShort, Ask, Sources, after, after_all, ask_of, taken_by}
 use Rattle.std.specs.List.{list_any}
@@ -27,7 +27,7 @@ flat_map-one f xs x = flat_map-append f xs (x ∷ []) ∙ ap (λ t. flat_map f x
 list_any-one : {X : Type 0} (p : X → Bool) (xs : List X) (x : X) → list_any p (xs ++ x ∷ []) ≡ (list_any p xs || p x)
 list_any-one p xs x = list_any-append p xs (x ∷ []) ∙ ap (λ b. list_any p xs || b) (or-false (p x))
 
--- the asks before those that are left are made, and these inputs, which they found, are searched
+-- the asks before the remaining asks are made, and the inputs that they found are searched
 pub record InputsSoFar (o : GrepOptions) (test : List ℕ → Bool) (all rest : List Ask) (s left : Sources) (what : Found) (out_old out_new err_old err_new : Writer) : Type 0 where
   pub done : List Input
   pub front : searched o test (found all s) ≡ done ++ searched o test (found rest left)
@@ -107,9 +107,12 @@ module _ {o : GrepOptions} {test : List ℕ → Bool} {all : List Ask} {s mid : 
     asked = asked-one;
     output = record { between = out_mid; whole = p.so_far.output; front = subst (WritesFront out_mid out_new) (sym (append-nil (block o test next))) q.output };
     messages = record { between = err_mid; whole = p.so_far.messages; front = subst (WritesFront err_mid err_new) (sym (append-nil (message o test next))) q.messages };
+    quiet = λ clear set.
+        subst (Writes err_old err_new) (append-nil (flat_map (message o test) p.done))
+        (Writes-trans err_old err_mid err_new (flat_map (message o test) p.done) [] p.so_far.messages (q.quiet (p.so_far.output.flag ∙ clear) set));
   }
 
--- where no input is left, all are searched
+-- where no input remains, all are searched
 pub InputsSoFar-all : {o : GrepOptions} {test : List ℕ → Bool} {all : List Ask} {s left : Sources} {out_old out_new err_old err_new : Writer} (what : Found)
     → InputsSoFar o test all [] s left what out_old out_new err_old err_new
     → (left ≡ after_all (asks (searched o test (found all s))) s) × AreSearched (answer_to o test (searched o test (found all s))) what out_old out_new err_old err_new
@@ -119,7 +122,7 @@ InputsSoFar-all {o} {test} {all} {s} {left} {out_old} {out_new} {err_old} {err_n
       subst (λ is. AreSearched (answer_to o test is) what out_old out_new err_old err_new) (sym here) p.so_far,
     )
 
--- where nothing is asked for, nothing is written
+-- where there is no ask, nothing is written
 pub StopsAt-none : (o : GrepOptions) (test : List ℕ → Bool) (inputs : List Input) (s : Sources) (out err : Writer) → StopsAt o test inputs s s out out err err
 StopsAt-none o test inputs s out err = record {
   done = [];
@@ -130,6 +133,7 @@ StopsAt-none o test inputs s out err = record {
   asked = refl;
   output = record { between = out; whole = Writes-nil out; front = WritesFront-none out [] };
   messages = record { between = err; whole = Writes-nil err; front = WritesFront-none err [] };
+  quiet = λ clear set. Writes-nil err;
 }
 
 -- the asks for the operands from a place on

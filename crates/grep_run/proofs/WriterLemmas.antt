@@ -1,4 +1,4 @@
--- What is written in parts: one text behind another, and fronts of texts.
+-- Texts written in parts: one after another, and fronts of texts.
 use Rattle.std.proofs.Common.{◌≡◌, ℕ, ◌||◌, Bool, true, false, List, [], ◌++◌, refl, sym, ap, ◌∙◌, append_assoc, append-nil, length-append, length-drop, take, drop, take-append-drop, arith}
 use Rattle.std.proofs.Math.Bool.{or-false}
 use Rattle.std.specs.Io.KnownBytes.{Appends}
@@ -10,7 +10,7 @@ use Rattle.grep_run.specs.Writers.{Writer, Writes, WritesFront}
 pub Writes-nil : (a : Writer) → Writes a a []
 Writes-nil a = record { grown = Appends-nil a.written; flag = refl }
 
--- one text behind another
+-- one text after another
 pub Writes-trans : (a b c : Writer) (s t : List ℕ) → Writes a b s → Writes b c t → Writes a c (s ++ t)
 Writes-trans a b c s t p q = record { grown = Appends-trans a.written b.written c.written s t p.grown q.grown; flag = q.flag ∙ p.flag }
 
@@ -19,7 +19,7 @@ pub Writes-ok : (a b : Writer) (text : List ℕ) → Appends a.written b.written
 Writes-ok a b text grown flag = record { grown = grown; flag = flag ∙ or-false a.has_failed }
 
 -- a flag is not both set and clear
-apart : {X : Type 0} (flag : Bool) → flag ≡ true → flag ≡ false → X
+pub apart : {X : Type 0} (flag : Bool) → flag ≡ true → flag ≡ false → X
 apart flag set clear = let both : true ≡ false = sym set ∙ clear in (cc)
 
 -- where nothing is written, a front is
@@ -46,7 +46,7 @@ WritesFront-part a b piece p = record {
   strict = λ clear set. omega (arith, p.fewer, length-drop p.count piece);
 }
 
--- a front behind a text is one of both
+-- a front after a text is one of both
 pub WritesFront-behind : (a b c : Writer) (s t : List ℕ) → Writes a b s → WritesFront b c t → WritesFront a c (s ++ t)
 WritesFront-behind a b c s t p q = record {
   front = s ++ q.front;

@@ -54,7 +54,8 @@ abbrev pub TakesPatterns : GrepOptions → Sources → Sources → Result Compil
 TakesPatterns o s left (Ok compiled) = HasPatterns o s left compiled
 TakesPatterns o s left (Err why) = LacksPatterns o s left why
 
--- what is written where there are no patterns: the message, or a front of it where that is stopped; nothing for want of memory
+-- the text where there are no patterns: the message, or a prefix of it where that is stopped; nothing for want of
+-- memory
 abbrev pub text_of : NoPatterns → List ℕ
 text_of (Unreadable name) = unreadable name.now
 text_of (Refused fault) = patterns_refused fault

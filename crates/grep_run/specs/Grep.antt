@@ -33,7 +33,7 @@ abbrev pub up_to : (Input → Bool) → List Input → List Input
 up_to passes [] = []
 up_to passes (input ∷ inputs) = input ∷ (if passes input then [] else up_to passes inputs)
 
--- the inputs that are searched: under -q none behind the first with a selected line
+-- the inputs that are searched: under -q none after the first with a selected line
 abbrev pub searched : GrepOptions → (List ℕ → Bool) → List Input → List Input
 searched o test = up_to (λ input. o.quiet && has_selected test input)
 
@@ -50,11 +50,11 @@ answer_to o test inputs = record {
 abbrev pub refused_with : List ℕ → Answer
 refused_with text = record { output = []; messages = text; has_selected = false; has_error = true }
 
--- what is asked for, in order
+-- the asks for inputs, in order
 abbrev pub asks : List Input → List Ask
 asks inputs = map (λ input. input.ask) inputs
 
--- the sources behind those of the pattern files
+-- the sources after the pattern files
 abbrev pub behind_files : GrepOptions → Sources → Sources
 behind_files o s = after_all (asks (files_asked o s)) s
 
@@ -70,7 +70,7 @@ answer_where None o s = answer_to o (selects o (all_patterns o s)) (inputs_of o 
 abbrev pub grep : GrepOptions → Sources → Answer
 grep o s = answer_where (patterns_message o s) o s
 
--- what it asks for, in order: pattern files, and the files to search unless the patterns are refused
+-- its asks, in order: pattern files, and the files to search unless the patterns are refused
 abbrev pub asks_where : Option (List ℕ) → GrepOptions → Sources → List Ask
 asks_where (Some text) o s = asks (files_asked o s)
 asks_where None o s = asks (files_asked o s) ++ asks (inputs_of o s)

@@ -12,7 +12,7 @@ use Rattle.grep_run.specs.Blocks.{prefix_of, written_line}
 abbrev pub added_line : GrepOptions → List ℕ → ℕ × List ℕ → List ℕ
 added_line o name numbered = if o.quiet || (o.list || o.count) then [] else written_line o name numbered
 
--- the end of a block with so many lines: under -l the name where there is one, under -c the number
+-- the end of a block with a number of lines: under -l the name where there is a line, under -c the number
 abbrev pub ending_of : GrepOptions → List ℕ → ℕ → List ℕ
 ending_of o name count =
     if o.quiet then []
@@ -20,7 +20,7 @@ ending_of o name count =
     else if o.count then prefix_of o name ++ (decimal count ++ codes "\n")
     else []
 
--- under -q and -l no line is wanted behind the first
+-- under -q and -l no line is wanted after the first
 abbrev pub next_of : GrepOptions → Next
 next_of o = if o.quiet || o.list then Stop else More
 

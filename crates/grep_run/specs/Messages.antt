@@ -1,4 +1,4 @@
--- What is written to standard error. POSIX.1-2017 `grep`, STDERR.
+-- The messages on standard error. POSIX.1-2017 `grep`, STDERR.
 use Rattle.std.specs.Prelude.{ℕ, List, ◌++◌, codes, decimal}
 use Rattle.lit_base.specs.declared.fault.Fault.{Fault}
 use Rattle.lit_base.specs.Faults.{number_of}

@@ -3,12 +3,10 @@ use Rattle.std.specs.Prelude.{◌≡◌, ◌≢◌, ℕ, List, [], ◌∷◌, �
 use Rattle.std.specs.Option.{option_map}
 use Rattle.byte_io.specs.Sources.{Content, Sources}
 use Rattle.lit_base.specs.Lines.{lines, pieces}
-use Rattle.lit_base.specs.NormalForm.{normal_form}
 use Rattle.lit_base.specs.RawLists.{earlier, text_refusal}
 use Rattle.lit_base.specs.declared.fault.Fault.{Fault}
-use Rattle.lit_base.specs.declared.fault.Fault.TheVariants.{OutOfMemory, ListTooLarge, TooManyLiterals}
-use Rattle.lit_base.specs.declared.fold.Fold.{Fold}
-use Rattle.lit_base.specs.declared.limits.TheConstants.{MAX_LITERALS, MAX_TEXT_LEN}
+use Rattle.lit_base.specs.declared.fault.Fault.TheVariants.{OutOfMemory, ListTooLarge}
+use Rattle.lit_base.specs.declared.limits.TheConstants.{MAX_TEXT_LEN}
 use Rattle.grep_run.specs.declared.options.GrepOptions.{GrepOptions}
 use Rattle.grep_run.specs.Messages.{patterns_refused, unreadable}
 use Rattle.grep_run.specs.Options.{files_of, lists_of}
@@ -18,13 +16,13 @@ use Rattle.grep_run.specs.Sources.{Input, found, name_of}
 abbrev pub patterns_in : List (List ℕ) → List (List ℕ)
 patterns_in lists = flat_map pieces lists
 
--- the refusal of the first list that is refused, each taken behind the patterns before it
+-- the refusal of the first list that is refused, each taken after the patterns before it
 abbrev pub lists_refusal : List (List ℕ) → List (List ℕ) → Option Fault
 lists_refusal before [] = None
 lists_refusal before (list ∷ lists) =
     earlier (text_refusal before list (pieces list)) (lists_refusal (before ++ pieces list) lists)
 
--- the answer is the refusal, or want of memory before it was met; what is not refused is no fault
+-- the answer is the refusal, or want of memory before it was met; where there is no refusal there is no fault
 abbrev pub RefusesAs : {T : Type 0} → Option Fault → Result T Fault → Type 0
 RefusesAs refusal result =
     MatchResult result (λ _. refusal ≡ None) (λ fault. fault ≢ OutOfMemory → refusal ≡ Some fault)
@@ -34,7 +32,7 @@ abbrev pub patterns_from : Option Content → List (List ℕ)
 patterns_from None = []
 patterns_from (Some c) = lines c.text
 
--- why it gives none, behind these patterns: it has more bytes than its limit, it cannot be read, or a pattern is refused
+-- why it gives none, after these patterns: it has more bytes than its limit, it cannot be read, or a pattern is refused
 abbrev pub content_message : List (List ℕ) → List ℕ → Option Content → Option (List ℕ)
 content_message before name None = Some (unreadable name)
 content_message before name (Some c) =
@@ -50,7 +48,7 @@ abbrev pub first_of : Option (List ℕ) → Option (List ℕ) → Option (List �
 first_of None second = second
 first_of (Some text) second = Some text
 
--- the message on the first file that gives no patterns, each taken behind the patterns before it
+-- the message on the first file that gives no patterns, each taken after the patterns before it
 abbrev pub files_message : List (List ℕ) → List Input → Option (List ℕ)
 files_message before [] = None
 files_message before (file ∷ files) =
@@ -62,25 +60,21 @@ files_read before [] = []
 files_read before (file ∷ files) =
     file ∷ (if is_some (file_message before file) then [] else files_read (before ++ patterns_from file.source) files)
 
--- the refusal of a normal form with too many literals
-abbrev pub literals_refusal : Fold → List (List ℕ) → Option Fault
-literals_refusal fold patterns = if nat_lt MAX_LITERALS (length (normal_form fold patterns)) then Some TooManyLiterals else None
-
 -- the pattern files of the options, as asks for them find them
 abbrev pub pattern_files : GrepOptions → Sources → List Input
 pattern_files o s = found (files_of o) s
 
--- all patterns: those of the lists, and then those of the files
+-- all patterns: of the lists, and then of the files
 abbrev pub all_patterns : GrepOptions → Sources → List (List ℕ)
 all_patterns o s = patterns_in (lists_of o) ++ flat_map (λ file. patterns_from file.source) (pattern_files o s)
 
--- the message on the patterns: on the first list that is refused, else on the first file that gives none, else on too many literals
+-- the message on the patterns: on the first list that is refused, else on the first file that gives none
 abbrev pub patterns_message : GrepOptions → Sources → Option (List ℕ)
 patterns_message o s =
     first_of (option_map patterns_refused (lists_refusal [] (lists_of o)))
-    (first_of (files_message (patterns_in (lists_of o)) (pattern_files o s))
-    (option_map patterns_refused (literals_refusal o.fold (all_patterns o s))))
+    (files_message (patterns_in (lists_of o)) (pattern_files o s))
 
--- the pattern files that are asked for: none where a list is refused, else those up to the first that gives no patterns
+-- the pattern files that are opened: none where a list is refused, else the files up to the first that gives no
+-- patterns
 abbrev pub files_asked : GrepOptions → Sources → List Input
 files_asked o s = if is_some (lists_refusal [] (lists_of o)) then [] else files_read (patterns_in (lists_of o)) (pattern_files o s)

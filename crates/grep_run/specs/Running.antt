@@ -30,7 +30,7 @@ pub data Stops (o : GrepOptions) (s left : Sources) (out_old out_new err_old err
   OverInputs : patterns_message o s ≡ None → StopsAt o (selects o (all_patterns o s)) (inputs_of o s) (behind_files o s) left out_old out_new err_old err_new
       → Stops o s left out_old out_new err_old err_new
 
--- a run that went to its end, and one that stopped
+-- a run that went to its end, and a run that stopped
 abbrev pub RunsTo : GrepOptions → Sources → Sources → Result Status Stop → Writer → Writer → Writer → Writer → Type 0
 RunsTo o s left (Ok status) out_old out_new err_old err_new = (left ≡ left_of o s) × IsAnswered o (grep o s) status out_old out_new err_old err_new
 RunsTo o s left (Err stop) out_old out_new err_old err_new = Stops o s left out_old out_new err_old err_new

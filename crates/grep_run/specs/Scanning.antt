@@ -1,4 +1,4 @@
--- Scanning one input: where the picker and the block stand behind the bytes so far.
+-- Scanning one input: where the picker and the block stand after the bytes so far.
 use Rattle.std.specs.Prelude.{◌≡◌, ℕ, ◌+◌, ◌-◌, ◌^◌, ◌<◌, ◌≤◌, Bool, true, false, List, [], ◌++◌, flat_map, length, min, nat_lt, Option, None, Some, Result, Ok, Err}
 use Rattle.byte_io.specs.Sources.{Content}
 use Rattle.lit_base.specs.Lines.{ended_lines, open_rest}
@@ -32,7 +32,7 @@ pub record HasFed (test : List ℕ → Bool) (text : List ℕ) (p : Picking) : T
   pub bytes : p.bytes ≡ length text
   pub state : p.state ≡ Running
 
--- the block has taken these lines, and they are written; where none is wanted behind the first, there was none
+-- the block has taken these lines, and they are written; where none is wanted after the first, there was none
 pub record HasTaken (o : GrepOptions) (name : List ℕ) (selected : List (ℕ × List ℕ)) (b : Block) (before out : Writer) : Type 0 where
   pub options : b.options.now ≡ o
   pub called : b.name.now ≡ name
@@ -51,13 +51,13 @@ pub record IsHalted (o : GrepOptions) (name : List ℕ) (selected : List (ℕ ×
   pub written : Writes before out []
   pub empty : b.text.items ≡ []
 
--- picker and block stand behind the text, and lines are numbered if numbers are written
+-- picker and block stand after the text, and lines are numbered if numbers are written
 pub record StandsBehind (o : GrepOptions) (test : List ℕ → Bool) (name text : List ℕ) (p : Picking) (b : Block) (before out : Writer) : Type 0 where
   pub fed : HasFed test text p
   pub numbers : p.is_numbered ≡ o.number
   pub taken : HasTaken o name (ended_in test text) b before out
 
--- a piece was fed behind a text: picker and block stand behind both; no line is wanted any more; there are too many bytes; or it was cut
+-- a piece was fed after a text: picker and block stand after both; no line is wanted any more; there are too many bytes; or it was cut
 abbrev pub FeedsPiece : GrepOptions → (List ℕ → Bool) → List ℕ → List ℕ → List ℕ → Result (Option End) Halt → Picking → Block → Writer → Writer → Type 0
 FeedsPiece o test name text piece (Ok None) p b before out = StandsBehind o test name (text ++ piece) p b before out
 FeedsPiece o test name text piece (Ok (Some Clean)) p b before out = IsHalted o name (ended_in test (text ++ piece)) b before out
@@ -69,7 +69,7 @@ abbrev pub is_fault : End → Bool
 is_fault Clean = false
 is_fault Fault = true
 
--- all lines of a content came that are wanted: what is written and held is the block, but for its end
+-- all wanted lines of a content came: the text written and held is the block, except its end
 pub record HasRead (o : GrepOptions) (test : List ℕ → Bool) (name : List ℕ) (c : Content) (end : End) (b : Block) (before out : Writer) : Type 0 where
   pub options : b.options.now ≡ o
   pub called : b.name.now ≡ name

@@ -1,4 +1,4 @@
--- What grep is given to read: what stands behind each ask, and what it is called.
+-- The inputs of grep: the content found at each ask, and its name.
 use Rattle.std.specs.Prelude.{ℕ, List, [], ◌∷◌, codes, Option}
 use Rattle.byte_io.specs.Sources.{Ask, Content, Created, Named, Sources, Standard, after, taken_by}
 
@@ -6,13 +6,13 @@ use Rattle.byte_io.specs.Sources.{Ask, Content, Created, Named, Sources, Standar
 abbrev pub standard_name : List ℕ
 standard_name = codes "(standard input)"
 
--- what messages and prefixes call what is asked for
+-- the name of an ask in messages and prefixes
 abbrev pub name_of : Ask → List ℕ
 name_of (Named name) = name
 name_of Standard = standard_name
 name_of (Created name) = name
 
--- what was asked for, and what there was: None where it cannot be opened
+-- an ask, and the content there was: None where it cannot be opened
 pub record Input : Type 0 where
   pub ask : Ask
   pub source : Option Content

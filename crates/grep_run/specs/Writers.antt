@@ -1,10 +1,10 @@
--- What is written to a device: a whole text, or a front of it.
+-- Texts written to a device: a whole text, or a prefix of it.
 use Rattle.std.specs.Prelude.{◌≡◌, ℕ, ◌<◌, Bool, true, false, List, ◌++◌, length, Option, Result, Ok, Err}
 use Rattle.std.specs.Io.KnownBytes.{Appends}
 use Rattle.grep_run.specs.declared.status.Stop.{Stop}
 use Rattle.grep_run.specs.declared.status.Stop.TheVariants.{WriteFault, OutOfMemory}
 
--- the bytes that a device has, where it tells them, and whether a call of it failed
+-- the known bytes of a device, and whether a call of it failed
 pub record Writer : Type 0 where
   pub written : Option (List ℕ)
   pub has_failed : Bool
@@ -26,7 +26,7 @@ pub record WritesFront (old new : Writer) (text : List ℕ) : Type 0 where
   pub grown : Appends old.written new.written front
   pub strict : old.has_failed ≡ false → new.has_failed ≡ true → 0 < length rest
 
--- the first text is written, and behind it a front of the second
+-- the first text is written, and after it a front of the second
 pub record WritesUpTo (old new : Writer) (text part : List ℕ) : Type 0 where
   pub between : Writer
   pub whole : Writes old between text

@@ -1,4 +1,4 @@
-//! The block of one input: what is written of its selected lines.
+//! The block of one input: the text for its selected lines.
 ghost use Rattle.std.specs.Prelude.{◌≡◌, ◌++◌, ◌∷◌, ◌||◌, [], OnErr, OnOk, codes, decimal};
 ghost use Rattle.grep_run.specs.Blocks.{prefix_of, written_line};
 ghost use Rattle.grep_run.specs.Writers.{Writes, WritesFront, is_write_fault, writer};
@@ -11,7 +11,7 @@ use line_pick::{Fault, Next, Sink};
 use lit_base::ByteOut;
 use std::alloc::{AllocError, Global};
 
-/// The block of one input after another, as its selected lines come. It holds what is not written yet.
+/// The block of one input after another, as its selected lines come. It holds the text that is not written yet.
 #[derive(Drop)]
 pub struct Block<'a> {
     pub options: &'a GrepOptions,
@@ -46,8 +46,7 @@ impl<'a> Block<'a> {
         self.text.clear();
     }
 
-    /// Writes what it holds, and then holds nothing. After an error some of it may be written, from its
-    /// front.
+    /// Writes the text that it holds, and then holds nothing. After an error some of it may be written, from its front.
     pub fn write<W: ByteOut>(&mut self, out: &mut W) -> Result<(), Stop>
         ensures ok { OnOk result (Writes (writer W.written W.has_failed out.old) (writer W.written W.has_failed out.new) self.old.text.items) }
         ensures empty { OnOk result (self.new.text.items ≡ []) }
@@ -60,8 +59,8 @@ impl<'a> Block<'a> {
         Ok(())
     }
 
-    /// Writes what it holds, and what stands behind the last line. After an error some of both may be
-    /// written, from the front.
+    /// Writes the text that it holds, and the text after the last line. After an error some of both may be written,
+    /// from the front.
     pub fn finish<W: ByteOut>(&mut self, out: &mut W) -> Result<(), Stop>
         ensures ok { OnOk result (Writes (writer W.written W.has_failed out.old) (writer W.written W.has_failed out.new)
             (self.old.text.items ++ ending_of self.old.options.now self.old.name.now self.old.count)) }
@@ -74,7 +73,7 @@ impl<'a> Block<'a> {
         self.write(out)
     }
 
-    /// Takes what stands behind the last line.
+    /// Takes what stands after the last line.
     fn end(&mut self) -> Result<(), AllocError>
         ensures text { OnOk result (self.new.text.items
             ≡ self.old.text.items ++ ending_of self.old.options.now self.old.name.now self.old.count) }

@@ -2,12 +2,11 @@
 ghost use Rattle.std.specs.Prelude.{◌≡◌, ◌≢◌, All, IfErr, IfOk, IfSome};
 ghost use Rattle.lit_base.specs.Lines.{IsOnePiece};
 ghost use Rattle.line_pick.specs.Matching.{AreInLines, StandsFor, literals_of};
-ghost use Rattle.grep_run.specs.Patterns.{RefusesAs, literals_refusal};
 
 use flow_scan::Compiled;
 use line_pick::standing_law;
 use list_plan::compile;
-use lit_base::{Fault, Fold, LitList, RawList};
+use lit_base::{Fault, Fold, LitList, Profile, RawList};
 use std::alloc::Global;
 
 /// What stands for patterns in a search: the plan of their literals, where there are some, and whether
@@ -20,12 +19,11 @@ pub struct CompiledPatterns {
 }
 
 impl CompiledPatterns {
-    /// What stands for these patterns, none of which holds a newline. Refusals: `TooManyLiterals`,
-    /// and `OutOfMemory`, which may come before.
+    /// The plan and the null pattern for these patterns; none of them holds a newline. The only error is `OutOfMemory`.
     pub fn new(alloc: Global, patterns: &RawList, fold: Fold) -> Result<CompiledPatterns, Fault>
         requires { All IsOnePiece patterns.now }
         ensures ok { IfOk result (λ compiled. StandsFor fold patterns.now compiled.plan compiled.has_empty) }
-        ensures refusal { RefusesAs (literals_refusal fold patterns.now) result }
+        ensures err { IfErr result (λ fault. fault ≡ Fault.OutOfMemory) }
     {
         let (list, normal) = LitList::normal(alloc, patterns, fold)?;
         let plan = planned(alloc, list)?;
@@ -46,7 +44,7 @@ fn planned(alloc: Global, list: LitList) -> Result<Option<Compiled>, Fault>
     if list.is_empty() {
         return Ok(None);
     }
-    match compile(alloc, list) {
+    match compile(alloc, list, Profile::Eight) {
         Ok(compiled) => Ok(Some(compiled)),
         // There are literals, so that only memory can be wanting.
         Err(_) => Err(Fault::OutOfMemory),

@@ -1,4 +1,4 @@
-//! Messages on standard error, each a line behind the program's name.
+//! Messages on standard error, each a line after the program's name.
 ghost use Rattle.std.specs.Prelude.{◌≡◌, ◌||◌, IfOk, OnErr, OnOk, string_bytes};
 ghost use Rattle.grep_run.specs.Messages.{out_of_memory, patterns_refused, unreadable};
 ghost use Rattle.grep_run.specs.Writers.{Writes, WritesFront, is_write_fault, writer};

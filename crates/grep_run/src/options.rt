@@ -14,13 +14,13 @@ pub struct GrepOptions {
     pub count: bool,
     /// -l: only the names of files with a selected line are written.
     pub list: bool,
-    /// -n: each line is written behind its number.
+    /// -n: each line is written after its number.
     pub number: bool,
     /// -q: nothing is written to standard output.
     pub quiet: bool,
     /// -s: no message is written for an input file that cannot be read.
     pub silent: bool,
-    /// The pattern lists: those of -e, or the first operand where neither -e nor -f is given.
+    /// The pattern lists: the arguments of -e, or the first operand where neither -e nor -f is given.
     pub lists: Vec<String>,
     /// The pattern files, of -f.
     pub files: Vec<String>,

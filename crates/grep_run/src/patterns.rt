@@ -33,8 +33,8 @@ impl From<Fault> for NoPatterns<'_> {
     }
 }
 
-/// What stands for the patterns of a run: those of all pattern lists in order, and then of all pattern
-/// files in order, each opened and read before the next. The first list or file that gives none ends it.
+/// The patterns of a run: of all pattern lists in order, and then of all pattern files in order, each opened and read
+/// before the next. The first list or file that gives none ends it.
 pub fn gathered<'a, O: Opener>(
     alloc: Global,
     options: &'a GrepOptions,
@@ -62,7 +62,7 @@ fn listed(alloc: Global, lists: &[String]) -> Result<RawList, Fault>
     Ok(patterns)
 }
 
-/// Adds the patterns of these files, in order.
+/// Adds the patterns of the files, in order.
 fn add_files<'a, O: Opener>(
     alloc: Global,
     files: &'a [String],

@@ -1,4 +1,4 @@
-//! What a run searches for and shows, and what it finds.
+//! The search and the output of a run, and its findings.
 ghost use Rattle.std.specs.Prelude.{◌≡◌, ◌||◌, false};
 ghost use Rattle.grep_run.specs.Scanning.{is_fault};
 
@@ -6,7 +6,7 @@ use crate::compiled_patterns::CompiledPatterns;
 use crate::options::GrepOptions;
 use std::alloc::Global;
 
-/// What a run searches for, and what it shows.
+/// The search of a run, and its output.
 #[derive(Clone, Copy)]
 pub struct Request<'a> {
     pub alloc: Global,
@@ -14,7 +14,7 @@ pub struct Request<'a> {
     pub patterns: &'a CompiledPatterns,
 }
 
-/// What was found in inputs.
+/// The findings in inputs.
 #[derive(Clone, Copy, Debug, PartialEq, Eq)]
 pub struct Found {
     /// A line was selected.
@@ -24,7 +24,7 @@ pub struct Found {
 }
 
 impl Found {
-    /// What was found in no input.
+    /// The findings in no input.
     pub fn nothing() -> Found
         ensures selected { result.is_selected ≡ false }
         ensures error { result.is_error ≡ false }
@@ -35,7 +35,7 @@ impl Found {
         }
     }
 
-    /// What was found in these inputs and in one more.
+    /// The findings in these inputs and in one more.
     pub fn with(self, one: Found) -> Found
         ensures selected { result.is_selected ≡ (self.is_selected || one.is_selected) }
         ensures error { result.is_error ≡ (self.is_error || one.is_error) }

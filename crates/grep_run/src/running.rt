@@ -34,7 +34,7 @@ pub fn run<O: Opener, W: ByteOut, E: ByteOut>(
         (writer W.written W.has_failed out.old) (writer W.written W.has_failed out.new)
         (writer E.written E.has_failed err.old) (writer E.written E.has_failed err.new)) }
 
-    // Whatever the opener tells, a write that failed is told.
+    // A write that failed shows in the status, whatever is known of the sources.
     ensures fault { result ≢ Status.Trouble
         → (W.has_failed out.new || E.has_failed err.new) ≡ (W.has_failed out.old || E.has_failed err.old) }
 {

@@ -14,8 +14,7 @@ use line_pick::{Fault, LineRule, Next, Picker};
 use lit_base::{ByteIn, ByteOut, Failed, MAX_TURNS};
 use std::alloc::{AllocError, Global};
 
-/// What learns from the inputs of a request which parts of its literals are rare there, if it has so many literals that it
-/// gains by that.
+/// A finder that tunes itself to the inputs of a request, if the request has enough literals to gain by it.
 fn finder_for<'a>(request: &Request<'a>) -> Result<Option<EndFinder<'a>>, AllocError>
     ensures { IfOk result (λ finder. IfSome finder (λ plan. request.now.patterns.now.plan ≡ Some plan)) }
 {
@@ -41,7 +40,7 @@ pub fn picker_for<'a>(request: &Request<'a>, finder: Option<EndFinder<'a>>) -> P
     }
 }
 
-/// One that counts lines.
+/// A picker that counts lines.
 fn numbered_picker_for<'a>(request: &Request<'a>, finder: Option<EndFinder<'a>>) -> Picker<'a>
     requires { IfSome finder (λ plan. request.now.patterns.now.plan ≡ Some plan) }
     ensures fed { HasFed (test_of request.now) [] result }
@@ -66,7 +65,7 @@ fn numbered_picker_for<'a>(request: &Request<'a>, finder: Option<EndFinder<'a>>)
 
 /// Reads the lines of an input into the block, as far as they are wanted. What a piece gives is written
 /// before more is read, since more may be long in coming; only what the last line gives is held at the
-/// end. In a long run, or behind the first piece, the search learns from pieces that are long enough.
+/// end. In a long run, or after the first piece, the search learns from pieces that are long enough.
 pub fn read_lines<'a, I: ByteIn, W: ByteOut>(
     request: &Request<'a>,
     is_long_run: bool,
@@ -122,8 +121,8 @@ fn feed<'a, W: ByteOut>(
     feed_piece(picker, piece, block, out)
 }
 
-/// Lets a picker's search learn from now on, if the input is long: to make what learns took half a millisecond when its tables were
-/// written at once, as much as a whole run over a small input.
+/// Gives a picker a finder from now on, if the input is long. Measured when a finder's tables were written at once: to
+/// make it took half a millisecond, as much as a whole run over a small input.
 fn learn_if<'a>(
     is_long: bool,
     request: &Request<'a>,

@@ -21,27 +21,27 @@ use byte_io::{ByteIn, ByteOut, Opener, open_operand};
 use flow_scan::EndFinder;
 use std::alloc::AllocError;
 
-/// How many bytes are read at once, at most. Pieces of a quarter of that made a run that shows
-/// numbers take 1.05 times as long: each is written for itself.
+/// How many bytes are read at once, at most. With pieces of a quarter of that a run that shows numbers takes 1.05 times
+/// as long, since each piece is written alone.
 const READ_SIZE: usize = 128 * 1024;
 
 /// How many bytes are read at once, at least.
 const LEAST_READ_SIZE: usize = 1024;
 
-/// So many bytes in front of a piece are left unused. The C library lays a block of 128 KiB and more out sixteen bytes behind the front
-/// of a page, so that with these the piece begins at a front of a line of the cache: the system copies what it reads to there in
-/// 0.91 to 0.93 of the time.
+/// The number of unused bytes before a piece. The C library places a block of 128 KiB and more sixteen bytes after the
+/// start of a page. With these bytes the piece begins at the start of a cache line, and the system copies what a run
+/// reads in 0.91 to 0.93 of the time.
 const UNUSED: usize = 48;
 
 /// How many bytes may be held of names, numbers and newlines, before the lines of a piece are written.
 /// The lines themselves take no more than the piece.
 const MOST_HELD: usize = 4 * 1024 * 1024;
 
-/// Behind so many inputs a run is long: to search them took about as long as it took to make what learns when its tables were written
-/// at once. Inputs of 16 KiB and more gain by it as well.
+/// After this many inputs a run is long. Measured when a finder's tables were written at once: to search them took
+/// about as long as to make the finder. Inputs of 16 KiB and more gain by it as well.
 const MANY_INPUTS: usize = 16;
 
-/// What a line takes beside its name and itself: a number, a colon behind each, and its newline.
+/// The bytes that a line takes besides its name and itself: a number, a colon after each, and its newline.
 const NUMBER_SIZE: usize = 23;
 
 /// Searches the inputs of the operands in order, or standard input alone where there is none. Under -q
@@ -66,8 +66,8 @@ pub fn search_all<O: Opener, W: ByteOut, E: ByteOut>(
     searcher.search_operands(opener, out, err)
 }
 
-/// How many bytes are read at once: fewer where long names are shown, so that what is held stays small
-/// also where all lines are empty.
+/// How many bytes are read at once: fewer where long names are shown, so that the held text stays small also where all
+/// lines are empty.
 fn read_size(options: &GrepOptions) -> usize
     ensures least { LEAST_READ_SIZE ≤ result }
     ensures most { result ≤ READ_SIZE }
@@ -76,7 +76,7 @@ fn read_size(options: &GrepOptions) -> usize
     (MOST_HELD / line).clamp(LEAST_READ_SIZE, READ_SIZE)
 }
 
-/// How long the longest name is that lines are shown behind.
+/// The length of the longest name that lines are shown after.
 fn longest_name(options: &GrepOptions) -> usize {
     let mut longest = 0;
     if options.operands.len() > 1 {
@@ -96,7 +96,7 @@ struct Searcher<'a> {
     /// How many inputs were searched before.
     searched: usize,
     block: Block<'a>,
-    /// Memory for a piece, behind what is unused.
+    /// Memory for a piece, after the unused bytes.
     memory: Vec<u8>,
     ghost room: { UNUSED < vec_len memory },
     ghost plan: { IfSome finder (λ plan. request.patterns.now.plan ≡ Some plan) } by { Prim.hlevel props },

@@ -1,34 +1,33 @@
--- Whether a byte is not zero: by the bits of lanes, and behind places that are.
+-- Whether a byte is not zero: by the bits of lanes, and after places that are.
 use Rattle.std.proofs.Common.{◌≡◌, ◌≢◌, ◌↔◌, ℕ, ◌+◌, ◌-◌, ◌^◌, ◌<◌, ◌≤◌, ◌++◌, List, length, get_or, drop, sym, ap, ◌∙◌, arith, w64, length-drop, ⊎_elim}
 use Rattle.std.specs.Int.{bit_at, trailing_zeros}
 use Rattle.std.specs.List.{Any}
 use Rattle.std.proofs.lemmas.Bool.{cases_lt, cases_eq}
 use Rattle.std.proofs.lemmas.Grind.{get_or_default_zero}
-use Rattle.std.proofs.lemmas.List.{get_or-drop}
+use Rattle.std.proofs.lemmas.List.{get_or-drop, get_or_past}
 use Rattle.std.proofs.lemmas.Nat.Bits.{bit_at-trailing_zeros, bit_at-zero}
 use Rattle.lane_filter.specs.Lanes.{HasLanes, HoldsBelow}
-use Rattle.lane_filter.proofs.FilterLemmas.{told_by_lanes}
 
 -- a byte that is not zero, at its place
 pub any_at : (xs : List ℕ) (k : ℕ) → k < length xs → get_or xs k 0 ≢ 0 → Any (λ byte. byte ≢ 0) xs
 any_at xs k l set = (k, get_or xs k 0, l, get_or_default_zero xs k (get_or xs k 0) l, set)
 
-module _ (front back : List ℕ) (f : ℕ → ℕ) (mask : ℕ) (p : HasLanes front f) (q : HasLanes back (λ k. f (32 + k)))
-    (bits : (k : ℕ) → (bit_at mask k ≡ 1) ↔ (get_or (front ++ back) k 0 ≢ 0)) where
+module _ (lanes : List ℕ) (f : ℕ → ℕ) (mask : ℕ) (p : HasLanes lanes f) (bits : (k : ℕ) → (bit_at mask k ≡ 1) ↔ (get_or lanes k 0 ≢ 0)) where
   -- where the mask has a bit, a lane is not zero
-  pub some_lane_set : 0 < mask → mask < 2 ^ 64 → (k : ℕ) × (k < 64) × (f k ≢ 0)
-  some_lane_set some small =
+  pub some_set : 0 < mask → mask < 2 ^ 64 → (k : ℕ) × (k < 32) × (f k ≢ 0)
+  some_set some small =
       let k = trailing_zeros w64 mask in
-      let lowest = bit_at-trailing_zeros w64 mask some small in
-      let told = (told_by_lanes front back f mask p q bits k).0 lowest.1 in
-      (k, told.0, told.1)
+      let set = (bits k).0 (bit_at-trailing_zeros w64 mask some small).1 in
+      ⊎_elim (λ (l : k < 32). (k, l, λ none. set (p.each k l ∙ none)))
+      (λ (past : 32 ≤ k). absurd (set (get_or_past lanes k 0 (omega (arith, p.long)))))
+      (cases_lt k 32)
 
   -- where it has none, all are
-  pub no_lane_set : mask ≡ 0 → (k : ℕ) → k < 64 → f k ≡ 0
-  no_lane_set none k l =
+  pub none_set : mask ≡ 0 → (k : ℕ) → k < 32 → f k ≡ 0
+  none_set none k l =
       let clear : bit_at mask k ≡ 0 = ap (λ m. bit_at m k) none ∙ bit_at-zero k in
       ⊎_elim (λ zero. zero)
-      (λ (set : f k ≢ 0). let there = (told_by_lanes front back f mask p q bits k).1 (l, set) in absurd (omega arith))
+      (λ (set : f k ≢ 0). let there = (bits k).1 (λ empty. set (sym (p.each k l) ∙ empty)) in absurd (omega (arith, there, clear)))
       (cases_eq (f k) 0)
 
 -- zeros in front do not matter

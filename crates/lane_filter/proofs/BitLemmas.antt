@@ -4,7 +4,7 @@ use Rattle.std.specs.Int.{bit_at}
 use Rattle.std.proofs.lemmas.Bool.{cases_lt, cases_eq}
 use Rattle.std.proofs.lemmas.Nat.Bits.{bit_at_and, bit_at-lt, bit_at_lowest, bit_at-suc, bit_at-zero, bit_at_cat_low, bit_at_cat_high}
 
--- below its lowest bit and there, what is left of a number after 1 is taken off
+-- up to its lowest bit, the bits of a number less 1
 pub pred_at_lowest : (l m : ℕ) → bit_at m l ≡ 1 → ((j : ℕ) → j < l → bit_at m j ≡ 0) → bit_at (m - 1) l ≡ 0
 pred_at_lowest zero m set low =
     let odd : m % 2 ≡ 1 = sym (bit_at_lowest m) ∙ set in
@@ -30,7 +30,7 @@ pred_above_lowest (suc l) m (suc k) set low h =
     ∙ pred_above_lowest l (m / 2) k (sym (bit_at-suc m l) ∙ set) (λ j g. sym (bit_at-suc m j) ∙ low (suc j) (omega arith)) (omega arith)
     ∙ sym (bit_at-suc m k)
 
--- the bits that are left once the lowest is cleared
+-- the remaining bits once the lowest is cleared
 pub others_of_lowest : (m l : ℕ) → bit_at m l ≡ 1 → ((j : ℕ) → j < l → bit_at m j ≡ 0) → (k : ℕ) → (bit_at (bit_and m (m - 1)) k ≡ 1) ↔ ((l < k) × (bit_at m k ≡ 1))
 others_of_lowest m l set low k =
     let meet = bit_at_and m (m - 1) k in

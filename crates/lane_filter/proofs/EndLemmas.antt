@@ -1,4 +1,4 @@
--- Marked ends: from bits to the places that they stand for, and one end after the other handed out.
+-- Marked ends: from bits to their positions, and one end returned after the other.
 use Rattle.std.proofs.Common.{◌≡◌, ◌↔◌, ℕ, zero, suc, ◌+◌, ◌-◌, ◌<◌, ◌≤◌, ◌∷◌, [], List, length, get_or, refl, sym, ap, subst, ◌∙◌, arith, ⊎_elim}
 use Rattle.std.specs.Int.{bit_at}
 use Rattle.std.proofs.lemmas.Bool.{cases_lt, cases_eq}
@@ -34,13 +34,13 @@ module _ (P : ℕ → Type 0) where
   quiet_on from mid to front back end low high holds =
       ⊎_elim (λ after. back end after high holds) (λ before. front end low before holds) (cases_lt mid end)
 
-  -- so many places in a row at which it does not hold
+  -- a number of positions in a row at which it does not hold
   pub quiet_in_row : (from count : ℕ) → ((k : ℕ) → k < count → ¬ P (from + 1 + k)) → NoneWithin P from (from + count)
   quiet_in_row from count none end low high holds =
       let place : end ≡ from + 1 + (end - (from + 1)) = omega arith in
       none (end - (from + 1)) (omega arith) (subst P place holds)
 
-  -- the mask 1 has its lowest bit alone
+  -- the mask 1 has the lowest bit alone
   bits_of_one : (k : ℕ) → bit_at 1 k ≡ 1 → k ≡ 0
   bits_of_one zero s = refl
   bits_of_one (suc k) s = absurd (omega (arith, s, bit_at-suc 1 k, bit_at-zero k))
@@ -115,7 +115,7 @@ candidate_is_marked masks text place end at within =
       λ h none. h.marked (same ∙ none),
     )
 
--- the marks of 64 places of a text are those of the ends three places later
+-- the marks of 64 positions of a text are the marks of the ends three positions later
 pub marks_of_ends : (masks : Masks) (text : List ℕ) (place first mask : ℕ) → first ≡ place + 3 → first + 63 ≤ length text → TellsBits (IsMarked masks text) place 64 mask
     → TellsBits (IsCandidate masks text) first 64 mask
 marks_of_ends masks text place first mask start within told k =
@@ -125,7 +125,7 @@ marks_of_ends masks text place first mask start within told k =
       λ h. (told k).1 (h.0, (at h.0).1 h.1),
     )
 
--- the marks of 64 ends, from some place after `from` on, are those of the ends after it
+-- the marks of 64 ends, from some position after `from` on, are the marks of the ends after it
 pub block_marked : (P : ℕ → Type 0) (from first done whole mask : ℕ) → first + 63 ≡ done → from ≤ done → first ≤ from + 1 → TellsBits P first 64 whole
     → ((k : ℕ) → (bit_at mask k ≡ 1) ↔ ((from + 1 ≤ first + k) × (bit_at whole k ≡ 1))) → AreMarked P from first done mask
 block_marked P from first done whole mask long reached low told bits =

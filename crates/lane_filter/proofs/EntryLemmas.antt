@@ -9,7 +9,7 @@ pub entries_value-none : (halves values : List ℕ) (half : ℕ) → entries_val
 unfolding entries_value
 entries_value-none halves values half = refl
 
--- the entry behind the first n is joined to what they give
+-- the entry after the first n is joined to what they give
 pub entries_value-more : (halves values : List ℕ) (n half : ℕ)
     → entries_value halves values (n + 1) half ≡ bit_or (entries_value halves values n half) (cond (eqb half (get_or halves n 0)) (get_or values n 0) 0)
 unfolding entries_value
@@ -50,7 +50,7 @@ entries_below_none table halves values p q = record {
   above = λ half l. entries_value-none halves values half;
 }
 
--- an entry that is zero is left out
+-- an entry that is zero is dropped
 pub entries_below_skipped : (table halves values : List ℕ) (count n : ℕ) → get_or table n 0 ≡ 0 → AreEntriesBelow table halves values count n
     → AreEntriesBelow table halves values count (n + 1)
 entries_below_skipped table halves values count n none h =
@@ -65,7 +65,7 @@ entries_below_skipped table halves values count n none h =
       above = λ half l. h.above half (omega arith);
     }
 
--- another is written behind the entries so far
+-- another is written after the entries so far
 pub entries_below_pushed : (table halves values : List ℕ) (count n : ℕ) → n < 16 → AreEntriesBelow table halves values count n
     → AreEntriesBelow table (set halves count n) (set values count (get_or table n 0)) (count + 1) (n + 1)
 entries_below_pushed table halves values count n small h =

@@ -20,7 +20,7 @@ joined_lanes front back f p q k l =
     (λ high. get_or-append_right front back 32 k 0 p.long high ∙ q.each (k - 32) (omega arith) ∙ ap f (omega arith))
     (cases_lt k 32)
 
--- what the bits of lanes that are not zero tell of 64 places
+-- the bits of nonzero lanes stand for 64 positions
 pub told_by_lanes : (front back : List ℕ) (f : ℕ → ℕ) (mask : ℕ) → HasLanes front f → HasLanes back (λ k. f (32 + k))
     → ((k : ℕ) → (bit_at mask k ≡ 1) ↔ (get_or (front ++ back) k 0 ≢ 0)) → (k : ℕ) → (bit_at mask k ≡ 1) ↔ ((k < 64) × (f k ≢ 0))
 told_by_lanes front back f mask p q bits k =
@@ -41,7 +41,7 @@ or_none a b none =
       same_from_bits b 0 (λ i. omega (arith, bit_at_or a b i, bit i, bit_at-zero i)),
     )
 
--- where no lane of both vectors joined is set, the mask without bits tells of the 64 places
+-- where no lane of both vectors joined is set, the mask without bits is right for the 64 positions
 pub none_told : (front back joined : List ℕ) (f : ℕ → ℕ) → HasLanes front f → HasLanes back (λ k. f (32 + k))
     → HasLanes joined (λ k. bit_or (get_or front k 0) (get_or back k 0)) → ((k : ℕ) → k < 32 → ¬ (get_or joined k 0 ≢ 0))
     → (k : ℕ) → (bit_at 0 k ≡ 1) ↔ ((k < 64) × (f k ≢ 0))

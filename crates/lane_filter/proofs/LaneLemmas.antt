@@ -1,5 +1,7 @@
 -- What the operations on vectors hold, lane by lane.
-use Rattle.std.proofs.Common.{◌≡◌, ◌≢◌, ◌↔◌, ℕ, ◌+◌, ◌*◌, ◌/◌, ◌%◌, ◌^◌, ◌<◌, ◌≤◌, List, Bool, true, false, not, cond, eqb, length, get_or, map, replicate, bit_or, refl, sym, ap, ◌∙◌, subst, arith, inl, inr, w8}
+use Rattle.std.proofs.Common.{◌≡◌, ◌≢◌, ◌↔◌, ℕ, ◌+◌, ◌*◌, ◌/◌, ◌%◌, ◌^◌, ◌<◌, ◌≤◌, List, Bool, true, false, not, cond, eqb, length, get_or, map, replicate, bit_or, refl, sym, ap, ◌∙◌, ◌-◌, subst, arith, inl, inr, w8}
+use mir.Syntax.{Width}
+use mir.Val.{bits, hbits}
 use Rattle.std.specs.Int.{bit_at}
 use Rattle.std.specs.Simd.Lanes.{zip2, sel_l, mask_l, top}
 use Rattle.std.proofs.lemmas.Simd.{length-zip2, get_or-zip2, get_or-replicate, length-sel_l, get_or-sel_l, tops_compared, bitmask_splat, bit_mask_l, mask_l-mod, swz_l, SwzOk, SwzOk-from_below, length-swz_l, get_or-swz_l_below, Each1-from_get_or}
@@ -32,9 +34,9 @@ lanes_zipped {a} {b} {f} {g} op p q =
     }
 
 -- a selection by a comparison takes each lane from the one vector or the other
-pub lanes_selected : {a b y z : List ℕ} {f g s t : ℕ → ℕ} (test : ℕ → ℕ → Bool) → HasLanes a f → HasLanes b g → HasLanes y s → HasLanes z t
-    → HasLanes (sel_l (map (top 7) (zip2 (λ m n. cond (test m n) 255 0) a b)) y z) (λ k. cond (test (f k) (g k)) (s k) (t k))
-lanes_selected {a} {b} {y} {z} {f} {g} {s} {t} test p q u v =
+pub lanes_selected : {a b y z : List ℕ} {f g s t : ℕ → ℕ} (w : Width) (test : ℕ → ℕ → Bool) → HasLanes a f → HasLanes b g → HasLanes y s → HasLanes z t
+    → HasLanes (sel_l (map (top (hbits w)) (zip2 (λ m n. cond (test m n) (2 ^ bits w - 1) 0) a b)) y z) (λ k. cond (test (f k) (g k)) (s k) (t k))
+lanes_selected {a} {b} {y} {z} {f} {g} {s} {t} w test p q u v =
     let long_a = p.long in
     let long_b = q.long in
     let long_y = u.long in
@@ -46,7 +48,7 @@ lanes_selected {a} {b} {y} {z} {f} {g} {s} {t} test p q u v =
           get_or-sel_l (zip2 test a b) y z k 0 (omega arith) (omega arith) (omega arith)
           ∙ (λ i. cond ((get_or-zip2 test a b k 0 0 false (omega arith) (omega arith) ∙ (λ j. test (p.each k l j) (q.each k l j))) i) (u.each k l i) (v.each k l i));
     } in
-    subst (λ ms. HasLanes (sel_l ms y z) (λ k. cond (test (f k) (g k)) (s k) (t k))) (sym (tops_compared w8 test a b)) chosen
+    subst (λ ms. HasLanes (sel_l ms y z) (λ k. cond (test (f k) (g k)) (s k) (t k))) (sym (tops_compared w test a b)) chosen
 
 -- halves of bytes may be looked up in a table of 16 entries
 pub halves_in_range : (halves : List ℕ) → length halves ≡ 32 → ((k : ℕ) → k < 32 → get_or halves k 0 < 16) → SwzOk w8 16 32 0 halves
@@ -70,12 +72,12 @@ set_if_not_zero : (x : ℕ) (b : Bool) → eqb x 0 ≡ b → (cond {A = ℕ} (no
 set_if_not_zero x true e = (λ h. absurd (omega arith), λ ne. absurd (ne (eqb-true x 0 e)))
 set_if_not_zero x false e = (λ h. eqb-false x 0 e, λ h. refl)
 
--- a bit of the mask of the lanes that are not zero, of a vector of so many lanes
-pub bit_of_nonzero : (v : List ℕ) (n k : ℕ) → length v ≡ n → n ≤ 64
-    → (bit_at (mask_l (map (top 7) (zip2 (λ m n. cond (not (eqb m n)) 255 0) v (replicate n 0))) % 2 ^ 64) k ≡ 1) ↔ (get_or v k 0 ≢ 0)
-bit_of_nonzero v n k long few =
+-- a bit of the mask of the nonzero lanes, of a vector of n lanes
+pub bit_of_nonzero : (w : Width) (v : List ℕ) (n k : ℕ) → length v ≡ n → n ≤ 64
+    → (bit_at (mask_l (map (top (hbits w)) (zip2 (λ m n. cond (not (eqb m n)) (2 ^ bits w - 1) 0) v (replicate n 0))) % 2 ^ 64) k ≡ 1) ↔ (get_or v k 0 ≢ 0)
+bit_of_nonzero w v n k long few =
     let test : ℕ → ℕ → Bool = λ m n. not (eqb m n) in
-    let same = bitmask_splat w8 test v n 0 long few in
+    let same = bitmask_splat w test v n 0 long few in
     let bit : bit_at (mask_l (map (λ x. test x 0) v)) k ≡ cond (not (eqb (get_or v k 0) 0)) 1 0 =
     bit_mask_l (map (λ x. test x 0) v) k ∙ ap (λ b. cond b 1 0) (get_or-map (λ x. test x 0) v k 0) in
     let told = set_if_not_zero (get_or v k 0) (eqb (get_or v k 0) 0) refl in
@@ -87,7 +89,7 @@ pub some_nonzero : (v : List ℕ) (n k : ℕ) → length v ≡ n → n ≤ 64 �
     → not (eqb (mask_l (map (top 7) (zip2 (λ m n. cond (not (eqb m n)) 255 0) v (replicate n 0))) % 2 ^ 64) 0) ≡ true
 some_nonzero v n k long few set =
     let mask = mask_l (map (top 7) (zip2 (λ m n. cond (not (eqb m n)) 255 0) v (replicate n 0))) % 2 ^ 64 in
-    let there : bit_at mask k ≡ 1 = (bit_of_nonzero v n k long few).1 set in
+    let there : bit_at mask k ≡ 1 = (bit_of_nonzero w8 v n k long few).1 set in
     ap not (ne_eqb mask 0 (λ none. absurd (omega (arith, there, ap (λ m. bit_at m k) none ∙ bit_at-zero k))))
 
 -- the test of a lane for a number, as a bit
@@ -135,7 +137,7 @@ bit_of_equal v set byte k long =
           (λ h. absurd (omega (arith, none, h)), λ h. absurd (omega (arith, h.0)))
     ]
 
--- what the bits of the mask tell of the lanes
+-- the bits of the mask, by the lanes
 pub told_equal : (v : List ℕ) (set byte k : ℕ) → length v ≡ 64
     → (bit_at (mask_l (map (top 7) (zip2 (λ m n. cond (eqb m n) 255 0) (zip2 bit_or v (replicate 64 set)) (replicate 64 byte))) % 2 ^ 64) k ≡ 1) ↔ ((k < 64) × (bit_or (get_or v k 0) set ≡ byte))
 told_equal v set byte k long =

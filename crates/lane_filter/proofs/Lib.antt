@@ -4,6 +4,7 @@ pub mod EndLemmas
 pub mod EntryLemmas
 pub mod FilterLemmas
 pub mod FourLemmas
+pub mod HalfLemmas
 pub mod LaneLemmas
 pub mod PairLemmas
 pub mod Ranks

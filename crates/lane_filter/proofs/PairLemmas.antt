@@ -21,7 +21,7 @@ use Rattle.lane_filter.specs.Pairs.{IsPairEnd, IsPairOf, IsRareByteOf, StandsBef
 use Rattle.lane_filter.specs.declared.pair.RareByte.{RareByte}
 use Rattle.lane_filter.specs.declared.pair.BytePair.{BytePair}
 
--- the bits that both masks have tell the ends before which both bytes stand
+-- the bits that both masks have stand for the ends before which both bytes stand
 pub both_told : (pair : BytePair) (text : List ℕ) (first one other : ℕ) → pair.first.behind < first → pair.second.behind < first → first + 63 ≤ length text
     → TellsBits (StandsBefore pair.first text) first 64 one → TellsBits (StandsBefore pair.second text) first 64 other → TellsBits (IsPairEnd pair text) first 64 (bit_and one other)
 both_told pair text first one other after_one after_other within of_one of_other k =
@@ -40,7 +40,7 @@ both_told pair text first one other after_one after_other within of_one of_other
           omega arith,
     )
 
--- the bits that one of two masks has tell the ends that one of two tests lets pass
+-- the bits that one of two masks has stand for the ends that one of two tests passes
 pub either_told : (P Q : ℕ → Type 0) (first one other : ℕ) → TellsBits P first 64 one → TellsBits Q first 64 other → TellsBits (λ end. P end ⊎ Q end) first 64 (bit_or one other)
 either_told P Q first one other of_one of_other k =
     let joined = bit_at_or one other k in
@@ -58,7 +58,7 @@ either_told P Q first one other of_one of_other k =
           ],
     )
 
--- one of 128 ends is told by a lane of the four vectors of 32 ends
+-- one of 128 ends sets a lane of the four vectors of 32 ends
 pub told_in_four : (P : ℕ → Type 0) (answer : Type 0) (first : ℕ) (one two three four : List ℕ) → TellsLanes P first one → TellsLanes P (first + 32) two
     → TellsLanes P (first + 64) three → TellsLanes P (first + 96) four → SeesLanes one answer → SeesLanes two answer → SeesLanes three answer → SeesLanes four answer
     → (k : ℕ) → k < 128 → P (first + k) → answer
@@ -81,7 +81,7 @@ told_in_four P answer first one two three four in_one in_two in_three in_four se
 case_set : (a r : ℕ) → r < 32 → bit_or (a * 32 + r) 32 ≡ bit_or a 1 * 32 + r
 case_set a r small = or_block 5 a 1 r 0 small (omega arith) ∙ ap (λ x. bit_or a 1 * 32 + x) (or_zero_r r)
 
--- with the bit of its case set, a byte is the one that it folds to
+-- with the bit of its case set, a byte is the byte that it folds to
 pub case_told : (fold : Fold) (byte other : ℕ) → folded fold byte ≡ other → bit_or byte (case_bit fold other) ≡ other
 case_told No byte other is = or_zero_r byte ∙ is
 case_told Ascii byte other is =

@@ -1,17 +1,17 @@
--- The rarest place beside one chosen before: what is found of the places looked at so far.
+-- The rarest place other than one chosen before: the place found among those tried so far.
 use Rattle.std.proofs.Common.{◌≡◌, ◌≢◌, ℕ, ◌+◌, ◌<◌, ◌≤◌, List, length, get_or, inl, inr, sym, ap, ◌∙◌, arith}
 use Rattle.std.proofs.lemmas.Bool.{cases_eq}
 use Rattle.lane_filter.specs.Pairs.{AreUnlike}
 
--- of the places from start up to `place`, the one found costs `least`: 512 or more if it is the one chosen before, 256 or more if
--- it has its byte; and less, if another place was looked at, or one with another byte
+-- of the places from start up to `place`, the one found costs `least`: 512 or more if it is the one chosen before, 256
+-- or more if it has the same byte; and less, if another place was tried, or one with another byte
 pub record IsBeside (literal : List ℕ) (start place found chosen least : ℕ) : Type 0 where
   pub here : found ≡ chosen → 512 ≤ least
   pub apart : (q : ℕ) → start ≤ q → q < place → q ≢ chosen → least < 512
   pub like : get_or literal found 0 ≡ get_or literal chosen 0 → 256 ≤ least
   pub unlike : (q : ℕ) → start ≤ q → q < place → get_or literal q 0 ≢ get_or literal chosen 0 → least < 256
 
--- one more place is looked at, and costs less or not
+-- one more place is tried, and costs less or not
 pub beside_more : (literal : List ℕ) (start place found chosen least cost : ℕ) → IsBeside literal start place found chosen least → least ≤ cost
     → (chosen ≢ place → cost < 512) → (get_or literal place 0 ≢ get_or literal chosen 0 → cost < 256) → IsBeside literal start (place + 1) found chosen least
 beside_more literal start place found chosen least cost old stays apart unlike = record {
@@ -47,7 +47,7 @@ beside_found literal start place found chosen least cost old falls here apart li
       ];
 }
 
--- where all were looked at, the place found is apart if there are two
+-- where all were tried, the place found is apart if there are two
 pub beside_apart : (literal : List ℕ) (start found chosen least : ℕ) → IsBeside literal start (length literal) found chosen least → start + 2 ≤ length literal → chosen ≢ found
 beside_apart literal start found chosen least is two same =
     let here = is.here (sym same) in

@@ -13,7 +13,7 @@ use Rattle.lane_filter.specs.Triples.{IsTripleEnd, IsTripleOf}
 use Rattle.lane_filter.specs.declared.pair.BytePair.{BytePair}
 use Rattle.lane_filter.specs.declared.triple.ByteTriple.{ByteTriple}
 
--- the bits that both masks have tell the ends before which the pair and the third byte stand
+-- the bits that both masks have stand for the ends before which the pair and the third byte stand
 pub all_told : (triple : ByteTriple) (text : List ℕ) (first one other : ℕ) → triple.third.behind < first
     → TellsBits (IsPairEnd triple.pair text) first 64 one → TellsBits (StandsBefore triple.third text) first 64 other → TellsBits (IsTripleEnd triple text) first 64 (bit_and one other)
 all_told triple text first one other after of_one of_other k =
@@ -40,12 +40,13 @@ triple_stands l place triple of text end occurs =
     let of_third = rare_stands l text place end of.third_place triple.third occurs (subst (λ t. IsRareByteOf l.folding t of.third_place triple.third) same of.third) in
     record { pair = pair_stands l place triple.pair of.pair text end occurs; after_third = of_third.0; third = of_third.1 }
 
--- of the places from start up to `place`, the one found costs `least`: 256 or more if the pair has its byte, and less if another was looked at
+-- of the places from start up to `place`, the one found costs `least`: 256 or more if it is in the pair, and less if
+-- another was tried
 pub record IsBesidePair (pair : BytePair) (len start place found least : ℕ) : Type 0 where
   pub here : IsOneOf pair (len - 1 - found) → 256 ≤ least
   pub apart : (q : ℕ) → start ≤ q → q < place → ¬ IsOneOf pair (len - 1 - q) → least < 256
 
--- where three or more were looked at, the place found is not one of the pair
+-- where three or more were tried, the place found is not one of the pair
 pub third_apart : (pair : BytePair) (len start found least : ℕ) → IsBesidePair pair len start len found least → start + 3 ≤ len → ¬ IsOneOf pair (len - 1 - found)
 third_apart pair len start found least is three taken =
     let much = is.here taken in

@@ -2,7 +2,7 @@
 use Rattle.std.specs.Prelude.{◌≡◌, ◌↔◌, ℕ, ◌<◌}
 use Rattle.std.specs.Int.{bit_at}
 
--- low is the place of the lowest bit of the mask, and rest has its other bits
+-- low is the place of the lowest bit of the mask, and rest is the mask without it
 pub record SplitsLowest (mask low rest : ℕ) : Type 0 where
   pub small : low < 64
   pub set : bit_at mask low ≡ 1

@@ -1,8 +1,8 @@
--- What a cursor over the candidates of a text has come to.
+-- The state of a cursor over the candidates of a text.
 use Rattle.std.specs.Prelude.{ℕ, List}
 use Rattle.lane_filter.specs.declared.sieve.Sieve.{Sieve}
 
--- the sieve, the text, and the last end handed out, or the place after which the first is looked for
+-- the prefilter, the text, and the last end returned, or the position after which the first is sought
 pub record Cursor : Type 0 where
   pub sieve : Sieve
   pub text : List ℕ

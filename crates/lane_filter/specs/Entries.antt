@@ -4,7 +4,7 @@ use Rattle.nib_mask.specs.declared.masks.Masks.{Masks}
 use Rattle.lane_filter.specs.declared.entries.Entries.{Entries}
 use Rattle.lane_filter.specs.declared.entries.MaskEntries.{MaskEntries}
 
--- what the first n entries give a half of a byte: the values of those that stand for it, joined
+-- the joined values of the entries, among the first n, that stand for a half of a byte
 unfoldable pub entries_value : List ℕ → List ℕ → ℕ → ℕ → ℕ
 entries_value halves values zero half = 0
 entries_value halves values (suc n) half =
@@ -15,7 +15,7 @@ abbrev pub AreEntriesOf : List ℕ → Entries → Type 0
 AreEntriesOf table entries =
     (half : ℕ) → half < 16 → entries_value entries.halves entries.values entries.count half ≡ slice_index table half
 
--- each table of the masks has its entries
+-- the entries of each table of the masks
 pub record AreMaskEntries (masks : Masks) (entries : MaskEntries) : Type 0 where
   pub third_low : AreEntriesOf (slice_index_or masks.low 0 []) entries.third_low
   pub third_high : AreEntriesOf (slice_index_or masks.high 0 []) entries.third_high

@@ -1,4 +1,4 @@
--- What vectors of 32 bytes hold, lane by lane, and what a mask of bits says of the places from some place on.
+-- What vectors of 32 bytes hold, lane by lane, and what a mask of bits says of the positions from some place on.
 use Rattle.std.specs.Prelude.{◌≡◌, ◌≢◌, ◌↔◌, ℕ, ◌+◌, ◌%◌, ◌<◌, List, length, slice_index}
 use Rattle.std.specs.Int.{bit_at}
 

@@ -1,10 +1,10 @@
--- The only byte of a literal, and the places of a text before which it stands.
+-- The only byte of a literal, and the positions of a text before which it stands.
 use Rattle.std.specs.Prelude.{◌≡◌, ℕ, ◌-◌, ◌≤◌, List, Some, length, slice_index, bit_or}
 use Rattle.std.specs.List.{slice_get}
 use Rattle.lit_base.specs.Literals.{Literals}
 use Rattle.lane_filter.specs.Pairs.{case_bit}
 
--- a literal of this byte, with this bit of case, may end at this place of the text: the byte stands before it
+-- a literal of this byte, with this bit of case, may end at this position of the text: the byte stands before it
 pub record IsEndOfByte (byte bit : ℕ) (text : List ℕ) (end : ℕ) : Type 0 where
   pub after : 1 ≤ end
   pub within : end ≤ length text

@@ -1,4 +1,4 @@
--- Two bytes of a literal, and the places of a text before which they stand.
+-- Two bytes of a literal, and the positions of a text before which they stand.
 use Rattle.std.specs.Prelude.{◌≡◌, ◌≢◌, ℕ, ◌+◌, ◌-◌, ◌<◌, ◌≤◌, ◌&&◌, ◌⊎◌, nat_le, if◌then◌else◌, List, Some, length, slice_index, bit_or}
 use Rattle.std.specs.List.{slice_get}
 use Rattle.lit_base.specs.declared.fold.Fold.{Fold}
@@ -7,7 +7,7 @@ use Rattle.lit_base.specs.Literals.{Literals}
 use Rattle.lane_filter.specs.declared.pair.RareByte.{RareByte}
 use Rattle.lane_filter.specs.declared.pair.BytePair.{BytePair}
 
--- the bit that the case of a folded byte is told by: that of a letter, unless case counts
+-- the bit of a folded byte's case: 32 for a letter, or none if case counts
 abbrev pub case_bit : Fold → ℕ → ℕ
 case_bit No byte = 0
 case_bit Ascii byte = if nat_le 97 byte && nat_le byte 122 then 32 else 0
@@ -23,7 +23,7 @@ pub record IsRareByteOf (fold : Fold) (literal : List ℕ) (place : ℕ) (rare :
 abbrev pub StandsBefore : RareByte → List ℕ → ℕ → Type 0
 StandsBefore rare text end = bit_or (slice_index text (end - 1 - rare.behind)) rare.case_bit ≡ rare.byte
 
--- a literal with this pair of bytes may end at this place of the text: both stand before it
+-- a literal with this pair of bytes may end at this position of the text: both stand before it
 pub record IsPairEnd (pair : BytePair) (text : List ℕ) (end : ℕ) : Type 0 where
   pub after_first : pair.first.behind < end
   pub after_second : pair.second.behind < end
@@ -31,7 +31,7 @@ pub record IsPairEnd (pair : BytePair) (text : List ℕ) (end : ℕ) : Type 0 wh
   pub first : StandsBefore pair.first text end
   pub second : StandsBefore pair.second text end
 
--- one of both bytes has so many bytes behind it
+-- one of both bytes has `behind` bytes after it
 abbrev pub IsOneOf : BytePair → ℕ → Type 0
 IsOneOf pair behind = (pair.first.behind ≡ behind) ⊎ (pair.second.behind ≡ behind)
 

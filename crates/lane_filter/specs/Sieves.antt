@@ -1,25 +1,40 @@
--- What a sieve of literals is, and the places of a text that it lets pass.
-use Rattle.std.specs.Prelude.{◌≡◌, ℕ, List, length, ◌⊎◌}
+-- The prefilter of a list, and the positions of a text that it passes.
+use Rattle.std.specs.Prelude.{◌≡◌, ℕ, ◌/◌, ◌%◌, ◌<◌, List, length, ◌⊎◌}
 use Rattle.lit_base.specs.Literals.{Literals}
 use Rattle.nib_mask.specs.Candidates.{GivesFilterSets, IsCandidate}
+use Rattle.nib_mask.specs.FilterSet.{filter_set}
+use Rattle.nib_mask.specs.Halves.{widened}
+use Rattle.nib_mask.specs.Tables.{table_value}
+use Rattle.nib_mask.specs.declared.byte_masks.ByteMasks.{ByteMasks}
 use Rattle.lane_filter.specs.OneBytes.{IsByteOf, IsEndOfByte}
 use Rattle.lane_filter.specs.Pairs.{IsPairEnd, IsPairOf}
 use Rattle.lane_filter.specs.Triples.{IsTripleEnd, IsTripleOf}
 use Rattle.lane_filter.specs.declared.pair.BytePair.{BytePair}
 use Rattle.lane_filter.specs.declared.triple.ByteTriple.{ByteTriple}
 use Rattle.lane_filter.specs.declared.sieve.Sieve.{Sieve}
-use Rattle.lane_filter.specs.declared.sieve.Sieve.TheVariants.{Nibbles, OneByte, OneExactByte, OneTriple, OneExactTriple, TwoPairs, TwoExactPairs, ThreePairs, ThreeExactPairs}
+use Rattle.lane_filter.specs.declared.sieve.Sieve.TheVariants.{Nibbles, TwoNibbles, OneByte, OneExactByte, OneTriple, OneExactTriple, TwoPairs, TwoExactPairs, ThreePairs, ThreeExactPairs}
 
--- one of two pairs of bytes, or of three, stands before this place of the text
+-- one of two pairs of bytes, or of three, stands before this position of the text
 abbrev pub IsEndOfTwo : BytePair → BytePair → List ℕ → ℕ → Type 0
 IsEndOfTwo one two = λ text end. IsPairEnd one text end ⊎ IsPairEnd two text end
 
 abbrev pub IsEndOfThree : BytePair → BytePair → BytePair → List ℕ → ℕ → Type 0
 IsEndOfThree one two three = λ text end. IsPairEnd one text end ⊎ IsEndOfTwo two three text end
 
--- an occurrence may end at this place of the text
+-- a candidate of one of two tables
+abbrev pub IsCandidateOfTwo : ByteMasks → ByteMasks → List ℕ → ℕ → Type 0
+IsCandidateOfTwo first last = λ text end. IsCandidate (widened first) text end ⊎ IsCandidate (widened last) text end
+
+-- two tables give the filter sets: the one the first eight buckets of each, the other the rest
+abbrev pub GiveFilterSets : Literals → List ℕ → ByteMasks → ByteMasks → Type 0
+GiveFilterSets l ends first last =
+    (a b c : ℕ) → a < 256 → b < 256 → c < 256
+    → (table_value (widened first) a b c ≡ filter_set l ends a b c % 256) × (table_value (widened last) a b c ≡ filter_set l ends a b c / 256)
+
+-- an occurrence may end at this position of the text
 abbrev pub Passes : Sieve → List ℕ → ℕ → Type 0
-Passes (Nibbles masks) = IsCandidate masks
+Passes (Nibbles masks) = IsCandidate (widened masks)
+Passes (TwoNibbles first last) = IsCandidateOfTwo first last
 Passes (OneByte one) = IsEndOfByte one.byte one.case_bit
 Passes (OneExactByte exact) = IsEndOfByte exact.byte 0
 Passes (OneTriple triple) = IsTripleEnd triple
@@ -44,10 +59,11 @@ AreTwoPairs l one two = (length l.texts ≡ 2) × IsPairOf l 0 one × IsPairOf l
 abbrev pub AreThreePairs : Literals → BytePair → BytePair → BytePair → Type 0
 AreThreePairs l one two three = (length l.texts ≡ 3) × IsPairOf l 0 one × IsPairOf l 1 two × IsPairOf l 2 three
 
--- the sieve of literals and a cut of them: tables that give their filter sets, or the byte of the only one, or three bytes of it,
--- or two bytes of each of two or three literals
+-- the prefilter of literals and a cut of them: tables that give their filter sets; or the only literal's byte, or three
+-- bytes of it; or two bytes of each of two or three literals
 abbrev pub IsSieveOf : Literals → List ℕ → Sieve → Type 0
-IsSieveOf l ends (Nibbles masks) = GivesFilterSets l ends masks
+IsSieveOf l ends (Nibbles masks) = GivesFilterSets l ends (widened masks)
+IsSieveOf l ends (TwoNibbles first last) = GiveFilterSets l ends first last
 IsSieveOf l ends (OneByte one) = IsOnlyByte l one.byte one.case_bit
 IsSieveOf l ends (OneExactByte exact) = IsOnlyByte l exact.byte 0
 IsSieveOf l ends (OneTriple triple) = IsOneTriple l triple

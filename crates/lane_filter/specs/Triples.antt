@@ -1,17 +1,17 @@
--- Three bytes of a literal, and the places of a text before which they stand.
+-- Three bytes of a literal, and the positions of a text before which they stand.
 use Rattle.std.specs.Prelude.{◌≡◌, ℕ, ◌<◌, ◌≤◌, List, Some, length, max}
 use Rattle.std.specs.List.{slice_get}
 use Rattle.lit_base.specs.Literals.{Literals}
 use Rattle.lane_filter.specs.Pairs.{IsExact, IsOneOf, IsPairEnd, IsPairOf, IsRareByteOf, StandsBefore}
 use Rattle.lane_filter.specs.declared.triple.ByteTriple.{ByteTriple}
 
--- a literal with these bytes may end at this place of the text: all of them stand before it
+-- a literal with these bytes may end at this position of the text: all of them stand before it
 pub record IsTripleEnd (triple : ByteTriple) (text : List ℕ) (end : ℕ) : Type 0 where
   pub pair : IsPairEnd triple.pair text end
   pub after_third : triple.third.behind < end
   pub third : StandsBefore triple.third text end
 
--- how many bytes stand behind the foremost of them in the literal
+-- how many bytes stand after the foremost of them in the literal
 abbrev pub most_behind : ByteTriple → ℕ
 most_behind triple = max (max triple.pair.first.behind triple.pair.second.behind) triple.third.behind
 

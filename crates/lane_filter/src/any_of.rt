@@ -1,10 +1,10 @@
-//! The test of ends that lets pass what one of two tests does.
+//! The test of ends that passes what either of two tests passes.
 ghost use Rattle.std.specs.Prelude.{◌≡◌, max};
 
 use crate::end_test::EndTest;
 use crate::rare_look::Turn;
 
-/// Two tests of ends: it lets pass what one of them does.
+/// Two tests of ends, joined: it passes what either passes.
 #[derive(Clone, Copy, Debug, PartialEq, Eq)]
 pub struct AnyOf<A, B> {
     one: A,

@@ -1,9 +1,10 @@
-//! The places of a text at which an occurrence may end.
+//! The positions of a text at which an occurrence may end.
 ghost use Rattle.std.specs.Prelude.{◌≡◌, ◌+◌, ◌<◌, ◌≤◌, length, IfSome};
 ghost use Rattle.std.specs.Option.{IfNone};
 ghost use Rattle.lane_filter.specs.PlacesAfter.{NoneWithin, IsFirstAfter, AreMarked};
 ghost use Rattle.lane_filter.specs.Sieves.{Passes};
 
+use crate::any_of::AnyOf;
 use crate::bits::{from_bit, split_lowest};
 use crate::end_test::EndTest;
 use crate::nibbles::Nibbles;
@@ -19,7 +20,7 @@ struct EndBits {
     done: usize,
 }
 
-/// The first candidate after a place and up to another, one place looked at after the other.
+/// The first candidate after one position and up to another, tested one position after the other.
 fn plain_bits<T: EndTest>(test: &T, text: &[u8], from: usize, to: usize) -> EndBits
     requires ordered { from ≤ to }
     requires within { to ≤ length text.now }
@@ -43,7 +44,7 @@ fn plain_bits<T: EndTest>(test: &T, text: &[u8], from: usize, to: usize) -> EndB
     }
 }
 
-/// The first 64 ends after a place with a candidate among them, or none at the end of the text.
+/// The first 64 ends after a position with a candidate among them, or none at the end of the text.
 #[inline(always)]
 fn wide_bits<T: EndTest>(test: &T, text: &[u8], from: usize) -> EndBits
     requires long { T.reaches test.now + 63 ≤ length text.now }
@@ -68,7 +69,7 @@ fn wide_bits<T: EndTest>(test: &T, text: &[u8], from: usize) -> EndBits
     last_bits(test, text, seen)
 }
 
-/// The ends after a place, fewer than 64, as part of the last 64 ends.
+/// The ends after a position, fewer than 64, as part of the last 64 ends.
 #[inline(always)]
 fn last_bits<T: EndTest>(test: &T, text: &[u8], seen: usize) -> EndBits
     requires long { T.reaches test.now + 63 ≤ length text.now }
@@ -94,8 +95,8 @@ fn last_bits<T: EndTest>(test: &T, text: &[u8], seen: usize) -> EndBits
     }
 }
 
-/// The first ends after a place with a candidate among them, or none at the end of the text. Tested
-/// 64 at a time they need as many bytes before the first of them as the test looks at.
+/// The first ends after a position with a candidate among them, or none at the end of the text. Testing 64 at a time
+/// needs as many bytes before the first end as the test reads.
 fn next_bits<T: EndTest>(test: &T, text: &[u8], from: usize) -> EndBits
     requires { from ≤ length text.now }
     ensures marked { AreMarked (T.candidate test.now text.now) from result.first result.done result.mask }
@@ -114,8 +115,8 @@ fn next_bits<T: EndTest>(test: &T, text: &[u8], from: usize) -> EndBits
     wide_bits(test, text, front)
 }
 
-/// The first ends after a place of which the sieve lets one pass, or none at the end of the text. The
-/// test is chosen here, before its loop over lanes.
+/// The first ends after a position that include one passed by the prefilter, or none at the end of the text. The test
+/// is chosen here, before its loop over lanes.
 fn sieved_bits(sieve: &Sieve, text: &[u8], from: usize) -> EndBits
     requires { from ≤ length text.now }
     ensures marked { AreMarked (Passes sieve.now text.now) from result.first result.done result.mask }
@@ -124,6 +125,10 @@ fn sieved_bits(sieve: &Sieve, text: &[u8], from: usize) -> EndBits
 {
     match sieve {
         Sieve::Nibbles(masks) => next_bits(&Nibbles::new(masks), text, from),
+        Sieve::TwoNibbles(first, last) => {
+            let two = AnyOf::new(Nibbles::new(first), Nibbles::new(last));
+            next_bits(&two, text, from)
+        }
         Sieve::OneByte(byte) => next_bits(byte, text, from),
         Sieve::OneExactByte(byte) => next_bits(byte, text, from),
         Sieve::OneTriple(triple) => next_bits(triple, text, from),
@@ -135,8 +140,8 @@ fn sieved_bits(sieve: &Sieve, text: &[u8], from: usize) -> EndBits
     }
 }
 
-/// The places of a text at which an occurrence may end, in order. A contract sees the sieve, the
-/// text, and the last end handed out.
+/// The positions of a text at which an occurrence may end, in order. A contract sees the prefilter, the text, and the
+/// last end returned.
 #[derive(Drop)]
 pub struct Candidates<'a> {
     sieve: &'a Sieve,
@@ -160,7 +165,7 @@ impl<'a> Model for Candidates<'a> {
 }
 
 impl<'a> Candidates<'a> {
-    /// The candidates of the text after a place. It looks at nothing yet.
+    /// The candidates of the text after a position. It reads nothing yet.
     #[inline]
     pub fn new(sieve: &'a Sieve, text: &'a [u8], from: usize) -> Candidates<'a>
         requires { from ≤ length text.now }
@@ -178,7 +183,7 @@ impl<'a> Candidates<'a> {
         }
     }
 
-    /// The first candidate after the last one handed out.
+    /// The first candidate after the last one returned, or `None` if there is no more.
     #[inline(always)]
     pub fn next(&mut self) -> Option<usize>
         ensures sieve { self.new.sieve ≡ self.old.sieve }
@@ -205,8 +210,8 @@ impl<'a> Candidates<'a> {
         Some(self.from)
     }
 
-    /// Goes on after a place of the text, as if that were the last candidate handed out. What was told of
-    /// places further on stays told.
+    /// Continues after a position of the text, as if it were the last candidate returned. Everything known of later
+    /// positions stays known.
     #[inline]
     pub fn skip_to(&mut self, place: usize)
         requires { place ≤ length self.old.text }

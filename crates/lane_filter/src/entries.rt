@@ -7,14 +7,14 @@ use nib_mask::Masks;
 /// The entries of one table that are not zero, each with the half of a byte that it stands for.
 #[derive(Clone, Copy)]
 pub(crate) struct Entries {
-    halves: [u8; 16],
-    values: [u8; 16],
+    halves: [u16; 16],
+    values: [u16; 16],
     count: usize,
     ghost few: { count ≤ 16 },
 }
 
-/// Those of all tables: of the third-last byte, the second-last and the last, by the low half of a
-/// byte and by the high one.
+/// The entries of all tables: of the third-last byte, the second-last and the last, by the low half of a byte and by
+/// the high one.
 #[derive(Clone, Copy)]
 pub(crate) struct MaskEntries {
     third_low: Entries,
@@ -29,11 +29,11 @@ impl Entries {
     ghost use Rattle.lane_filter.specs.Entries.{AreEntriesOf, entries_value};
     ghost use Rattle.lane_filter.specs.Fours.{HasFour};
 
-    fn of(table: &[u8; 16]) -> Entries
+    fn of(table: &[u16; 16]) -> Entries
         ensures { AreEntriesOf table.now result }
     {
         let (mut halves, mut values, mut count) = ([0; 16], [0; 16], 0);
-        for half in 0..16u8 {
+        for half in 0..16u16 {
             let value = table[half as usize];
             if value != 0 {
                 halves[count] = half;
@@ -82,7 +82,7 @@ impl MaskEntries {
         }
     }
 
-    /// The filter bytes of 128 places.
+    /// The filter bytes of 128 positions.
     #[inline(always)]
     pub(crate) fn filter(&self, x0: &[u8], x1: &[u8], x2: &[u8], at: usize) -> Four
         requires x0 { at + 128 ≤ length x0.now }
@@ -97,7 +97,7 @@ impl MaskEntries {
         third.both(&second).both(&last)
     }
 
-    /// What the tables of one position give 128 places.
+    /// What the tables of one position give 128 positions.
     #[inline(always)]
     fn at_position(low: &Entries, high: &Entries, bytes: &[u8], at: usize) -> Four
         requires { at + 128 ≤ length bytes.now }

@@ -1,4 +1,4 @@
-//! The test of ends by a pair of bytes of which the case counts.
+//! The test of ends by a pair of case-sensitive bytes.
 ghost use Rattle.std.specs.Prelude.{◌≡◌, ◌↔◌, IsSome, IfSome};
 ghost use Rattle.lane_filter.specs.Pairs.{IsExact};
 
@@ -6,7 +6,7 @@ use crate::end_test::EndTest;
 use crate::pair::BytePair;
 use crate::rare_look::Turn;
 
-/// A pair of bytes of which the case counts, compared without the bits of case.
+/// A pair of case-sensitive bytes, compared without the bits of case.
 #[derive(Clone, Copy, Debug, PartialEq, Eq)]
 pub struct ExactPair {
     pair: BytePair,

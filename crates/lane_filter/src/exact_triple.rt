@@ -1,4 +1,4 @@
-//! The test of ends by three bytes of which the case counts.
+//! The test of ends by three case-sensitive bytes.
 ghost use Rattle.std.specs.Prelude.{◌≡◌, ◌↔◌, IsSome, IfSome};
 ghost use Rattle.lane_filter.specs.Triples.{AreExact};
 
@@ -6,7 +6,7 @@ use crate::end_test::EndTest;
 use crate::rare_look::Turn;
 use crate::triple::ByteTriple;
 
-/// Three bytes of which the case counts, compared without the bits of case.
+/// Three case-sensitive bytes, compared without the bits of case.
 #[derive(Clone, Copy, Debug, PartialEq, Eq)]
 pub struct ExactTriple {
     triple: ByteTriple,

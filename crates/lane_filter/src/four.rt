@@ -1,15 +1,18 @@
-//! Four vectors in a row, which share what is made ready for each: 128 places.
+//! Four vectors of numbers of 16 bits in a row, which share their prepared operands: 128 positions.
 ghost use Rattle.std.specs.Prelude.{ℕ, ◌+◌, ◌/◌, ◌%◌, ◌≤◌, ◌==◌, if◌then◌else◌, length, slice_index, bit_and, bit_or};
 
-use crate::lanes::{both, either, high_halves, load, low_halves, store, value_where};
+use crate::lanes::load;
+use crate::wide_lanes::{
+    both_wide, either_wide, high_halves_wide, low_halves_wide, store_wide, value_where_wide, widen,
+};
 use std::simd::prelude::*;
 
 #[derive(Clone, Copy)]
 pub(crate) struct Four {
-    pub(crate) first: u8x32,
-    pub(crate) second: u8x32,
-    pub(crate) third: u8x32,
-    pub(crate) fourth: u8x32,
+    pub(crate) first: u16x32,
+    pub(crate) second: u16x32,
+    pub(crate) third: u16x32,
+    pub(crate) fourth: u16x32,
 }
 
 impl Four {
@@ -20,7 +23,7 @@ impl Four {
     pub(crate) fn zero() -> Four
         ensures { HasFour result (λ _. 0) }
     {
-        let zero = u8x32::splat(0);
+        let zero = u16x32::splat(0);
         Four {
             first: zero,
             second: zero,
@@ -29,31 +32,31 @@ impl Four {
         }
     }
 
-    /// The 128 bytes from a place on.
+    /// The 128 bytes from a position on.
     #[inline(always)]
     pub(crate) fn load(bytes: &[u8], at: usize) -> Four
         requires { at + 128 ≤ length bytes.now }
         ensures { HasFour result (λ k. slice_index bytes.now (at + k)) }
     {
         Four {
-            first: load(bytes, at),
-            second: load(bytes, at + 32),
-            third: load(bytes, at + 64),
-            fourth: load(bytes, at + 96),
+            first: widen(load(bytes, at)),
+            second: widen(load(bytes, at + 32)),
+            third: widen(load(bytes, at + 64)),
+            fourth: widen(load(bytes, at + 96)),
         }
     }
 
-    /// Writes the lanes from a place on, after those that are there.
+    /// Writes the lanes from a position on, after those that are there.
     #[inline(always)]
-    pub(crate) fn store(&self, bytes: &mut [u8], at: usize)
-        requires { at + 128 ≤ length bytes.old }
-        ensures { (f : ℕ → ℕ) → HasFour self.now (λ k. f (at + k)) → HoldsBelow f at bytes.old
-            → HoldsBelow f (at + 128) bytes.new }
+    pub(crate) fn store(&self, numbers: &mut [u16], at: usize)
+        requires { at + 128 ≤ length numbers.old }
+        ensures { (f : ℕ → ℕ) → HasFour self.now (λ k. f (at + k)) → HoldsBelow f at numbers.old
+            → HoldsBelow f (at + 128) numbers.new }
     {
-        store(self.first, bytes, at);
-        store(self.second, bytes, at + 32);
-        store(self.third, bytes, at + 64);
-        store(self.fourth, bytes, at + 96);
+        store_wide(self.first, numbers, at);
+        store_wide(self.second, numbers, at + 32);
+        store_wide(self.third, numbers, at + 64);
+        store_wide(self.fourth, numbers, at + 96);
     }
 
     /// The low half of each lane.
@@ -62,10 +65,10 @@ impl Four {
         ensures { (f : ℕ → ℕ) → HasFour self.now f → HasFour result (λ k. f k % 16) }
     {
         Four {
-            first: low_halves(self.first),
-            second: low_halves(self.second),
-            third: low_halves(self.third),
-            fourth: low_halves(self.fourth),
+            first: low_halves_wide(self.first),
+            second: low_halves_wide(self.second),
+            third: low_halves_wide(self.third),
+            fourth: low_halves_wide(self.fourth),
         }
     }
 
@@ -75,10 +78,10 @@ impl Four {
         ensures { (f : ℕ → ℕ) → HasFour self.now f → HasFour result (λ k. f k / 16) }
     {
         Four {
-            first: high_halves(self.first),
-            second: high_halves(self.second),
-            third: high_halves(self.third),
-            fourth: high_halves(self.fourth),
+            first: high_halves_wide(self.first),
+            second: high_halves_wide(self.second),
+            third: high_halves_wide(self.third),
+            fourth: high_halves_wide(self.fourth),
         }
     }
 
@@ -88,24 +91,24 @@ impl Four {
         ensures { (f g : ℕ → ℕ) → HasFour self.now f → HasFour other.now g → HasFour result (λ k. bit_and (f k) (g k)) }
     {
         Four {
-            first: both(self.first, other.first),
-            second: both(self.second, other.second),
-            third: both(self.third, other.third),
-            fourth: both(self.fourth, other.fourth),
+            first: both_wide(self.first, other.first),
+            second: both_wide(self.second, other.second),
+            third: both_wide(self.third, other.third),
+            fourth: both_wide(self.fourth, other.fourth),
         }
     }
 
     /// The lanes with the bits of the value, where the other's lane is the half.
     #[inline(always)]
-    pub(crate) fn with_value_where(&self, halves: &Four, half: u8, value: u8) -> Four
+    pub(crate) fn with_value_where(&self, halves: &Four, half: u16, value: u16) -> Four
         ensures { (f g : ℕ → ℕ) → HasFour self.now f → HasFour halves.now g
             → HasFour result (λ k. bit_or (f k) (if g k == half then value else 0)) }
     {
         Four {
-            first: either(self.first, value_where(halves.first, half, value)),
-            second: either(self.second, value_where(halves.second, half, value)),
-            third: either(self.third, value_where(halves.third, half, value)),
-            fourth: either(self.fourth, value_where(halves.fourth, half, value)),
+            first: either_wide(self.first, value_where_wide(halves.first, half, value)),
+            second: either_wide(self.second, value_where_wide(halves.second, half, value)),
+            third: either_wide(self.third, value_where_wide(halves.third, half, value)),
+            fourth: either_wide(self.fourth, value_where_wide(halves.fourth, half, value)),
         }
     }
 }

@@ -6,7 +6,7 @@ ghost use Rattle.lane_filter.specs.Lanes.{HasLanes, HoldsBelow, HoldsTwice, Sees
 
 use std::simd::prelude::*;
 
-/// The 32 bytes from a place on.
+/// The 32 bytes from a position on.
 #[inline(always)]
 pub(crate) fn load(bytes: &[u8], at: usize) -> u8x32
     requires { at + 32 ≤ length bytes.now }
@@ -15,7 +15,7 @@ pub(crate) fn load(bytes: &[u8], at: usize) -> u8x32
     u8x32::from_slice(&bytes[at..])
 }
 
-/// Writes the lanes from a place on.
+/// Writes the lanes from a position on.
 #[inline(always)]
 pub(crate) fn store(vector: u8x32, bytes: &mut [u8], at: usize)
     requires { at + 32 ≤ length bytes.old }
@@ -103,7 +103,7 @@ pub(crate) fn nonzero_bits(front: u8x32, back: u8x32) -> u64
     joined.simd_ne(u8x64::splat(0)).to_bitmask()
 }
 
-/// The 64 bytes from a place on.
+/// The 64 bytes from a position on.
 #[inline(always)]
 pub(crate) fn load_64(bytes: &[u8], at: usize) -> u8x64
     requires { at + 64 ≤ length bytes.now }

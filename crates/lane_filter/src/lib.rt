@@ -1,9 +1,9 @@
-//! The filter of a packed search over many places at once, by vectors of 32 bytes, and the search
-//! for one byte or three bytes of an only literal, or for two bytes of each of two or three.
+//! The filter of a packed search over many positions at once, by vectors of 32 bytes. For an only literal it searches
+//! for one byte or three bytes, for two or three literals for two bytes of each.
 //!
-//! Theorems: `filter` and `filter_wide` write the plain filter byte at each place, for every length;
-//! no occurrence goes past the `Sieve` of its literals; `Candidates` hands out exactly the places of a
-//! text that a sieve lets pass, in order and each once.
+//! Theorems: `filter` and `filter_wide` write the filter number of each position, for every length. The `Sieve` of a
+//! list, its prefilter, passes every occurrence. `Candidates` returns exactly the positions of a text that a prefilter
+//! passes, in order and each once.
 #![tactic(auto)]
 
 mod any_of;
@@ -26,6 +26,7 @@ mod sieve;
 mod skipping;
 mod tables;
 mod triple;
+mod wide_lanes;
 
 pub use any_of::AnyOf;
 pub use bits::{from_bit, split_lowest};

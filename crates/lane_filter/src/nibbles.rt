@@ -1,24 +1,25 @@
 //! The test of ends by a filter's tables.
 ghost use Rattle.std.specs.Prelude.{◌≡◌};
+ghost use Rattle.nib_mask.specs.Halves.{widened};
 ghost use Rattle.lane_filter.specs.WideTables.{AreTablesOf};
 
 use crate::end_test::EndTest;
 use crate::plain;
 use crate::rare_look::Turn;
 use crate::tables::Tables;
-use nib_mask::Masks;
+use nib_mask::ByteMasks;
 
 /// Masks, and their tables as vectors.
 #[derive(Clone, Copy)]
 pub(crate) struct Nibbles<'a> {
-    masks: &'a Masks,
+    masks: &'a ByteMasks,
     tables: Tables,
-    ghost of: { AreTablesOf masks.now tables },
+    ghost of: { AreTablesOf (widened masks.now) tables },
 }
 
 impl<'a> Nibbles<'a> {
     #[inline(always)]
-    pub(crate) fn new(masks: &'a Masks) -> Nibbles<'a>
+    pub(crate) fn new(masks: &'a ByteMasks) -> Nibbles<'a>
         ensures { result.masks.now ≡ masks.now }
     {
         Nibbles {
@@ -30,8 +31,9 @@ impl<'a> Nibbles<'a> {
 
 impl<'a> EndTest for Nibbles<'a> {
     ghost use Rattle.nib_mask.specs.Candidates.{IsCandidate};
+    ghost use Rattle.nib_mask.specs.Halves.{widened};
 
-    ghost candidate = { λ s. IsCandidate s.masks.now };
+    ghost candidate = { λ s. IsCandidate (widened s.masks.now) };
 
     ghost reaches = { λ _. 3 };
 

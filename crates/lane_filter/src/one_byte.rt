@@ -16,7 +16,7 @@ use std::simd::prelude::*;
 #[derive(Clone, Copy, Debug, PartialEq, Eq)]
 pub struct OneByte {
     byte: u8,
-    /// The bit that a letter's case is told by, or 0 where case counts.
+    /// The bit of a letter's case, or 0 if case counts.
     case_bit: u8,
 }
 
@@ -86,7 +86,7 @@ impl EndTest for OneByte {
     }
 }
 
-/// The only byte of a literal, of which the case counts: compared without a bit of case.
+/// The only byte of a literal, case-sensitive: compared without a bit of case.
 #[derive(Clone, Copy, Debug, PartialEq, Eq)]
 pub struct ExactByte {
     byte: u8,

@@ -12,15 +12,15 @@ use lit_base::{Fold, LitList};
 use memchr::arch::all::packedpair::{DefaultFrequencyRank, HeuristicFrequencyRank};
 use std::simd::prelude::*;
 
-/// From how many of a literal's last bytes a pair, and a third byte, are chosen: the ends nearer to a text's start are
-/// looked at one by one.
+/// How many of a literal's last bytes a pair, and a third byte, are chosen from. Ends nearer to a text's start are
+/// tested one by one.
 pub(crate) const CHOSEN_FROM: usize = 256;
 
 /// A byte of a literal, and where it stands before an end.
 #[derive(Clone, Copy, Debug, PartialEq, Eq)]
 pub(crate) struct RareByte {
     byte: u8,
-    /// The bit that a letter's case is told by, or 0 where case counts.
+    /// The bit of a letter's case, or 0 if case counts.
     case_bit: u8,
     /// How many bytes stand between it and the end.
     behind: u8,
@@ -41,7 +41,7 @@ impl RareByte {
         }
     }
 
-    /// How many bytes before an end are looked at.
+    /// How many bytes before an end are read.
     #[inline(always)]
     pub(crate) fn reach(&self) -> usize
         ensures value { result ≡ self.now.behind + 1 }
@@ -58,7 +58,7 @@ impl RareByte {
         self.case_bit == 0
     }
 
-    /// The byte, of which the case counts, with a bit of case that is known to be none, which costs nothing.
+    /// The byte, which is case-sensitive, with a bit of case that is known to be none. That costs nothing.
     #[inline(always)]
     pub(crate) fn plain(&self) -> RareByte
         requires exact { self.now.case_bit ≡ 0 }
@@ -116,7 +116,7 @@ impl RareByte {
         )
     }
 
-    /// Before which of 64 ends the text has the byte.
+    /// The ends among 64 before which the text has the byte.
     #[inline(always)]
     pub(crate) fn marks(&self, text: &[u8], first: usize) -> u64
         requires after { self.now.behind < first }
@@ -127,7 +127,7 @@ impl RareByte {
     }
 }
 
-/// Two bytes of a literal, the rarer first. They are one where it has no other.
+/// Two bytes of a literal, the rarer first. They are one if it has no other.
 #[derive(Clone, Copy, Debug, PartialEq, Eq)]
 pub struct BytePair {
     first: RareByte,
@@ -135,9 +135,9 @@ pub struct BytePair {
 }
 
 impl BytePair {
-    /// The two rarest of the last bytes of the literal at a place, by what is usual in text: at two
-    /// places if it is longer than one byte, and different if its last bytes are. They stand before
-    /// each end of it.
+    /// The two rarest of the last bytes of the literal at a place, by their frequency in usual text. They stand at two
+    /// places if the literal is longer than one byte, and differ if its last bytes do. They stand before each end of
+    /// the literal.
     pub fn of(list: &LitList, place: usize) -> BytePair
         requires { place < length list.now.texts }
         ensures pair { IsPairOf list.now place result }
@@ -153,7 +153,7 @@ impl BytePair {
         }
     }
 
-    /// Whether one of them has so many bytes behind it.
+    /// Whether one of them has `behind` bytes after it.
     pub(crate) fn has_byte_before(&self, behind: usize) -> bool
         ensures { IsTrue result ↔ IsOneOf self.now behind }
     {
@@ -168,8 +168,8 @@ impl BytePair {
         self.first.is_exact() && self.second.is_exact()
     }
 
-    /// Both bytes, of which the case counts, with bits of case that are known to be none. Without these bits searching is a quarter
-    /// faster.
+    /// Both bytes, which are case-sensitive, with bits of case that are known to be none. Without these bits a search
+    /// is a quarter faster.
     #[inline(always)]
     pub(crate) fn plain(&self) -> BytePair
         requires exact { IsExact self.now }
@@ -237,7 +237,7 @@ impl EndTest for BytePair {
     }
 }
 
-/// The bit that the case of a folded byte is told by.
+/// The bit of a folded byte's case: 32 for a letter, or 0 if case counts.
 pub(crate) fn case_bit(fold: Fold, byte: u8) -> u8
     ensures { result ≡ case_bit fold byte }
 {
@@ -247,8 +247,8 @@ pub(crate) fn case_bit(fold: Fold, byte: u8) -> u8
     }
 }
 
-/// The place of the rarest of a folded literal's last bytes. Beside a place chosen before it is
-/// another, where there is one, with another byte if there is one.
+/// The place of the rarest of a folded literal's last bytes. With a place chosen before, it is another place if there
+/// is one, and has another byte if there is one.
 fn rarest(fold: Fold, literal: &[u8], chosen: Option<usize>) -> usize
     requires some { 0 < length literal.now }
     requires chosen { IfSome chosen (λ first. first < length literal.now) }
@@ -268,7 +268,7 @@ fn rarest(fold: Fold, literal: &[u8], chosen: Option<usize>) -> usize
     found
 }
 
-/// How little a byte tells beside the one at a place chosen before.
+/// The cost of choosing the byte at a place: how common it is, and more if it repeats the byte chosen before.
 fn cost_of(fold: Fold, literal: &[u8], place: usize, chosen: Option<usize>) -> u16
     requires within { place < length literal.now }
     requires chosen { IfSome chosen (λ first. first < length literal.now) }

@@ -1,22 +1,23 @@
-//! The filter place by place.
+//! The filter, position by position.
 ghost use Rattle.std.specs.Prelude.{◌≡◌, ◌↔◌, ◌+◌, ◌-◌, ◌≤◌, ◌∷◌, length, slice_index, IsTrue};
 ghost use Rattle.nib_mask.specs.Candidates.{IsCandidate};
+ghost use Rattle.nib_mask.specs.Halves.{widened};
 ghost use Rattle.lane_filter.specs.Filtered.{IsFilteredBelow};
 
-use nib_mask::{Masks, plain_byte};
+use nib_mask::{ByteMasks, Masks, plain_byte};
 
-/// Whether an occurrence may end at a place of the text.
-pub(crate) fn is_candidate(masks: &Masks, text: &[u8], end: usize) -> bool
+/// Whether an occurrence may end at a position of the text.
+pub(crate) fn is_candidate(masks: &ByteMasks, text: &[u8], end: usize) -> bool
     requires some { 1 ≤ end }
     requires within { end ≤ length text.now }
-    ensures { IsTrue result ↔ IsCandidate masks.now text.now end }
+    ensures { IsTrue result ↔ IsCandidate (widened masks.now) text.now end }
 {
     let third = byte_before(text, end, 3);
     let second = byte_before(text, end, 2);
-    plain_byte(masks, third, second, text[end - 1]) != 0
+    masks.plain(third, second, text[end - 1]) != 0
 }
 
-/// The byte so many places before an end, zero before the text.
+/// The byte `back` places before an end, zero before the text.
 fn byte_before(text: &[u8], end: usize, back: usize) -> u8
     requires some { 1 ≤ back }
     requires few { back ≤ 3 }
@@ -27,13 +28,13 @@ fn byte_before(text: &[u8], end: usize, back: usize) -> u8
     if back <= end { text[end - back] } else { 0 }
 }
 
-/// Writes the filter bytes from a place on, where those below are written.
+/// Writes the filter bytes from a position on, where those below are written.
 pub(crate) fn filter_rest(
     masks: &Masks,
     x0: &[u8],
     x1: &[u8],
     x2: &[u8],
-    out: &mut [u8],
+    out: &mut [u16],
     from: usize,
 )
     requires x1_length { length x1.now ≡ length x0.now }

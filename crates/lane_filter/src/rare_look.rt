@@ -1,4 +1,4 @@
-//! Which byte of a literal is looked for alone, and when. Nothing here decides what is found, only how soon.
+//! Which byte of a literal is searched for alone, and when. This decides only how soon an end is found, not whether.
 
 /// One of up to three bytes of a literal, the rarest in usual text first.
 #[derive(Clone, Copy, Debug)]
@@ -8,28 +8,30 @@ pub(crate) enum Turn {
     Third,
 }
 
-/// Where each byte of a literal was common, so many bytes of the text are searched by all of them before the first has its turn again:
-/// half of what a run of grep reads at once. With 8,192 at first and four times as many each further time nothing was told apart.
+/// After each byte of a literal was common, this many bytes of the text are searched by all of them before the first has
+/// another turn. That is half of the bytes that a run of grep reads at once. Measured: 8,192 at first, and four times as
+/// many each further time, makes no difference.
 const WAIT: usize = 65536;
 
-/// A stop takes about as long as looking for one byte alone gains in so many blocks: two jumps foreseen wrongly, and all bytes compared,
-/// for some 3 ns a block. The number was reckoned so; by 4 nothing was told apart.
+/// A stop costs about as much as the search for one byte alone saves in this many blocks: two mispredicted branches,
+/// and a comparison of all bytes, for some 3 ns a block. The number is an estimate; measured, 4 makes no difference.
 const STOP_COST: usize = 8;
 
-/// So many blocks a byte is given before it is taken to be common.
+/// The number of blocks that a byte starts with before it counts as common.
 const START_CREDIT: usize = STOP_COST;
 
-/// What a byte has gained counts for so many blocks at most, so that it is soon given up where it gets common. The number was not varied.
+/// The most blocks of gain that count, so that a byte is soon given up where it becomes common. Chosen without
+/// measurement.
 const MOST_CREDIT: usize = 64;
 
-/// Which byte is looked for alone, and what that has gained. The rarest of a text is mostly one of the three that are rare in usual text,
-/// but not always the first: so each has its turn, until one is rare.
+/// Which byte is searched for alone, and its gain so far. The rarest byte of a text is mostly one of the three that are
+/// rare in usual text, but not always the first. So each has a turn, until one is rare.
 #[derive(Clone, Copy, Debug)]
 pub(crate) struct RareLook {
     turn: Turn,
-    /// How many blocks it has gained beyond what its stops took.
+    /// The number of blocks gained, less the cost of the stops.
     credit: usize,
-    /// So many bytes of the text are searched by all bytes of the literals next.
+    /// The number of bytes of the text to search next by all bytes of the literals.
     wait: usize,
 }
 
@@ -50,13 +52,15 @@ impl RareLook {
         self.turn
     }
 
-    /// How many bytes of the text are to be searched by all bytes of the literals, beyond the block at which the last look stopped.
+    /// The number of bytes of the text to search by all bytes of the literals, beyond the block at which the last
+    /// search stopped.
     #[inline(always)]
     pub fn wait(&self) -> usize {
         self.wait
     }
 
-    /// The byte was found behind so many blocks without it. To be called at each stop: where a literal ends there, the look ends too.
+    /// Notes that the byte was found after `blocks` blocks without it. Call it at each stop; if a literal ends there,
+    /// the search for the byte ends too.
     #[inline(always)]
     pub fn note(&mut self, blocks: usize) {
         self.wait = 0;
@@ -68,8 +72,8 @@ impl RareLook {
         }
     }
 
-    /// The byte is common here: the next one has its turn, and after the last the first one again, once the text was searched for a
-    /// while by all of them.
+    /// The byte is common here: the next one has a turn. After the last comes the first again, once the text was
+    /// searched for a while by all of them.
     fn pass_on(&mut self) {
         self.credit = START_CREDIT;
         self.turn = match self.turn {

@@ -1,8 +1,8 @@
-//! What tells the places of a text at which a literal may end.
-ghost use Rattle.std.specs.Prelude.{ℕ, List, length};
+//! The prefilter of a list: the positions of a text at which a literal may end.
+ghost use Rattle.std.specs.Prelude.{◌≡◌, ℕ, List, length};
 ghost use Rattle.lit_base.specs.Cuts.{IsCut};
 ghost use Rattle.lit_base.specs.Literals.{Literals};
-ghost use Rattle.nib_mask.specs.Candidates.{CoversBy};
+ghost use Rattle.nib_mask.specs.Candidates.{Covers, CoversBy, GivesFilterSets};
 ghost use Rattle.lane_filter.specs.OneBytes.{IsEndOfByte};
 ghost use Rattle.lane_filter.specs.Triples.{IsTripleEnd};
 ghost use Rattle.lane_filter.specs.Sieves.{AreThreePairs, AreTwoPairs, IsEndOfThree, IsEndOfTwo, IsOneTriple, IsOnlyByte, IsSieveOf, Passes};
@@ -14,36 +14,38 @@ use crate::one_byte::{ExactByte, OneByte};
 use crate::pair::BytePair;
 use crate::triple::ByteTriple;
 use lit_base::{Ends, LitList};
-use nib_mask::Masks;
+use nib_mask::{ByteMasks, Masks};
 
-/// What tells the places of a text at which a literal may end: each is searched for by a loop of its
+/// A prefilter: it passes the positions of a text at which a literal may end. Each kind is searched by a loop of its
 /// own.
 #[derive(Clone, Copy, Debug, PartialEq, Eq)]
 pub enum Sieve {
-    /// The tables of a filter, for any number of literals.
-    Nibbles(Masks),
+    /// The tables of a filter of at most eight buckets, for any number of literals.
+    Nibbles(ByteMasks),
+    /// The tables of the first eight buckets, and the tables of the other buckets.
+    TwoNibbles(ByteMasks, ByteMasks),
     /// The only byte of the only literal.
     OneByte(OneByte),
-    /// The only byte of the only literal, of which the case counts.
+    /// The only byte of the only literal, case-sensitive.
     OneExactByte(ExactByte),
     /// Three bytes of the only literal.
     OneTriple(ByteTriple),
-    /// Three bytes of the only literal, of which the case counts.
+    /// Three bytes of the only literal, case-sensitive.
     OneExactTriple(ExactTriple),
     /// Two bytes of each of two literals.
     TwoPairs(AnyOf<BytePair, BytePair>),
-    /// Two bytes of each of two literals, of which the case counts.
+    /// Two bytes of each of two literals, case-sensitive.
     TwoExactPairs(AnyOf<ExactPair, ExactPair>),
     /// Two bytes of each of three literals.
     ThreePairs(AnyOf<BytePair, AnyOf<BytePair, BytePair>>),
-    /// Two bytes of each of three literals, of which the case counts.
+    /// Two bytes of each of three literals, case-sensitive.
     ThreeExactPairs(AnyOf<ExactPair, AnyOf<ExactPair, ExactPair>>),
 }
 
 impl Sieve {
-    /// The sieve that suits the literals of a list, of which each run of the cut is a bucket.
+    /// The prefilter that suits the literals of a list, where each run of the cut is a bucket.
     pub fn of(list: &LitList, ends: &Ends) -> Sieve
-        requires { IsCut 8 (length list.now.texts) ends.now.items }
+        requires { IsCut 16 (length list.now.texts) ends.now.items }
         ensures sieve { IsSieveOf list.now ends.now.items result }
         ensures covers { CoversBy list.now (Passes result) }
     {
@@ -58,7 +60,21 @@ impl Sieve {
                 BytePair::of(list, 1),
                 BytePair::of(list, 2),
             ),
-            _ => Sieve::Nibbles(Masks::of(list, ends)),
+            _ => Sieve::of_masks(&Masks::of(list, ends), ends.len()),
+        }
+    }
+
+    /// By the tables of `buckets` buckets.
+    fn of_masks(masks: &Masks, buckets: usize) -> Sieve
+        ensures sieve { (l : Literals) (ends : List ℕ) → length ends ≡ buckets → GivesFilterSets l ends masks.now
+            → IsSieveOf l ends result }
+        ensures passes { (l : Literals) (ends : List ℕ) → length ends ≡ buckets → GivesFilterSets l ends masks.now
+            → Covers l masks.now → CoversBy l (Passes result) }
+    {
+        if buckets <= 8 {
+            Sieve::Nibbles(masks.first_eight())
+        } else {
+            Sieve::TwoNibbles(masks.first_eight(), masks.last_eight())
         }
     }
 

@@ -1,18 +1,19 @@
-//! Places of a text up to which no literal can end, found by 128 ends at once.
+//! Positions of a text up to which no literal can end, found by 128 ends at once.
 ghost use Rattle.std.specs.Prelude.{◌+◌, ◌≤◌, length};
 ghost use Rattle.lane_filter.specs.PlacesAfter.{NoneWithin};
 
 use crate::end_test::EndTest;
 use crate::rare_look::{RareLook, Turn};
 
-/// So many ends are looked at together.
+/// The number of ends tested together.
 const BLOCK: usize = 128;
 
-/// A candidate that is at most so near is found by all that the test looks at: only behind so many ends is one byte of a literal looked
-/// for alone. With 2,048 a literal that stands each 1,300 bytes took 1.12 times as long as without such looks, with this 1.01 to 1.05.
+/// A candidate at most this near is found by all bytes that the test reads; only after this many ends is one byte of a
+/// literal searched for alone. Measured with a literal each 1,300 bytes: with 2,048 it takes 1.12 times as long as
+/// without the search for one byte, with this 1.01 to 1.05.
 const NEAR: usize = 8192;
 
-/// A place up to which there is no candidate after another.
+/// A position up to which there is no candidate after `from`.
 #[inline(always)]
 pub(crate) fn skip_unmarked<T: EndTest>(test: &T, text: &[u8], from: usize) -> usize
     requires after { T.reaches test.now ≤ from + 1 }
@@ -27,15 +28,16 @@ pub(crate) fn skip_unmarked<T: EndTest>(test: &T, text: &[u8], from: usize) -> u
         text.len()
     };
     let seen = skip_by_all(test, text, from, near);
-    // Asked once more so that for a test that always answers yes, as that by tables does, the compiler drops the call.
+    // Called once more so that the compiler drops it for a test that always returns true, like the test by tables.
     if near - seen >= BLOCK || text.len() - seen < BLOCK || test.may_mark(text, seen + 1) {
         return seen;
     }
     skip_far(test, text, seen)
 }
 
-/// A place up to which there is no candidate after another. One byte of each literal is looked for alone, and the block at which it
-/// stops is searched by all bytes; where each byte turns out to be common, so is a longer piece of the text.
+/// A position up to which there is no candidate after `from`. One byte of each literal is searched for alone, and the
+/// block at which it stops is searched by all bytes. Where each byte turns out to be common, so is a longer piece of
+/// the text.
 #[inline(never)]
 fn skip_far<T: EndTest>(test: &T, text: &[u8], from: usize) -> usize
     requires after { T.reaches test.now ≤ from + 1 }
@@ -61,7 +63,7 @@ fn skip_far<T: EndTest>(test: &T, text: &[u8], from: usize) -> usize
     seen
 }
 
-/// A place up to which there is no candidate after another, at most `to`, by all that the test looks at.
+/// A position up to which there is no candidate after `from`, at most `to`, by all bytes that the test reads.
 #[inline(always)]
 fn skip_by_all<T: EndTest>(test: &T, text: &[u8], from: usize, to: usize) -> usize
     requires after { T.reaches test.now ≤ from + 1 }
@@ -78,7 +80,7 @@ fn skip_by_all<T: EndTest>(test: &T, text: &[u8], from: usize, to: usize) -> usi
     seen
 }
 
-/// A place up to which one byte of each literal tells that there is no candidate after another. LLVM makes a loop of each turn.
+/// A position up to which one byte of each literal rules out a candidate after `from`. LLVM makes a loop of each turn.
 #[inline(always)]
 fn skip_without<T: EndTest>(test: &T, turn: Turn, text: &[u8], from: usize) -> usize
     requires after { T.reaches test.now ≤ from + 1 }

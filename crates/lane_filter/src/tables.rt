@@ -1,4 +1,4 @@
-//! The tables of a filter as vectors, and what they give 32 or 64 places.
+//! The tables of a filter as vectors, and their values for 32 or 64 positions.
 ghost use Rattle.std.specs.Prelude.{ℕ, ◌+◌, ◌/◌, ◌%◌, ◌≤◌, List, length, slice_index, bit_and};
 ghost use Rattle.lane_filter.specs.Lanes.{HasLanes, HoldsTwice, TellsBits};
 ghost use Rattle.nib_mask.specs.declared.masks.Masks.{Masks};
@@ -7,7 +7,7 @@ ghost use Rattle.nib_mask.specs.Tables.{table_value};
 use crate::lanes::{
     any_lane, both, either, high_halves, load, look_up, low_halves, nonzero_bits, twice,
 };
-use nib_mask::Masks;
+use nib_mask::ByteMasks;
 use std::simd::prelude::*;
 
 /// The six tables, each twice in a vector: of the third-last byte, the second-last and the last, by
@@ -23,12 +23,13 @@ pub(crate) struct Tables {
 }
 
 impl Tables {
+    ghost use Rattle.nib_mask.specs.Halves.{widened};
     ghost use Rattle.lane_filter.specs.WideTables.{AreTablesOf};
     ghost use Rattle.lane_filter.specs.Filtered.{IsMarked};
 
     #[inline(always)]
-    pub(crate) fn of(masks: &Masks) -> Tables
-        ensures { AreTablesOf masks.now result }
+    pub(crate) fn of(masks: &ByteMasks) -> Tables
+        ensures { AreTablesOf (widened masks.now) result }
     {
         let (low, high) = (&masks.low, &masks.high);
         Tables {
@@ -54,7 +55,7 @@ impl Tables {
         both(front, entries(self.last_low, self.last_high, last))
     }
 
-    /// Which of 64 places have a filter byte that is not zero, of the three bytes from each on.
+    /// The positions among 64 at which the filter byte of the three bytes from there on is not zero.
     #[inline(always)]
     pub(crate) fn marks(&self, text: &[u8], at: usize) -> u64
         requires { at + 66 ≤ length text.now }
@@ -66,8 +67,8 @@ impl Tables {
             load(text, at + 33),
             load(text, at + 34),
         );
-        // Told so, that there is none costs less than 64 bits: a quiet text is searched 1.08 times as fast,
-        // one with a candidate in every second block at most a twentieth slower.
+        // To see so that no lane is set costs less than 64 bits. Measured: a text without matches is searched 1.08
+        // times as fast, a text with a candidate in every second block at most a twentieth slower.
         if !any_lane(either(front, back)) {
             return 0;
         }

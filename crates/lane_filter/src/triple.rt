@@ -12,10 +12,12 @@ use crate::rare_look::Turn;
 use lit_base::{Fold, LitList};
 use std::simd::prelude::*;
 
-/// A pair of bytes of a literal, and the rarest one beside these. Where the literal has no third byte, the third is one of the pair.
+/// A pair of bytes of a literal, and the rarest other byte. If the literal has no third byte, the third is one of the
+/// pair.
 ///
-/// Of some pairs of bytes a text has eight in a kilobyte, where three bytes stand together less than once: of sixteen rare words of
-/// each of four texts, four pairs stood more often than five times. `bench/CHANGES.md` has what a search takes by three bytes and by two.
+/// A text may have some pairs of bytes eight times in a kilobyte, and three bytes together less than once. Measured
+/// with sixteen rare words of each of four texts: four pairs stand more often than five times in a kilobyte.
+/// `bench/CHANGES.md` has the times of a search by three bytes and by two.
 #[derive(Clone, Copy, Debug, PartialEq, Eq)]
 pub struct ByteTriple {
     pair: BytePair,
@@ -23,8 +25,8 @@ pub struct ByteTriple {
 }
 
 impl ByteTriple {
-    /// The pair of the literal at a place, and the rarest of its last bytes beside it, by what is usual in text. They stand before
-    /// each end of the literal.
+    /// The pair of the literal at a place, and the rarest other of its last bytes, by their frequency in usual text.
+    /// They stand before each end of the literal.
     pub fn of(list: &LitList, place: usize) -> ByteTriple
         requires { place < length list.now.texts }
         ensures triple { IsTripleOf list.now place result }
@@ -47,7 +49,7 @@ impl ByteTriple {
         self.pair.is_exact() && self.third.is_exact()
     }
 
-    /// The bytes, of which the case counts, with bits of case that are known to be none.
+    /// The bytes, which are case-sensitive, with bits of case that are known to be none.
     #[inline(always)]
     pub(crate) fn plain(&self) -> ByteTriple
         requires exact { AreExact self.now }
@@ -112,7 +114,7 @@ impl EndTest for ByteTriple {
     }
 }
 
-/// The place of the rarest of a folded literal's last bytes beside those of its pair, where there is another.
+/// The place of the rarest of a folded literal's last bytes outside its pair, if there is one.
 fn rarest_beside(fold: Fold, literal: &[u8], pair: &BytePair) -> usize
     requires some { 0 < length literal.now }
     ensures within { result < length literal.now }
@@ -130,7 +132,7 @@ fn rarest_beside(fold: Fold, literal: &[u8], pair: &BytePair) -> usize
     found
 }
 
-/// How little a byte tells beside a pair.
+/// The cost of choosing the byte at a place: how common it is, and more if it is one of the pair.
 fn cost_beside(fold: Fold, literal: &[u8], place: usize, pair: &BytePair) -> u16
     requires { place < length literal.now }
     ensures short { result < 2 ^ 16 - 1 }

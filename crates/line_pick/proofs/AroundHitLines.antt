@@ -49,7 +49,7 @@ module _ (l : Literals) (whole invert : Bool) where
         ap ended_lines hit.whole ∙ ended_lines-append missed (line ++ 10 ∷ behind) ∙ ap (λ r. ended_lines missed ++ ended_lines (r ++ (line ++ 10 ∷ behind))) hit.closed
         ∙ ap (λ ls. ended_lines missed ++ ls) (ended_lines-newline line behind hit.one)
 
-    -- the selected ones of the rest, with their numbers
+    -- the selected lines of the rest, with their numbers
     pub hit-numbered : (before after : ℕ) → after ≡ before + length (ended_lines missed)
         → (selected : Bool) → selected ≡ is_selected l.folding whole invert l.texts line
         → numbered (is_selected l.folding whole invert l.texts) before (ended_lines rest)
@@ -64,7 +64,7 @@ module _ (l : Literals) (whole invert : Bool) where
         ∙ ap (λ ls. numbered (λ _. invert) before (ended_lines missed) ++ ls)
         (numbered-cons test after line (ended_lines behind) ∙ ap (λ ls. ls ++ numbered test (after + 1) (ended_lines behind)) one)
 
-    -- what stands behind is a text of ended lines too
+    -- what stands after is a text of ended lines too
     pub hit-closed : open_rest rest ≡ [] → open_rest behind ≡ []
     hit-closed closed =
         sym (ap open_rest hit.whole ∙ open_rest-append missed (line ++ 10 ∷ behind) ∙ ap (λ r. open_rest (r ++ (line ++ 10 ∷ behind))) hit.closed ∙ open_rest-newline line behind hit.one) ∙ closed

@@ -1,4 +1,4 @@
--- A text that stands behind lines of another: the literals that end in it are those of the other that end there.
+-- A text that stands after lines of another: the literals that end in it are the literals of the whole that end there.
 use Rattle.std.proofs.Common.{◌≡◌, ℕ, ◌+◌, ◌-◌, ◌<◌, ◌≤◌, List, [], ◌∷◌, ◌++◌, length, drop, map, All, inl, inr, refl, sym, ap, ◌∙◌, subst, append_assoc, arith}
 use Rattle.std.proofs.Math.Seq.{drop-append_seam}
 use Rattle.std.proofs.lemmas.List.{drop-append-le, length-append, length-drop, length-map, map-append}
@@ -7,18 +7,18 @@ use Rattle.lit_base.specs.Folding.{folded, folded_text}
 use Rattle.lit_base.specs.Lines.{IsOnePiece, open_rest}
 use Rattle.lit_base.specs.Literals.{Literals}
 use Rattle.lit_base.specs.Occurrences.{HasEnd, Occurs}
-use Rattle.flow_scan.specs.NextEnds.{IsNextEnd, NoEndAfter}
+use Rattle.lit_base.specs.NextEnds.{IsNextEnd, NoEndAfter}
 use Rattle.line_pick.specs.HitLines.{IsBehindLines, IsFirstHitLine}
 use Rattle.line_pick.proofs.Crossing.{crossing, ends_in_newline}
 use Rattle.line_pick.proofs.HitLineLemmas.{map-newline}
 use Rattle.line_pick.proofs.Literals.{occurs-parts, slice-occurs}
 use Rattle.line_pick.proofs.Newlines.{open_rest-closed, open_rest-nil}
 
--- each text stands behind nothing
+-- each text stands after nothing
 pub behind-nothing : (text : List ℕ) → IsBehindLines text text
 behind-nothing text = record { front = []; cut = refl; closed = open_rest-nil }
 
--- and what stands behind a line of it stands behind lines too
+-- and what stands after a line of it stands after lines too
 pub behind-hit : (l : Literals) (whole text missed line rest : List ℕ) → IsBehindLines whole text → IsFirstHitLine l text missed line rest → IsBehindLines whole rest
 behind-hit l whole text missed line rest behind hit =
     let f = behind.front in
@@ -27,12 +27,12 @@ behind-hit l whole text missed line rest behind hit =
     ∙ sym (append_assoc (f ++ (missed ++ line)) (10 ∷ []) rest) in
     record { front = (f ++ (missed ++ line)) ++ 10 ∷ []; cut = cut; closed = open_rest-closed (f ++ (missed ++ line)) }
 
--- so much stands before the text
+-- the whole is longer than the text by the front
 pub behind-len : (whole text : List ℕ) (behind : IsBehindLines whole text) → length whole ≡ length behind.front + length text
 behind-len whole text behind = ap length behind.cut ∙ length-append behind.front text
 
 module _ (l : Literals) (apart : All IsOnePiece l.texts) (front text : List ℕ) (closed : open_rest front ≡ []) where
-  -- a literal that ends in the text ends in the whole, so much further on
+  -- a literal that ends in the text ends in the whole, later by the front's length
   ends_in_whole : (end : ℕ) → HasEnd l text end → HasEnd l (front ++ text) (length front + end)
   ends_in_whole end h =
       let f = folded l.folding in
@@ -44,7 +44,7 @@ module _ (l : Literals) (apart : All IsOnePiece l.texts) (front text : List ℕ)
       let at : length (map f front ++ p.before) + length t ≡ length front + end = omega (arith, length-append (map f front) p.before, length-map front f, p.at) in
       (h.0, subst (Occurs l (front ++ text) h.0) at (slice-occurs l (front ++ text) h.0 t (map f front ++ p.before) p.behind o.stands parts))
 
-  -- what ends behind the front begins behind it, since a newline stands between
+  -- what ends after the front begins after it, since a newline stands between
   begins_behind : (a t b : List ℕ) (end : ℕ) → IsOnePiece t → 0 < end → length a + length t ≡ length front + end → folded_text l.folding (front ++ text) ≡ a ++ (t ++ b) → length front ≤ length a
   begins_behind a t b end single some at parts = elim (ends_in_newline front closed) [
     | inl none ↦ let zero : length front ≡ 0 = ap length none in omega (arith, zero)
@@ -60,7 +60,7 @@ module _ (l : Literals) (apart : All IsOnePiece l.texts) (front text : List ℕ)
         ]
   ]
 
-  -- so a literal that ends in the whole behind the front ends in the text
+  -- so a literal that ends in the whole after the front ends in the text
   ends_in_text : (end : ℕ) → 0 < end → HasEnd l (front ++ text) (length front + end) → HasEnd l text end
   ends_in_text end some h =
       let f = folded l.folding in
@@ -77,7 +77,7 @@ module _ (l : Literals) (apart : All IsOnePiece l.texts) (front text : List ℕ)
       let at : length (drop (length (map f front)) p.before) + length t ≡ end = omega (arith, length-drop (length (map f front)) p.before, size, p.at, low) in
       (h.0, subst (Occurs l text h.0) at (slice-occurs l text h.0 t (drop (length (map f front)) p.before) p.behind o.stands parts))
 
-  -- the next end of the whole behind the front is the first of the text
+  -- the next end of the whole after the front is the first of the text
   next_in_text : (end : ℕ) → IsNextEnd l (front ++ text) (length front) end → IsNextEnd l text 0 (end - length front)
   next_in_text end next =
       let there : end ≡ length front + (end - length front) = omega (arith, next.after) in
@@ -91,7 +91,7 @@ module _ (l : Literals) (apart : All IsOnePiece l.texts) (front text : List ℕ)
   none_in_text : NoEndAfter l (front ++ text) (length front) → NoEndAfter l text 0
   none_in_text none = λ end some h. none (length front + end) (omega (arith, some)) (ends_in_whole end h)
 
--- the same of any whole in which the text stands behind lines
+-- the same of any whole in which the text stands after lines
 pub rest-next : (l : Literals) → All IsOnePiece l.texts → (whole text : List ℕ) (from end : ℕ) → IsBehindLines whole text → from + length text ≡ length whole → IsNextEnd l whole from end → IsNextEnd l text 0 (end - from)
 rest-next l apart whole text from end behind place next =
     let at : from ≡ length behind.front = omega (arith, place, behind-len whole text behind) in
@@ -104,7 +104,7 @@ rest-none l apart whole text from behind place none =
     let at : from ≡ length behind.front = omega (arith, place, behind-len whole text behind) in
     none_in_text l apart behind.front text behind.closed (subst (λ w. NoEndAfter l w (length behind.front)) behind.cut (subst (NoEndAfter l whole) at none))
 
--- and so of any literal that ends in the whole behind them
+-- and so of any literal that ends in the whole after them
 pub rest-end : (l : Literals) → All IsOnePiece l.texts → (whole text : List ℕ) (from end : ℕ) → IsBehindLines whole text → from + length text ≡ length whole → 0 < end → HasEnd l whole (from + end) → HasEnd l text end
 rest-end l apart whole text from end behind place some here =
     let at : from ≡ length behind.front = omega (arith, place, behind-len whole text behind) in

@@ -14,7 +14,7 @@ use Rattle.std.proofs.lemmas.List.Sums.{sum_by-cons, sum_by-take-drop}
 pub count_by-parts : (p : ℕ → Bool) (text : List ℕ) (at : ℕ) → count_by p (take at text) + count_by p (drop at text) ≡ count_by p text
 count_by-parts p text at = sum_by-take-drop (λ b. cond (p b) 1 0) text at
 
--- so many bytes more
+-- some bytes more
 pub count_by-more : (p : ℕ → Bool) (text : List ℕ) (at n : ℕ) → count_by p (take at text) + count_by p (take ((at + n) - at) (drop at text)) ≡ count_by p (take (at + n) text)
 count_by-more p text at n =
     let front : take at (take (at + n) text) ≡ take at text = take-take at (at + n) text (omega arith) in
@@ -29,7 +29,7 @@ halved : (b : Bool) (n : ℕ) → (cond b 1 0 + 2 * n) / 2 ^ 1 ≡ n
 halved true n = omega arith
 halved false n = omega arith
 
--- a mask with its low bits shifted out is that of the lanes behind the first ones
+-- a mask with its low bits shifted out is the mask of the later lanes
 mask_l-drop : (ms : List Bool) (k : ℕ) → mask_l ms / 2 ^ k ≡ mask_l (drop k ms)
 mask_l-drop ms zero = div-one (mask_l ms)
 mask_l-drop [] (suc k) = zero-div (2 ^ suc k)
@@ -94,7 +94,7 @@ pub most-marked : (lanes xs : List ℕ) (most : ℕ) → Each1 (λ lane. lane �
 most-marked lanes xs most le =
     Each1-zip2 (λ a b. a + b) (λ lane. lane ≤ most + 1) lanes (marked xs) (Each2-of (λ lane. lane ≤ most) (λ lane. lane ≤ 1) (λ a b. a + b ≤ most + 1) (λ a b x y. omega arith) lanes (marked xs) le (few-marked xs))
 
--- lanes that are at most so many have room
+-- lanes with a bound below 255 have room
 pub room-most : (most : ℕ) (lanes : List ℕ) → most < 255 → Each1 (λ lane. lane ≤ most) lanes → Each1 (λ lane. lane < 255) lanes
 room-most most lanes few = Each1-weaker (λ lane. lane ≤ most) (λ lane. lane < 255) (λ a le. omega arith) lanes
 
@@ -132,6 +132,6 @@ ctz-lead p xs e =
       | inr some ↦ trailing_mask_l p 64 xs (omega (arith, e)) some
     ]
 
--- the bits of the first 64 bytes tell how many of these stand before a newline
+-- the bits of the first 64 bytes say how many bytes stand before a newline
 pub first-lead : (text : List ℕ) {lanes : List ℕ} {bits : ℕ} → bits ≡ mask_l (map (λ b. eqb b 10) lanes) → length lanes ≡ 64 → lanes ≡ take 64 text → count_trailing_zeros 64 bits ≡ prefix_len (λ b. not (eqb b 10)) (take 64 text)
 first-lead text {lanes} mask e is = ap (count_trailing_zeros 64) mask ∙ ctz-lead (λ b. eqb b 10) lanes e ∙ ap (prefix_len (λ b. not (eqb b 10))) is

@@ -9,7 +9,7 @@ use Rattle.lit_base.specs.Lines.{IsOnePiece, ended_lines, last_piece, open_rest,
 use Rattle.lit_base.proofs.EndedLemmas.{All-without_last}
 use Rattle.lit_base.proofs.PieceLemmas.{some_piece}
 
--- a slice without a newline stands before a newline or behind it
+-- a slice without a newline stands before a newline or after it
 pub crossing : (u v a t b : List ℕ) → IsOnePiece t → u ++ 10 ∷ v ≡ a ++ (t ++ b) → (length a + length t ≤ length u) ⊎ (length u < length a)
 crossing [] v [] [] b one e = inl (omega arith)
 crossing [] v [] (c ∷ t) b one e = let newline : c ≡ 10 = (cc) in absurd (All-head (λ x. x ≢ 10) c t one newline)
@@ -37,7 +37,7 @@ inner_slice ys zs [] t b e le = let w = front_slice ys zs t b e (omega (arith, l
 inner_slice [] zs (x ∷ a) t b e le = absurd (omega (arith, le))
 inner_slice (y ∷ ys) zs (x ∷ a) t b e le = let w = inner_slice ys zs a t b (cc) (omega (arith, le)) in (y ∷ w.0, w.1, ap (λ l. y ∷ l) w.2)
 
--- and one that lies in a middle part is a slice of that
+-- and a slice that lies in a middle part is a slice of that part
 pub middle_slice : (xs ys zs a t b : List ℕ) → xs ++ (ys ++ zs) ≡ a ++ (t ++ b) → length xs ≤ length a → length a + length t ≤ length xs + length ys → HasSubslice ys t
 middle_slice [] ys zs a t b e low high = inner_slice ys zs a t b e (omega (arith, high))
 middle_slice (x ∷ xs) ys zs [] t b e low high = absurd (omega (arith, low))

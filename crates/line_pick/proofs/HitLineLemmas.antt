@@ -13,7 +13,7 @@ use Rattle.lit_base.specs.Literals.{Literals, IsNormal}
 use Rattle.lit_base.specs.Selected.{Matches, matches}
 use Rattle.lit_base.proofs.MatchLemmas.{matching}
 use Rattle.lit_base.specs.Occurrences.{HasEnd}
-use Rattle.flow_scan.specs.NextEnds.{IsNextEnd, NoEndAfter}
+use Rattle.lit_base.specs.NextEnds.{IsNextEnd, NoEndAfter}
 use Rattle.line_pick.specs.Cutting.{IsFirstLine, IsLastCut}
 use Rattle.line_pick.specs.HitLines.{AllMiss, IsFirstHitLine}
 use Rattle.line_pick.proofs.Crossing.{crossing, ended_lines-slices, ends_in_newline, middle_slice}
@@ -40,7 +40,7 @@ pub line-room : (text front tail missed head ending behind : List ℕ) (at : ℕ
 line-room text front tail missed head ending behind at is_front is_tail cut last =
     omega (arith, ap length is_front, length-take at text, ap length is_tail, length-drop at text, ap length cut.whole, length-append missed head, ap length last.whole, length-append ending (10 ∷ behind))
 
--- a line of two parts, of which the newline stands behind the second
+-- a line of two parts, where the newline stands after the second
 joined_line : (head tail ending behind rest line : List ℕ) → IsOnePiece head → IsFirstLine tail ending behind → rest ≡ head ++ tail → line ≡ take (length head + length ending) rest → IsFirstLine rest line behind
 joined_line head tail ending behind rest line one last is_rest is_line =
     let whole : rest ≡ (head ++ ending) ++ 10 ∷ behind = is_rest ∙ ap (λ t. head ++ t) last.whole ∙ sym (append_assoc head ending (10 ∷ behind)) in
@@ -88,7 +88,7 @@ module _ (l : Literals) (normal : IsNormal l) where
 
   module _ (apart : All IsOnePiece l.texts) (text missed line rest head tail : List ℕ) (end : ℕ) (whole : text ≡ missed ++ (line ++ 10 ∷ rest)) (closed : open_rest missed ≡ [])
       (front : text ≡ missed ++ (head ++ tail)) (one : IsOnePiece head) (size : length missed + length head + 1 ≡ end) where
-    -- the newline of the line stands behind the end of a literal
+    -- the newline of the line stands after the end of a literal
     line_end : length head ≤ length line
     line_end = elim (crossing line rest [] head tail one (sym (append_cancel_left missed (head ++ tail) (line ++ 10 ∷ rest) (sym front ∙ whole)))) [
       | inl before ↦ omega (arith, before)
@@ -134,7 +134,8 @@ module _ (l : Literals) (normal : IsNormal l) where
         let same = own_folded l normal line h.0 t inside here in
         (matching.matches l.folding false l.texts line).1 (h.0, t, inside, here, (slice.0, slice.1, slice.2 ∙ ap (λ u. slice.0 ++ (u ++ slice.1)) (sym same)))
 
-  -- the line that the first end stands in is the first that holds a literal: what is before that end, and up to the next newline
+  -- the line that holds the first end is the first that holds a literal: the bytes before that end, and up to the next
+  -- newline
   pub first-hit : (apart : All IsOnePiece l.texts) (text front tail missed head ending rest line behind : List ℕ) (end : ℕ) → IsNextEnd l text 0 end → front ≡ take (end - 1) text → tail ≡ drop (end - 1) text
       → IsLastCut front missed head → IsFirstLine tail ending behind → rest ≡ drop (length missed) text → line ≡ take (length head + length ending) rest → IsFirstHitLine l text missed line behind
   first-hit apart text front tail missed head ending rest line behind end n is_front is_tail cut last is_rest is_line =

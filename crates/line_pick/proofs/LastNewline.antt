@@ -20,7 +20,7 @@ lane-unset : (b : Bool) → ◌≡◌ {A = ℕ} (cond b 1 0) 0 → b ≡ false
 lane-unset true e = absurd (omega arith)
 lane-unset false e = refl
 
--- so many lanes at the end are not set, and the one before them is
+-- the last `zeros` lanes are not set, and the lane before them is
 record IsTop (lanes : List Bool) (zeros : ℕ) : Type 0 where
   few : zeros ≤ 64
   above : (k : ℕ) → 64 ≤ k + zeros → get_or lanes k false ≡ false
@@ -63,7 +63,7 @@ last-lane : (text : List ℕ) (i d : ℕ) → 64 ≤ length text → i < 64 → 
 last-lane text i d long low =
     get_or-map (λ b. eqb b 10) (drop (length text - 64) text) i d false (omega (arith, length-drop (length text - 64) text)) ∙ ap (λ b. eqb b 10) (get_or-drop (length text - 64) text i d)
 
--- the lanes' zeros tell where the last newline stands
+-- the lanes' zeros say where the last newline stands
 module _ (text lanes : List ℕ) (bits : ℕ) (long : 64 ≤ length text) (mask : bits ≡ mask_l (map (λ b. eqb b 10) lanes)) (is : lanes ≡ take ((length text - 64 + 64) - (length text - 64)) (drop (length text - 64) text)) where
   top : IsTop (map (λ b. eqb b 10) (drop (length text - 64) text)) (count_leading_zeros 64 bits)
   top =
@@ -75,7 +75,7 @@ module _ (text lanes : List ℕ) (bits : ℕ) (long : 64 ≤ length text) (mask 
   pub last-few : count_leading_zeros 64 bits ≤ 64
   last-few = let t = top in t.few
 
-  -- behind it stands none
+  -- after it stands none
   pub last-apart : IsOnePiece (drop (length text - count_leading_zeros 64 bits) text)
   last-apart k d inside e =
       let t = top in

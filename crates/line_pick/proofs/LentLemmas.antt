@@ -26,7 +26,7 @@ numbered-yes test before line passes = ap (λ b. cond b ((before + 1, line) ∷ 
 pub numbered-no : (test : List ℕ → Bool) (before : ℕ) (line : List ℕ) → test line ≡ false → numbered test before (line ∷ []) ≡ []
 numbered-no test before line fails = ap (λ b. cond b ((before + 1, line) ∷ []) []) fails
 
--- tests that agree on the lines number the same ones
+-- tests that agree on the lines number the same lines
 pub numbered-same : (test other : List ℕ → Bool) (before : ℕ) (lines : List (List ℕ)) → All (λ line. test line ≡ other line) lines → numbered test before lines ≡ numbered other before lines
 numbered-same test other before [] agree = refl
 numbered-same test other before (line ∷ lines) agree =
@@ -39,7 +39,7 @@ pub numbered-none : (before : ℕ) (lines : List (List ℕ)) → numbered (λ _.
 numbered-none before [] = refl
 numbered-none before (line ∷ lines) = numbered-none (before + 1) lines
 
--- the numbers go on behind lines
+-- the numbers go on after lines
 pub numbered-append : (test : List ℕ → Bool) (before : ℕ) (lines more : List (List ℕ)) → numbered test before (lines ++ more) ≡ numbered test before lines ++ numbered test (before + length lines) more
 numbered-append test before [] more = ap (λ n. numbered test n more) (omega arith)
 numbered-append test before (line ∷ lines) more =
@@ -56,13 +56,13 @@ module _ {S : Type 0} {takes : S → ℕ → List ℕ → Result Next Fault → 
   Lent-one (Ok Stop) h = LastOne h (λ e. (cc))
   Lent-one (Err fault) h = LastOne h (λ e. (cc))
 
-  -- behind the last line lent, others may follow that are not
+  -- after the last line lent, others may follow that are not
   pub Lent-halted : {s t : S} {lines : List (ℕ × List ℕ)} {answer : Result Next Fault} (more : List (ℕ × List ℕ)) → Lent takes s lines answer t → answer ≢ Ok More → Lent takes s (lines ++ more) answer t
   Lent-halted more NoneLeft halted = absurd (halted refl)
   Lent-halted more (OneMore h rest) halted = OneMore h (Lent-halted more rest halted)
   Lent-halted more (LastOne h last) halted = LastOne h last
 
-  -- lines behind lines that were all taken
+  -- lines after lines that were all taken
   pub Lent-join : {s t u : S} {lines more : List (ℕ × List ℕ)} {answer : Result Next Fault} → Lent takes s lines (Ok More) t → Lent takes t more answer u → Lent takes s (lines ++ more) answer u
   Lent-join NoneLeft later = later
   Lent-join (OneMore h rest) later = OneMore h (Lent-join rest later)
@@ -97,7 +97,7 @@ answer_of-StreamTooLong (Err (Failed fault)) other = λ e. other (cc)
 pub Lends-starved : {S T : Type 0} {takes : S → ℕ → List ℕ → Result Next Fault → S → Type 0} {s : S} (lines : List (ℕ × List ℕ)) (r : Result T Halt) → r ≡ Err (Failed OutOfMemory) → Lends takes s lines (answer_of r) s
 Lends-starved {takes = takes} {s = s} lines r e = subst (λ q. Lends takes s lines (answer_of q) s) (sym e) (Starved [] lines refl NoneLeft)
 
--- nor where it was refused behind all lines
+-- nor where it was refused after all lines
 pub Lends-held : {S T : Type 0} {takes : S → ℕ → List ℕ → Result Next Fault → S → Type 0} {s t : S} {lines : List (ℕ × List ℕ)} (r : Result T Halt) → Lent takes s lines (Ok More) t → OnErr r (r ≡ Err (Failed OutOfMemory)) → Lends takes s lines (answer_of r) t
 Lends-held (Ok x) h starved = Whole h
 Lends-held {takes = takes} {s = s} {t = t} {lines = lines} (Err halt) h starved = subst (λ q. Lends takes s lines (answer_of q) t) (sym starved) (Starved lines [] (sym (append-nil lines)) h)
@@ -123,7 +123,7 @@ pub either : {T E P Q : Type 0} (r : Result T E) → OnOk r P → OnErr r Q → 
 either (Ok x) p q = inl p
 either (Err e) p q = inr q
 
--- a line that is selected, and one that is not
+-- a line that is selected, and a line that is not
 module _ {S : Type 0} {takes : S → ℕ → List ℕ → Result Next Fault → S → Type 0} (test : List ℕ → Bool) (before : ℕ) (line : List ℕ) where
   pub Lent-selected : {s t : S} (answer : Result Next Fault) → test line ≡ true → takes s (before + 1) line answer t → Lent takes s (numbered test before (line ∷ [])) answer t
   Lent-selected {s} {t} answer passes h = subst (λ ls. Lent takes s ls answer t) (sym (numbered-yes test before line passes)) (Lent-one answer h)
@@ -131,12 +131,12 @@ module _ {S : Type 0} {takes : S → ℕ → List ℕ → Result Next Fault → 
   pub Lent-skipped : {s : S} → test line ≡ false → Lent takes s (numbered test before (line ∷ [])) (Ok More) s
   Lent-skipped {s} fails = subst (λ ls. Lent takes s ls (Ok More) s) (sym (numbered-no test before line fails)) NoneLeft
 
--- what is lent on from one state is lent from an earlier one
+-- lines that are emitted from one state on are emitted from an earlier one
 pub record LentOn {S : Type 0} (takes : S → ℕ → List ℕ → Result Next Fault → S → Type 0) (s : S) (lines : List (ℕ × List ℕ)) (t : S) (rest : List (ℕ × List ℕ)) : Type 0 where
   pub go : (answer : Result Next Fault) (u : S) → Lent takes t rest answer u → Lent takes s lines answer u
 
 module _ (test : List ℕ → Bool) (before : ℕ) (text line rest : List ℕ) (cut : IsFirstLine text line rest) where
-  -- the lines of a text are its first one and those behind it
+  -- the lines of a text are its first one and those after it
   pub numbered-first : numbered test before (ended_lines text) ≡ numbered test before (line ∷ []) ++ numbered test (before + 1) (ended_lines rest)
   numbered-first = ap (λ t. numbered test before (ended_lines t)) cut.whole ∙ ap (numbered test before) (ended_lines-newline line rest cut.one) ∙ numbered-cons test before line (ended_lines rest)
 
@@ -148,15 +148,15 @@ module _ (test : List ℕ → Bool) (before : ℕ) (text line rest : List ℕ) (
   count-first = ap (λ t. length (ended_lines t)) cut.whole ∙ ap length (ended_lines-newline line rest cut.one)
 
 module _ {S : Type 0} {takes : S → ℕ → List ℕ → Result Next Fault → S → Type 0} (test : List ℕ → Bool) (before : ℕ) (text line rest : List ℕ) (cut : IsFirstLine text line rest) where
-  -- behind a line that was taken
+  -- after a line that was taken
   pub LentOn-more : {s t u : S} {whole : List (ℕ × List ℕ)} → LentOn takes s whole t (numbered test before (ended_lines text)) → Lent takes t (numbered test before (line ∷ [])) (Ok More) u → LentOn takes s whole u (numbered test (before + 1) (ended_lines rest))
   LentOn-more {t = t} p h = record { go = λ answer v later. p.go answer v (subst (λ ls. Lent takes t ls answer v) (sym (numbered-first test before text line rest cut)) (Lent-join h later)) }
 
-  -- at one that was the last
+  -- at a line that was the last
   pub LentOn-halted : {s t u : S} {whole : List (ℕ × List ℕ)} {answer : Result Next Fault} → LentOn takes s whole t (numbered test before (ended_lines text)) → Lent takes t (numbered test before (line ∷ [])) answer u → answer ≢ Ok More → Lent takes s whole answer u
   LentOn-halted {t = t} {u = u} {answer = answer} p h halted = p.go answer u (subst (λ ls. Lent takes t ls answer u) (sym (numbered-first test before text line rest cut)) (Lent-halted (numbered test (before + 1) (ended_lines rest)) h halted))
 
--- a front of what is left was taken
+-- a front of the remaining lines was taken
 pub LentOn-front : {S : Type 0} {takes : S → ℕ → List ℕ → Result Next Fault → S → Type 0} {s t u : S} {whole all front rest : List (ℕ × List ℕ)} → LentOn takes s whole t all → all ≡ front ++ rest → Lent takes t front (Ok More) u → LentOn takes s whole u rest
 LentOn-front {takes = takes} {t = t} p parts h = record { go = λ answer v later. p.go answer v (subst (λ ls. Lent takes t ls answer v) (sym parts) (Lent-join h later)) }
 

@@ -14,7 +14,7 @@ use Rattle.lit_base.specs.Occurrences.{IsFirstEnding, NoneEnds, Occurs}
 use Rattle.lit_base.specs.Selected.{Matches, matches}
 use Rattle.lit_base.proofs.MatchLemmas.{matching}
 use Rattle.lit_base.specs.Occurrences.{HasEnd}
-use Rattle.flow_scan.specs.NextEnds.{IsNextEnd, NoEndAfter}
+use Rattle.lit_base.specs.NextEnds.{IsNextEnd, NoEndAfter}
 
 -- a text, folded, round a literal that ends in it
 pub record Parts (folding : Fold) (text t : List ℕ) (end : ℕ) : Type 0 where
@@ -144,7 +144,7 @@ module _ (l : Literals) (normal : IsNormal l) (line : List ℕ) where
         ] in
         (late, subst (Occurs l line place) (omega (arith, size)) (slice-occurs l line place t [] [] stands (all ∙ sym (append-nil t))))
 
-    -- a line is a literal if and only if such a one ends with it
+    -- a line is a literal if and only if a literal at least as long ends with it
     pub whole-matches : (found : Option ℕ) → MatchOption found (NoneEnds l line first (length line)) (IsFirstEnding l line first (length line)) → is_some found ≡ matches l.folding true l.texts line
     whole-matches None none = not_passed (matches l.folding true l.texts line) (λ e.
         let w = (matching.matches l.folding true l.texts line).0 e in

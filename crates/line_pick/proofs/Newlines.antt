@@ -1,4 +1,4 @@
--- Where newlines stand: a text is cut at its first newline, and behind its last one.
+-- Where newlines stand: a text is cut at its first newline, and after its last one.
 use Rattle.std.proofs.Common.{◌≡◌, ◌≢◌, ℕ, ◌+◌, ◌-◌, ◌<◌, ◌≤◌, true, not, eqb, min, List, [], ◌∷◌, ◌++◌, length, take, drop, get_or, None, Some, sym, ap, ◌∙◌, subst, arith, take-append-drop, append-nil, append_assoc, eq-eqb}
 use Rattle.std.specs.List.{prefix_len}
 use Rattle.std.proofs.Math.Seq.{take-add}
@@ -31,7 +31,7 @@ first-cut text at h =
     let here : get_or text at 0 ≡ 10 = eqb-true _ _ h.1 in
     sym (take-append-drop at text) ∙ ap (λ t. take at text ++ t) (drop_more text at 0 h.0.high ∙ ap (λ b. b ∷ drop (at + 1) text) here)
 
--- behind a newline nothing is open
+-- after a newline nothing is open
 pub open_rest-closed : (text : List ℕ) → open_rest (text ++ 10 ∷ []) ≡ []
 open_rest-closed text = open_rest-append text (10 ∷ []) ∙ open_rest-newline (open_rest text) [] (open_rest-apart text) ∙ open_rest-none [] (λ k d inside. absurd (omega arith))
 
@@ -41,7 +41,7 @@ last-closed text at h =
     let here : get_or text at 0 ≡ 10 = eqb-true _ _ h.1 in
     ap open_rest (take_more text at 0 h.0.high ∙ ap (λ b. take at text ++ b ∷ []) here) ∙ open_rest-closed (take at text)
 
--- behind the last newline there is none
+-- after the last newline there is none
 pub behind-one : (text : List ℕ) (at : ℕ) → IsLastByte (is_byte 10) text (Some at) → IsOnePiece (drop (at + 1) text)
 behind-one text at h k d inside e =
     let room : (at + 1) + k < length text = omega (arith, length-drop (at + 1) text) in
@@ -66,7 +66,7 @@ open_rest-ended ended rest closed one = open_rest-append ended rest ∙ ap (λ r
 pub one-append : (front back : List ℕ) → IsOnePiece front → IsOnePiece back → IsOnePiece (front ++ back)
 one-append front back h k = All-append (λ b. b ≢ 10) front back h k
 
--- a text cut behind its last newline
+-- a text cut after its last newline
 pub last-cut : (text ended rest : List ℕ) (at : ℕ) → IsLastByte (is_byte 10) text (Some at) → ended ≡ take (at + 1) text → rest ≡ drop (at + 1) text → IsLastCut text ended rest
 last-cut text ended rest at h front back = record {
   whole = sym (take-append-drop (at + 1) text) ∙ ap (λ b. b ++ drop (at + 1) text) (sym front) ∙ ap (λ r. ended ++ r) (sym back);
@@ -107,7 +107,7 @@ front-whole text front n is =
     let size : length front ≡ min n (length text) = ap length is ∙ length-take n text in
     is ∙ sym (take_min n text) ∙ ap (λ k. take k text) (sym size)
 
--- what is shorter than a text without newlines has none
+-- a shorter front of a text without newlines has none
 pub one-shorter : (text : List ℕ) (m n : ℕ) → m ≤ n → IsOnePiece (take n text) → IsOnePiece (take m text)
 one-shorter text m n le one k d inside e =
     let below : k < m = omega (arith, length-take m text, inside) in
@@ -145,7 +145,7 @@ first-held held {text} {line} {rest} one cut = record {
 pub open_rest-first : {text line rest : List ℕ} → IsFirstLine text line rest → open_rest text ≡ open_rest rest
 open_rest-first {text} {line} {rest} cut = ap open_rest cut.whole ∙ open_rest-newline line rest cut.one
 
--- two stretches without newlines, one behind the other
+-- two stretches without newlines, one after the other
 pub one-further : (text rest : List ℕ) (near far : ℕ) → 64 ≤ near → rest ≡ drop 64 text → IsOnePiece (take near text) → IsOnePiece (take far rest) → IsOnePiece (take (64 + far) text)
 one-further text rest near far low is first second =
     let joined : take 64 text ++ take far rest ≡ take (64 + far) text = ap (λ r. take 64 text ++ take far r) is ∙ sym (take-add 64 far text) in

@@ -74,7 +74,7 @@ module _ {S : Type 0} (takes : S → ℕ → List ℕ → Result Next Fault → 
   Lends-under under same Refused = Refused
 
   module _ (test : List ℕ → Bool) (a b : ℕ) (lines : List (List ℕ)) where
-    -- lines are lent behind another number of lines, if this is the same one where they are numbered
+    -- lines are lent after another number of lines, if this is the same one where they are numbered
     pub Lent-moved : (is_numbered : Bool) → (is_numbered ≡ true → a ≡ b) → {s t : S} {answer : Result Next Fault} → Lent (as_numbered is_numbered takes) s (numbered test a lines) answer t → Lent (as_numbered is_numbered takes) s (numbered test b lines) answer t
     Lent-moved true same {s} {t} {answer} h = subst (λ n. Lent takes s (numbered test n lines) answer t) (same refl) h
     Lent-moved false same h = Lent-under (numbered test b lines) (bare-numbered test a b lines) h
@@ -83,16 +83,16 @@ module _ {S : Type 0} (takes : S → ℕ → List ℕ → Result Next Fault → 
     Lends-moved true same {s} {t} {answer} h = subst (λ n. Lends takes s (numbered test n lines) answer t) (same refl) h
     Lends-moved false same h = Lends-under (numbered test b lines) (bare-numbered test a b lines) h
 
-    -- and so are those that are left
+    -- and so are the remaining lines
     pub LentOn-moved : (is_numbered : Bool) → (is_numbered ≡ true → a ≡ b) → {s t : S} {whole : List (ℕ × List ℕ)} → LentOn (as_numbered is_numbered takes) s whole t (numbered test b lines) → LentOn (as_numbered is_numbered takes) s whole t (numbered test a lines)
     LentOn-moved is_numbered same p = record { go = λ answer u later. p.go answer u (Lent-moved is_numbered same later) }
 
--- what is shown of a number of lines: none where lines are not numbered
+-- the number of lines as shown: 0 where lines are not numbered
 pub shown-same : (is_numbered : Bool) (n : ℕ) → is_numbered ≡ true → n ≡ cond is_numbered n 0
 shown-same true n e = refl
 shown-same false n e = (cc)
 
--- that behind more lines
+-- the same after more lines
 pub shown-more : (is_numbered : Bool) (old new more : ℕ) → (is_numbered ≡ true → new ≡ old + more) → cond is_numbered new 0 ≡ cond is_numbered (cond is_numbered old 0 + more) 0
 shown-more true old new more e = e refl
 shown-more false old new more e = refl

@@ -55,6 +55,6 @@ null-missed fold false texts line e = null-misses fold true false texts line (λ
 pub by_plan : (whole : Bool) (line : List ℕ) (plan : Option Plan) (p : Plan) → plan ≡ Some p → matches p.literals.folding whole p.literals.texts line ≡ matches (fold_of plan) whole (literals_of plan) line
 by_plan whole line plan p e = ap (λ (q : Option Plan). matches (fold_of q) whole (literals_of q) line) (sym e)
 
--- and of one that is not
+-- and without a plan
 pub no_plan : (whole : Bool) (line : List ℕ) (plan : Option Plan) → plan ≡ None → matches (fold_of plan) whole (literals_of plan) line ≡ false
 no_plan whole line plan e = ap (λ (q : Option Plan). matches (fold_of q) whole (literals_of q) line) e ∙ none-matches (fold_of None) whole line

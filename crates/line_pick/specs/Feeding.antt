@@ -9,11 +9,11 @@ use Rattle.line_pick.specs.Lending.{Lends, Lent, as_numbered, numbered}
 use Rattle.line_pick.specs.Matching.{selects}
 use Rattle.line_pick.specs.Picking.{Picking, answer_in, fed_state, finished_state}
 
--- the selected ones of the next lines, with their numbers
+-- the selected lines among the next lines, with their numbers
 abbrev pub picked : Picking → List (List ℕ) → List (ℕ × List ℕ)
 picked p lines = numbered (selects p.plan p.has_empty p.rule) p.lines lines
 
--- the picker after a piece, which goes on with the open rest of what it held and the piece
+-- the picker after a piece: it holds the open rest of the held bytes and the piece
 abbrev pub fed : Picking → List ℕ → Picking
 fed p piece = record p {
   held = open_rest (p.held ++ piece);
@@ -21,20 +21,21 @@ fed p piece = record p {
   bytes = p.bytes + length piece;
 }
 
--- a running picker is fed: the selected lines that the piece ends are lent, and it is refused exactly where the bytes fed would pass 2^64 - 1
+-- a running picker is fed: it emits the selected lines that the piece ends, and is refused exactly where the bytes fed
+-- would pass 2^64 - 1
 pub record Feeds {S : Type 0} (takes : S → ℕ → List ℕ → Result Next Fault → S → Type 0) (old : Picking) (piece : List ℕ) (sink : S) (answer : Result Next Fault) (new : Picking) (left : S) : Type 0 where
   pub lent : Lends (as_numbered old.is_numbered takes) sink (picked old (ended_lines (old.held ++ piece))) answer left
   pub more : answer ≡ Ok More → new ≡ fed old piece
   pub state : new.state ≡ fed_state answer
   pub too_long : (answer ≡ Err StreamTooLong) ↔ (2 ^ 64 ≤ old.bytes + length piece)
 
--- a running picker is finished: the open line, if it is a line and selected, is lent
+-- a running picker is finished: it emits the open line, if it is a line and selected
 pub record Finishes {S : Type 0} (takes : S → ℕ → List ℕ → Result Next Fault → S → Type 0) (old : Picking) (sink : S) (answer : Result Next Fault) (new : Picking) (left : S) : Type 0 where
   pub lent : Lent (as_numbered old.is_numbered takes) sink (picked old (last_line old.held)) answer left
   pub state : new.state ≡ finished_state answer
   pub fault : answer ≢ Err StreamTooLong
 
--- a picker that has stopped, failed or finished lends nothing, stays as it is, and answers as before
+-- a picker that has stopped, failed or finished emits nothing, stays as it is, and answers as before
 pub record Stays {S : Type 0} (old : Picking) (sink : S) (answer : Result Next Fault) (new : Picking) (left : S) : Type 0 where
   pub same : IfSome (answer_in old.state) (λ known. answer ≡ known)
   pub kept : new ≡ old

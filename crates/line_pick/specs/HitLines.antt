@@ -4,7 +4,7 @@ use Rattle.lit_base.specs.Lines.{IsOnePiece, ended_lines, open_rest}
 use Rattle.lit_base.specs.Literals.{Literals}
 use Rattle.lit_base.specs.Selected.{matches}
 
--- a text stands in another behind lines that newlines end, or behind nothing
+-- a text stands in another after lines that newlines end, or after nothing
 pub record IsBehindLines (whole text : List ℕ) : Type 0 where
   pub front : List ℕ
   pub cut : whole ≡ front ++ text

@@ -1,4 +1,4 @@
--- How a sink is lent numbered lines, one after another.
+-- How numbered lines are emitted to a sink, one after another.
 use Rattle.std.specs.Prelude.{◌≡◌, ◌≢◌, ℕ, ◌+◌, Bool, true, false, List, [], ◌∷◌, ◌++◌, filter, Result, Ok, Err}
 use Rattle.std.specs.List.{enumerate_from}
 use Rattle.line_pick.specs.declared.fault.Fault.{Fault}
@@ -8,7 +8,7 @@ use Rattle.line_pick.specs.declared.halt.Halt.TheVariants.{Stopped, Failed}
 use Rattle.line_pick.specs.declared.sink.Next.{Next}
 use Rattle.line_pick.specs.declared.sink.Next.TheVariants.{More, Stop}
 
--- those of some lines that pass a test, with their numbers, after so many lines
+-- the lines that pass a test, with their numbers, after `before` lines
 abbrev pub numbered : (List ℕ → Bool) → ℕ → List (List ℕ) → List (ℕ × List ℕ)
 numbered test before lines = filter (λ l. test l.1) (enumerate_from (before + 1) lines)
 
@@ -17,19 +17,20 @@ abbrev pub as_numbered : {S : Type 0} → Bool → (S → ℕ → List ℕ → R
 as_numbered true takes = takes
 as_numbered false takes = λ s number line answer t. (some : ℕ) × takes s some line answer t
 
--- lines are lent in order: each is taken with More, until none is left, or one is answered otherwise and is the last one lent
+-- lines are emitted in order: each is taken with More, until none remains, or one has another answer and is the last
+-- one emitted
 pub data Lent {S : Type 0} (takes : S → ℕ → List ℕ → Result Next Fault → S → Type 0) : S → List (ℕ × List ℕ) → Result Next Fault → S → Type 0 where
   NoneLeft : {s : S} → Lent takes s [] (Ok More) s
   OneMore : {s t u : S} {number : ℕ} {line : List ℕ} {rest : List (ℕ × List ℕ)} {answer : Result Next Fault} → takes s number line (Ok More) t → Lent takes t rest answer u → Lent takes s ((number, line) ∷ rest) answer u
   LastOne : {s t : S} {number : ℕ} {line : List ℕ} {rest : List (ℕ × List ℕ)} {answer : Result Next Fault} → takes s number line answer t → answer ≢ Ok More → Lent takes s ((number, line) ∷ rest) answer t
 
--- lines are lent; or memory ran out after a front of them; or none is, where the stream would become too long
+-- lines are emitted; or memory ran out after a prefix of them; or none is, where the stream would become too long
 pub data Lends {S : Type 0} (takes : S → ℕ → List ℕ → Result Next Fault → S → Type 0) : S → List (ℕ × List ℕ) → Result Next Fault → S → Type 0 where
   Whole : {s t : S} {lines : List (ℕ × List ℕ)} {answer : Result Next Fault} → Lent takes s lines answer t → Lends takes s lines answer t
   Starved : {s t : S} {lines : List (ℕ × List ℕ)} (front rest : List (ℕ × List ℕ)) → lines ≡ front ++ rest → Lent takes s front (Ok More) t → Lends takes s lines (Err OutOfMemory) t
   Refused : {s : S} {lines : List (ℕ × List ℕ)} → Lends takes s lines (Err StreamTooLong) s
 
--- what is answered where lending ends so
+-- the answer where emitting ends so
 abbrev pub answer_to : Halt → Result Next Fault
 answer_to Stopped = Ok Stop
 answer_to (Failed fault) = Err fault

@@ -8,7 +8,7 @@ use Rattle.line_pick.specs.declared.sink.Next.TheVariants.{More, Stop}
 use Rattle.line_pick.specs.declared.state.State.{State}
 use Rattle.line_pick.specs.declared.state.State.TheVariants.{Running, Stopped, Finished, Failed}
 
--- patterns, a rule, the bytes since the last newline, the numbers of ended lines, if lines are numbered, and of bytes so far, and whether the search learns
+-- patterns, a rule, the bytes since the last newline, the numbers of ended lines, if lines are numbered, and of bytes so far, and whether the search tunes itself
 pub record Picking : Type 0 where
   pub plan : Option Plan
   pub has_empty : Bool
@@ -20,7 +20,7 @@ pub record Picking : Type 0 where
   pub state : State
   pub learns : Bool
 
--- what a call answers, where no line is lent any more
+-- the answer of a call, where no more lines are emitted
 abbrev pub answer_in : State → Option (Result Next Fault)
 answer_in Running = None
 answer_in Stopped = Some (Ok Stop)

@@ -1,4 +1,4 @@
--- What is kept of a text that comes in pieces.
+-- The state kept of a text that comes in pieces.
 use Rattle.std.specs.Prelude.{◌+◌, ◌≤◌, vec_len}
 use Rattle.lit_base.specs.Lines.{IsOnePiece}
 use Rattle.line_pick.specs.declared.progress.Progress.{Progress}

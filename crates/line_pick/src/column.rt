@@ -1,27 +1,27 @@
-//! Where in its line a literal is likely to end.
+//! Where in its line a literal probably ends.
 
-/// A column is asked for once so many more hits in a row had it. The number is a guess and was not varied.
+/// A column is tried once this many more hits in a row had it. The number was chosen without measurement.
 const LEAST_TRUST: u8 = 2;
 
-/// It is trusted no more than so much: two lines that are made otherwise leave it, and at the third in a row it is given up.
+/// The bound of trust: a column survives two lines in a row that are made otherwise, and is given up at the third.
 const MOST_TRUST: u8 = 4;
 
-/// Where in its line a literal is likely to end. The lines of a log, or of JSON, begin alike: where literals are frequent, one often
-/// ends as many bytes behind the front of a line as in the line before. So that place is asked first, and the line is searched only
-/// if none ends there.
+/// Where in its line a literal probably ends. The lines of a log, or of JSON, begin alike: where literals are frequent,
+/// one often ends as many bytes after the start of a line as in the line before. That position is tried first, and the
+/// line is searched only if no literal ends there.
 #[derive(Clone, Copy)]
 pub(crate) struct Column {
-    /// So many bytes of a line stood up to the end of a literal.
+    /// The number of bytes of a line up to the end of a literal.
     end: usize,
     /// How often that was right, less how often it was wrong, up to a bound: 0 again where the column changes.
     trust: u8,
-    /// The place in the list of the literal that was found last where a column was asked for, at first 0: it is compared before others
-    /// are looked for.
+    /// The place in the list of the literal found last where a column was tried, at first 0: it is compared before the
+    /// other literals.
     pub literal: usize,
 }
 
 impl Column {
-    /// That before any hit.
+    /// A column before any hit.
     pub fn new() -> Column {
         Column {
             end: 0,
@@ -30,7 +30,7 @@ impl Column {
         }
     }
 
-    /// Behind how many bytes of a line a literal is likely to end, if that is worth asking for.
+    /// The number of bytes of a line after which a literal probably ends, if that is worth trying.
     #[inline(always)]
     pub fn likely_end(&self) -> Option<usize> {
         if self.trust < LEAST_TRUST {
@@ -52,7 +52,7 @@ impl Column {
         self.trust = self.trust.saturating_sub(1);
     }
 
-    /// In the line of a hit that was searched for, the first literal ends behind so many bytes.
+    /// Notes that the first literal of a line ends after this many bytes, where the line was searched.
     #[inline(always)]
     pub fn note(&mut self, end: usize) {
         if end == self.end {

@@ -6,13 +6,13 @@ ghost use Rattle.line_pick.specs.declared.counting.TheConstants.{LANES, STRETCH}
 
 use std::simd::prelude::*;
 
-/// So many bytes are compared at once.
+/// The number of bytes compared at once.
 pub(crate) const LANES: usize = 64;
 
-/// So many are compared by one step of a stretch.
+/// The number of bytes compared by one step of a stretch.
 const WIDE: usize = 256;
 
-/// A stretch has so many steps: a lane's byte has room for no more.
+/// The number of steps of a stretch: a lane's byte has room for no more.
 const STEPS: usize = 63;
 
 /// The bytes of a stretch.
@@ -30,7 +30,7 @@ pub(crate) fn count_newlines(text: &[u8]) -> usize
     count + sum_of(lanes) + count_last(text, text.len() - end)
 }
 
-/// How many newlines stand before a place, less than a stretch before the end, and the place.
+/// How many newlines stand before a position, less than a stretch before the end, and the position.
 fn count_stretches(text: &[u8]) -> (usize, usize)
     ensures count { result.0 ≡ count_by (λ b. b == 10) (take result.1 text.now) }
     ensures within { result.1 ≤ length text.now }
@@ -45,7 +45,7 @@ fn count_stretches(text: &[u8]) -> (usize, usize)
     (count, at)
 }
 
-/// How many newlines the stretch from a place on has: lane by lane, each 64 bytes lying over the last.
+/// How many newlines the stretch from a position on has: lane by lane, each 64 bytes lying over the last.
 #[inline(always)]
 fn newlines_in_stretch(text: &[u8], start: usize) -> u8x64
     requires { start + STRETCH ≤ length text.now }
@@ -65,9 +65,9 @@ fn newlines_in_stretch(text: &[u8], start: usize) -> u8x64
     lanes
 }
 
-/// How many newlines stand from a place on that is less than a stretch before the end, lane by lane,
-/// and where counting ended: fewer than 64 bytes before the end. Wider steps, with a loop for what they left, took 1.2 times as
-/// long for the few lines between two hits: where a loop ends there is not foreseen.
+/// How many newlines stand from `start` on, lane by lane, and where counting ended: fewer than 64 bytes before the end.
+/// From `start` on there is less than a stretch. Measured: wider steps, with a second loop for the rest, take 1.2 times
+/// as long for the few lines between two hits, since the branch at a loop's end is mispredicted there.
 #[inline(always)]
 fn newlines_behind(text: &[u8], start: usize) -> (u8x64, usize)
     requires within { start ≤ length text.now }
@@ -108,8 +108,8 @@ fn sum_of(lanes: u8x64) -> usize
     lanes.cast::<u16>().strict_reduce_sum() as usize
 }
 
-/// How many of the last bytes, fewer than 64, are newlines. They are compared as part of the last 64:
-/// one by one they took as long as all bytes before them, where a text is some lines long.
+/// How many of the last `left` bytes, fewer than 64, are newlines. They are compared as part of the last 64: one by one
+/// they take as long as all bytes before them in a text of some lines.
 #[inline(always)]
 fn count_last(text: &[u8], left: usize) -> usize
     requires long { 64 ≤ length text.now }
@@ -132,9 +132,9 @@ pub(crate) fn first_newline(text: &[u8]) -> usize
     newline_bits(load(text, 0)).trailing_zeros() as usize
 }
 
-/// How many bytes stand before the first newline of a text, or 128 or more where its first 128 bytes
-/// are none, by one look at both halves: which of them has the newline is not foreseen, where lines are
-/// about as long as one.
+/// How many bytes stand before the first newline of a text, or 128 or more if its first 128 bytes have none. Both
+/// halves are compared at once: where lines have about 64 bytes, a branch on the half that has the newline is
+/// mispredicted.
 #[inline(always)]
 pub(crate) fn first_newline_of_two(text: &[u8]) -> usize
     requires { 128 ≤ length text.now }
@@ -158,7 +158,7 @@ pub(crate) fn bytes_behind_newline(text: &[u8]) -> usize
     newline_bits(load(text, text.len() - LANES)).leading_zeros() as usize
 }
 
-/// The 64 bytes from a place on.
+/// The 64 bytes from a position on.
 #[inline(always)]
 fn load(text: &[u8], at: usize) -> u8x64
     requires { at + 64 ≤ length text.now }

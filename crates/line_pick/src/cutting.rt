@@ -17,7 +17,7 @@ pub(crate) fn split_line(text: &[u8]) -> Option<(&[u8], &[u8])>
     Some(split_at_newline(text, end))
 }
 
-/// The text before the newline that stands behind so many bytes, and the text after it.
+/// The text before the newline at `end`, and the text after it.
 #[inline(always)]
 fn split_at_newline(text: &[u8], end: usize) -> (&[u8], &[u8])
     requires inside { end < length text.now }
@@ -30,8 +30,8 @@ fn split_at_newline(text: &[u8], end: usize) -> (&[u8], &[u8])
     (line, &behind[1..])
 }
 
-/// The text before and after the first newline, if there is one, by one look where it is near: for some
-/// bytes that takes less time than a search. An empty line takes no look.
+/// The text before and after the first newline, if there is one. A newline among the first 128 bytes is found by one
+/// comparison, which is faster there than a search. An empty line takes none.
 #[inline(always)]
 pub(crate) fn split_near_line(text: &[u8]) -> Option<(&[u8], &[u8])>
     ensures { MatchOption result
@@ -51,8 +51,8 @@ pub(crate) fn split_near_line(text: &[u8]) -> Option<(&[u8], &[u8])>
     split_line(text)
 }
 
-/// The first line of a text and what stands after its newline, if all bytes before a place belong to it and its newline is among the
-/// first 128 bytes: by one look, which cuts the line of a hit that ends at that place. `None` tells nothing.
+/// The first line of a text and the text after its newline, if the newline stands at `place` or later, among the first
+/// 128 bytes. One comparison cuts the line of a hit that ends at `place`. `None` says nothing about the text.
 #[inline(always)]
 pub(crate) fn split_line_behind(text: &[u8], place: usize) -> Option<(&[u8], &[u8])>
     ensures line { IfSome result (λ parts. IsFirstLine text.now parts.0.now parts.1.now) }
@@ -78,8 +78,8 @@ pub(crate) fn split_ended(text: &[u8]) -> (&[u8], &[u8])
     }
 }
 
-/// The front of a text up to its last newline, and what stands after it, by one look where the newline
-/// is near, or where the front is short and has none: for some bytes a search from the end takes longer.
+/// The prefix of a text up to its last newline, and the rest. One comparison does it where the newline is near the end,
+/// or where the prefix is short and has none: for a few bytes a search from the end takes longer.
 #[inline(always)]
 pub(crate) fn split_front<'t>(front: &'t [u8], text: &[u8]) -> (&'t [u8], &'t [u8])
     requires { front.now ≡ take (length front.now) text.now }
@@ -94,8 +94,7 @@ pub(crate) fn split_front<'t>(front: &'t [u8], text: &[u8]) -> (&'t [u8], &'t [u
     split_ended(front)
 }
 
-/// A text of at least 64 bytes up to its last newline, and what stands after it, by one look where this
-/// newline is near.
+/// A text of at least 64 bytes up to its last newline, and the rest, by one comparison if this newline is near the end.
 #[inline(always)]
 fn split_near_end(text: &[u8]) -> (&[u8], &[u8])
     requires { 64 ≤ length text.now }

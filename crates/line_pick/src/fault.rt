@@ -1,4 +1,4 @@
-//! Why lines are not lent.
+//! Why lines are not emitted.
 ghost use Rattle.std.specs.Prelude.{◌≡◌};
 ghost use Rattle.line_pick.specs.Faults.{number_of};
 ghost use Rattle.line_pick.specs.declared.fault.Fault.TheVariants.{OutOfMemory};
@@ -6,7 +6,7 @@ ghost use Rattle.line_pick.specs.declared.fault.Fault.TheVariants.{OutOfMemory};
 use std::alloc::AllocError;
 use thiserror::Error;
 
-/// Why lines are not lent.
+/// Why lines are not emitted.
 #[derive(Clone, Copy, Debug, PartialEq, Eq, Error)]
 pub enum Fault {
     #[error("out of memory")]

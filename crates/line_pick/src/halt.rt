@@ -1,4 +1,4 @@
-//! Why lending ends before the last line.
+//! Why emitting ends before the last line.
 ghost use Rattle.std.specs.Prelude.{◌≡◌};
 ghost use Rattle.line_pick.specs.declared.fault.Fault.TheVariants as fault;
 ghost use Rattle.line_pick.specs.declared.halt.Halt.TheVariants.{Failed};
@@ -6,7 +6,7 @@ ghost use Rattle.line_pick.specs.declared.halt.Halt.TheVariants.{Failed};
 use crate::fault::Fault;
 use std::alloc::AllocError;
 
-/// Why lending ends before the last line.
+/// Why emitting ends before the last line.
 #[derive(Clone, Copy, Debug, PartialEq, Eq)]
 pub(crate) enum Halt {
     /// The sink wants no more lines.

@@ -3,7 +3,7 @@ ghost use Rattle.std.specs.Prelude.{◌≡◌, ◌<◌, ◌≤◌, [], All, IfSo
 ghost use Rattle.lit_base.specs.Lines.{IsOnePiece, open_rest};
 ghost use Rattle.lit_base.specs.Literals.{IsNormal};
 ghost use Rattle.lit_base.specs.Occurrences.{HasEnd};
-ghost use Rattle.flow_scan.specs.NextEnds.{IsNextEnd, NoEndAfter};
+ghost use Rattle.lit_base.specs.NextEnds.{IsNextEnd, NoEndAfter};
 ghost use Rattle.line_pick.specs.HitLines.{AllMiss, IsBehindLines, IsFirstHitLine};
 
 use crate::column::Column;
@@ -13,7 +13,7 @@ use flow_scan::{Compiled, EndFinder, TextSearch};
 /// A line that holds a literal, with the text round it.
 #[derive(Clone, Copy)]
 pub(crate) struct HitLine<'t> {
-    /// The lines before it, none of which holds one.
+    /// The lines before it; none of them holds a literal.
     pub missed: &'t [u8],
     pub line: &'t [u8],
     /// What stands after its newline.
@@ -37,9 +37,9 @@ impl<'t> HitLine<'t> {
     }
 }
 
-/// The first line of a text of ended lines that holds a literal, if there is one. No line before it
-/// is split. The place where a literal is likely to end is asked first. The text stands in a whole behind other lines: the
-/// search is one of the whole, which looks back at them and goes on from where it stands.
+/// The first line of a text of ended lines that holds a literal, if there is one. No line before it is split. The
+/// position where a literal probably ends is tried first. The text is the rest of `whole` after other lines; `search`
+/// is a search of `whole`, which can read those lines and continues from its position.
 pub(crate) fn first_hit_line<'t>(
     compiled: &Compiled,
     finder: &mut Option<EndFinder<'_>>,
@@ -71,7 +71,7 @@ pub(crate) fn first_hit_line<'t>(
     hit_line_round(compiled, column, text, end)
 }
 
-/// The first line of a text, if a literal ends in it where one is likely to. `None` tells nothing.
+/// The first line of a text, if a literal ends in it at the probable position. `None` says nothing about the text.
 #[inline(always)]
 fn likely_hit_line<'t>(
     compiled: &Compiled,
@@ -93,7 +93,7 @@ fn likely_hit_line<'t>(
     found
 }
 
-/// The first line of a text, if some literal ends in it so many bytes behind its front. `None` tells nothing.
+/// The first line of a text, if some literal ends in it after `at` bytes. `None` says nothing about the text.
 #[inline(always)]
 fn line_with_end<'t>(
     compiled: &Compiled,
@@ -121,7 +121,7 @@ fn line_with_end<'t>(
     Some(HitLine::in_front(text, line, behind))
 }
 
-/// Whether some literal ends so many bytes behind the front of a text: the one that was found so last, or another.
+/// Whether some literal ends after the first `at` bytes of a text: the literal found last in this way, or another.
 #[inline(always)]
 fn has_end(compiled: &Compiled, column: &mut Column, whole: &[u8], text: &[u8], at: usize) -> bool
     requires behind { IsBehindLines whole.now text.now }
@@ -172,7 +172,7 @@ fn hit_line_round<'t>(
     })
 }
 
-/// The first place of a text at which some literal ends, by a search of the whole from there on: no
+/// The first position of a text at which some literal ends, by a search of the whole from there on: no
 /// literal has a newline, so none that ends in the text begins before it.
 #[inline(always)]
 fn first_end(
@@ -197,8 +197,8 @@ fn first_end(
     Some(end - from)
 }
 
-/// The first place of a search's text behind another one at which some literal ends, by the finder if there is one, and else
-/// by the plan alone.
+/// The next position of a search's text at which some literal ends, by the finder if there is one, and otherwise by the
+/// plan alone.
 #[inline]
 fn next_end_behind(
     compiled: &Compiled,

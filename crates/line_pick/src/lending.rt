@@ -1,4 +1,4 @@
-//! How lines are lent.
+//! How lines are emitted.
 ghost use Rattle.std.specs.Prelude.{◌≡◌, ◌≢◌, ◌≤◌, ◌<◌, ◌+◌, ◌^◌, ◌∷◌, [], IfOk, length};
 ghost use Rattle.lit_base.specs.Lines.{ended_lines};
 ghost use Rattle.line_pick.specs.Lending.{Lent, answer_of, numbered};
@@ -10,8 +10,8 @@ use crate::halt::Halt;
 use crate::matcher::Matcher;
 use crate::sink::{Next, Sink};
 
-/// Lends the selected ones of the lines that newlines end in the text, and answers how many lines
-/// there are by then. So many stand before the text.
+/// Emits the selected lines among those that newlines end in the text. `before` lines stand before the text; returns
+/// how many lines there are by its end.
 pub(crate) fn lend_lines<S: Sink>(
     matcher: Matcher<'_>,
     text: &[u8],
@@ -35,7 +35,7 @@ pub(crate) fn lend_lines<S: Sink>(
     Ok(lines)
 }
 
-/// Lends the line if it is selected. So many lines stand before it.
+/// Emits the line if it is selected. `before` lines stand before it.
 pub(crate) fn lend_selected<S: Sink>(
     matcher: Matcher<'_>,
     line: &[u8],
@@ -50,7 +50,7 @@ pub(crate) fn lend_selected<S: Sink>(
     lend_if(matcher.selects(line), line, before, sink)
 }
 
-/// Lends the line if it is selected, under the number that follows.
+/// Emits the line if it is selected, under the number that follows `before`.
 #[inline(always)]
 pub(crate) fn lend_if<S: Sink>(
     selected: bool,
@@ -70,7 +70,7 @@ pub(crate) fn lend_if<S: Sink>(
     }
 }
 
-/// Lends the line under its number.
+/// Emits the line under its number.
 #[inline(always)]
 fn lend<S: Sink>(line: &[u8], number: u64, sink: &mut S) -> Result<(), Halt>
     ensures taken { S.takes sink.old number line.now (answer_of result) sink.new }

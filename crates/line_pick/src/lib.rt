@@ -1,4 +1,4 @@
-//! The selected lines of a text that comes in pieces, lent one by one with their numbers.
+//! The selected lines of a text that comes in pieces, emitted one by one with their numbers.
 #![tactic(auto)]
 
 mod column;

@@ -1,6 +1,6 @@
-//! Which lines are selected, beside the patterns.
+//! Which lines are selected, given the patterns.
 
-/// Which lines are selected, beside the patterns.
+/// Which lines are selected, given the patterns.
 #[derive(Clone, Copy, Debug, PartialEq, Eq)]
 pub struct LineRule {
     /// The lines that match no pattern are selected.

@@ -17,11 +17,11 @@ use flow_scan::{Compiled, EndFinder};
 use std::alloc::Global;
 use std::marker::Model;
 
-/// Lends the selected lines of a text that comes in pieces. It keeps the current line alone.
+/// Emits the selected lines of a text that comes in pieces. It keeps only the current line.
 #[derive(Debug, Drop)]
 pub struct Picker<'p> {
     matcher: Matcher<'p>,
-    /// What learns from the text, if it is to.
+    /// The finder that tunes itself to the text, if there is one.
     finder: Option<EndFinder<'p>>,
     progress: Progress,
     state: State,
@@ -83,7 +83,7 @@ impl<'p> Picker<'p> {
         Picker::before_text(alloc, matcher, None)
     }
 
-    /// A picker before any text, whose search for the literals of a plan learns from the text. It takes no memory.
+    /// A picker before any text, with a finder that tunes itself to the text. It takes no memory.
     pub fn by_finder(
         alloc: Global,
         finder: EndFinder<'p>,
@@ -135,8 +135,8 @@ impl<'p> Picker<'p> {
         }
     }
 
-    /// The same picker, which from now on counts no lines: each is lent under some number, to a sink that
-    /// makes nothing of it. Counting takes up to a sixth of the time of a search for one rare literal.
+    /// The same picker, which from now on counts no lines: it emits each line under some number, to a sink that ignores
+    /// the number. Counting takes up to a sixth of the time of a search for one rare literal.
     pub fn without_numbers(mut self) -> Picker<'p>
         ensures { result ≡ record self.entry { is_numbered = false; lines = 0 } }
     {
@@ -144,14 +144,14 @@ impl<'p> Picker<'p> {
         self
     }
 
-    /// Whether the search learns from the text.
+    /// Whether the search tunes itself to the text.
     pub fn learns(&self) -> bool
         ensures { result ≡ self.now.learns }
     {
         self.finder.is_some()
     }
 
-    /// The search learns from now on, by such a finder. What is lent does not depend on that.
+    /// From now on the search tunes itself, by this finder. The emitted lines do not depend on it.
     pub fn learn_by(&mut self, finder: EndFinder<'p>)
         requires { self.old.plan ≡ Some finder }
         ensures { self.new ≡ record self.old { learns = true } }
@@ -159,7 +159,7 @@ impl<'p> Picker<'p> {
         self.finder = Some(finder);
     }
 
-    /// What learned from the text, if anything did, for the next text.
+    /// The finder, tuned to the text so far, for use with the next text; `None` if the picker has none.
     pub fn into_finder(self) -> Option<EndFinder<'p>>
         ensures plan { IfSome result (λ plan. self.entry.plan ≡ Some plan) }
         ensures learned { is_some result ≡ self.entry.learns }
@@ -167,14 +167,13 @@ impl<'p> Picker<'p> {
         self.finder
     }
 
-    /// Takes the next piece of the text, and lends to the sink each selected line that a newline ends
-    /// in it, in order, with its number and without its newline. A picker without numbers lends it with
-    /// some number.
+    /// Takes the next piece of the text, and emits to the sink each selected line that a newline ends in it: in order,
+    /// with its number and without its newline. A picker without numbers emits it with some number.
     ///
-    /// The line to which the sink answers `Stop` or a fault is the last one lent, and the answer is
-    /// the same. `StreamTooLong` comes where the bytes fed would pass 2^64 - 1, before any line is
-    /// lent; `OutOfMemory` also where the open line cannot be kept, after the lines lent so far.
-    /// A picker that stopped, failed or finished lends nothing: it answers `Stop`, or its fault again.
+    /// The line to which the sink answers `Stop` or a fault is the last one emitted, and `feed` returns the same
+    /// answer. `StreamTooLong` comes if the bytes fed would pass 2^64 - 1, before any line is emitted. `OutOfMemory`
+    /// also comes if the open line cannot be kept, after the lines emitted so far. A picker that stopped, failed or
+    /// finished emits nothing: it returns `Stop`, or its fault again.
     pub fn feed<S: Sink>(&mut self, piece: &[u8], sink: &mut S) -> Result<Next, Fault>
         ensures running { self.old.state ≡ Running
             → Feeds S.takes self.old piece.now sink.old result self.new sink.new }
@@ -193,10 +192,10 @@ impl<'p> Picker<'p> {
         answer
     }
 
-    /// Ends the text: a last line without newline is lent, if it is not empty and selected.
+    /// Ends the text: emits a last line without newline, if it is not empty and is selected.
     ///
-    /// It answers what the sink answers to that line, and else `More`. A picker that stopped, failed
-    /// or finished lends nothing: it answers `Stop`, or its fault again.
+    /// Returns the sink's answer to that line, or `More` if there is none. A picker that stopped, failed or finished
+    /// emits nothing: it returns `Stop`, or its fault again.
     pub fn finish<S: Sink>(&mut self, sink: &mut S) -> Result<Next, Fault>
         ensures running { self.old.state ≡ Running
             → Finishes S.takes self.old sink.old result self.new sink.new }
@@ -213,7 +212,7 @@ impl<'p> Picker<'p> {
     }
 }
 
-/// What a call answers where lending ended so.
+/// The answer of a call in which emitting ended so.
 fn answered(lent: Result<(), Halt>) -> Result<Next, Fault>
     ensures { result ≡ answer_of lent }
 {

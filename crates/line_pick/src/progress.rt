@@ -30,7 +30,7 @@ pub(crate) struct Progress {
 }
 
 impl Progress {
-    /// That before any text. It takes no memory.
+    /// The progress before any text. It takes no memory.
     pub fn new(alloc: Global) -> Progress
         ensures held { result.held.items ≡ [] }
         ensures numbered { result.is_numbered ≡ true }
@@ -45,7 +45,7 @@ impl Progress {
         }
     }
 
-    /// Takes the next piece of the text, and lends the selected ones of the lines that it ends.
+    /// Takes the next piece of the text, and emits the selected lines among those that it ends.
     pub fn take<S: Sink>(
         &mut self,
         matcher: Matcher<'_>,
@@ -97,7 +97,7 @@ impl Progress {
         Ok(())
     }
 
-    /// Ends the line that it holds: these bytes are its last ones.
+    /// Ends the held line with its last bytes.
     fn end_line<S: Sink>(
         &mut self,
         matcher: Matcher<'_>,
@@ -125,8 +125,8 @@ impl Progress {
         Ok(())
     }
 
-    /// Takes text at the beginning of a line: lends the lines that newlines end in it, in place, and
-    /// holds the rest.
+    /// Takes text at the beginning of a line: emits the lines that newlines end in it, without copying them, and holds
+    /// the rest.
     fn take_lines<S: Sink>(
         &mut self,
         matcher: Matcher<'_>,
@@ -157,7 +157,7 @@ impl Progress {
         self.hold(open)
     }
 
-    /// Lends the open line, if it is a line and selected.
+    /// Emits the open line, if it is a line and selected.
     pub fn lend_open<S: Sink>(&self, matcher: Matcher<'_>, sink: &mut S) -> Result<(), Halt>
         requires { IsSound self.now }
         ensures lent { Lent S.takes sink.old
@@ -173,7 +173,7 @@ impl Progress {
     }
 }
 
-/// The number of bytes with those of one more piece. It fails with `StreamTooLong` alone.
+/// The number of bytes with one more piece. The only error is `StreamTooLong`.
 fn longer(bytes: u64, piece: &[u8]) -> Result<u64, Halt>
     ensures ok { IfOk result (λ sum. sum ≡ bytes + length piece.now) }
     ensures err { OnErr result (result ≡ Err (Halt.Failed Fault.StreamTooLong)) }

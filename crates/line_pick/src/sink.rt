@@ -1,4 +1,4 @@
-//! What selected lines are lent to.
+//! What selected lines are emitted to.
 ghost use Rattle.std.specs.Prelude.{◌≢◌, ℕ, List, Result};
 
 use crate::fault::Fault;
@@ -10,7 +10,7 @@ pub enum Next {
     Stop,
 }
 
-/// What selected lines are lent to.
+/// What selected lines are emitted to.
 pub trait Sink {
     ghost use Rattle.line_pick.specs.declared.fault.Fault.{Fault};
     ghost use Rattle.line_pick.specs.declared.sink.Next.{Next};
@@ -19,9 +19,8 @@ pub trait Sink {
     /// after.
     ghost takes: { Self → ℕ → List ℕ → Result Next Fault → Self → Type 0 };
 
-    /// Takes a line, without its newline, and its number in the text, from 1 on, or some number from
-    /// a picker without numbers. `Stop`, or a fault, makes it the last line lent. It fails with
-    /// `WriteFault` or `OutOfMemory` alone.
+    /// Takes a line, without its newline, and its number in the text, from 1 on; a picker without numbers gives some
+    /// number. After `Stop`, or a fault, no line follows. The only errors are `WriteFault` and `OutOfMemory`.
     fn line(&mut self, number: u64, bytes: &[u8]) -> Result<Next, Fault>
         ensures taken { takes self.old number bytes.now result self.new }
         ensures faults { result ≢ Err Fault.StreamTooLong };

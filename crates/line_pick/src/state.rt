@@ -1,23 +1,23 @@
-//! Whether a picker still lends lines.
+//! Whether a picker still emits lines.
 ghost use Rattle.std.specs.Prelude.{◌≡◌};
 ghost use Rattle.line_pick.specs.Picking.{answer_in, fed_state, finished_state};
 
 use crate::fault::Fault;
 use crate::sink::Next;
 
-/// Whether a picker still lends lines.
+/// Whether a picker still emits lines.
 #[derive(Clone, Copy, Debug, PartialEq, Eq)]
 pub enum State {
     Running,
     /// The sink wanted no more lines.
     Stopped,
-    /// The last line was lent.
+    /// The last line was emitted.
     Finished,
     Failed(Fault),
 }
 
 impl State {
-    /// What each call answers, unless lines are still lent.
+    /// The answer of each call, once no more lines are emitted.
     pub(crate) fn answer(self) -> Option<Result<Next, Fault>>
         ensures { result ≡ answer_in self }
     {

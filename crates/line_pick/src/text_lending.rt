@@ -1,4 +1,4 @@
-//! How the lines of a text are lent: where hits are rare, those alone are split that are lent or hold a literal.
+//! How the lines of a text are emitted. Where hits are rare, only lines that are emitted or hold a literal are split.
 ghost use Rattle.std.specs.Prelude.{◌≡◌, ◌≢◌, ◌≤◌, ◌<◌, ◌+◌, ◌^◌, ◌∷◌, [], All, IfOk, IfSome, Some, false, length, true};
 ghost use Rattle.std.specs.Option.{option_copied};
 ghost use Rattle.lit_base.specs.Lines.{IsOnePiece, ended_lines, open_rest};
@@ -17,29 +17,28 @@ use crate::matcher::{Matcher, is_literal};
 use crate::sink::Sink;
 use flow_scan::{Compiled, EndFinder, TextSearch};
 
-/// A hit and its line take about as long as splitting so many bytes into lines: 120 ns with one literal
-/// in English text, where splitting took 0.5 ns a byte. With 1,000 literals a hit takes ten times as long.
+/// A hit and its line take about as long as splitting this many bytes into lines. Measured in English text: 120 ns for
+/// a hit of one literal, 0.5 ns a byte for splitting. With 1,000 literals a hit takes ten times as long.
 const HIT_COST: usize = 256;
 
-/// So many bytes' worth of hits are looked at, where nothing is passed over between them, before the rest
-/// of a text is split line by line. With 1,000 words, one in most lines, that is 16 times as fast.
+/// After hits worth this many bytes, with nothing passed over between them, the rest of a text is split line by line.
+/// With 1,000 words, one in most lines, that is 16 times as fast.
 const CREDIT: usize = 16 * HIT_COST;
 
-/// A list of at most so many literals is searched for by two or three bytes of each, in whatever text faster than
-/// its lines are split. A search for more may take several times as long, where they are words of the text
-/// (30 words in English text: 4.5 ns a byte, and 0.6 to split and compare each line).
+/// A list of at most this many literals is searched for by two or three bytes of each, which is faster in any text than
+/// splitting its lines. A search for more may take several times as long, if they are words of the text. Measured with
+/// 30 words in English text: 4.5 ns a byte, against 0.6 to split and compare each line.
 const FEW_LITERALS: usize = 3;
 
-/// Lines of fewer bytes took longer to split than any search: an empty one some 30 ns, before it was cut by its first byte. The bound
-/// was not chosen anew.
+/// Lines of fewer bytes take longer to split than any search takes: measured, some 30 ns for an empty line. The bound
+/// was not measured again since empty lines are cut by their first byte.
 const SHORT_LINE: usize = 16;
 
-/// So much of a text tells whether its lines are short.
+/// The number of bytes at the start of a text that decide whether its lines are short.
 const SAMPLE: usize = 1024;
 
-/// Lends the selected ones of the lines of a text that a newline ends, and answers how many lines
-/// there are by then, if they are numbered. So many stand before the text. Where they are not numbered,
-/// those that are passed over are not counted.
+/// Emits the selected lines among those that a newline ends in the text. Returns how many lines there are by its end,
+/// if they are numbered; `before` lines stand before it. Without numbers, lines that are passed over are not counted.
 pub(crate) fn lend_text<S: Sink>(
     matcher: Matcher<'_>,
     finder: &mut Option<EndFinder<'_>>,
@@ -79,8 +78,8 @@ pub(crate) fn lend_text<S: Sink>(
     }
 }
 
-/// Lends the lines that hold a literal, or under -x those that are one, or under -v the others, in the
-/// way that is likely to take less time.
+/// Emits the lines that hold a literal, or under -x those that are one, or under -v the others, by the method that
+/// should take less time.
 fn lend_listed<S: Sink>(
     compiled: &Compiled,
     rule: LineRule,
@@ -114,7 +113,7 @@ fn has_short_lines(text: &[u8]) -> bool {
     count_newlines(front) > front.len() / SHORT_LINE
 }
 
-/// Lends the lines of `lend_listed` by looking for hits first.
+/// Emits the lines of `lend_listed`, searching for hits first.
 fn lend_hit_lines<S: Sink>(
     compiled: &Compiled,
     rule: LineRule,
@@ -155,7 +154,7 @@ fn lend_hit_lines<S: Sink>(
     lend_all(rule.invert, rest, lines, is_numbered, sink)
 }
 
-/// What is left under -x of a credit behind a hit, with the text that the search for it passed over.
+/// The credit after a hit under -x: more by the text that the search passed over, less by the cost of a hit.
 #[inline(always)]
 fn credit_behind(rule: LineRule, credit: usize, missed: &[u8]) -> usize {
     if !rule.whole {
@@ -165,7 +164,7 @@ fn credit_behind(rule: LineRule, credit: usize, missed: &[u8]) -> usize {
     gained.saturating_sub(HIT_COST)
 }
 
-/// Lends the selected lines, each of which is split and compared.
+/// Emits the selected lines; each line is split and compared.
 fn lend_each_line<S: Sink>(
     compiled: &Compiled,
     rule: LineRule,
@@ -213,7 +212,7 @@ fn matches_at_hit(compiled: &Compiled, whole: bool, line: &[u8]) -> bool
     }
 }
 
-/// Lends all lines of the text if they are selected, and else counts them, if they are numbered.
+/// Emits all lines of the text if they are selected, and otherwise counts them, if they are numbered.
 #[inline(always)]
 fn lend_all<S: Sink>(
     selected: bool,

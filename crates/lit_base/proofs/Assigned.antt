@@ -98,7 +98,7 @@ length-run_numbers n i p [] cuts = omega (arith, cuts)
 length-run_numbers n i p (end ∷ ends) cuts =
     omega (arith, length-append (replicate (end - p) i) (run_numbers (suc i) end ends), length-replicate (end - p) i, length-run_numbers n (suc i) end ends cuts.1, cuts.0)
 
--- and no run's number passes that of the last
+-- and no run's number passes the last run's
 run_numbers-lt : (most i p : ℕ) (ends : List ℕ) → i + length ends ≤ most → All (λ b. b < most) (run_numbers i p ends)
 run_numbers-lt most i p [] few = All-nil (λ b. b < most)
 run_numbers-lt most i p (end ∷ ends) few =

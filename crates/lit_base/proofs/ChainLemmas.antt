@@ -14,7 +14,7 @@ use Rattle.lit_base.proofs.LengthLemmas.{length_at}
 use Rattle.lit_base.proofs.SuffixLemmas.{AreBytes, key-occurs}
 
 module _ (l : Literals) (text : List ℕ) (end width : ℕ) (chains : SuffixChains) (are : AreChainsOf l chains) (bytes : AreBytes text) (narrow : width ≤ 8) where
-  -- where a literal ends that is told by so many bytes, the text has the key that is kept of it
+  -- where a literal with a key of this width ends, the text has the key kept of it
   pub kept_key : (place : ℕ) → told_at l place ≡ width → Occurs l text place end → get_or chains.keys.items place 0 ≡ suffix_key l.folding text end width
   kept_key place told occurs =
       let there = slice_get_within l.texts place occurs.literal occurs.stands in
@@ -42,13 +42,13 @@ module _ (l : Literals) (text : List ℕ) (end width : ℕ) (chains : SuffixChai
         has = step.has;
       }
 
--- a literal that comes later is told by no fewer bytes
+-- a later literal has no narrower key
 pub told_rises : (l : Literals) → IsNonDecreasing (lengths l) → (place other : ℕ) → place ≤ other → other < length l.texts → told_at l place ≤ told_at l other
 told_rises l rising place other low inside =
     let below = rising place other 0 low (omega (arith, inside, length-map l.texts (length {A = ℕ}))) in
     omega (arith, below, length_at l.texts place 0 (omega arith), length_at l.texts other 0 inside)
 
--- a literal that ends at a place is told by no more bytes than stand before it
+-- a literal that ends at a position has a key no wider than the text before it
 pub fits_before : (l : Literals) (text : List ℕ) (place end : ℕ) → Occurs l text place end → told_at l place ≤ end
 fits_before l text place end occurs = omega (arith, occurs.begins, ap length (get_or_from_slice_get l.texts place occurs.literal [] occurs.stands))
 
@@ -58,7 +58,7 @@ pub none_told : (l : Literals) (text : List ℕ) (from end width : ℕ) (r : Opt
 none_told l text from end width None e found = found
 none_told l text from end width (Some p) e found = (cc)
 
--- what they answer is some, and those of smaller widths hold none: it is the first of all
+-- a literal is found at this width, and the smaller widths hold none: it is the first of all
 pub first_by_width : (l : Literals) (text : List ℕ) (from end width : ℕ) (r : Option ℕ) → IsNonDecreasing (lengths l)
     → ((place : ℕ) → from ≤ place → told_at l place < width → ¬ Occurs l text place end) → true ≡ is_some r
     → MatchOption r (NoneToldEnds l text from end width) (λ place. IsFirstTold l text from end width place)
@@ -77,14 +77,14 @@ first_by_width l text from end width (Some p) rising before e found =
           ];
     }
 
--- what they answer is some, and behind each that may be it the others have their bits
+-- a literal is found, and the widths kept after it have the bits of all later literals
 pub behind_found : (l : Literals) (text : List ℕ) (from end width left : ℕ) (r : Option ℕ)
     → MatchOption r (NoneToldEnds l text from end width) (λ place. IsFirstTold l text from end width place)
     → ((place : ℕ) → IsFirstTold l text from end width place → HaveWidths l text (place + 1) end left) → IfSome r (λ place. HaveWidths l text (place + 1) end left)
 behind_found l text from end width left None found have = tt
 behind_found l text from end width left (Some p) found have = have p found
 
--- what is found is one of the literals
+-- a literal that is found is in the list
 pub found_within : (l : Literals) (text : List ℕ) (from end : ℕ) (r : Option ℕ) → MatchOption r (NoneEnds l text from end) (λ place. IsFirstEnding l text from end place)
     → IfSome r (λ place. place < length l.texts)
 found_within l text from end None found = tt

@@ -19,7 +19,8 @@ use Rattle.lit_base.proofs.InsertLemmas.{literal_total}
 use Rattle.lit_base.proofs.SortedLists.{not_below}
 use Rattle.lit_base.proofs.SuffixLemmas.{AreBytes, key-occurs, masked, spelled_fits}
 
--- where a literal ends, the hash of so many bytes before that place has the bit of how many tell it, if that of its own last ones has
+-- where a literal ends, the hash of the bytes before has the bit of its key width, if the hash of its own checked bytes
+-- has it
 pub checked-occurs : (l : Literals) (checks : SuffixChecks) (text : List ℕ) (place end most : ℕ) → AreChecksOf l checks → AreBytes text → 8 ≤ end → Occurs l text place end
     → IsChecked checks.widths.items (told_at l place) (last_key l most place)
     → IsChecked checks.widths.items (told_at l place) (bit_or (bit_and (spelled (slice_range text (end - 8) end)) (last_bits (min (told_at l place) most))) checks.case_bits)
@@ -39,7 +40,7 @@ checked-occurs l checks text place end most is bytes room occurs checked =
 pub width_stays : (widths more place : ℕ) → bit_at widths place ≡ 1 → bit_at (bit_or widths more) place ≡ 1
 width_stays widths more place has = omega (arith, has, bit_at_or widths more place, bit_at-lt (bit_or widths more) place)
 
--- and so does one that what is added has
+-- and so does a bit of the widths added
 pub more_stays : (widths more place : ℕ) → bit_at more place ≡ 1 → bit_at (bit_or widths more) place ≡ 1
 more_stays widths more place has = omega (arith, has, bit_at_or widths more place, bit_at-lt (bit_or widths more) place)
 
@@ -51,13 +52,13 @@ width_added widths byte back bit has =
     let both = bit_at_and byte (1 * 2 ^ back % 256) back in
     omega (arith, has, one, alone, both, bit_at-zero back, bit_at_or widths (bit_and byte (1 * 2 ^ back % 256)) back, bit_at-lt (bit_or widths (bit_and byte (1 * 2 ^ back % 256))) back)
 
--- a literal that ends somewhere is told by some byte
+-- a literal that ends somewhere has a key of at least one byte
 told_some : (l : Literals) (checks : SuffixChecks) (text : List ℕ) (place end : ℕ) → AreChecksOf l checks → Occurs l text place end → 0 < told_at l place
 told_some l checks text place end is occurs =
     let there = slice_get_within l.texts place occurs.literal occurs.stands in
     omega (arith, is.some, is.wide place there)
 
--- the highest bit of a byte is left by a mask of it
+-- a mask of the highest bit keeps the highest bit of a byte
 pub bit_highest : (byte : ℕ) → bit_at byte 7 ≡ 1 → bit_at (bit_and byte 128) 7 ≡ 1
 bit_highest byte has = let one : bit_at 128 7 ≡ 1 = refl in omega (arith, has, one, bit_at_and byte 128 7)
 
@@ -65,15 +66,15 @@ bit_highest byte has = let one : bit_at 128 7 ≡ 1 = refl in omega (arith, has,
 pub bit_below : (byte back : ℕ) → back < 7 → bit_at byte back ≡ 1 → bit_at (bit_and byte 127) back ≡ 1
 bit_below byte back low has = omega (arith, has, bit_at_ones 7 back low, bit_at_and byte 127 back)
 
--- some widths, of which the lowest that has its bit is one more than a number
+-- some widths, the lowest with its bit set being one more than a number
 module _ (l : Literals) (checks : SuffixChecks) (is : AreChecksOf l checks) (text : List ℕ) (from end widths low : ℕ) (have : HaveWidths l text from end widths) where
-  -- no literal that is told by fewer bytes ends there
+  -- no literal with a narrower key ends there
   pub narrower_none : ((i : ℕ) → i < low → bit_at widths i ≡ 0) → (place : ℕ) → from ≤ place → told_at l place < low + 1 → ¬ Occurs l text place end
   narrower_none none place counted narrow occurs =
       let some = told_some l checks text place end is occurs in
       absurd (omega (arith, have place counted occurs, none (told_at l place - 1) (omega arith)))
 
-  -- where none that is told by so many does, the others have their bits without that one
+  -- where no literal of this width does, the bits of the others stay without it
   pub widths_left : low < 8 → NoneToldEnds l text from end (low + 1) → HaveWidths l text from end (bit_and widths (bit_not w8 (1 * 2 ^ low % 256)))
   widths_left small none place counted occurs =
       let some = told_some l checks text place end is occurs in
@@ -101,7 +102,8 @@ ends_once l normal text place other end one two len before =
     let inside = slice_get_within l.texts other two.literal two.stands in
     not_below literal_cmp literal_total (literal_at l place) (literal_at l other) (Less-from_sorted literal_cmp l.texts place other [] normal.rising before inside) (here ∙ same ∙ sym there)
 
--- behind a literal that ends there, the others have their bits without that of its length, unless that is of the widest
+-- after a literal that ends there, the bits of the others stay without the bit of its length, unless its key is the
+-- widest
 pub others_left : (l : Literals) → IsNormal l → (checks : SuffixChecks) → AreChecksOf l checks → (text : List ℕ) (from end place len widths left : ℕ) → Occurs l text place end → from ≤ place + 1 → told_at l place ≡ told_width len
     → HaveWidths l text from end widths → ((width : ℕ) → 0 < width → width ≤ 8 → (width ≡ len → width ≡ 8) → bit_at widths (width - 1) ≡ 1 → bit_at left (width - 1) ≡ 1)
     → HaveWidths l text (place + 1) end left

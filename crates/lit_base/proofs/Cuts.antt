@@ -8,8 +8,8 @@ pub cuts-le : (n p : ℕ) (ends : List ℕ) → CutsFrom n p ends → p ≤ n
 cuts-le n p [] cuts = omega (arith, cuts)
 cuts-le n p (end ∷ ends) cuts = omega (arith, cuts.0, cuts-le n end ends cuts.1)
 
--- what a loop over the ends knows at the end with index i, by the costs c: where the run begins, that the rest cuts what
--- is left, and that the price so far and the rest's make up the whole
+-- what a loop over the ends knows at the end with index i, by the costs c: where the run begins; that the rest cuts the
+-- remaining places; and that the price so far and the rest's make up the whole
 pub record CutSoFar (c : ℕ → ℕ → ℕ) (n : ℕ) (ends : List ℕ) (i start price : ℕ) : Type 0 where
   pub rest : CutsFrom n start (drop i ends)
   pub whole : price + cut_price c start (drop i ends) ≡ cut_price c 0 ends
@@ -20,7 +20,7 @@ next_end c n ends i start price h so =
     let cuts = subst (λ rest. CutsFrom n start rest) (drop_more ends i 0 h) so.rest in
     (cuts.0, cuts-le n (get_or ends i 0) (drop (i + 1) ends) cuts.1)
 
--- a cut from p on has an end where some place is left
+-- a cut from p on has an end where some place remains
 pub length-cuts : (n p : ℕ) (ends : List ℕ) → CutsFrom n p ends → p < n → 1 ≤ length ends
 length-cuts n p [] cuts some = absurd (omega (arith, cuts))
 length-cuts n p (end ∷ ends) cuts some = omega arith

@@ -1,4 +1,4 @@
--- The lines that newlines ended, and the open rest behind the last newline.
+-- The lines that newlines ended, and the open rest after the last newline.
 use Rattle.std.proofs.Common.{◌≡◌, ◌≢◌, ℕ, ◌<◌, true, false, cond, eqb, List, [], ◌∷◌, ◌++◌, length, All, refl, sym, ap, ◌∙◌, arith}
 use Rattle.std.specs.List.{onto_first}
 use Rattle.std.proofs.lemmas.List.Splits.{slice_split_at, slice_split_none}
@@ -16,7 +16,7 @@ last_piece-cons : (p : List ℕ) (ps : List (List ℕ)) → 0 < length ps → la
 last_piece-cons p [] some = absurd (omega arith)
 last_piece-cons p (q ∷ more) some = refl
 
--- the same behind several pieces
+-- the same after several pieces
 without_last-append : (ps qs : List (List ℕ)) → 0 < length qs → without_last (ps ++ qs) ≡ ps ++ without_last qs
 without_last-append [] qs some = refl
 without_last-append (p ∷ ps) qs some =
@@ -46,7 +46,8 @@ behind_byte b [] whole more some other e = absurd (omega arith)
 behind_byte b (p ∷ []) whole more some other e = ap (onto_first b) e ∙ sym (ap (λ t. cond t ([] ∷ pieces (p ++ more)) (onto_first b (pieces (p ++ more)))) other)
 behind_byte b (p ∷ q ∷ ps) whole more some other e = ap (onto_first b) e
 
--- the pieces of a text in two parts: those that newlines of the first part end, and those of its open rest with the second part
+-- the pieces of a text in two parts: those that newlines of the first part end, then the pieces of its open rest with
+-- the second part
 pieces-append : (text more : List ℕ) → pieces (text ++ more) ≡ without_last (pieces text) ++ pieces (last_piece (pieces text) ++ more)
 pieces-append [] more = refl
 pieces-append (b ∷ bs) more =

@@ -32,7 +32,7 @@ same_from_tie a b e =
     let bytes : slice_cmp nat_cmp a b ≡ Equal = second_ties (nat_cmp (length a) (length b)) (slice_cmp nat_cmp a b) e in
     (bytes_eq-Decides a b).0 (sym (is_eq-slice_cmp a b) ∙ ap is_eq bytes)
 
--- what is below x is above by x
+-- a text above another has the other below it
 below_from_above : (a b : List ℕ) → literal_cmp a b ≡ Greater → literal_cmp b a ≡ Less
 below_from_above a b e = literal_total.antisymm b a ∙ ap ordering_reverse e
 
@@ -90,7 +90,7 @@ in_insert_new (x ∷ xs) k = by (in_insert_new xs k) (literal_cmp k x) refl
     by rest Equal e = inl (sym (same_from_tie k x e))
     by rest Greater e = inr rest
 
--- the length in all grows by that of the new one at most
+-- the total length grows at most by the length of the new text
 pub sum_by-insert-le : (xs : List (List ℕ)) (k : List ℕ) → sum_by length (insert_key literal_cmp xs k) ≤ sum_by length xs + length k
 sum_by-insert-le [] k = omega arith
 sum_by-insert-le (x ∷ xs) k = by (sum_by-insert-le xs k) (literal_cmp k x)
@@ -99,3 +99,13 @@ sum_by-insert-le (x ∷ xs) k = by (sum_by-insert-le xs k) (literal_cmp k x)
     by rest Less = omega (arith, sum_by-cons {X = List ℕ} length k (x ∷ xs))
     by rest Equal = omega arith
     by rest Greater = omega (arith, sum_by-cons {X = List ℕ} length x xs, sum_by-cons {X = List ℕ} length x (insert_key literal_cmp xs k), rest)
+
+-- and there is one more at most
+pub length-insert-le : (xs : List (List ℕ)) (k : List ℕ) → length (insert_key literal_cmp xs k) ≤ length xs + 1
+length-insert-le [] k = omega arith
+length-insert-le (x ∷ xs) k = by (length-insert-le xs k) (literal_cmp k x)
+  where
+    by : length (insert_key literal_cmp xs k) ≤ length xs + 1 → (r : Ordering) → length (match_ordering r (k ∷ x ∷ xs) (x ∷ xs) (x ∷ insert_key literal_cmp xs k)) ≤ length (x ∷ xs) + 1
+    by rest Less = omega arith
+    by rest Equal = omega arith
+    by rest Greater = omega (arith, rest)

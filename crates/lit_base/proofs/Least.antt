@@ -38,7 +38,7 @@ abbrev outside : List ℕ → List ℕ → ℕ
 outside bs [] = 0
 outside bs (k ∷ ks) = if is_in k bs then outside bs ks else suc (outside bs ks)
 
--- the buckets but for one
+-- the buckets without one
 abbrev without : ℕ → List ℕ → List ℕ
 without b [] = []
 without b (k ∷ ks) = if k == b then without b ks else k ∷ without b ks
@@ -187,7 +187,8 @@ fold-min_below v m (x ∷ xs) some =
       | inr rest ↦ elim rest [ inl second ↦ inl (omega (arith, second)) | inr later ↦ inr later ]
     ])
 
--- a group with a literal of at most v bytes is not empty, and costs what as many cost of which the shortest has v
+-- a group with a literal of at most v bytes is not empty, and costs at least as much as a group of its size whose
+-- shortest has v
 group_cost-ge : (v : ℕ) (xs : List ℕ) → SomeBelow v xs → (0 < length xs) × (cost (length xs) v ≤ group_cost xs)
 group_cost-ge v [] some = absurd some
 group_cost-ge v (m ∷ ms) some =
@@ -215,7 +216,7 @@ module _ (ls ns : List ℕ) (h : ℕ → ℕ → ℕ) (most : ℕ) (rising : IsN
   bucket_price : ℕ → ℕ
   bucket_price b = group_cost (bucket b ls ns)
 
-  -- a bucket with a literal at or before place p costs no less than the run of as many literals from p on
+  -- a bucket with a literal at or before place p costs at least as much as the run of as many literals from p on
   bucket_price-ge : (k p : ℕ) → k < length ns → k ≤ p → p < length ls → (0 < length (bucket (get_or ns k 0) ls ns)) × (run_cost ls p (p + length (bucket (get_or ns k 0) ls ns)) ≤ bucket_price (get_or ns k 0))
   unfolding bucket_price run_cost
   bucket_price-ge k p within before inner =
@@ -249,7 +250,7 @@ module _ (ls ns : List ℕ) (h : ℕ → ℕ → ℕ) (most : ℕ) (rising : IsN
             omega (arith, end, subst (λ q. run_cost ls p q ≤ bucket_price b) all run, price)
       ]
 
-  -- at most r buckets cost no less than the potential behind the literals outside them
+  -- at most r buckets cost at least the potential after the literals outside them
   bound : (r : ℕ) (bs : List ℕ) → length bs ≤ r → r ≤ most → outside bs ns < length ls → h r (outside bs ns) ≤ sum_by bucket_price bs
   bound zero [] few allowed some = absurd (omega (arith, outside-nil ns, sizes, some))
   bound zero (b ∷ bs) few allowed some = absurd (omega (arith, few))
@@ -257,7 +258,7 @@ module _ (ls ns : List ℕ) (h : ℕ → ℕ → ℕ) (most : ℕ) (rising : IsN
       let first = first_inside bs ns (omega (arith, some, sizes)) in
       bound_more r bs first.0 first.1 first.2 first.3 few allowed some (λ left short inner. bound r left short (omega (arith, allowed)) inner)
 
-  -- no assignment of literals, of which there are some, costs less than the potential of all of them
+  -- no assignment of at least one literal costs less than the potential of all of them
   pub assignment_bounded : 0 < length ls → All (λ b. b < most) ns → h most 0 ≤ assign_price most ls ns
   unfolding assign_price bucket_price
   assignment_bounded some below =
@@ -265,12 +266,12 @@ module _ (ls ns : List ℕ) (h : ℕ → ℕ → ℕ) (most : ℕ) (rising : IsN
       let whole = bound most (range_with_len 0 most) (omega (arith, length-range_with_len 0 most)) (omega arith) (omega (arith, none, some)) in
       subst (λ p. h most p ≤ sum_by bucket_price (range_with_len 0 most)) none whole
 
--- at the end, where nothing is left, the potential is 0
+-- after the last literal the potential is 0
 pub potential-end : (hs : List ℕ) (n r p : ℕ) → p ≡ n → potential hs n r p ≡ 0
 unfolding potential
 potential-end hs n r p end = rw (eq-eqb p n end) refl
 
--- before it the potential is the one that stands in the list
+-- before it the potential is the number in the list
 pub potential-inner : (hs : List ℕ) (n r p : ℕ) → p < n → potential hs n r p ≡ get_or hs ((r - 1) * n + p) 0
 unfolding potential
 potential-inner hs n r p inner = let apart : p ≢ n = omega arith in rw (ne_eqb p n apart) refl

@@ -1,5 +1,5 @@
 pub mod Assigned
-pub mod Buckets
+pub mod BucketLemmas
 pub mod ChainLemmas
 pub mod CheckLemmas
 pub mod Cuts

@@ -28,7 +28,7 @@ pub lines-nil : lines [] ≡ []
 unfolding lines
 lines-nil = refl
 
--- behind a newline that is there, the other lines follow
+-- after a newline that is there, the other lines follow
 lines-cut : (text : List ℕ) → position_or_len (λ b. eqb b 10) text < length text → lines text ≡ before_first (λ b. eqb b 10) text ∷ lines (after_first (λ b. eqb b 10) text)
 unfolding lines
 lines-cut text h =
@@ -59,7 +59,7 @@ no_place text e = elim (cases_lt (position_or_len (λ b. eqb b 10) text) (length
   | inr past ↦ past
 ]
 
--- a text's first line stands before its first newline, and the other lines behind that
+-- a text's first line stands before its first newline, and the other lines after that
 pub lines-at : (text : List ℕ) (at : ℕ) → Some at ≡ position (λ b. eqb b 10) text → lines text ≡ take at text ∷ lines (drop (at + 1) text)
 lines-at text at e =
     let p = first_place text at e in
@@ -88,7 +88,7 @@ unfolding lines
 lines-last line some one_piece =
     ap without_empty_last (slice_split_none (λ b. eqb b 10) line (none_passes line one_piece)) ∙ one line (length-positive line some)
 
--- pieces without a newline, joined by newlines, are the pieces of what is joined
+-- pieces without a newline, joined by newlines, are the pieces of the joined text
 pub pieces-joined : (parts : List (List ℕ)) → parts ≢ [] → All IsOnePiece parts → pieces (join_with_byte 10 parts) ≡ parts
 pieces-joined [] some apart = absurd (some refl)
 pieces-joined (p ∷ []) some apart = slice_split_none (λ b. eqb b 10) p (none_passes p (All-head IsOnePiece p [] apart))

@@ -10,7 +10,7 @@ use Rattle.lit_base.specs.declared.suffixes.marks.SuffixMarks.{SuffixMarks}
 use Rattle.lit_base.specs.declared.suffixes.marks.TheConstants.{HASH_BITS}
 use Rattle.lit_base.specs.Literals.{Literals}
 use Rattle.lit_base.specs.Marks.{IsMarked, AreMarksOf}
-use Rattle.lit_base.specs.Occurrences.{HasEnd, Occurs}
+use Rattle.lit_base.specs.Occurrences.{Occurs}
 use Rattle.lit_base.specs.Suffixes.{hash_of, spelled, suffix_key}
 use Rattle.lit_base.proofs.SuffixLemmas.{AreBytes, key-occurs_inside, masked, spelled_fits}
 
@@ -22,7 +22,7 @@ module _ (marks : List ℕ) (number byte back : ℕ) (room : number < length mar
   pub marked_now : IsMarked (set marks number marked_byte) number back
   marked_now = ap (λ w. bit_at w back) (get_or-set_same marks number marked_byte 0 room) ∙ bit_at_set_same w8 byte back bit
 
-  -- and so is what was
+  -- and earlier marks stay
   pub marked_still : (other place : ℕ) → IsMarked marks other place → IsMarked (set marks number marked_byte) other place
   marked_still other place old = elim (cases_eq other number) [
     | inl here ↦
@@ -36,8 +36,8 @@ module _ (marks : List ℕ) (number byte back : ℕ) (room : number < length mar
     | inr apart ↦ ap (λ w. bit_at w place) (get_or-set_other marks number other marked_byte 0 apart) ∙ old
   ]
 
--- where a literal ends, the text's hash so far before it is marked
-pub marked-occurs : (l : Literals) (marks : SuffixMarks) (text : List ℕ) (place at back end : ℕ) → AreMarksOf l marks → AreBytes text → at + back ≡ end → back < marks.stride → 8 ≤ at → Occurs l text place end
+-- where a literal ends, the text's hash before it is marked
+pub marked-occurs : (l : Literals) (marks : SuffixMarks) (text : List ℕ) (place at back end : ℕ) → AreMarksOf l marks → AreBytes text → at + back ≡ end → back < 1 → 8 ≤ at → Occurs l text place end
     → IsMarked marks.marks.items (hash_of HASH_BITS (bit_or (bit_and (spelled (slice_range text (at - 8) at)) marks.mask) marks.case_bits)) back
 unfolding suffix_key
 marked-occurs l marks text place at back end is bytes sum near room occurs =
@@ -51,8 +51,3 @@ marked-occurs l marks text place at back end is bytes sum near room occurs =
     let literal = ap (λ n. suffix_key l.folding text n marks.width) (sym before)
     ∙ key-occurs_inside l text place end marks.width back bytes is.narrow (omega (arith, is.wide place there)) occurs in
     subst (λ k. IsMarked marks.marks.items (hash_of HASH_BITS k) back) (sym (key ∙ literal)) (is.marked place there back (omega arith) (omega (arith, near)))
-
--- so where one ends within a stride, the bytes before the first of its places have the mark of that end
-pub marked_ahead : (l : Literals) (marks : SuffixMarks) (text : List ℕ) (end : ℕ) → AreMarksOf l marks → AreBytes text → 8 ≤ end → (back : ℕ) → back < marks.stride → HasEnd l text (end + back)
-    → IsMarked marks.marks.items (hash_of HASH_BITS (bit_or (bit_and (spelled (slice_range text (end - 8) end)) marks.mask) marks.case_bits)) back
-marked_ahead l marks text end is bytes room back near here = marked-occurs l marks text here.0 end back (end + back) is bytes refl near room here.1

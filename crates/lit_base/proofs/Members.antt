@@ -20,7 +20,7 @@ contains_from_in t [] h = absurd h
 contains_from_in t (x ∷ xs) (inl e) = (zero, omega arith, e)
 contains_from_in t (x ∷ xs) (inr h) = let w = contains_from_in t xs h in (suc w.0, omega (arith, w.1), w.2)
 
--- an element of a list with one more behind it is one of the list or the last one
+-- an element of a list with one more after it is one of the list or the last one
 pub in_push_cases : {X : Type 0} (t : X) (xs : List X) (y : X) → In t (xs ++ y ∷ []) → In t xs ⊎ (y ≡ t)
 in_push_cases t [] y (inl e) = inr e
 in_push_cases t [] y (inr h) = absurd h

@@ -18,9 +18,9 @@ use Rattle.lit_base.specs.RawLists.{IsWithinLimits}
 use Rattle.lit_base.specs.declared.limits.TheConstants.{MAX_LITERALS, MAX_LITERAL_LEN, MAX_LIST_LEN}
 use Rattle.lit_base.proofs.Members.{In, in_from_contains, contains_from_in, in_push_cases, in_push_old, in_push_new}
 use Rattle.lit_base.proofs.SortedLists.{same_elements}
-use Rattle.lit_base.proofs.InsertLemmas.{literal_total, rising-insert, in_insert_cases, in_insert_old, in_insert_new, sum_by-insert-le}
+use Rattle.lit_base.proofs.InsertLemmas.{literal_total, rising-insert, in_insert_cases, in_insert_old, in_insert_new, sum_by-insert-le, length-insert-le}
 
--- the literals of the patterns seen so far: in order, and exactly the nonempty folded ones
+-- the literals of the patterns seen so far: in order, and exactly the nonempty folded patterns
 record Holds (folding : Fold) (seen texts : List (List ℕ)) : Type 0 where
   rising : IsStrictlySortedBy literal_cmp texts
   only : (t : List ℕ) → In t texts → (0 < length t) × In t (map (folded_text folding) seen)
@@ -115,12 +115,24 @@ small folding texts ((b ∷ bs) ∷ ps) =
     let k : List ℕ = folded_text folding (b ∷ bs) in
     omega (arith, small folding (insert_key literal_cmp texts k) ps, sum_by-insert-le texts k, length-map (b ∷ bs) (folded folding), sum_by-cons {X = List ℕ} length (b ∷ bs) ps)
 
+-- nor are there more literals than patterns
+fewer : (folding : Fold) (texts patterns : List (List ℕ)) → length (fold (with_pattern folding) texts patterns) ≤ length texts + length patterns
+fewer folding texts [] = omega arith
+fewer folding texts ([] ∷ ps) = omega (arith, fewer folding texts ps)
+fewer folding texts ((b ∷ bs) ∷ ps) =
+    let k : List ℕ = folded_text folding (b ∷ bs) in
+    omega (arith, fewer folding (insert_key literal_cmp texts k) ps, length-insert-le texts k)
+
+pub normal_form-few : (folding : Fold) (patterns : List (List ℕ)) → length (normal_form folding patterns) ≤ length patterns
+unfolding normal_form
+normal_form-few folding patterns = omega (arith, fewer folding [] patterns)
+
 -- any list holds what always holds
 always : (ps : List (List ℕ)) → AllByRecursion (λ _. Unit {0}) ps
 always [] = tt
 always (p ∷ ps) = (tt, always ps)
 
--- the normal form of a raw list is one that a `LitList` may have, unless it is too long
+-- the normal form of a raw list may stand in a `LitList`, unless it is too long
 pub is_normal : (folding : Fold) (patterns texts : List (List ℕ)) → texts ≡ normal_form folding patterns → IsWithinLimits patterns → length texts ≤ MAX_LITERALS → IsNormal (record { folding = folding; texts = texts })
 unfolding normal_form
 is_normal folding patterns texts is within few =
@@ -135,7 +147,7 @@ is_normal folding patterns texts is within few =
       small = subst (λ ts. sum_by length ts ≤ MAX_LIST_LEN) same (omega (arith, small folding [] patterns, within.small));
     }
 
--- a pattern of the list that is not null has its literal there
+-- the literal of a pattern that is not null is there
 pub literal_is_there : (folding : Fold) (patterns texts : List (List ℕ)) (p : List ℕ) (i : ℕ) → i < length patterns → p ≡ get_or patterns i p → texts ≡ normal_form folding patterns → p ≢ [] → Contains texts (folded_text folding p)
 literal_is_there folding patterns texts p i inside at is some =
     let form : IsNormalForm folding patterns texts = subst (IsNormalForm folding patterns) (sym is) (normal_form_is folding patterns) in

@@ -1,4 +1,4 @@
--- Pieces: they are the lines, and behind them a null piece where the text is empty or ends in a newline.
+-- Pieces: they are the lines, and after them a null piece where the text is empty or ends in a newline.
 use Rattle.std.proofs.Common.{◌≡◌, ◌≢◌, ℕ, suc, ◌-◌, ◌<◌, Bool, true, false, cond, eqb, List, [], ◌∷◌, ◌++◌, length, get_or, refl, sym, ap, ◌∙◌, arith}
 use Rattle.std.specs.List.{onto_first}
 use Rattle.std.proofs.lemmas.List.Splits.{length-slice_split}

@@ -23,7 +23,7 @@ neither (Some fault) b e = (cc)
 accepted : (count bytes len : ℕ) → pattern_refusal count bytes len ≡ None → (count < MAX_PATTERNS) × (len ≤ MAX_LITERAL_LEN) × (bytes + len ≤ MAX_LIST_LEN)
 accepted count bytes len e = grind (arith, nat_tests)
 
--- patterns of which none is refused keep them
+-- patterns without a refusal keep them
 pub stays_within : (count bytes : ℕ) (ps : List (List ℕ)) → count ≤ MAX_PATTERNS → bytes ≤ MAX_LIST_LEN → first_refusal count bytes ps ≡ None → StaysWithin count bytes ps
 stays_within count bytes [] few small e = record { few = omega arith; short = All-nil (λ p. length p ≤ MAX_LITERAL_LEN); small = omega arith }
 stays_within count bytes (p ∷ ps) few small e =

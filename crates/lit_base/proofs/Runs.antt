@@ -15,7 +15,7 @@ pub run_cost-is : (ls : List ℕ) (p q : ℕ) → run_cost ls p q ≡ 200 + weig
 unfolding run_cost
 run_cost-is ls p q = cost-is (q - p) (get_or ls p 0)
 
--- the cost of as many literals as the run has, of which the shortest is as long as its first
+-- the cost of as many literals as the run has, the shortest as long as its first
 pub cost-run : (ls : List ℕ) (p q s m : ℕ) → s ≡ q - p → m ≡ get_or ls p 0 → cost s m ≡ run_cost ls p q
 unfolding run_cost
 cost-run ls p q s m count shortest = rw (count, shortest) refl

@@ -31,7 +31,7 @@ module _ {K : Type 0} (R : K → K → Ordering) (o : IsTotalOrder R) where
   not_both : (t u : K) → R t u ≡ Less → R u t ≡ Less → ⊥
   not_both t u less more = let back : R u t ≡ Greater = o.antisymm u t ∙ ap ordering_reverse less in (cc)
 
-  -- an element of a list that is not its first is behind it
+  -- an element of a list that is not its first is after it
   behind : (x t : K) (xs : List K) → AllByRecursion (λ y. R x y ≡ Less) xs → (x ≡ t) ⊎ In t xs → (x ≡ t) ⊎ (R x t ≡ Less)
   behind x t xs all (inl e) = inl e
   behind x t xs all (inr h) = inr (of_one (λ y. R x y ≡ Less) t xs all h)

@@ -36,7 +36,7 @@ are_bytes bs h = record { small = λ i. Fits-lt-pow (h i) }
 rest_bytes : (b : ℕ) (bs : List ℕ) → AreBytes (b ∷ bs) → AreBytes bs
 rest_bytes b bs h = record { small = λ i. h.small (suc i) }
 
--- what is spelled behind the first bytes
+-- the number that the bytes after the first spell
 pub spelled-drop : (k : ℕ) (bs : List ℕ) → AreBytes bs → spelled bs / 2 ^ (8 * k) ≡ spelled (drop k bs)
 spelled-drop zero bs h = omega arith
 spelled-drop (suc k) [] h = omega arith
@@ -48,7 +48,7 @@ spelled-drop (suc k) (b ∷ bs) h =
     ∙ ap (λ n. n / 2 ^ (8 * k)) (shr_high (spelled bs) 8 b first)
     ∙ spelled-drop k bs (rest_bytes b bs h)
 
--- zeros in front shift what is spelled
+-- zeros in front shift the spelled number
 spelled-zeros : (n : ℕ) (bs : List ℕ) → spelled (replicate n 0 ++ bs) ≡ spelled bs * 2 ^ (8 * n)
 spelled-zeros zero bs = omega arith
 spelled-zeros (suc n) bs =
@@ -126,7 +126,7 @@ spelled-folded fold (suc n) (b ∷ bs) few h =
     let right = or_block 8 (spelled bs) (case_bits_in fold n) b (case_bit fold) first (case_bit_small fold) in
     left ∙ (λ i. rest i * 256 + here i) ∙ sym right
 
--- what is left of a slice behind its first bytes
+-- the rest of a slice after its first bytes
 pub drop-range : (text : List ℕ) (from to at j : ℕ) → from + at ≡ to → drop at (slice_range text from j) ≡ slice_range text to j
 drop-range text from to at j e =
     ap (drop at) (between_is text from j)
@@ -145,7 +145,7 @@ range_bytes text from end inside bytes = record {
   ];
 }
 
--- of the number that eight bytes spell, the last bits are what the last of them spell behind zeros
+-- of the number that eight bytes spell, the last bits are what the last of them spell after zeros
 pub masked : (text : List ℕ) (end width word : ℕ) → AreBytes text → width ≤ 8 → 8 ≤ end → end ≤ length text → word < 2 ^ 64 → word ≡ spelled (slice_range text (end - 8) end)
     → bit_and word (last_bits width) ≡ spelled (replicate (8 - width) 0 ++ slice_range text (end - width) end)
 masked text end width word bytes narrow room inside fits is =
@@ -187,7 +187,7 @@ folded-zeros fold zero bs = refl
 folded-zeros No (suc n) bs = ap (λ s. 0 ∷ s) (folded-zeros No n bs)
 folded-zeros Ascii (suc n) bs = ap (λ s. 0 ∷ s) (folded-zeros Ascii n bs)
 
--- the last bytes of a literal are the folded ones before its end
+-- the last bytes of a literal are the folded bytes before its end
 last_bytes : (fold : Fold) (text t : List ℕ) (end width : ℕ) → width ≤ length t → length t ≤ end → end ≤ length text → folded_text fold (slice_range text (end - length t) end) ≡ t
     → slice_range t (length t - width) (length t) ≡ folded_text fold (slice_range text (end - width) end)
 last_bytes fold text t end width wide room inside is =
@@ -198,7 +198,7 @@ last_bytes fold text t end width wide room inside is =
     ∙ drop-map (folded fold) at (slice_range text from end)
     ∙ ap (folded_text fold) (drop-range text from (end - width) at end (omega arith))
 
--- a text that folds to a literal has its key
+-- a text that folds to a literal has the literal's key
 same_key : (fold : Fold) (text t : List ℕ) (end width : ℕ) → AreBytes text → width ≤ 8 → width ≤ length t → length t ≤ end → end ≤ length text → folded_text fold (slice_range text (end - length t) end) ≡ t
     → suffix_key fold text end width ≡ suffix_key fold t (length t) width
 unfolding suffix_key
@@ -215,7 +215,7 @@ same_key fold text t end width bytes narrow wide room inside is =
     ∙ ap (λ s. bit_or (spelled s) (case_bits fold)) fold_behind
     ∙ sym literal
 
--- where a literal ends, the text has its key
+-- where a literal ends, the text has the literal's key
 pub key-occurs : (l : Literals) (text : List ℕ) (place end width : ℕ) → AreBytes text → width ≤ 8 → width ≤ length (literal_at l place) → Occurs l text place end
     → suffix_key l.folding text end width ≡ suffix_key l.folding (literal_at l place) (length (literal_at l place)) width
 key-occurs l text place end width bytes narrow wide occurs =
@@ -279,7 +279,7 @@ pub unfolded : (text : List ℕ) → folded_text No text ≡ text
 unfolded [] = refl
 unfolded (b ∷ bs) = ap (λ s. b ∷ s) (unfolded bs)
 
--- where case counts, the key of all of a text's bytes tells them
+-- where case counts, texts with equal keys of all bytes are equal
 key_tells : (xs ys : List ℕ) (end : ℕ) → AreBytes xs → AreBytes ys → length xs ≤ 8 → length xs ≤ end → end ≤ length ys → suffix_key No ys end (length xs) ≡ suffix_key No xs (length xs) (length xs)
     → slice_range ys (end - length xs) end ≡ xs
 unfolding suffix_key
@@ -296,7 +296,7 @@ key_tells xs ys end bytes others narrow room inside same =
     (spelled_once (zeros ++ part) (zeros ++ xs) (zeros_bytes (8 - width) part (range_bytes ys (end - width) end inside others)) (zeros_bytes (8 - width) xs bytes)
     (omega (arith, length-append zeros part, length-append zeros xs, len)) spell)
 
--- and so a literal of a few bytes ends where the text has its key
+-- and so a literal of a few bytes ends where the text has the literal's key
 pub occurs-key : (l : Literals) (text : List ℕ) (place end width : ℕ) → AreBytes text → AreBytes (literal_at l place) → l.folding ≡ No → place < length l.texts → length (literal_at l place) ≡ width → width ≤ 8 → width ≤ end → end ≤ length text
     → suffix_key l.folding text end width ≡ suffix_key l.folding (literal_at l place) (length (literal_at l place)) width → Occurs l text place end
 occurs-key l text place end width bytes others case inside len narrow room within same =

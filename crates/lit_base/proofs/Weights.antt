@@ -9,7 +9,7 @@ abbrev Falls : List ℕ → ℕ → Type 0
 Falls [] d = Unit {0}
 Falls (x ∷ xs) d = (get_or xs 0 d ≤ x) × Falls xs d
 
--- read with such a d past its end, the list never rises from place to place
+-- a falling list, read with its d past the end, never rises from place to place
 get_or-falls : (xs : List ℕ) (d i j : ℕ) → Falls xs d → i ≤ j → get_or xs j d ≤ get_or xs i d
 get_or-falls [] d i j f h = omega arith
 get_or-falls (x ∷ xs) d zero zero f h = omega arith
@@ -23,7 +23,7 @@ unfolding weight
 weight-falls m k h =
     get_or-falls (4096 ∷ 512 ∷ 151 ∷ 64 ∷ 32 ∷ 18 ∷ 11 ∷ []) 8 (m - 1) (k - 1) (search arith) (omega arith)
 
--- no weight is above that of one byte
+-- no weight is above the weight of one byte
 pub weight-le : (m : ℕ) → weight m ≤ 4096
 unfolding weight
 weight-le m =
@@ -46,7 +46,7 @@ cost-lt s m h =
     let square = mul-le s s 4096 4096 h h in
     omega (arith, mul-le (weight m) (s * s) 4096 (4096 * 4096) (weight-le m) square)
 
--- within the table the weight is the one that stands there
+-- within the table the weight is the entry there
 pub weight-short : (m : ℕ) → 1 ≤ m → m ≤ 7 → get_or (4096 ∷ 512 ∷ 151 ∷ 64 ∷ 32 ∷ 18 ∷ 11 ∷ []) (m - 1) 0 ≡ weight m
 unfolding weight
 weight-short m low high = get_or_default (4096 ∷ 512 ∷ 151 ∷ 64 ∷ 32 ∷ 18 ∷ 11 ∷ []) (m - 1) 0 8 (omega arith)

@@ -15,7 +15,7 @@ bucket b [] numbers = []
 bucket b (m ∷ ms) [] = []
 bucket b (m ∷ ms) (number ∷ numbers) = if number == b then m ∷ bucket b ms numbers else bucket b ms numbers
 
--- the sum of what the buckets below `most` cost
+-- the sum of the costs of the buckets below `most`
 unfoldable pub assign_price : ℕ → List ℕ → List ℕ → ℕ
 assign_price most ls numbers = sum_by (λ b. group_cost (bucket b ls numbers)) (range_with_len 0 most)
 

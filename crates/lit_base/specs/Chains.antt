@@ -1,4 +1,4 @@
--- Literals chained by the hash of the last bytes that each is told by, in their order.
+-- Literals chained by the hash of their keys, in their order.
 use Rattle.std.specs.Prelude.{◌≡◌, ◌≢◌, ℕ, ◌+◌, ◌-◌, ◌^◌, ◌<◌, ◌≤◌, List, [], length, slice_index, slice_index_or}
 use Rattle.std.specs.Int.{bit_at}
 use Rattle.lit_base.specs.declared.suffixes.chains.SuffixChains.{SuffixChains}
@@ -6,7 +6,7 @@ use Rattle.lit_base.specs.Literals.{Literals}
 use Rattle.lit_base.specs.Occurrences.{Occurs}
 use Rattle.lit_base.specs.Suffixes.{hash_of, suffix_key, told_width}
 
--- next is the first number from low on that hashes so, or count where there is none below count
+-- next is the first number from low on with this hash, or count if there is none below count
 pub record IsNextWith (hash_at : ℕ → ℕ) (count hash low next : ℕ) : Type 0 where
   pub above : low ≤ next
   pub within : next ≤ count
@@ -26,11 +26,11 @@ hash_at bits keys i = hash_of bits (slice_index keys i)
 abbrev pub literal_at : Literals → ℕ → List ℕ
 literal_at l place = slice_index_or l.texts place []
 
--- by how many of its last bytes the literal at a place is told
+-- the key width of the literal at a place
 abbrev pub told_at : Literals → ℕ → ℕ
 told_at l place = told_width (length (literal_at l place))
 
--- the key of the last bytes that the literal at a place is told by
+-- the key of the literal at a place
 abbrev pub told_key : Literals → ℕ → ℕ
 told_key l place = suffix_key l.folding (literal_at l place) (length (literal_at l place)) (told_at l place)
 
@@ -43,23 +43,25 @@ pub record AreChainsOf (l : Literals) (chains : SuffixChains) : Type 0 where
   pub keyed : (place : ℕ) → place < length l.texts → slice_index chains.keys.items place ≡ told_key l place
   pub chained : IsChained (hash_at chains.bits chains.keys.items) (length l.texts) 0 chains.heads.items chains.links.items
 
--- of the literals from a place of the list on, none that is told by so many bytes ends at a place of the text
+-- no literal from a place of the list on that has a key of this width ends at a position of the text
 abbrev pub NoneToldEnds : Literals → List ℕ → ℕ → ℕ → ℕ → Type 0
 NoneToldEnds l text from end width = (place : ℕ) → from ≤ place → told_at l place ≡ width → ¬ Occurs l text place end
 
--- of the literals from a place of the list on that are told by so many bytes, the first that ends at a place of the text
+-- the first that ends at a position of the text, among the literals from a place of the list on with a key of this
+-- width
 pub record IsFirstTold (l : Literals) (text : List ℕ) (from end width place : ℕ) : Type 0 where
   pub counted : from ≤ place
   pub told : told_at l place ≡ width
   pub occurs : Occurs l text place end
   pub first : (other : ℕ) → from ≤ other → other < place → told_at l other ≡ width → ¬ Occurs l text other end
 
--- a walk stands on the chain of the text's key, and passed no literal from a place on that is told by so many bytes and ends there
+-- a walk stands on the chain of the text's key; from a place on it passed no literal with a key of this width that ends
+-- there
 pub record Reaches (l : Literals) (text : List ℕ) (end width : ℕ) (chains : SuffixChains) (from next : ℕ) : Type 0 where
   pub within : next ≤ length l.texts
   pub passed : (place : ℕ) → from ≤ place → place < next → told_at l place ≡ width → ¬ Occurs l text place end
   pub has : next < length l.texts → hash_at chains.bits chains.keys.items next ≡ hash_of chains.bits (suffix_key l.folding text end width)
 
--- of the literals from a place of the list on, each that ends at a place of the text has the bit of the bytes that it is told by
+-- each literal from a place of the list on that ends at a position of the text has the bit of its key width
 abbrev pub HaveWidths : Literals → List ℕ → ℕ → ℕ → ℕ → Type 0
 HaveWidths l text from end widths = (place : ℕ) → from ≤ place → Occurs l text place end → bit_at widths (told_at l place - 1) ≡ 1

@@ -1,4 +1,4 @@
--- Checks by hashes of some of the last bytes that literals are told by, which name the widths of those that may end at a place.
+-- Checks by hashes of the last bytes of keys, which give the key widths of the literals that may end at a position.
 use Rattle.std.specs.Prelude.{◌≡◌, ℕ, ◌-◌, ◌^◌, ◌<◌, ◌≤◌, List, length, min}
 use Rattle.lit_base.specs.declared.suffixes.Suffixes.{Suffixes}
 use Rattle.lit_base.specs.declared.suffixes.checks.SuffixChecks.{SuffixChecks}
@@ -12,11 +12,12 @@ use Rattle.lit_base.specs.Suffixes.{case_bits, hash_of, suffix_key}
 abbrev pub IsChecked : List ℕ → ℕ → ℕ → Type 0
 IsChecked widths width key = IsMarked widths (hash_of CHECK_BITS key) (width - 1)
 
--- the key of the last bytes of the literal at a place, of those that it is told by, up to so many
+-- the key of the checked bytes of the literal at a place: the last bytes of its key, at most `most`
 abbrev pub last_key : Literals → ℕ → ℕ → ℕ
 last_key l most place = suffix_key l.folding (literal_at l place) (length (literal_at l place)) (min (told_at l place) most)
 
--- each literal is checked by all eight bytes that it is told by, or by the last of fewer, and there is room for every hash
+-- each literal is checked by a key of eight bytes, or by the last bytes of a shorter one, and there is room for every
+-- hash
 pub record AreChecksOf (l : Literals) (checks : SuffixChecks) : Type 0 where
   pub some : 0 < checks.least
   pub ordered : checks.least ≤ checks.most
@@ -27,7 +28,7 @@ pub record AreChecksOf (l : Literals) (checks : SuffixChecks) : Type 0 where
   pub short : (place : ℕ) → place < length l.texts → told_at l place < 8 → IsChecked checks.widths.items (told_at l place) (last_key l checks.most place)
   pub long : (place : ℕ) → place < length l.texts → told_at l place ≡ 8 → IsChecked checks.widths.items (told_at l place) (last_key l 8 place)
 
--- chains, marks and checks of the literals
+-- chains, hash bits and checks of the literals
 pub record AreSuffixesOf (l : Literals) (suffixes : Suffixes) : Type 0 where
   pub chains : AreChainsOf l suffixes.chains
   pub marks : AreMarksOf l suffixes.marks

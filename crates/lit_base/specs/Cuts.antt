@@ -1,4 +1,4 @@
--- Cuts of a list of places into runs, one behind the other, each given by the place where it ends.
+-- Cuts of a list of places into runs, one after the other, each given by the place where it ends.
 use Rattle.std.specs.Prelude.{◌≡◌, ℕ, ◌+◌, ◌-◌, ◌<◌, ◌≤◌, List, [], ◌∷◌, length, slice_index}
 use Rattle.std.specs.List.Sorted.{IsStrictlyIncreasing}
 use Rattle.lit_base.specs.Costs.{run_cost}
@@ -9,7 +9,7 @@ abbrev pub CutsFrom : ℕ → ℕ → List ℕ → Type 0
 CutsFrom n p [] = p ≡ n
 CutsFrom n p (end ∷ ends) = (p < end) × CutsFrom n end ends
 
--- the ends cut n places, of which there are some, into at most `most` runs
+-- the ends cut n places, at least one, into at most `most` runs
 pub record IsCut (most n : ℕ) (ends : List ℕ) : Type 0 where
   pub some : 0 < n
   pub cuts : CutsFrom n 0 ends
@@ -23,7 +23,7 @@ pub record IncreasesTo (most n : ℕ) (ends : List ℕ) : Type 0 where
   pub first : 1 ≤ slice_index ends 0
   pub last : slice_index ends (length ends - 1) ≡ n
 
--- the sum of what the runs from p on cost, by the costs c of a run
+-- the sum of the costs of the runs from p on, by the costs c of a run
 abbrev pub cut_price : (ℕ → ℕ → ℕ) → ℕ → List ℕ → ℕ
 cut_price c p [] = 0
 cut_price c p (end ∷ ends) = c p end + cut_price c end ends

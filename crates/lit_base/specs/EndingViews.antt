@@ -1,4 +1,4 @@
--- The fields of a cursor over the literals that end at one place of a text.
+-- The fields of a cursor over the literals that end at one position of a text.
 use Rattle.std.specs.Prelude.{◌≤◌, length}
 use Rattle.lit_base.specs.Chains.{HaveWidths}
 use Rattle.lit_base.specs.EndingCursors.{EndingCursor}
@@ -8,7 +8,7 @@ use Rattle.lit_base.specs.declared.lit_list.endings.Endings.TheInside.{Inside}
 abbrev pub cursor_of : Inside → EndingCursor
 cursor_of fields = record { literals = fields.list.now; text = fields.text.now; end = fields.end; from = fields.from }
 
--- the place stands in the text, and each literal that is left has the bit of its width
+-- the position lies in the text, and each remaining literal has the bit of its key width
 pub record IsReady (fields : Inside) : Type 0 where
   pub inside : fields.end ≤ length fields.text.now
   pub told : HaveWidths fields.list.now fields.text.now fields.from fields.end fields.widths

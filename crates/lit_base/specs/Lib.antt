@@ -12,11 +12,12 @@ pub mod Lines
 pub mod LinesLeft
 pub mod Literals
 pub mod Marks
+pub mod NextEnds
 pub mod NormalForm
 pub mod Occurrences
 pub mod Patterns
 pub mod Potentials
+pub mod Profiles
 pub mod RawLists
 pub mod Selected
-pub mod Strides
 pub mod Suffixes

@@ -34,7 +34,7 @@ last_piece (p ∷ q ∷ more) = last_piece (q ∷ more)
 unfoldable pub ended_lines : List ℕ → List (List ℕ)
 ended_lines text = without_last (pieces text)
 
--- what stands behind the last newline: the line that no newline has ended yet
+-- what stands after the last newline: the line that no newline has ended yet
 unfoldable pub open_rest : List ℕ → List ℕ
 open_rest text = last_piece (pieces text)
 
@@ -52,14 +52,14 @@ pub record LinesLaw : Type 0 where
   pub apart : (text : List ℕ) → All IsOnePiece (pieces text)
   pub joined : (text : List ℕ) → join_with_byte 10 (pieces text) ≡ text
   pub only : (parts : List (List ℕ)) → parts ≢ [] → All IsOnePiece parts → pieces (join_with_byte 10 parts) ≡ parts
-  -- a newline ends a line; what stands behind the last newline is a line if it is not empty
+  -- a newline ends a line; what stands after the last newline is a line if it is not empty
   pub ended : (line rest : List ℕ) → IsOnePiece line → lines (line ++ 10 ∷ rest) ≡ line ∷ lines rest
   pub last : (line : List ℕ) → line ≢ [] → IsOnePiece line → lines line ≡ line ∷ []
   pub none : lines [] ≡ []
 
 -- how the ended lines of a text grow with it
 pub record EndedLaw : Type 0 where
-  -- of a text in two parts: those of the first part, and those of its open rest with the second part
+  -- of a text in two parts: the ended lines of the first part, then of its open rest with the second part
   pub joined : (text more : List ℕ) → ended_lines (text ++ more) ≡ ended_lines text ++ ended_lines (open_rest text ++ more)
   pub rest : (text more : List ℕ) → open_rest (text ++ more) ≡ open_rest (open_rest text ++ more)
   -- a newline ends a line; a text without one is open

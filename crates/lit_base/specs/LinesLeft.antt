@@ -1,4 +1,4 @@
--- What is left of the lines of a text.
+-- The remaining lines of a text.
 use Rattle.std.specs.Prelude.{ℕ, List}
 use Rattle.lit_base.specs.declared.lines.Lines.{Lines}
 use Rattle.lit_base.specs.Lines.{lines}

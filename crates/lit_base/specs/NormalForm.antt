@@ -12,7 +12,7 @@ pub record IsNormalForm (folding : Fold) (patterns texts : List (List ℕ)) : Ty
   pub rising : IsStrictlySortedBy literal_cmp texts
   pub members : (t : List ℕ) → Contains texts t ↔ ((0 < length t) × Contains (map (folded_text folding) patterns) t)
 
--- the literals with those of one more pattern, which is none where the pattern is null
+-- the literals with the literal of one more pattern; a null pattern adds none
 abbrev pub with_pattern : Fold → List (List ℕ) → List ℕ → List (List ℕ)
 with_pattern folding texts [] = texts
 with_pattern folding texts (b ∷ bs) = insert_key literal_cmp texts (folded_text folding (b ∷ bs))

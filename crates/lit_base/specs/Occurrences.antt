@@ -7,7 +7,7 @@ use Rattle.std.specs.List.Sorted.{IsStrictlySortedBy}
 use Rattle.lit_base.specs.Folding.{folded_text}
 use Rattle.lit_base.specs.Literals.{Literals}
 
--- the literal at a place of the list ends at a place of the text: the slice of its length that ends there, folded, is the literal
+-- the literal at a place of the list ends at a position of the text: the slice of its length that ends there, folded, is the literal
 pub record Occurs (l : Literals) (text : List ℕ) (place end : ℕ) : Type 0 where
   pub literal : List ℕ
   pub stands : slice_get l.texts place ≡ Some literal
@@ -15,15 +15,15 @@ pub record Occurs (l : Literals) (text : List ℕ) (place end : ℕ) : Type 0 wh
   pub ends : end ≤ length text
   pub bytes : folded_text l.folding (slice_range text (end - length literal) end) ≡ literal
 
--- some literal ends at a place of the text
+-- some literal ends at a position of the text
 abbrev pub HasEnd : Literals → List ℕ → ℕ → Type 0
 HasEnd l text end = (place : ℕ) × Occurs l text place end
 
--- none of the literals from a place of the list on ends at a place of the text
+-- none of the literals from a place of the list on ends at a position of the text
 abbrev pub NoneEnds : Literals → List ℕ → ℕ → ℕ → Type 0
 NoneEnds l text from end = (place : ℕ) → from ≤ place → ¬ Occurs l text place end
 
--- of the literals from a place of the list on, the first that ends at a place of the text
+-- of the literals from a place of the list on, the first that ends at a position of the text
 pub record IsFirstEnding (l : Literals) (text : List ℕ) (from end place : ℕ) : Type 0 where
   pub counted : from ≤ place
   pub occurs : Occurs l text place end

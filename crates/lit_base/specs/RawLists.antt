@@ -4,7 +4,7 @@ use Rattle.lit_base.specs.declared.fault.Fault.{Fault}
 use Rattle.lit_base.specs.declared.fault.Fault.TheVariants.{TooManyPatterns, LiteralTooLong, ListTooLarge}
 use Rattle.lit_base.specs.declared.limits.TheConstants.{MAX_PATTERNS, MAX_LITERAL_LEN, MAX_LIST_LEN, MAX_TEXT_LEN}
 
--- of one more pattern of a length, behind so many patterns with so many bytes in all: the first that holds
+-- the refusal of one more pattern of a length, after `count` patterns with `bytes` bytes in all: the first that holds
 abbrev pub pattern_refusal : ℕ → ℕ → ℕ → Option Fault
 pattern_refusal count bytes len =
     if nat_le MAX_PATTERNS count then Some TooManyPatterns
@@ -17,17 +17,17 @@ abbrev pub earlier : Option Fault → Option Fault → Option Fault
 earlier None second = second
 earlier (Some fault) second = Some fault
 
--- of the patterns in turn: that of the first one that is refused
+-- of the patterns in turn: the first refusal
 abbrev pub first_refusal : ℕ → ℕ → List (List ℕ) → Option Fault
 first_refusal count bytes [] = None
 first_refusal count bytes (p ∷ ps) = earlier (pattern_refusal count bytes (length p)) (first_refusal (count + 1) (bytes + length p) ps)
 
--- of a whole text: at once where it is too long, else that of its patterns behind those of the list
+-- of a whole text: at once if it is too long, otherwise by its patterns after the patterns of the list
 abbrev pub text_refusal : List (List ℕ) → List ℕ → List (List ℕ) → Option Fault
 text_refusal list text patterns =
     if nat_lt MAX_TEXT_LEN (length text) then Some ListTooLarge else first_refusal (length list) (sum_by length list) patterns
 
--- a list within the limits: what every raw list is
+-- a list within the limits, as every raw list is
 pub record IsWithinLimits (list : List (List ℕ)) : Type 0 where
   pub few : length list ≤ MAX_PATTERNS
   pub short : All (λ p. length p ≤ MAX_LITERAL_LEN) list

@@ -15,7 +15,7 @@ MatchesPattern fold false line pattern = HasSubslice (folded_text fold line) (fo
 abbrev pub Matches : Fold → Bool → List (List ℕ) → List ℕ → Type 0
 Matches fold whole patterns line = Any (MatchesPattern fold whole line) patterns
 
--- whether the piece begins at some place of the text
+-- whether the piece begins at some position of the text
 abbrev pub occurs_in : List ℕ → List ℕ → Bool
 occurs_in piece [] = bytes_eq piece []
 occurs_in piece (b ∷ bs) = starts_with nat_eq (b ∷ bs) piece || occurs_in piece bs

@@ -9,12 +9,12 @@ abbrev pub spelled : List ℕ → ℕ
 spelled [] = 0
 spelled (b ∷ bs) = spelled bs * 256 + b
 
--- in each of eight bytes the bit that a letter's case is told by, unless case counts
+-- the bit of letter case in each of eight bytes, unless case counts
 abbrev pub case_bits : Fold → ℕ
 case_bits No = 0
 case_bits Ascii = 2314885530818453536
 
--- the key of some bytes before a place of a text: what they spell, behind zeros as eight bytes, without the case of letters
+-- the key of some bytes before a position of a text: what they spell, after zeros as eight bytes, without the case of letters
 unfoldable pub suffix_key : Fold → List ℕ → ℕ → ℕ → ℕ
 suffix_key fold text end width = bit_or (spelled (replicate (8 - width) 0 ++ slice_range text (end - width) end)) (case_bits fold)
 
@@ -26,6 +26,6 @@ last_bits width = 2 ^ 64 - 2 ^ (8 * (8 - width))
 unfoldable pub hash_of : ℕ → ℕ → ℕ
 hash_of bits key = key * 11400714819323198485 % 18446744073709551616 / 2 ^ (64 - bits)
 
--- by how many of its last bytes a literal of so many is told: by all of them, up to eight
+-- the key width of a literal: its length, up to eight
 abbrev pub told_width : ℕ → ℕ
 told_width len = min len 8

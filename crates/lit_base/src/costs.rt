@@ -4,14 +4,16 @@ ghost use Rattle.lit_base.specs.Literals.{lengths};
 ghost use Rattle.lit_base.specs.Costs.{weight, cost, group_cost, run_cost};
 ghost use Rattle.lit_base.specs.Cuts.{CutsFrom, IsCut, cut_price};
 ghost use Rattle.lit_base.specs.Assignments.{IsAssignment, bucket, assign_price};
+ghost use Rattle.lit_base.specs.Profiles.{buckets};
 
-use crate::limits::BUCKETS;
+use crate::limits::MAX_BUCKETS;
 use crate::lit_list::LitList;
+use crate::profile::{Profile, buckets};
 use arrayvec::ArrayVec;
 
 /// The ends of a cut's runs, in order: a run holds the places from the end before it, 0 for the
 /// first, up to but not including its own end.
-pub type Ends = ArrayVec<u16, BUCKETS>;
+pub type Ends = ArrayVec<u16, MAX_BUCKETS>;
 
 /// The weights of the shortest lengths from one byte to seven.
 const WEIGHTS: [u64; 7] = [4096, 512, 151, 64, 32, 18, 11];
@@ -19,7 +21,7 @@ const WEIGHTS: [u64; 7] = [4096, 512, 151, 64, 32, 18, 11];
 /// The weight of every greater shortest length.
 const LEAST_WEIGHT: u64 = 8;
 
-/// The weight of a group of literals whose shortest has so many bytes.
+/// The weight of a group of literals whose shortest has `shortest` bytes.
 pub fn weight(shortest: usize) -> u64
     requires { 1 ≤ shortest }
     ensures value { result ≡ weight shortest }
@@ -33,7 +35,7 @@ pub fn weight(shortest: usize) -> u64
     }
 }
 
-/// What a group of `count` literals costs of which the shortest has so many bytes.
+/// The cost of a group of `count` literals whose shortest has `shortest` bytes.
 pub fn cost(count: usize, shortest: usize) -> u64
     requires some { 1 ≤ count }
     requires few { count ≤ 4096 }
@@ -46,8 +48,8 @@ pub fn cost(count: usize, shortest: usize) -> u64
     200 + weight(shortest) * (count * count)
 }
 
-/// What the literals from place `start` up to but not including `end` cost, as one run. They stand
-/// by length, so the first is the shortest.
+/// The cost of the literals from place `start` up to but not including `end`, as one run. They stand by length, so the
+/// first is the shortest.
 fn run_cost(list: &LitList, start: usize, end: usize) -> u64
     requires some { start < end }
     requires within { end ≤ length list.now.texts }
@@ -58,12 +60,12 @@ fn run_cost(list: &LitList, start: usize, end: usize) -> u64
     cost(end - start, list.get(start).len())
 }
 
-/// Whether the ends cut the list into runs: they strictly rise, the first is at least 1, and the
-/// last is the number of literals.
-pub fn is_cut(list: &LitList, ends: &Ends) -> bool
-    ensures { IsTrue result ↔ IsCut 8 (length list.now.texts) ends.now.items }
+/// Whether the ends cut the list into runs, no more of them than the profile has buckets: they strictly rise, the first is at
+/// least 1, and the last is the number of literals.
+pub fn is_cut(list: &LitList, profile: Profile, ends: &Ends) -> bool
+    ensures { IsTrue result ↔ IsCut (buckets profile) (length list.now.texts) ends.now.items }
 {
-    !list.is_empty() && cuts_from(0, list.len(), ends.as_slice())
+    !list.is_empty() && ends.len() <= buckets(profile) && cuts_from(0, list.len(), ends.as_slice())
 }
 
 /// Whether the ends cut the places from `start` up to `count`.
@@ -78,16 +80,17 @@ fn cuts_from(start: usize, count: usize, ends: &[u16]) -> bool
     }
 }
 
-/// Whether the numbers assign each literal to one of eight buckets.
-pub fn is_assignment(list: &LitList, numbers: &[u8]) -> bool
-    ensures { IsTrue result ↔ IsAssignment 8 (length list.now.texts) numbers.now }
+/// Whether the numbers assign each literal to one of the profile's buckets.
+pub fn is_assignment(list: &LitList, profile: Profile, numbers: &[u8]) -> bool
+    ensures { IsTrue result ↔ IsAssignment (buckets profile) (length list.now.texts) numbers.now }
 {
-    numbers.len() == list.len() && numbers.iter().all(|number| usize::from(*number) < BUCKETS)
+    let most = buckets(profile);
+    numbers.len() == list.len() && numbers.iter().all(|number| usize::from(*number) < most)
 }
 
-/// What a cut costs: the sum of its runs' costs.
+/// The cost of a cut: the sum of its runs' costs.
 pub fn cut_cost(list: &LitList, ends: &Ends) -> u64
-    requires { IsCut 8 (length list.now.texts) ends.now.items }
+    requires { IsCut 16 (length list.now.texts) ends.now.items }
     ensures { result ≡ cut_price (run_cost (lengths list.now)) 0 ends.now.items }
 {
     let mut start = 0;
@@ -100,20 +103,20 @@ pub fn cut_cost(list: &LitList, ends: &Ends) -> u64
     price
 }
 
-/// What an assignment costs, which gives each literal the number of its bucket: the sum of the
-/// costs of the buckets that hold a literal.
-pub fn assign_cost(list: &LitList, numbers: &[u8]) -> u64
-    requires { IsAssignment 8 (length list.now.texts) numbers.now }
-    ensures { result ≡ assign_price 8 (lengths list.now) numbers.now }
+/// The cost of an assignment, which gives each literal the number of its bucket: the sum of the costs of the buckets
+/// that hold a literal.
+pub fn assign_cost(list: &LitList, profile: Profile, numbers: &[u8]) -> u64
+    requires { IsAssignment (buckets profile) (length list.now.texts) numbers.now }
+    ensures { result ≡ assign_price (buckets profile) (lengths list.now) numbers.now }
 {
     let mut price = 0;
-    for number in 0..BUCKETS as u8 {
+    for number in 0..buckets(profile) as u8 {
         price += bucket_cost(list, numbers, number);
     }
     price
 }
 
-/// What the literals of a bucket cost, those with its number; 0 where there are none.
+/// The cost of the literals with this bucket number; 0 if there are none.
 fn bucket_cost(list: &LitList, numbers: &[u8], number: u8) -> u64
     requires { length numbers.now ≡ length list.now.texts }
     ensures value { result ≡ group_cost (bucket number (lengths list.now) numbers.now) }

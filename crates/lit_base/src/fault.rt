@@ -17,7 +17,8 @@ pub enum Fault {
     /// A pattern longer than `MAX_LITERAL_LEN`, with the place that it would have had in the list.
     #[error("pattern {place} is too long")]
     LiteralTooLong { place: usize },
-    /// More literals in the normal form than `MAX_LITERALS`.
+    /// More literals than there may be. No call returns it any more, since a list has no more literals than patterns;
+    /// it keeps its number.
     #[error("too many literals")]
     TooManyLiterals,
     /// More pattern bytes than `MAX_LIST_LEN`, or one text longer than `MAX_TEXT_LEN`.

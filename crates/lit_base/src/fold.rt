@@ -5,9 +5,9 @@ ghost use Rattle.lit_base.specs.Folding.{folded};
 /// Which case differences a comparison ignores.
 #[derive(Clone, Copy, Debug, PartialEq, Eq)]
 pub enum Fold {
-    /// None: every byte stands for itself.
+    /// None: every byte is compared as it is.
     No,
-    /// That of the ASCII letters: `A` to `Z` stand for `a` to `z`.
+    /// The case of ASCII letters: `A` to `Z` stand for `a` to `z`.
     Ascii,
 }
 

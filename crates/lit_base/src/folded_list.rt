@@ -1,4 +1,4 @@
-//! Folded literals, and whether one of them ends at a place of a text.
+//! Folded literals, and whether one of them ends at a position of a text.
 ghost use Rattle.std.specs.Prelude.{◌≡◌, ◌<◌, ◌≤◌, ◌↔◌, IsTrue, length, slice_index_or};
 ghost use Rattle.lit_base.specs.Folding.{folded_text};
 ghost use Rattle.lit_base.specs.Occurrences.{Occurs};
@@ -23,7 +23,7 @@ impl Model for FoldedList {
 }
 
 impl FoldedList {
-    /// These literals, under this fold.
+    /// The literals under the fold.
     pub fn new(folding: Fold, literals: Vec<Literal>) -> FoldedList
         ensures { result ≡ record { folding = folding; texts = literals.items } }
     {

@@ -1,5 +1,4 @@
-//! Laws of limits, costs, cuts and assignments. Each is a call whose contract is the law, and which does
-//! nothing.
+//! Laws of limits, costs, cuts and assignments, as calls. The contract of each call is the law; the call does nothing.
 
 ghost use Rattle.std.specs.Prelude.{◌≡◌, ◌↔◌, length};
 ghost use Rattle.lit_base.specs.Limits.{LimitsLaw};
@@ -16,9 +15,9 @@ pub fn limits_law()
     ensures { LimitsLaw }
 {}
 
-/// The law of run costs. Since the literals stand by length, the cost of a run by its first literal
-/// is that by its shortest. It stays small, and meets the quadrangle inequality, by which runs may
-/// be planned by divide and conquer.
+/// The law of run costs. Since the literals stand by length, the cost of a run by its first literal equals its cost by
+/// its shortest. Costs stay small, and meet the quadrangle inequality, which allows planning runs by divide and
+/// conquer.
 pub fn run_cost_law(list: &LitList)
     ensures shortest { CostTheSame (run_cost (lengths list.now)) (true_run_cost (lengths list.now)) (length list.now.texts) }
     ensures small { AreSmall (run_cost (lengths list.now)) (length list.now.texts) }
@@ -41,8 +40,8 @@ pub fn assignment_law(list: &LitList, most: usize, ends: &[u16])
     let _count = list.len();
 }
 
-/// The law on which certificates stand: where potentials are nowhere above one run to the end, nor
-/// above one run and the potential behind it, no assignment costs less than the potential of all
+/// The law on which certificates stand, for potentials with two bounds: none is above the cost of one run to the end,
+/// nor above the cost of one run and the potential after it. Then no assignment costs less than the potential of all
 /// literals, and so no cut does.
 pub fn potentials_law(list: &LitList, most: usize, potentials: &[u64])
     requires { BoundsBelow (run_cost (lengths list.now)) (potential potentials.now (length list.now.texts)) most (length list.now.texts) }

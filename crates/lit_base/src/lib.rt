@@ -13,6 +13,7 @@ mod literal;
 mod normal_form;
 mod occurrences;
 mod patterns;
+mod profile;
 mod raw_list;
 mod suffixes;
 
@@ -25,12 +26,13 @@ pub use fault::Fault;
 pub use fold::{Fold, fold_byte};
 pub use laws::{assignment_law, cut_law, limits_law, potentials_law, run_cost_law};
 pub use limits::{
-    BUCKETS, MAX_LIST_LEN, MAX_LITERAL_LEN, MAX_LITERALS, MAX_PATTERNS, MAX_TEXT_LEN,
+    MAX_BUCKETS, MAX_LIST_LEN, MAX_LITERAL_LEN, MAX_LITERALS, MAX_PATTERNS, MAX_TEXT_LEN,
 };
 pub use lines::{Lines, ended_law, lines_law, matching_law};
 pub use lit_list::{Endings, LitList, Normal};
 pub use normal_form::normal_form_law;
 pub use occurrences::hits_law;
+pub use profile::{Profile, buckets};
 pub use raw_list::RawList;
 pub use suffixes::{
     HASH_BITS, case_bits, hash_of, is_marked, last_bits, last_word, mark, mark_literal, suffix_key,

@@ -1,4 +1,4 @@
-//! The limits of lists, which refuse by number what passes them and never cut it, and that of plans.
+//! The limits of lists and plans. A list that passes a limit is refused by a fault with a number, and never cut.
 
 /// Raw patterns in a list, at most.
 pub const MAX_PATTERNS: usize = 4096;
@@ -12,8 +12,8 @@ pub const MAX_LIST_LEN: usize = 1_048_576;
 /// Bytes of one pattern list or pattern file, at most.
 pub const MAX_TEXT_LEN: usize = 1_052_672;
 
-/// Literals in a normal form, at most.
-pub const MAX_LITERALS: usize = 1024;
+/// Literals in a normal form, at most: as many as patterns in a list.
+pub const MAX_LITERALS: usize = 4096;
 
-/// Buckets of a plan, at most: one for each bit of a mask's bytes.
-pub const BUCKETS: usize = 8;
+/// Buckets of a plan, at most, whatever its profile: one for each bit of a mask's entries.
+pub const MAX_BUCKETS: usize = 16;

@@ -6,7 +6,7 @@ ghost use Rattle.lit_base.specs.Lines.{lines, EndedLaw, LinesLaw};
 ghost use Rattle.lit_base.specs.LinesLeft.{lines_left};
 ghost use Rattle.lit_base.specs.Selected.{MatchingLaw};
 
-/// The lines of a text, in order, without their newlines. A contract sees those that are left.
+/// The lines of a text, in order, without their newlines. A contract sees the remaining lines.
 #[derive(Clone, Copy)]
 pub struct Lines<'a> {
     rest: &'a [u8],
@@ -63,13 +63,13 @@ pub fn matching_law()
     ensures { MatchingLaw }
 {}
 
-/// What the pieces and the lines of a text are: the pieces that newlines stand between, of which a
-/// null one at the end is no line.
+/// The law of the pieces and the lines of a text: newlines stand between pieces, and a null piece at the end is no
+/// line.
 pub fn lines_law()
     ensures { LinesLaw }
 {}
 
-/// How the lines that newlines ended, and the open rest behind the last newline, grow with a text.
+/// How the lines that newlines ended, and the open rest after the last newline, grow with a text.
 pub fn ended_law()
     ensures { EndedLaw }
 {}

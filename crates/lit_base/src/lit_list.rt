@@ -2,14 +2,12 @@
 mod endings;
 
 ghost use Rattle.std.specs.Prelude.{◌≡◌, ℕ, ◌+◌, ◌<◌, ◌≤◌, ◌-◌, ◌↔◌, ◌⊎◌, [], All, Contains, IfErr, IfOk, IfSome, IsTrue, MatchOption, length, slice_index_or, slice_index};
-ghost use Rattle.std.specs.Int.{bit_at};
 ghost use Rattle.std.specs.List.{AllZip};
 ghost use Rattle.std.specs.List.Sorted.{IsNonDecreasing};
 ghost use Rattle.lit_base.specs.Literals.{lengths, IsNormal};
 ghost use Rattle.lit_base.specs.NormalForm.{IsNormalForm, IsPlaceOf, normal_form};
-ghost use Rattle.lit_base.specs.Occurrences.{HasEnd, IsFirstEnding, NoneEnds, Occurs};
-ghost use Rattle.lit_base.specs.Strides.{stride_of};
-ghost use Rattle.lit_base.specs.declared.fault.Fault.TheVariants.{OutOfMemory, TooManyLiterals};
+ghost use Rattle.lit_base.specs.Occurrences.{IsFirstEnding, NoneEnds, Occurs};
+ghost use Rattle.lit_base.specs.declared.fault.Fault.TheVariants.{OutOfMemory};
 ghost use Rattle.lit_base.specs.declared.limits.TheConstants.{MAX_LITERALS};
 
 use crate::fault::Fault;
@@ -41,18 +39,17 @@ impl Model for LitList {
 }
 
 impl LitList {
-    /// The normal form of the raw list under the fold, and how the two go together.
+    /// The normal form of the raw list under the fold, and the place in it of each raw pattern.
     ///
-    /// Refusals: `TooManyLiterals` where the normal form has more than `MAX_LITERALS`, and
-    /// `OutOfMemory`. It takes time n log n, for n pattern bytes.
+    /// The only error is `OutOfMemory`, since a list has no more literals than patterns. It takes time n log n for n
+    /// pattern bytes.
     pub fn normal(alloc: Global, raw: &RawList, fold: Fold) -> Result<(LitList, Normal), Fault>
         ensures list { IfOk result (λ found. found.0 ≡ record { folding = fold; texts = normal_form fold raw.now }) }
         ensures form { IfOk result (λ found. IsNormalForm fold raw.now found.0.texts) }
         ensures few { IfOk result (λ found. length found.0.texts ≤ MAX_LITERALS) }
         ensures places { IfOk result (λ found. AllZip (IsPlaceOf fold found.0.texts) raw.now found.1.place_of.items) }
         ensures empty { IfOk result (λ found. IsTrue found.1.has_empty ↔ Contains raw.now []) }
-        ensures refused { IfErr result (λ fault. (fault ≡ OutOfMemory)
-            ⊎ ((fault ≡ TooManyLiterals) × (MAX_LITERALS < length (normal_form fold raw.now)))) }
+        ensures refused { IfErr result (λ fault. fault ≡ OutOfMemory) }
     {
         let literals = in_order(alloc, distinct(alloc, raw, fold)?)?;
         let place_of = places(alloc, raw, fold, literals.as_slice())?;
@@ -151,8 +148,8 @@ impl LitList {
         self.suffixes.next_ending(&self.literals, text, end, from)
     }
 
-    /// The literals from place `from` on that end at `end` in the text, in order. Whoever wants all of them goes over these in
-    /// place of one call of `next_ending` for each: what stands before `end` is looked up but once.
+    /// The literals from place `from` on that end at `end` in the text, in order. To get all of them use it rather than
+    /// `next_ending`: it looks up the bytes before `end` only once.
     #[inline]
     pub fn endings<'a>(&'a self, text: &'a [u8], end: usize, from: usize) -> Endings<'a>
         requires { end ≤ length text.now }
@@ -164,8 +161,8 @@ impl LitList {
         Endings::new(self, text, end, from)
     }
 
-    /// The literals that end at `end` in the text behind the one at a place, which does. It answers as `endings` from the next
-    /// place on does, and looks for no other literal as short: none ends there.
+    /// The literals that end at `end` in the text after the literal at `place`, which ends there. It gives the same as
+    /// `endings` from the next place on, and searches for no other literal as short: none ends there.
     #[inline]
     pub fn endings_behind<'a>(&'a self, text: &'a [u8], end: usize, place: usize) -> Endings<'a>
         requires { Occurs self.now text.now place end }
@@ -177,8 +174,8 @@ impl LitList {
         Endings::behind(self, text, end, place)
     }
 
-    /// The first of the literals that ends at `end` in the text, if there is one. It answers as `next_ending` from the first
-    /// literal on does, and is faster where mostly none ends: a place where one may is told by few bytes first.
+    /// The first of the literals that ends at `end` in the text, if there is one. It gives the same as `next_ending`
+    /// from the first literal on. It is faster where mostly none ends, since a few bytes rule out most positions.
     #[inline]
     pub fn first_ending(&self, text: &[u8], end: usize) -> Option<usize>
         requires { end ≤ length text.now }
@@ -193,8 +190,8 @@ impl LitList {
         self.suffixes.first_ending(&self.literals, text, end)
     }
 
-    /// The only literal, if it is from place `from` on and ends at `end`. It is compared at once: by marks and chains a
-    /// search for a literal that each seventh line has took 1.12 times as long.
+    /// The only literal, if it is from place `from` on and ends at `end`. It is compared at once: through hash bits and
+    /// chains, a search for a literal that each seventh line has takes 1.12 times as long.
     #[inline]
     fn only_ending(&self, text: &[u8], end: usize, from: usize) -> Option<usize>
         requires one { length self.now.texts ≡ 1 }
@@ -220,28 +217,6 @@ impl LitList {
         self.literals.ends_at(place, text, end)
     }
 
-    /// How far apart the places are at which a search has to look that looks at the marks there: the
-    /// longest stride of up to eight that leaves four bytes of the shortest literal.
-    #[inline]
-    pub fn stride(&self) -> usize
-        ensures value { result ≡ stride_of self.now }
-        ensures some { 0 < result }
-        ensures short { result ≤ 8 }
-    {
-        self.suffixes.marks.stride
-    }
-
-    /// Marks of the places from `end` on, as many as a stride has, by the eight bytes before `end`:
-    /// bit `back` is set where a literal ends at `end + back`, and rarely elsewhere.
-    #[inline(always)]
-    pub fn marks_before(&self, text: &[u8], end: usize) -> u8
-        requires eight { 8 ≤ end }
-        requires inside { end ≤ length text.now }
-        ensures marked { (back : ℕ) → back < stride_of self.now → HasEnd self.now text.now (end + back) → bit_at result back ≡ 1 }
-    {
-        self.suffixes.marks.marks_before(text, end)
-    }
-
     /// The literal at a place.
     pub fn get(&self, place: usize) -> &[u8]
         requires { place < length self.now.texts }
@@ -253,11 +228,11 @@ impl LitList {
     }
 }
 
-/// How a raw list and its normal form go together.
+/// How a raw list and its normal form correspond.
 #[derive(Debug, Drop)]
 pub struct Normal {
     /// Whether a raw pattern is null.
     pub has_empty: bool,
-    /// For each raw pattern its place in the normal form; for a null one none.
+    /// For each raw pattern its place in the normal form; `None` for a null pattern.
     pub place_of: Vec<Option<u16>>,
 }

@@ -7,11 +7,8 @@ ghost use Rattle.lit_base.specs.Literals.{literal_cmp};
 ghost use Rattle.lit_base.specs.NormalForm.{normal_form, IsPlaceOf, NormalFormLaw};
 ghost use Rattle.lit_base.specs.RawLists.{IsWithinLimits};
 ghost use Rattle.lit_base.specs.declared.limits.TheConstants.{MAX_LITERALS};
-ghost use Rattle.lit_base.specs.declared.fault.Fault.TheVariants.{OutOfMemory, TooManyLiterals};
 
-use crate::fault::Fault;
 use crate::fold::Fold;
-use crate::limits::MAX_LITERALS;
 use crate::literal::Literal;
 use crate::raw_list::RawList;
 use std::alloc::{AllocError, Global};
@@ -24,6 +21,7 @@ pub(crate) fn distinct(
     fold: Fold,
 ) -> Result<BTreeSet<Literal>, AllocError>
     ensures keys { IfOk result (λ set. set.keys ≡ normal_form fold raw.now) }
+    ensures few { IfOk result (λ set. length set.keys ≤ MAX_LITERALS) }
     ensures limits { IsWithinLimits raw.now }
 {
     let mut literals = BTreeSet::new(alloc);
@@ -36,14 +34,13 @@ pub(crate) fn distinct(
     Ok(literals)
 }
 
-/// The literals as a list, if there are not too many.
-pub(crate) fn in_order(alloc: Global, literals: BTreeSet<Literal>) -> Result<Vec<Literal>, Fault>
-    ensures ok { IfOk result (λ list. (list.items ≡ literals.keys) × (length list.items ≤ MAX_LITERALS)) }
-    ensures err { IfErr result (λ fault. (fault ≡ OutOfMemory) ⊎ ((fault ≡ TooManyLiterals) × (MAX_LITERALS < length literals.keys))) }
+/// The literals as a list.
+pub(crate) fn in_order(
+    alloc: Global,
+    literals: BTreeSet<Literal>,
+) -> Result<Vec<Literal>, AllocError>
+    ensures { IfOk result (λ list. list.items ≡ literals.keys) }
 {
-    if literals.len() > MAX_LITERALS {
-        return Err(Fault::TooManyLiterals);
-    }
     let mut list = Vec::with_capacity(alloc, literals.len())?;
     for literal in literals {
         list.push(literal)?;

@@ -6,7 +6,7 @@ ghost use Rattle.lit_base.specs.Patterns.{patterns_of};
 
 use crate::lines::Lines;
 
-/// The patterns of a text, in order: its lines, and behind them a null pattern where one is due.
+/// The patterns of a text, in order: its lines, and after them a null pattern where one is due.
 #[derive(Clone, Copy)]
 pub(crate) struct Patterns<'a> {
     lines: Lines<'a>,
@@ -14,7 +14,7 @@ pub(crate) struct Patterns<'a> {
 }
 
 impl<'a> Patterns<'a> {
-    /// Those of an option's list: the pieces between its newlines.
+    /// The patterns of an option's list: the pieces between its newlines.
     pub fn of_list(text: &'a [u8]) -> Patterns<'a>
         ensures { patterns_of result ≡ pieces text.now }
     {
@@ -24,7 +24,7 @@ impl<'a> Patterns<'a> {
         }
     }
 
-    /// Those of a pattern file: its lines.
+    /// The patterns of a pattern file: its lines.
     pub fn of_file(text: &'a [u8]) -> Patterns<'a>
         ensures { patterns_of result ≡ lines text.now }
     {
@@ -54,7 +54,7 @@ impl<'a> Iterator for Patterns<'a> {
     }
 }
 
-/// Whether the last piece between newlines is null: that of the empty text, or behind a last newline.
+/// Whether the last piece between newlines is null: the text is empty, or ends in a newline.
 fn ends_in_null(text: &[u8]) -> bool
     ensures { pieces text.now ≡ lines text.now ++ (if result then [] ∷ [] else []) }
 {

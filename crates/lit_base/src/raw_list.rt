@@ -73,8 +73,8 @@ impl RawList {
         self.patterns[place].as_slice()
     }
 
-    /// Appends a pattern, which may be null. Refusals, in this order: `TooManyPatterns`,
-    /// `LiteralTooLong` with the place that it would have had, `ListTooLarge`, `OutOfMemory`.
+    /// Appends a pattern, which may be null. Refusals, in this order: `TooManyPatterns`, `LiteralTooLong` with the
+    /// place that it would have had, `ListTooLarge`, `OutOfMemory`. A refusal leaves the list unchanged.
     pub fn push(&mut self, pattern: &[u8]) -> Result<(), Fault>
         ensures ok { OnOk result (self.new ≡ self.old ++ pattern.now ∷ []) }
         ensures refused { RefusedBy (pattern_refusal (length self.old) (sum_by length self.old) (length pattern.now)) result }
@@ -91,8 +91,8 @@ impl RawList {
     /// newlines hold a null pattern, a last newline ends in one, and the empty text is one. (The
     /// strict reading of POSIX.1-2017 `grep`, OPTIONS, -e.)
     ///
-    /// Refusals: `ListTooLarge` at once for a text of more than `MAX_TEXT_LEN` bytes; then that of
-    /// the first piece that `push` would refuse; then `OutOfMemory`. None changes the list.
+    /// Refusals: `ListTooLarge` at once for a text of more than `MAX_TEXT_LEN` bytes; then the refusal of the first
+    /// piece that `push` would refuse; then `OutOfMemory`. A refusal leaves the list unchanged.
     pub fn add_text_list(&mut self, text: &[u8]) -> Result<(), Fault>
         ensures ok { OnOk result (self.new ≡ self.old ++ pieces text.now) }
         ensures refused { RefusedBy (text_refusal self.old text.now (pieces text.now)) result }
@@ -107,7 +107,7 @@ impl RawList {
     /// Appends the patterns of a pattern file: its lines. So an empty file has none, and a last
     /// piece without newline is one. (POSIX.1-2017 `grep`, OPTIONS, -f.)
     ///
-    /// Refusals as those of `add_text_list`.
+    /// Refusals are the same as for `add_text_list`.
     pub fn add_file_bytes(&mut self, text: &[u8]) -> Result<(), Fault>
         ensures ok { OnOk result (self.new ≡ self.old ++ lines text.now) }
         ensures refused { RefusedBy (text_refusal self.old text.now (lines text.now)) result }
@@ -131,7 +131,7 @@ impl RawList {
     }
 }
 
-/// The length in all with one more pattern, or its refusal.
+/// The total length with one more pattern, or its refusal.
 fn len_with(count: usize, len_in_all: usize, len: usize) -> Result<usize, Fault>
     requires { len_in_all ≤ MAX_LIST_LEN }
     ensures { MatchResult result (λ all. (all ≡ len_in_all + len) × (pattern_refusal count len_in_all len ≡ None))
@@ -149,7 +149,7 @@ fn len_with(count: usize, len_in_all: usize, len: usize) -> Result<usize, Fault>
     Ok(len_in_all + len)
 }
 
-/// The length in all with these patterns, or the refusal of the first one that is refused.
+/// The total length with these patterns, or the first refusal.
 fn len_with_all(
     mut count: usize,
     mut len_in_all: usize,

@@ -1,4 +1,4 @@
-//! The last bytes of a list's literals, by which it is told what ends at a place of a text.
+//! The last bytes of a list's literals, by which the literals that end at a position are found.
 mod chains;
 mod checks;
 mod key;
@@ -24,8 +24,8 @@ use crate::suffixes::marks::SuffixMarks;
 pub use crate::suffixes::marks::{HASH_BITS, is_marked, mark, mark_literal};
 use std::alloc::{AllocError, Global};
 
-/// Marks, which tell at once most places where no literal ends, checks, which tell of the others by how many bytes the literals are
-/// told that may end there, and chains, which tell for the rest which literals do.
+/// Hash bits, checks and chains, in three steps. Hash bits rule out most positions where no literal ends. For the other
+/// positions, checks give the key widths of the literals that may end there. For the rest, chains give the literals.
 #[derive(Debug, Drop)]
 pub(crate) struct Suffixes {
     pub chains: SuffixChains,
@@ -48,8 +48,8 @@ impl Suffixes {
         })
     }
 
-    /// The first of the literals that ends at `end` in the text, if there is one. The marks are asked first, which tell most
-    /// places where none does.
+    /// The first of the literals that ends at `end` in the text, if there is one. The hash bits come first: they rule
+    /// out most positions where none ends.
     #[inline]
     pub fn first_ending(&self, literals: &FoldedList, text: &[u8], end: usize) -> Option<usize>
         requires of { AreSuffixesOf literals.now self.now }
@@ -88,8 +88,8 @@ impl Suffixes {
         self.next_by_widths(literals, text, end, from, &mut widths)
     }
 
-    /// The widths of the literals that may end at `end`: bit `width - 1` stands for those that are told by so many bytes.
-    /// Where there are no eight bytes before `end` these are all widths.
+    /// The key widths of the literals that may end at `end`: bit `width - 1` stands for keys of `width` bytes. With
+    /// fewer than eight bytes before `end` it gives all widths.
     #[inline(always)]
     pub fn widths_at(&self, text: &[u8], end: usize) -> u8
         requires some { 0 < self.now.checks.least }
@@ -105,9 +105,9 @@ impl Suffixes {
         self.checks.widths_at(text, end)
     }
 
-    /// The search of `next_ending` among the literals that are told by some widths: bit `width - 1` stands for those that
-    /// are told by so many bytes. A wider literal comes later in the list. Behind a literal that is found, the widths of others
-    /// are left.
+    /// The search of `next_ending` among the literals whose key widths are in `widths`: bit `width - 1` stands for keys
+    /// of `width` bytes. A literal with a wider key comes later in the list. After a literal is found, `widths` keeps
+    /// the widths of later literals.
     #[inline(never)]
     pub fn next_by_widths(
         &self,
@@ -143,8 +143,8 @@ impl Suffixes {
     }
 }
 
-/// Of some widths those of the literals that may end behind one of so many bytes that ends at the same place: a literal that
-/// is told by all its bytes is the only one of its length there.
+/// The key widths, out of `widths`, of literals that may end after a literal of `len` bytes at the same position. A
+/// literal whose key has all its bytes is the only one of its length there.
 #[inline]
 pub(crate) fn widths_behind(widths: u8, len: usize) -> u8
     requires { 0 < len }

@@ -9,9 +9,9 @@ use Rattle.std.proofs.lemmas.List.Concat.{flat_map-append}
 use Rattle.std.proofs.Math.Nat.{mul-le-mul_right}
 use Rattle.lit_cert.specs.declared.fault.Fault.{Fault}
 use Rattle.lit_cert.specs.declared.fault.Fault.TheVariants.{OutOfMemory, BadCertText, ReadFault, WriteFault}
-use Rattle.lit_cert.specs.Certificates.{CertificateParts}
-use Rattle.lit_cert.specs.Spelling.{literals_in, IsCount, HasEnds, HasText, literals_words, ends_words, cost_words, row_words, rows_of, head_lines, lines_of, line_text, spelling}
-use Rattle.lit_cert.specs.Reading.{IsRow, NoLine, StartsWithHead, StartsWithRows, IsFirstBad, IsBadRow, IsBadText}
+use Rattle.lit_cert.specs.Certificates.{CertificateNumbers}
+use Rattle.lit_cert.specs.Spelling.{literals_in, IsCount, HasEnds, HasTextFor, literals_words, ends_words, cost_words, row_words, rows_of, head_lines, lines_of, line_text, version_words, spelling_for}
+use Rattle.lit_cert.specs.Reading.{IsRow, NoLine, StartsWithHead, StartsWithRows, IsFirstBadFor, IsBadRow, IsBadTextFor}
 use Rattle.lit_cert.proofs.Plain.{IsMost}
 use Rattle.lit_cert.proofs.FirstBad.{first_bad, length-lines_of}
 use Rattle.lit_cert.proofs.Completed.{completed, count_is, completed_fits, completed_front, count_of, line_of_row, line_of_end}
@@ -26,42 +26,47 @@ has_some_ends most is = record { some = omega arith; few = omega (arith, is.some
 no_row : (n : ℕ) → IsRow (0 * n) []
 no_row n = record { len = grind arith; numbers = All-nil (λ x. x < 2 ^ 64) }
 
+-- the first line, and others after it
+behind_version : (most : ℕ) (ls : List (List (List ℕ))) (left : List ℕ) → line_text (version_words most) ++ (flat_map line_text ls ++ left) ≡ flat_map line_text (version_words most ∷ ls) ++ left
+behind_version most ls left = sym (append_assoc (line_text (version_words most)) (flat_map line_text ls) left)
+
 -- the first line is wrong
-pub bad_first : (most : ℕ) (text : List ℕ) → IsMost most → ((after : List ℕ) → text ≢ codes "litcert 1" ++ 10 ∷ after) → IsFirstBad most text 1
+pub bad_first : (most : ℕ) (text : List ℕ) → IsMost most → ((after : List ℕ) → text ≢ line_text (version_words most) ++ after) → IsFirstBadFor most text 1
 bad_first most text is none =
     first_bad most 0 text text (completed 1 most some_ends 0 []) is (completed_fits most 1 0 most 0 some_ends [] is (record { some = omega arith; few = omega arith }) (has_some_ends most is) (omega arith) (omega arith) (no_row 1)) (omega arith) refl
     (λ d after has same e. none after e)
 
--- the line that tells the number of literals is wrong
-pub bad_count : (most : ℕ) (text rest : List ℕ) → IsMost most → text ≡ codes "litcert 1" ++ 10 ∷ rest → NoLine IsCount literals_words rest → IsFirstBad most text 2
+-- the line with the number of literals is wrong
+pub bad_count : (most : ℕ) (text rest : List ℕ) → IsMost most → text ≡ line_text (version_words most) ++ rest → NoLine IsCount literals_words rest → IsFirstBadFor most text 2
 bad_count most text rest is e none =
-    first_bad most 1 text rest (completed 1 most some_ends 0 []) is (completed_fits most 1 0 most 0 some_ends [] is (record { some = omega arith; few = omega arith }) (has_some_ends most is) (omega arith) (omega arith) (no_row 1)) (omega arith) e
+    first_bad most 1 text rest (completed 1 most some_ends 0 []) is (completed_fits most 1 0 most 0 some_ends [] is (record { some = omega arith; few = omega arith }) (has_some_ends most is) (omega arith) (omega arith) (no_row 1)) (omega arith) (e ∙ behind_version most [] rest)
     (λ d after has same line. none (literals_in most d) after has.literals line)
 
--- lines that tell the same number of literals
+-- lines with the same text have the same number of literals
 pub same_count : (m n : ℕ) → IsCount m → IsCount n → line_text (literals_words m) ≡ line_text (literals_words n) → m ≡ n
 same_count m n is is' e =
     decimal_injective m n (omega (arith, is.few)) (omega (arith, is'.few)) (append_cancel_right (decimal m) (decimal n) (10 ∷ []) (ap (drop 9) e))
 
 -- a certificate with the same lines has the same number of literals
-count_from_lines : (most k n : ℕ) (c d : CertificateParts) → 2 ≤ k → k < most + 5 → IsCount n → literals_in most c ≡ n → HasText most d → map line_text (take k (lines_of most d)) ≡ map line_text (take k (lines_of most c)) → literals_in most d ≡ n
+count_from_lines : (most k n : ℕ) (c d : CertificateNumbers) → 2 ≤ k → k < most + 5 → IsCount n → literals_in most c ≡ n → HasTextFor most d → map line_text (take k (lines_of most d)) ≡ map line_text (take k (lines_of most c)) → literals_in most d ≡ n
 count_from_lines most k n c d lt within count n-is has same =
     let line : line_text (literals_words (literals_in most d)) ≡ line_text (literals_words (literals_in most c)) = sym (second most k d lt within) ∙ ap (λ (ls : List (List ℕ)). get_or ls 1 []) same ∙ second most k c lt within in
     same_count (literals_in most d) n has.literals count (line ∙ ap (λ (m : ℕ). line_text (literals_words m)) n-is)
   where
-    second : (most k : ℕ) (c : CertificateParts) → 2 ≤ k → k < most + 5 → get_or (map line_text (take k (lines_of most c))) 1 [] ≡ line_text (literals_words (literals_in most c))
+    second : (most k : ℕ) (c : CertificateNumbers) → 2 ≤ k → k < most + 5 → get_or (map line_text (take k (lines_of most c))) 1 [] ≡ line_text (literals_words (literals_in most c))
     second most k c lt within =
         let len : length (take k (lines_of most c)) ≡ k = length-take-le k (lines_of most c) (omega (arith, length-lines_of most c)) in
         get_or-map line_text (take k (lines_of most c)) 1 [] [] (omega arith) ∙ ap line_text (get_or-take k (lines_of most c) 1 [] (omega arith))
 
 -- the line of ends is wrong
-pub bad_ends : (most n : ℕ) (text rest left : List ℕ) → IsMost most → text ≡ codes "litcert 1" ++ 10 ∷ rest → IsCount n → rest ≡ line_text (literals_words n) ++ left → NoLine (HasEnds most) ends_words left → IsFirstBad most text 3
+pub bad_ends : (most n : ℕ) (text rest left : List ℕ) → IsMost most → text ≡ line_text (version_words most) ++ rest → IsCount n → rest ≡ line_text (literals_words n) ++ left → NoLine (HasEnds most) ends_words left → IsFirstBadFor most text 3
 bad_ends most n text rest left is e count e' none =
     let c = completed n most some_ends 0 [] in
     let fits = completed_fits most n 0 most 0 some_ends [] is count (has_some_ends most is) (omega arith) (omega arith) (no_row n) in
     let n-is : literals_in most c ≡ n = count_of most n 0 most 0 some_ends [] is (omega arith) (no_row n) in
     first_bad most 2 text left c is fits (omega arith)
-    (e ∙ ap (λ (t : List ℕ). codes "litcert 1" ++ 10 ∷ t) (e' ∙ ap (λ (t : List ℕ). t ++ left) (ap (λ (m : ℕ). line_text (literals_words m)) (sym n-is) ∙ sym (append-nil (line_text (literals_words (literals_in most c)))))))
+    (e ∙ ap (λ (t : List ℕ). line_text (version_words most) ++ t) (e' ∙ ap (λ (t : List ℕ). t ++ left) (ap (λ (m : ℕ). line_text (literals_words m)) (sym n-is) ∙ sym (append-nil (line_text (literals_words (literals_in most c))))))
+    ∙ behind_version most (literals_words (literals_in most c) ∷ []) left)
     (λ d after has same line. none d.ends after has.ends line)
 
 -- two texts, and what follows
@@ -73,25 +78,26 @@ joined_three : (a b d x : List ℕ) → a ++ (b ++ (d ++ x)) ≡ (a ++ (b ++ (d 
 joined_three a b d x = simp (append_assoc, append-nil)
 
 -- the line of the price is wrong
-pub bad_cost : (most n : ℕ) (ends text rest left : List ℕ) (after_ends : List ℕ) → IsMost most → text ≡ codes "litcert 1" ++ 10 ∷ rest → IsCount n → rest ≡ line_text (literals_words n) ++ left → HasEnds most ends → left ≡ line_text (ends_words ends) ++ after_ends → NoLine (λ cost. cost < 2 ^ 64) cost_words after_ends → IsFirstBad most text 4
+pub bad_cost : (most n : ℕ) (ends text rest left : List ℕ) (after_ends : List ℕ) → IsMost most → text ≡ line_text (version_words most) ++ rest → IsCount n → rest ≡ line_text (literals_words n) ++ left → HasEnds most ends → left ≡ line_text (ends_words ends) ++ after_ends → NoLine (λ cost. cost < 2 ^ 64) cost_words after_ends → IsFirstBadFor most text 4
 bad_cost most n ends text rest left after_ends is e count e' has_ends e'' none =
     let c = completed n most ends 0 [] in
     let fits = completed_fits most n 0 most 0 ends [] is count has_ends (omega arith) (omega arith) (no_row n) in
     let n-is : literals_in most c ≡ n = count_of most n 0 most 0 ends [] is (omega arith) (no_row n) in
     let behind : rest ≡ (line_text (literals_words n) ++ (line_text (ends_words ends) ++ [])) ++ after_ends = e' ∙ ap (λ (t : List ℕ). line_text (literals_words n) ++ t) e'' ∙ joined_two (line_text (literals_words n)) (line_text (ends_words ends)) after_ends in
     first_bad most 3 text after_ends c is fits (omega arith)
-    (e ∙ ap (λ (t : List ℕ). codes "litcert 1" ++ 10 ∷ t) (behind ∙ ap (λ (m : ℕ). (line_text (literals_words m) ++ (line_text (ends_words ends) ++ [])) ++ after_ends) (sym n-is)))
+    (e ∙ ap (λ (t : List ℕ). line_text (version_words most) ++ t) (behind ∙ ap (λ (m : ℕ). (line_text (literals_words m) ++ (line_text (ends_words ends) ++ [])) ++ after_ends) (sym n-is))
+    ∙ behind_version most (literals_words (literals_in most c) ∷ ends_words ends ∷ []) after_ends)
     (λ d after has same line. none d.cost after has.small_cost line)
 
--- what was read before the rows
-pub head_read : (most n cost : ℕ) (ends text rest left after_ends after_cost : List ℕ) → text ≡ codes "litcert 1" ++ 10 ∷ rest → IsCount n → rest ≡ line_text (literals_words n) ++ left → HasEnds most ends → left ≡ line_text (ends_words ends) ++ after_ends → cost < 2 ^ 64 → after_ends ≡ line_text (cost_words cost) ++ after_cost → StartsWithHead most n cost ends text after_cost
+-- the lines that were read before the rows
+pub head_read : (most n cost : ℕ) (ends text rest left after_ends after_cost : List ℕ) → text ≡ line_text (version_words most) ++ rest → IsCount n → rest ≡ line_text (literals_words n) ++ left → HasEnds most ends → left ≡ line_text (ends_words ends) ++ after_ends → cost < 2 ^ 64 → after_ends ≡ line_text (cost_words cost) ++ after_cost → StartsWithHead most n cost ends text after_cost
 head_read most n cost ends text rest left after_ends after_cost first count second has_ends third small fourth =
     let behind : rest ≡ (line_text (literals_words n) ++ (line_text (ends_words ends) ++ (line_text (cost_words cost) ++ []))) ++ after_cost =
     second ∙ ap (λ (t : List ℕ). line_text (literals_words n) ++ t) (third ∙ ap (λ (t : List ℕ). line_text (ends_words ends) ++ t) fourth) ∙ joined_three (line_text (literals_words n)) (line_text (ends_words ends)) (line_text (cost_words cost)) after_cost in
-    record { count = count; has_ends = has_ends; small_cost = small; lines = first ∙ ap (λ (t : List ℕ). codes "litcert 1" ++ 10 ∷ t) behind }
+    record { count = count; has_ends = has_ends; small_cost = small; lines = first ∙ ap (λ (t : List ℕ). line_text (version_words most) ++ t) behind ∙ behind_version most (literals_words n ∷ ends_words ends ∷ cost_words cost ∷ []) after_cost }
 
 -- a row of a certificate
-row_of_certificate : (most n r : ℕ) (d : CertificateParts) → HasText most d → literals_in most d ≡ n → r < most → IsRow n (take (literals_in most d) (drop (r * literals_in most d) d.potentials))
+row_of_certificate : (most n r : ℕ) (d : CertificateNumbers) → HasTextFor most d → literals_in most d ≡ n → r < most → IsRow n (take (literals_in most d) (drop (r * literals_in most d) d.potentials))
 row_of_certificate most n r d has n-is lt =
     let m = literals_in most d in
     let room : m ≤ length (drop (r * m) d.potentials) = simp length-drop (enough (length d.potentials) m has.rows) in
@@ -106,17 +112,17 @@ row_of_certificate most n r d has n-is lt =
         let split : (r + 1) * m ≡ r * m + m = grind arith in
         omega arith
 
--- the text of what was read, rows included
-lines_read : (most n cost r : ℕ) (ends text rest ps left : List ℕ) → StartsWithHead most n cost ends text rest → StartsWithRows r n rest ps left → text ≡ flat_map line_text (head_lines n ends cost ++ rows_of r n ps) ++ left
+-- the text of all lines read, rows included
+lines_read : (most n cost r : ℕ) (ends text rest ps left : List ℕ) → StartsWithHead most n cost ends text rest → StartsWithRows r n rest ps left → text ≡ flat_map line_text (head_lines most n ends cost ++ rows_of r n ps) ++ left
 lines_read most n cost r ends text rest ps left head rows =
-    let lines = head_lines n ends cost in
+    let lines = head_lines most n ends cost in
     head.lines ∙ ap (λ (t : List ℕ). flat_map line_text lines ++ t) rows.lines
     ∙ sym (append_assoc (flat_map line_text lines) (flat_map line_text (rows_of r n ps)) left)
     ∙ ap (λ (t : List ℕ). t ++ left) (sym (flat_map-append line_text lines (rows_of r n ps)))
 
--- a line behind r rows is wrong
+-- a line after r rows is wrong
 bad_behind : (most n cost r : ℕ) (ends text rest ps left : List ℕ) → IsMost most → StartsWithHead most n cost ends text rest → r ≤ most → StartsWithRows r n rest ps left
-    → ((d : CertificateParts) (after : List ℕ) → HasText most d → literals_in most d ≡ n → left ≢ line_text (get_or (lines_of most d) (r + 4) []) ++ after) → IsFirstBad most text (r + 5)
+    → ((d : CertificateNumbers) (after : List ℕ) → HasTextFor most d → literals_in most d ≡ n → left ≢ line_text (get_or (lines_of most d) (r + 4) []) ++ after) → IsFirstBadFor most text (r + 5)
 bad_behind most n cost r ends text rest ps left is head le rows none =
     let zeros = most - r in
     let c = completed n zeros ends cost ps in
@@ -124,28 +130,28 @@ bad_behind most n cost r ends text rest ps left is head le rows none =
     let n-is : literals_in most c ≡ n = count_of most n r zeros cost ends ps is (omega arith) rows.row in
     let front = completed_front most n r zeros cost ends ps is (omega arith) rows.row in
     let number : r + 4 + 1 ≡ r + 5 = omega arith in
-    subst (IsFirstBad most text) number (first_bad most (r + 4) text left c is fits (omega arith)
+    subst (IsFirstBadFor most text) number (first_bad most (r + 4) text left c is fits (omega arith)
     (lines_read most n cost r ends text rest ps left head rows ∙ ap (λ (ls : List (List (List ℕ))). flat_map line_text ls ++ left) (sym front))
     (λ d after has same. none d after has (count_from_lines most (r + 4) n c d (omega arith) (omega arith) head.count n-is has same)))
 
 -- a row is wrong
-pub bad_row : (most n cost r : ℕ) (ends text rest ps left : List ℕ) → IsMost most → StartsWithHead most n cost ends text rest → r < most → StartsWithRows r n rest ps left → NoLine (IsRow n) (row_words (r + 1)) left → IsFirstBad most text (r + 5)
+pub bad_row : (most n cost r : ℕ) (ends text rest ps left : List ℕ) → IsMost most → StartsWithHead most n cost ends text rest → r < most → StartsWithRows r n rest ps left → NoLine (IsRow n) (row_words (r + 1)) left → IsFirstBadFor most text (r + 5)
 bad_row most n cost r ends text rest ps left is head lt rows none =
     bad_behind most n cost r ends text rest ps left is head (omega arith) rows (λ d after has n-is e.
     none (take (literals_in most d) (drop (r * literals_in most d) d.potentials)) after (row_of_certificate most n r d has n-is lt) (e ∙ ap (λ (l : List (List ℕ)). line_text l ++ after) (line_of_row most r d lt)))
 
 -- the last line is wrong
-pub bad_last : (most n cost : ℕ) (ends text rest ps left : List ℕ) → IsMost most → StartsWithHead most n cost ends text rest → StartsWithRows most n rest ps left → ((after : List ℕ) → left ≢ codes "end" ++ 10 ∷ after) → IsFirstBad most text (most + 5)
+pub bad_last : (most n cost : ℕ) (ends text rest ps left : List ℕ) → IsMost most → StartsWithHead most n cost ends text rest → StartsWithRows most n rest ps left → ((after : List ℕ) → left ≢ codes "end" ++ 10 ∷ after) → IsFirstBadFor most text (most + 5)
 bad_last most n cost ends text rest ps left is head rows none =
     bad_behind most n cost most ends text rest ps left is head (omega arith) rows (λ d after has n-is e.
     none after (e ∙ ap (λ (l : List (List ℕ)). line_text l ++ after) (line_of_end most d)))
 
 -- all lines were read
-pub all_read : (most n cost : ℕ) (ends text rest ps left after : List ℕ) → IsMost most → StartsWithHead most n cost ends text rest → StartsWithRows most n rest ps left → left ≡ codes "end" ++ 10 ∷ after → HasText most (record { ends = ends; cost = cost; potentials = ps }) × (text ≡ spelling most (record { ends = ends; cost = cost; potentials = ps }) ++ after)
+pub all_read : (most n cost : ℕ) (ends text rest ps left after : List ℕ) → IsMost most → StartsWithHead most n cost ends text rest → StartsWithRows most n rest ps left → left ≡ codes "end" ++ 10 ∷ after → HasTextFor most (record { ends = ends; cost = cost; potentials = ps }) × (text ≡ spelling_for most (record { ends = ends; cost = cost; potentials = ps }) ++ after)
 all_read most n cost ends text rest ps left after is head rows e =
-    let c : CertificateParts = record { ends = ends; cost = cost; potentials = ps } in
+    let c : CertificateNumbers = record { ends = ends; cost = cost; potentials = ps } in
     let n-is : literals_in most c ≡ n = count_is most n c is rows.row.len in
-    let lines = head_lines n ends cost ++ rows_of most n ps in
+    let lines = head_lines most n ends cost ++ rows_of most n ps in
     let end = (codes "end" ∷ []) ∷ [] in
     let text_is : text ≡ flat_map line_text (lines ++ end) ++ after =
     lines_read most n cost most ends text rest ps left head rows
@@ -153,12 +159,12 @@ all_read most n cost ends text rest ps left after is head rows e =
     ∙ sym (append_assoc (flat_map line_text lines) (flat_map line_text end) after)
     ∙ ap (λ (t : List ℕ). t ++ after) (sym (flat_map-append line_text lines end)) in (
       record { rows = rows.row.len ∙ ap (λ (k : ℕ). most * k) (sym n-is); literals = rw n-is head.count; ends = head.has_ends; small_cost = head.small_cost; small_potentials = rows.row.numbers },
-      text_is ∙ ap (λ (ls : List (List (List ℕ))). flat_map line_text ls ++ after) (append_assoc (head_lines n ends cost) (rows_of most n ps) end)
-          ∙ ap (λ (k : ℕ). flat_map line_text (head_lines k ends cost ++ (rows_of most k ps ++ end)) ++ after) (sym n-is),
+      text_is ∙ ap (λ (ls : List (List (List ℕ))). flat_map line_text ls ++ after) (append_assoc (head_lines most n ends cost) (rows_of most n ps) end)
+          ∙ ap (λ (k : ℕ). flat_map line_text (head_lines most k ends cost ++ (rows_of most k ps ++ end)) ++ after) (sym n-is),
     )
 
 -- a row is wrong, or want of memory
-pub bad_rows : (most n cost : ℕ) (ends text rest : List ℕ) (e : Fault) → IsMost most → StartsWithHead most n cost ends text rest → IsBadRow most n rest e → IsBadText most text e
+pub bad_rows : (most n cost : ℕ) (ends text rest : List ℕ) (e : Fault) → IsMost most → StartsWithHead most n cost ends text rest → IsBadRow most n rest e → IsBadTextFor most text e
 bad_rows most n cost ends text rest OutOfMemory is head h = tt
 bad_rows most n cost ends text rest (BadCertText k) is head h =
     rw h.2 (bad_row most n cost h.0 ends text rest h.3 h.4 is head h.1 h.5 h.6)

@@ -5,11 +5,11 @@ use Rattle.std.proofs.lemmas.Bool.{cases_order, cases_lt, false≢true}
 use Rattle.lit_base.specs.Literals.{Literals}
 use Rattle.lit_base.specs.Potentials.{BoundsBelow}
 use Rattle.lit_cert.specs.Certificates.{CertificateParts}
-use Rattle.lit_cert.specs.Certified.{cost_of, potential_of, EndRowsHold, IsCertified, IsFirstEnd, IsFirstEndRow, IsFirstFailure, IsFirstRun, IsFirstStep, IsFirstStepRow, StepRowsHold}
+use Rattle.lit_cert.specs.Certified.{cost_of, potential_of, EndRowsHold, IsCertifiedFor, IsFirstEnd, IsFirstEndRow, IsFirstFailureFor, IsFirstRun, IsFirstStep, IsFirstStepRow, StepRowsHold}
 use Rattle.lit_cert.specs.declared.reason.Reason.{Reason}
 use Rattle.lit_cert.specs.declared.reason.Reason.TheVariants.{Length, Ends, Total, EndRow, Step}
 
--- what holds of the numbers from a on before i, and of i, holds of those before i + 1
+-- what holds of the numbers from a on before i, and of i, holds of the numbers before i + 1
 pub rows_more : (P : ℕ → Type 0) (a i : ℕ) → ((s : ℕ) → a ≤ s → s < i → P s) → P i → (s : ℕ) → a ≤ s → s < i + 1 → P s
 rows_more P a i rows here s low high =
     elim (cases_lt s i) [
@@ -36,7 +36,7 @@ steps_or_fails most l c r p q i before hold first =
     absurd (omega (arith, hold r first.from_two before p (omega (arith, run.some, run.inner)) q run.some run.inner, run.above))
 
 -- a certificate that holds has no failure
-pub certified_or_fails : (most : ℕ) (l : Literals) (c : CertificateParts) (reason : Reason) → IsCertified most l c → IsFirstFailure most l c reason → ⊥
+pub certified_or_fails : (most : ℕ) (l : Literals) (c : CertificateParts) (reason : Reason) → IsCertifiedFor most l c → IsFirstFailureFor most l c reason → ⊥
 certified_or_fails most l c Length holds fails = fails holds.priced.size
 certified_or_fails most l c Ends holds fails = fails.1 holds.priced.cut
 certified_or_fails most l c Total holds fails = fails.2 holds.priced.total
@@ -70,7 +70,7 @@ same_run l hs r p q k first second =
       ]
     ]
 
--- a row has one first place with such a run
+-- a row has one first place with a step above
 same_step_place : (l : Literals) (hs : List ℕ) (r p q o k : ℕ) → IsFirstStep l hs r p q → IsFirstStep l hs r o k → p ≡ o
 same_step_place l hs r p q o k first second =
     elim (cases_order p o) [
@@ -110,7 +110,7 @@ same_step most l c r p q s o k first second =
     ]
 
 -- there is one first failure
-pub same_failure : (most : ℕ) (l : Literals) (c : CertificateParts) (e f : Reason) → IsFirstFailure most l c e → IsFirstFailure most l c f → e ≡ f
+pub same_failure : (most : ℕ) (l : Literals) (c : CertificateParts) (e f : Reason) → IsFirstFailureFor most l c e → IsFirstFailureFor most l c f → e ≡ f
 same_failure most l c Length Length x y = refl
 same_failure most l c Length Ends x y = absurd (x y.0)
 same_failure most l c Length Total x y = absurd (x y.0)
@@ -138,17 +138,17 @@ same_failure most l c (Step r p q) (EndRow s o) x y = absurd (ends_or_fails most
 same_failure most l c (Step r p q) (Step s o k) x y = same_step most l c r p q s o k x.first y.first
 
 -- what the checker's answer says: yes exactly where the certificate holds
-pub yes-from_answer : {T : Type 0} (r : Result T Reason) (most : ℕ) (l : Literals) (c : CertificateParts) → MatchResult r (λ _. IsCertified most l c) (λ reason. IsFirstFailure most l c reason) → IsOk r ↔ IsCertified most l c
+pub yes-from_answer : {T : Type 0} (r : Result T Reason) (most : ℕ) (l : Literals) (c : CertificateParts) → MatchResult r (λ _. IsCertifiedFor most l c) (λ reason. IsFirstFailureFor most l c reason) → IsOk r ↔ IsCertifiedFor most l c
 yes-from_answer (Ok x) most l c answer = (λ _. answer, λ _. refl)
 yes-from_answer (Err e) most l c answer = (λ none. absurd (false≢true none), λ holds. absurd (certified_or_fails most l c e holds answer))
 
 -- and each reason exactly where it is the first failure
-pub no-from_answer : {T : Type 0} (r : Result T Reason) (most : ℕ) (l : Literals) (c : CertificateParts) → MatchResult r (λ _. IsCertified most l c) (λ reason. IsFirstFailure most l c reason) → (reason : Reason) → IsErrOf r reason ↔ IsFirstFailure most l c reason
+pub no-from_answer : {T : Type 0} (r : Result T Reason) (most : ℕ) (l : Literals) (c : CertificateParts) → MatchResult r (λ _. IsCertifiedFor most l c) (λ reason. IsFirstFailureFor most l c reason) → (reason : Reason) → IsErrOf r reason ↔ IsFirstFailureFor most l c reason
 no-from_answer (Ok x) most l c answer reason = (λ none. absurd (cc), λ fails. absurd (certified_or_fails most l c reason answer fails))
 no-from_answer (Err e) most l c answer reason =
-    (λ is. let same : e ≡ reason = cc in subst (IsFirstFailure most l c) same answer, λ fails. ap Err (same_failure most l c e reason answer fails))
+    (λ is. let same : e ≡ reason = cc in subst (IsFirstFailureFor most l c) same answer, λ fails. ap Err (same_failure most l c e reason answer fails))
 
--- what is answered where a step of the check fails
-pub failure_answer : {T : Type 0} (r : Result T Reason) (most : ℕ) (l : Literals) (c : CertificateParts) (e : Reason) → IsErrAnd r (λ f. f ≡ e) → IsFirstFailure most l c e → MatchResult r (λ _. IsCertified most l c) (λ reason. IsFirstFailure most l c reason)
+-- the answer where a step of the check fails
+pub failure_answer : {T : Type 0} (r : Result T Reason) (most : ℕ) (l : Literals) (c : CertificateParts) (e : Reason) → IsErrAnd r (λ f. f ≡ e) → IsFirstFailureFor most l c e → MatchResult r (λ _. IsCertifiedFor most l c) (λ reason. IsFirstFailureFor most l c reason)
 failure_answer (Ok x) most l c e is fails = absurd is
-failure_answer (Err f) most l c e is fails = subst (IsFirstFailure most l c) (sym is) fails
+failure_answer (Err f) most l c e is fails = subst (IsFirstFailureFor most l c) (sym is) fails

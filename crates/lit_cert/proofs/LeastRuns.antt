@@ -47,7 +47,7 @@ least_keeps l before p first k q least price so is dearer = record {
 
 -- for literals, a row of potentials and the one before it, with a cheapest run from place m to q
 module _ (l : Literals) (here before : List ℕ) (low high first end m q price : ℕ) (quadrangle : MeetQuadrangle (cost_of l) (length l.texts)) (suffice : RunsSuffice l here before low high first end) (within : end ≤ length l.texts) (from : low ≤ m) (to : m < high) (least : IsLeastRun l before m (max first (m + 1)) end q price) where
-  -- no place before m needs an end behind q
+  -- no place before m needs an end after q
   pub suffice_before : RunsSuffice l here before low m first (q + 1)
   suffice_before p above below fits =
       suffice p above (omega arith) (λ k past start stop. elim (cases_lt k (q + 1)) [
@@ -58,7 +58,7 @@ module _ (l : Literals) (here before : List ℕ) (low high first end m q price :
             omega (arith, four, bound, least.price_is, least.least k (omega (arith, least.low)) stop)
       ])
 
-  -- and none behind m an end before q
+  -- and none after m an end before q
   pub suffice_behind : RunsSuffice l here before (m + 1) high q end
   suffice_behind p above below fits =
       suffice p (omega arith) below (λ k past start stop. elim (cases_lt k q) [
@@ -82,7 +82,7 @@ row_small l hs r s from_one below few ends =
 abbrev pub RowFits : Literals → List ℕ → ℕ → ℕ → Type 0
 RowFits l hs r n = AllFit l (slice_range hs ((r - 1) * n) (r * n)) (slice_range hs ((r - 2) * n) ((r - 1) * n)) 0 (n - 1)
 
--- what is read behind a step
+-- the number read after a step
 behind_at : (hs : List ℕ) (n r k : ℕ) → 2 ≤ r → k < n → get_or (slice_range hs ((r - 2) * n) ((r - 1) * n)) k 0 ≡ potential hs n (r - 1) k
 behind_at hs n r k from_two inner =
     let two : r - 2 ≡ (r - 1) - 1 = omega arith in

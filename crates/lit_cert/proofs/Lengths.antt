@@ -7,17 +7,17 @@ use Rattle.std.proofs.lemmas.List.{length-map, length-take}
 use Rattle.std.proofs.lemmas.List.Elements.{All-nil, All-cons, All-head, All-tail, All-map, All-weaker, All-take, All-drop}
 use Rattle.std.proofs.lemmas.List.Concat.{flat_map-append}
 use Rattle.std.proofs.Math.Nat.{mul-le-mul_left}
-use Rattle.lit_cert.specs.Certificates.{CertificateParts}
-use Rattle.lit_cert.specs.Spelling.{literals_in, HasText, literals_words, ends_words, cost_words, row_words, rows_of, head_lines, line_text, spelling}
+use Rattle.lit_cert.specs.Certificates.{CertificateNumbers}
+use Rattle.lit_cert.specs.Spelling.{literals_in, HasTextFor, literals_words, ends_words, cost_words, row_words, rows_of, head_lines, line_text, version_of, version_words, spelling_for}
 use Rattle.lit_cert.specs.Reading.{AreNumbers}
 use Rattle.lit_cert.proofs.Rows.{row_at, rows_of_more, rows_of_none}
-use Rattle.lit_cert.proofs.Plain.{IsMost}
+use Rattle.lit_cert.proofs.Plain.{IsMost, version-lt}
 
 -- no word is longer than a number of 64 bits can be
 abbrev AreShort : List (List ℕ) → Type 0
 AreShort words = All (λ w. length w ≤ 20) words
 
--- a line has so many bytes at most
+-- a bound of the bytes of a line
 length-line_text-le : (words : List (List ℕ)) → AreShort words → length (line_text words) ≤ 21 * length words + 1
 length-line_text-le words short = omega (arith, joined words short, length-append (join_with_byte 32 words) (10 ∷ []))
   where
@@ -31,7 +31,7 @@ length-line_text-le words short = omega (arith, joined words short, length-appen
 short_numbers : (xs : List ℕ) → AreNumbers xs → AreShort (map decimal xs)
 short_numbers xs numbers = All-map (λ w. length w ≤ 20) decimal xs (All-weaker (λ x. x < 2 ^ 64) (λ x. length (decimal x) ≤ 20) (λ x small. length-decimal-le 20 x (omega arith) (omega arith) small) xs numbers)
 
--- a line of a word and numbers has so many bytes at most
+-- a bound of the bytes of a line of a word and numbers
 numbered_line : (w : List ℕ) (xs : List ℕ) → length w ≤ 20 → AreNumbers xs → length (line_text (w ∷ map decimal xs)) ≤ 21 * (length xs + 1) + 1
 numbered_line w xs short numbers =
     omega (arith, length-line_text-le (w ∷ map decimal xs) (All-cons (λ w. length w ≤ 20) w (map decimal xs) short (short_numbers xs numbers)), length-map xs decimal)
@@ -62,23 +62,25 @@ three_lens : (a b d : List ℕ) → length (a ++ (b ++ d)) ≡ length a + length
 three_lens a b d = simp (length-append) (omega arith)
 
 -- the whole text
-pub length-spelling-le : (most : ℕ) (c : CertificateParts) → IsMost most → HasText most c → length (spelling most c) ≤ 200 + most * 21600
-length-spelling-le most c is has =
+pub length-spelling_for-le : (most : ℕ) (c : CertificateNumbers) → IsMost most → HasTextFor most c → length (spelling_for most c) ≤ 200 + most * 86200
+length-spelling_for-le most c is has =
     let n = literals_in most c in
     let rows = rows_of most n c.potentials in
     let end = (codes "end" ∷ []) ∷ [] in
-    let head = head_lines n c.ends c.cost in
+    let head = head_lines most n c.ends c.cost in
     let one : AreNumbers (n ∷ []) = All-cons (λ x. x < 2 ^ 64) n [] (omega (arith, has.literals.few)) (All-nil (λ x. x < 2 ^ 64)) in
     let ends : AreNumbers c.ends = All-weaker (λ x. x < 2 ^ 16) (λ x. x < 2 ^ 64) (λ x small. omega arith) c.ends has.ends.small in
     let price : AreNumbers (c.cost ∷ []) = All-cons (λ x. x < 2 ^ 64) c.cost [] has.small_cost (All-nil (λ x. x < 2 ^ 64)) in
+    let version : AreNumbers (version_of most ∷ []) = All-cons (λ x. x < 2 ^ 64) (version_of most) [] (version-lt most) (All-nil (λ x. x < 2 ^ 64)) in
+    let first = numbered_line (codes "litcert") (version_of most ∷ []) (omega arith) version in
     let second = numbered_line (codes "literals") (n ∷ []) (omega arith) one in
     let third = numbered_line (codes "ends") c.ends (omega arith) ends in
     let fourth = numbered_line (codes "cost") (c.cost ∷ []) (omega arith) price in
     let rows_le : length (flat_map line_text rows) ≤ most * (21 * (n + 1) + 1) = rows_len most most n c.potentials is (omega arith) has.small_potentials in
-    let wide : most * (21 * (n + 1) + 1) ≤ most * 21526 = mul-le-mul_left most (omega (arith, has.literals.few)) in
-    let parts : spelling most c ≡ flat_map line_text head ++ (flat_map line_text rows ++ flat_map line_text end) =
+    let wide : most * (21 * (n + 1) + 1) ≤ most * 86038 = mul-le-mul_left most (omega (arith, has.literals.few)) in
+    let parts : spelling_for most c ≡ flat_map line_text head ++ (flat_map line_text rows ++ flat_map line_text end) =
     flat_map-append line_text head (rows ++ end) ∙ ap (λ (t : List ℕ). flat_map line_text head ++ t) (flat_map-append line_text rows end) in
-    let head_len : length (flat_map line_text head) ≡ 10 + length (line_text (literals_words n)) + length (line_text (ends_words c.ends)) + length (line_text (cost_words c.cost)) =
-    four_lens (line_text (codes "litcert" ∷ codes "1" ∷ [])) (line_text (literals_words n)) (line_text (ends_words c.ends)) (line_text (cost_words c.cost)) in
+    let head_len : length (flat_map line_text head) ≡ length (line_text (version_words most)) + length (line_text (literals_words n)) + length (line_text (ends_words c.ends)) + length (line_text (cost_words c.cost)) =
+    four_lens (line_text (version_words most)) (line_text (literals_words n)) (line_text (ends_words c.ends)) (line_text (cost_words c.cost)) in
     let whole = ap length parts ∙ three_lens (flat_map line_text head) (flat_map line_text rows) (flat_map line_text end) in
     omega (arith, has.ends.few, is.some)

@@ -10,6 +10,7 @@ pub mod Results
 pub mod RowLines
 pub mod RowsRead
 pub mod Plain
+pub mod ProfileTexts
 pub mod FirstBad
 pub mod Completed
 pub mod Exits

@@ -83,7 +83,7 @@ lacks_by_test c (b ∷ w) e =
 pub plain_number : (w : List ℕ) (n : ℕ) → Lacks 10 w → n < 2 ^ 64 → All (Lacks 10) (w ∷ decimal n ∷ [])
 plain_number w n lacks small = All-cons (Lacks 10) w (decimal n ∷ []) lacks (All-cons (Lacks 10) (decimal n) [] (lacks_decimal 10 n (omega arith) small) (All-nil (Lacks 10)))
 
--- what is left behind a front of the line
+-- the rest of the line after a front of it
 pub behind_front : (k : ℕ) (line front word : List ℕ) → pointwise eqb (take k line) front ≡ true → word ≡ drop k line → line ≡ front ++ word
 behind_front k line front word same e =
     let front_is : take k line ≡ front = (bytes_eq-Decides (take k line) front).0 same in
@@ -97,7 +97,7 @@ not_same xs ys e same = both_ways (pointwise eqb xs ys) (sym e) ((bytes_eq-Decid
 pub plain_ends : (ends : List ℕ) → All (λ e. e < 2 ^ 16) ends → All (Lacks 10) (ends_words ends)
 plain_ends ends small = All-cons (Lacks 10) (codes "ends") (map decimal ends) (lacks_by_test 10 (codes "ends") refl) (lacks_decimals 10 ends (omega arith) (All-weaker (λ e. e < 2 ^ 16) (λ x. x < 2 ^ 64) (λ e lt. omega arith) ends small))
 
--- ends behind their word, where there are some
+-- ends after their word, where there are some
 pub ends_join : (ends : List ℕ) → 1 ≤ length ends → join_with_byte 32 (ends_words ends) ≡ codes "ends " ++ join_with_byte 32 (map decimal ends)
 ends_join [] some = absurd (omega arith)
 ends_join (e ∷ ends) some = refl

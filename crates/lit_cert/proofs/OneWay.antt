@@ -1,4 +1,4 @@
--- A text is that of one certificate, or has one first bad line.
+-- A text is a certificate's, or has one first bad line.
 use Rattle.std.proofs.Common.{◌≡◌, ℕ, zero, suc, ◌+◌, ◌-◌, ◌*◌, ◌^◌, ◌<◌, ◌≤◌, List, [], ◌∷◌, ◌++◌, length, get_or, take, drop, map, All, refl, sym, ap, ◌∙◌, append_assoc, inl, inr, arith}
 use Rattle.std.specs.List.{flat_map, join_with_byte}
 use Rattle.std.specs.Fmt.{decimal}
@@ -8,9 +8,9 @@ use Rattle.std.proofs.lemmas.Fmt.{decimal_injective}
 use Rattle.std.proofs.lemmas.List.{take-take, take-append-drop, take_all, drop_all, append-nil, append_cancel_right, get_or-map, length-take}
 use Rattle.std.proofs.lemmas.List.Elements.{All-take, All-drop, All-weaker, All-cons}
 use Rattle.std.proofs.lemmas.List.Concat.{flat_map-append}
-use Rattle.lit_cert.specs.Certificates.{CertificateParts}
-use Rattle.lit_cert.specs.Spelling.{literals_in, HasText, HasEnds, ends_words, cost_words, row_words, lines_of, line_text, spelling}
-use Rattle.lit_cert.specs.Reading.{AreNumbers, IsRightTo, IsFirstBad}
+use Rattle.lit_cert.specs.Certificates.{CertificateNumbers}
+use Rattle.lit_cert.specs.Spelling.{literals_in, HasTextFor, HasEnds, ends_words, cost_words, row_words, lines_of, line_text, spelling_for}
+use Rattle.lit_cert.specs.Reading.{AreNumbers, IsRightFor, IsFirstBadFor}
 use Rattle.lit_cert.proofs.Rows.{row_at}
 use Rattle.lit_cert.proofs.RowLines.{same_numbers}
 use Rattle.lit_cert.proofs.Plain.{IsMost, plain_lines, same_lines}
@@ -20,7 +20,7 @@ use Rattle.lit_cert.proofs.Completed.{line_of_row}
 use Rattle.lit_cert.proofs.Exits.{same_count}
 
 -- fewer lines of it are right too
-fewer_lines : (most j k : ℕ) (text : List ℕ) → j ≤ k → IsRightTo most text k → IsRightTo most text j
+pub fewer_lines : (most j k : ℕ) (text : List ℕ) → j ≤ k → IsRightFor most text k → IsRightFor most text j
 fewer_lines most j k text le right =
     let c = right.0 in
     let follows = right.1 in
@@ -42,7 +42,7 @@ fewer_lines most j k text le right =
     )
 
 -- two first bad lines are one
-pub one_first_bad : (most j k : ℕ) (text : List ℕ) → IsFirstBad most text j → IsFirstBad most text k → j ≡ k
+pub one_first_bad : (most j k : ℕ) (text : List ℕ) → IsFirstBadFor most text j → IsFirstBadFor most text k → j ≡ k
 one_first_bad most j k text a b =
     elim (cases_order j k) [
       | inl same ↦ same
@@ -50,11 +50,10 @@ one_first_bad most j k text a b =
       | inr (inr above) ↦ absurd (b.wrong (fewer_lines most k (j - 1) text (omega arith) a.before))
     ]
 
--- a certificate's text has no bad line
-pub none_bad : (most k : ℕ) (text : List ℕ) (c : CertificateParts) → HasText most c → text ≡ spelling most c → IsFirstBad most text k → ⊥
-none_bad most k text c has e bad =
-    let lines = lines_of most c in
-    bad.wrong (
+-- all lines of a certificate's text are right
+pub right_lines : (most k : ℕ) (text : List ℕ) (c : CertificateNumbers) → HasTextFor most c → text ≡ spelling_for most c → IsRightFor most text k
+right_lines most k text c has e =
+    let lines = lines_of most c in (
       c,
       record {
         has_text = has;
@@ -77,7 +76,7 @@ rows_same (suc count) n hs gs same =
     ∙ ap (λ (t : List ℕ). take (count * n) gs ++ t) (same count (omega arith))
     ∙ sym (take-add (count * n) n gs))
 
--- lines with one text have their words joined in one way
+-- lines with one text have equal joined words
 same_joined : (ws vs : List (List ℕ)) → line_text ws ≡ line_text vs → join_with_byte 32 ws ≡ join_with_byte 32 vs
 same_joined ws vs e = append_cancel_right (join_with_byte 32 ws) (join_with_byte 32 vs) (10 ∷ []) e
 
@@ -95,18 +94,18 @@ same_row number xs ys small numbers numbers' e =
     let head = λ (zs : List ℕ) (n : AreNumbers zs). All-cons (λ x. x < 2 ^ 64) number zs small n in
     ap (drop 1) (same_numbers (join_with_byte 32 (map decimal (number ∷ xs))) (number ∷ xs) (number ∷ ys) (omega arith) (omega arith) (head xs numbers) (head ys numbers') refl (same_joined (row_words number xs) (row_words number ys) e))
 
-abbrev made : List ℕ → ℕ → List ℕ → CertificateParts
+abbrev made : List ℕ → ℕ → List ℕ → CertificateNumbers
 made es k hs = record { ends = es; cost = k; potentials = hs }
 
 -- certificates are their parts
-same_parts : (c d : CertificateParts) → c.ends ≡ d.ends → c.cost ≡ d.cost → c.potentials ≡ d.potentials → c ≡ d
+same_parts : (c d : CertificateNumbers) → c.ends ≡ d.ends → c.cost ≡ d.cost → c.potentials ≡ d.potentials → c ≡ d
 same_parts c d ends cost potentials =
     ap (λ (es : List ℕ). made es c.cost c.potentials) ends ∙ ap (λ (k : ℕ). made d.ends k c.potentials) cost ∙ ap (λ (hs : List ℕ). made d.ends d.cost hs) potentials
 
 -- two certificates with one text are one
-pub one_certificate : (most : ℕ) (c d : CertificateParts) → IsMost most → HasText most c → HasText most d → spelling most c ≡ spelling most d → c ≡ d
+pub one_certificate : (most : ℕ) (c d : CertificateNumbers) → IsMost most → HasTextFor most c → HasTextFor most d → spelling_for most c ≡ spelling_for most d → c ≡ d
 one_certificate most c d is has has' e =
-    let lines = (same_lines (lines_of most c) (lines_of most d) [] [] (length-lines_of most c ∙ sym (length-lines_of most d)) (plain_lines most c is has) (plain_lines most d is has') (append-nil (spelling most c) ∙ e ∙ sym (append-nil (spelling most d)))).0 in
+    let lines = (same_lines (lines_of most c) (lines_of most d) [] [] (length-lines_of most c ∙ sym (length-lines_of most d)) (plain_lines most c is has) (plain_lines most d is has') (append-nil (spelling_for most c) ∙ e ∙ sym (append-nil (spelling_for most d)))).0 in
     let n = literals_in most c in
     let count : n ≡ literals_in most d = same_count n (literals_in most d) has.literals has'.literals (ap (λ (ls : List (List ℕ)). get_or ls 1 []) lines) in
     let ends : c.ends ≡ d.ends = same_ends most c.ends d.ends has.ends has'.ends (ap (λ (ls : List (List ℕ)). get_or ls 2 []) lines) in
@@ -121,5 +120,5 @@ one_certificate most c d is has has' e =
     sym (take_all (most * n) c.potentials (omega (arith, has.rows))) ∙ rows_same most n c.potentials d.potentials row ∙ take_all (most * n) d.potentials (omega (arith, len)) in
     same_parts c d ends cost potentials
   where
-    text_of_row : (c : CertificateParts) (r : ℕ) → r < most → get_or (map line_text (lines_of most c)) (r + 4) [] ≡ line_text (row_at (literals_in most c) c.potentials r)
+    text_of_row : (c : CertificateNumbers) (r : ℕ) → r < most → get_or (map line_text (lines_of most c)) (r + 4) [] ≡ line_text (row_at (literals_in most c) c.potentials r)
     text_of_row c r lt = get_or-map line_text (lines_of most c) (r + 4) [] [] (omega (arith, length-lines_of most c)) ∙ ap line_text (line_of_row most r c lt)

@@ -1,10 +1,14 @@
 -- The lines of a certificate have no newline within them, so a text has them in one way.
-use Rattle.std.proofs.Common.{◌≡◌, ℕ, ◌+◌, ◌*◌, ◌^◌, ◌<◌, ◌≤◌, List, [], ◌∷◌, ◌++◌, length, get_or, take, drop, map, codes, All, refl, sym, ap, subst, ◌∙◌, append_assoc, zero-add, arith}
+use Rattle.std.proofs.Common.{◌≡◌, ℕ, ◌+◌, ◌*◌, ◌^◌, ◌<◌, ◌≤◌, List, [], ◌∷◌, ◌++◌, length, get_or, take, drop, map, codes, All, refl, sym, ap, subst, ◌∙◌, append_assoc, zero-add, inl, inr, arith}
+use Rattle.std.proofs.lemmas.Bool.{cases_eq, eq-eqb, ne_eqb}
 use Rattle.std.specs.List.{flat_map, join_with_byte, range_with_len}
 use Rattle.std.proofs.lemmas.List.Elements.{All-cons, All-head, All-tail, All-append, All-map, All-take, All-drop, All-from_get_or, All-from_recursion}
 use Rattle.std.proofs.lemmas.List.FromFn.{length-range_with_len, get_or-range_with_len}
-use Rattle.lit_cert.specs.Certificates.{CertificateParts}
-use Rattle.lit_cert.specs.Spelling.{literals_in, IsCount, HasText, row_words, rows_of, head_lines, lines_of, line_text}
+use Rattle.lit_base.specs.Profiles.{buckets}
+use Rattle.lit_base.specs.declared.profile.Profile.{Profile}
+use Rattle.lit_base.specs.declared.profile.Profile.TheVariants.{Eight, Sixteen}
+use Rattle.lit_cert.specs.Certificates.{CertificateNumbers}
+use Rattle.lit_cert.specs.Spelling.{literals_in, IsCount, HasTextFor, row_words, rows_of, head_lines, lines_of, line_text, version_of}
 use Rattle.lit_cert.specs.Reading.{AreNumbers}
 use Rattle.lit_cert.proofs.Lines.{Lacks, lacks_join, lacks_by_test, lacks_decimals, plain_number, plain_ends, same_cut}
 
@@ -31,11 +35,18 @@ plain_rows most count n hs is few numbers =
     let at : get_or (range_with_len 0 count) i 0 ≡ i = get_or-range_with_len 0 count i 0 within ∙ zero-add i in
     subst (λ (r : ℕ). IsPlain (row_words (r + 1) (take n (drop (r * n) hs)))) (sym at) (plain_row (i + 1) (take n (drop (i * n) hs)) (omega (arith, is.few)) (All-take (λ x. x < 2 ^ 64) n (drop (i * n) hs) (All-drop (λ x. x < 2 ^ 64) (i * n) hs numbers)))))
 
+-- a version is a small number
+pub version-lt : (most : ℕ) → version_of most < 2 ^ 64
+version-lt most = elim (cases_eq most 8) [
+  | inl same ↦ rw (eq-eqb most 8 same) (omega arith)
+  | inr other ↦ rw (ne_eqb most 8 other) (omega arith)
+]
+
 -- the lines before the rows are
-plain_head : (n cost : ℕ) (ends : List ℕ) → IsCount n → All (λ e. e < 2 ^ 16) ends → cost < 2 ^ 64 → All IsPlain (head_lines n ends cost)
-plain_head n cost ends count small_ends small =
-    All-from_recursion IsPlain (head_lines n ends cost) (
-      All-from_recursion (Lacks 10) (codes "litcert" ∷ codes "1" ∷ []) (lacks_by_test 10 (codes "litcert") refl, (lacks_by_test 10 (codes "1") refl, tt)),
+plain_head : (most n cost : ℕ) (ends : List ℕ) → IsCount n → All (λ e. e < 2 ^ 16) ends → cost < 2 ^ 64 → All IsPlain (head_lines most n ends cost)
+plain_head most n cost ends count small_ends small =
+    All-from_recursion IsPlain (head_lines most n ends cost) (
+      plain_number (codes "litcert") (version_of most) (lacks_by_test 10 (codes "litcert") refl) (version-lt most),
       (
         plain_number (codes "literals") n (lacks_by_test 10 (codes "literals") refl) (omega (arith, count.few)),
         (
@@ -46,15 +57,15 @@ plain_head n cost ends count small_ends small =
     )
 
 -- all lines of a certificate are
-pub plain_lines : (most : ℕ) (c : CertificateParts) → IsMost most → HasText most c → All IsPlain (lines_of most c)
+pub plain_lines : (most : ℕ) (c : CertificateNumbers) → IsMost most → HasTextFor most c → All IsPlain (lines_of most c)
 plain_lines most c is has =
     let n = literals_in most c in
-    All-append IsPlain (head_lines n c.ends c.cost) (rows_of most n c.potentials ++ (codes "end" ∷ []) ∷ [])
-    (plain_head n c.cost c.ends has.literals has.ends.small has.small_cost)
+    All-append IsPlain (head_lines most n c.ends c.cost) (rows_of most n c.potentials ++ (codes "end" ∷ []) ∷ [])
+    (plain_head most n c.cost c.ends has.literals has.ends.small has.small_cost)
     (All-append IsPlain (rows_of most n c.potentials) ((codes "end" ∷ []) ∷ []) (plain_rows most most n c.potentials is (omega arith) has.small_potentials)
     (All-from_recursion IsPlain ((codes "end" ∷ []) ∷ []) (All-from_recursion (Lacks 10) (codes "end" ∷ []) (lacks_by_test 10 (codes "end") refl, tt), tt)))
 
--- a text has so many plain lines in one way
+-- the first plain lines of a text, of a given number, can be cut in one way only
 pub same_lines : (ls ms : List (List (List ℕ))) (x y : List ℕ) → length ls ≡ length ms → All IsPlain ls → All IsPlain ms → flat_map line_text ls ++ x ≡ flat_map line_text ms ++ y → (map line_text ls ≡ map line_text ms) × (x ≡ y)
 same_lines [] [] x y len p q e = (refl, e)
 same_lines [] (m ∷ ms) x y len p q e = absurd (omega arith)
@@ -69,6 +80,7 @@ same_lines (l ∷ ls) (m ∷ ms) x y len p q e =
     cut_off : (l : List (List ℕ)) (ls : List (List (List ℕ))) (x : List ℕ) → flat_map line_text (l ∷ ls) ++ x ≡ join_with_byte 32 l ++ 10 ∷ (flat_map line_text ls ++ x)
     cut_off l ls x = simp append_assoc
 
--- eight rows are
-pub eight : IsMost 8
-eight = record { some = omega arith; few = omega arith }
+-- as many rows as a profile has buckets are
+pub is_most : (profile : Profile) → IsMost (buckets profile)
+is_most Eight = record { some = omega arith; few = omega arith }
+is_most Sixteen = record { some = omega arith; few = omega arith }

@@ -7,7 +7,7 @@ use Rattle.lit_cert.specs.declared.fault.Fault.{Fault}
 use Rattle.lit_cert.specs.declared.fault.Fault.TheVariants.{OutOfMemory, BadCertText, ReadFault, WriteFault}
 use Rattle.lit_cert.specs.Reading.{IsBadLine}
 
--- the value is that of the call, which did not fail
+-- the value is the value of the call, which did not fail
 pub ok_is : {T E : Type 0} (r : Result T E) (x : T) → Some x ≡ result_ok r → r ≡ Ok x
 ok_is (Ok y) x e = cc
 ok_is (Err d) x e = absurd cc
@@ -22,7 +22,7 @@ pub is_ok_not : {T E : Type 0} (r : Result T E) → None ≡ result_ok r → IsO
 is_ok_not (Ok y) e is = absurd cc
 is_ok_not (Err d) e is = absurd (false≢true is)
 
--- the exit of a `?` that follows `ok_or`: the fault is the one that was given, and there was no value
+-- the exit of a `?` that follows `ok_or`: the fault is the given one, and there was no value
 pub from_none : {A T : Type 0} (res : Result T Fault) (o : Option A) (d e : Fault) (P : Fault → Type 0) → IsErrAnd res (λ y. y ≡ d) → Err d ≡ ok_or o e → (o ≡ None → P e) → IfErr res P
 from_none (Ok x) o d e P h is p = tt
 from_none (Err y) (Some a) d e P h is p = absurd cc

@@ -1,4 +1,4 @@
--- The line of one row: its number, and so many potentials.
+-- The line of one row: its number, and n potentials.
 use Rattle.std.proofs.Common.{◌≡◌, ◌≢◌, ℕ, ◌+◌, ◌^◌, ◌<◌, ◌≤◌, List, [], ◌∷◌, ◌++◌, length, get_or, drop, map, refl, sym, ◌∙◌, arith}
 use Rattle.std.specs.List.{join_with_byte}
 use Rattle.std.specs.Fmt.{decimal}
@@ -21,7 +21,7 @@ same_decimals (x ∷ xs) (y ∷ ys) small small' e =
     let tail : xs ≡ ys = same_decimals xs ys (All-tail (λ n. n < 2 ^ 64) x xs small) (All-tail (λ n. n < 2 ^ 64) y ys small') tails in
     cc
 
--- a line has its numbers in one way
+-- the numbers of a line can be read in one way only
 pub same_numbers : (line xs ys : List ℕ) → 1 ≤ length xs → 1 ≤ length ys → AreNumbers xs → AreNumbers ys → line ≡ join_with_byte 32 (map decimal xs) → line ≡ join_with_byte 32 (map decimal ys) → xs ≡ ys
 same_numbers line xs ys some some' small small' e e' =
     same_decimals xs ys small small' (sym (words_of_numbers line xs some small e) ∙ words_of_numbers line ys some' small' e')
@@ -40,6 +40,6 @@ pub is_row : (numbers : List ℕ) (n number : ℕ) → length numbers ≡ n + 1 
 is_row [] n number len first small = absurd (omega arith)
 is_row (x ∷ xs) n number len first small = (record { len = omega arith; numbers = All-tail (λ y. y < 2 ^ 64) x xs small }, cc)
 
--- a row's line has its number and its potentials
+-- the numbers of a row's line are its number and its potentials
 pub row_has_numbers : (line : List ℕ) (n number : ℕ) (row : List ℕ) → number < 2 ^ 64 → IsRow n row → line ≡ join_with_byte 32 (map decimal (number ∷ row)) → HasNumbers (n + 1) line (number ∷ row)
 row_has_numbers line n number row small is e = record { some = omega arith; few = omega (arith, is.len); small = row_numbers n number row small is; line_is = e }

@@ -60,13 +60,13 @@ starts_more r n text ps left row rest so_far is e = record {
       ∙ ap (λ (t : List ℕ). t ++ rest) (flat_map_more line_text [] (rows_of r n ps) (row_words (r + 1) row) ∙ ap (flat_map line_text) (sym (rows_of_push r n ps row so_far.row.len is.len)));
 }
 
--- a row that is wrong, behind right ones
+-- a row that is wrong, after right rows
 pub stops_at_row : (most r n : ℕ) (text ps left : List ℕ) (e : Fault) → r < most → StartsWithRows r n text ps left → IsBadLine (r + 5) (NoLine (IsRow n) (row_words (r + 1)) left) e → IsBadRow most n text e
 stops_at_row most r n text ps left OutOfMemory lt so_far h = tt
 stops_at_row most r n text ps left (BadCertText k) lt so_far h = (r, lt, h.0, ps, left, so_far, h.1)
 stops_at_row most r n text ps left ReadFault lt so_far h = h
 stops_at_row most r n text ps left WriteFault lt so_far h = h
 
--- the numbers behind a row's own
+-- the numbers after a row's own
 pub behind_number : (seen numbers row : List ℕ) (x : ℕ) → seen ≡ numbers → numbers ≡ x ∷ row → take (length seen - 1) (drop 1 seen) ≡ row
 behind_number seen numbers row x e is = rw (e, is) (take_all (length (x ∷ row) - 1) row (omega arith))

@@ -23,7 +23,7 @@ yielded_next xs t y r u x some step v all e = YieldsList-turn e xs t y r u x som
 pub yielded_all : {S A B : Type 0} {steps : S → Option A → S → Type 0} {s : S} (xs : List A) (t : S) (y : Yields steps s xs t) (r : Option A) (u : S) → r ≡ None → steps t r u → (v : A → B) (all : List B) (e : YieldsList steps v s all) → map v xs ≡ all
 yielded_all xs t y r u none step v all e = (YieldsList-end e xs t y r u none step).0
 
--- the words so far are these numbers, below the limit, and at most so many
+-- the words so far are these numbers, below the limit, and at most `most`
 pub record ReadsTo (words : List (List ℕ)) (numbers : List ℕ) (most limit : ℕ) : Type 0 where
   pub words_are : words ≡ map decimal numbers
   pub few : length numbers ≤ most

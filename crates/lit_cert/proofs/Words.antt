@@ -4,12 +4,12 @@ use Rattle.std.specs.List.{join_with_byte}
 use Rattle.std.specs.Fmt.{decimal}
 use Rattle.std.proofs.lemmas.List.{map_more}
 
--- one more word stands behind the byte
+-- one more word stands after the byte
 pub join_with_byte-push : (c : ℕ) (w : List ℕ) (ws : List (List ℕ)) (y : List ℕ) → join_with_byte c ((w ∷ ws) ++ y ∷ []) ≡ join_with_byte c (w ∷ ws) ++ c ∷ y
 join_with_byte-push c w [] y = refl
 join_with_byte-push c w (v ∷ ws) y = ap (λ (t : List ℕ). w ++ c ∷ t) (join_with_byte-push c v ws y) ∙ sym (append_assoc w (c ∷ join_with_byte c (v ∷ ws)) (c ∷ y))
 
--- a list of numbers goes on behind a word: one number more
+-- a list of numbers goes on after a word: one number more
 pub numbers_more : (w : List ℕ) (xs : List ℕ) (i : ℕ) → i < length xs → join_with_byte 32 (w ∷ map decimal (take (i + 1) xs)) ≡ join_with_byte 32 (w ∷ map decimal (take i xs)) ++ 32 ∷ decimal (get_or xs i 0)
 numbers_more w xs i lt = ap (λ (ws : List (List ℕ)). join_with_byte 32 (w ∷ ws)) (map_more decimal xs i 0 lt) ∙ join_with_byte-push 32 w (map decimal (take i xs)) (decimal (get_or xs i 0))
 

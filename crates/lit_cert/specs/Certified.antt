@@ -1,10 +1,11 @@
--- When a certificate shows that its runs are the cheapest, and else the first condition that fails.
--- With n literals, c(p, q) is what the run from place p up to but not including q costs, and h(r, p) a potential.
+-- When a certificate shows that its runs are the cheapest, and otherwise the first condition that fails. With n
+-- literals, c(p, q) is the cost of the run from place p up to but not including q, and h(r, p) a potential.
 use Rattle.std.specs.Prelude.{◌≡◌, ℕ, ◌+◌, ◌-◌, ◌*◌, ◌<◌, ◌≤◌, List, length}
 use Rattle.lit_base.specs.Literals.{Literals, lengths}
 use Rattle.lit_base.specs.Costs.{run_cost}
 use Rattle.lit_base.specs.Cuts.{IsCut, cut_price}
 use Rattle.lit_base.specs.Potentials.{BoundsBelow, potential}
+use Rattle.lit_base.specs.Profiles.{buckets}
 use Rattle.lit_cert.specs.Certificates.{CertificateParts}
 use Rattle.lit_cert.specs.declared.reason.Reason.{Reason}
 use Rattle.lit_cert.specs.declared.reason.Reason.TheVariants.{Length, Ends, Total, EndRow, Step}
@@ -23,19 +24,19 @@ pub record HasLength (most : ℕ) (l : Literals) (hs : List ℕ) : Type 0 where
   pub rows : length hs ≡ most * length l.texts
 
 -- the price of the runs, the cost and h(most, 0) are one number
-pub record HasTotal (most : ℕ) (l : Literals) (c : CertificateParts) : Type 0 where
+pub record HasTotalFor (most : ℕ) (l : Literals) (c : CertificateParts) : Type 0 where
   pub price : cut_price (cost_of l) 0 c.ends ≡ c.cost
   pub bound : potential_of l c.potentials most 0 ≡ c.cost
 
--- the certificate is one for the literals, and tells what its runs cost
-pub record IsPriced (most : ℕ) (l : Literals) (c : CertificateParts) : Type 0 where
+-- the certificate is one for the literals, and states the price of its runs
+pub record IsPricedFor (most : ℕ) (l : Literals) (c : CertificateParts) : Type 0 where
   pub size : HasLength most l c.potentials
   pub cut : IsCut most (length l.texts) c.ends
-  pub total : HasTotal most l c
+  pub total : HasTotalFor most l c
 
 -- its potentials show, besides, that no cut and no assignment costs less
-pub record IsCertified (most : ℕ) (l : Literals) (c : CertificateParts) : Type 0 where
-  pub priced : IsPriced most l c
+pub record IsCertifiedFor (most : ℕ) (l : Literals) (c : CertificateParts) : Type 0 where
+  pub priced : IsPricedFor most l c
   pub bounds : BoundsBelow (cost_of l) (potential_of l c.potentials) most (length l.texts)
 
 -- of row r, no h(r, o) with o before p is above c(o, n)
@@ -51,7 +52,7 @@ abbrev pub RunsHold : Literals → List ℕ → ℕ → ℕ → ℕ → Type 0
 RunsHold l hs r p q =
     (k : ℕ) → p < k → k < q → potential_of l hs r p ≤ cost_of l p k + potential_of l hs (r - 1) k
 
--- of row r, no h(r, o) with o before p is above any of these
+-- of row r, no h(r, o) with o before p is above one of the sums
 abbrev pub StepsHold : Literals → List ℕ → ℕ → ℕ → Type 0
 StepsHold l hs r p = (o : ℕ) → o < p → RunsHold l hs r o (length l.texts)
 
@@ -72,7 +73,7 @@ pub record IsFirstRun (l : Literals) (hs : List ℕ) (r p q : ℕ) : Type 0 wher
   pub above : cost_of l p q + potential_of l hs (r - 1) q < potential_of l hs r p
   pub runs : RunsHold l hs r p q
 
--- and p is the first place of row r with such a q
+-- and p is the first place of row r with a q like this
 pub record IsFirstStep (l : Literals) (hs : List ℕ) (r p q : ℕ) : Type 0 where
   pub here : IsFirstRun l hs r p q
   pub places : StepsHold l hs r p
@@ -92,21 +93,31 @@ pub record IsFirstStepRow (most : ℕ) (l : Literals) (hs : List ℕ) (r p q : �
   pub rows : StepRowsHold l hs r
 
 -- the certificate is priced, and this end row is the first that fails
-pub record FailsAtEnd (most : ℕ) (l : Literals) (c : CertificateParts) (r p : ℕ) : Type 0 where
-  pub priced : IsPriced most l c
+pub record FailsAtEndFor (most : ℕ) (l : Literals) (c : CertificateParts) (r p : ℕ) : Type 0 where
+  pub priced : IsPricedFor most l c
   pub first : IsFirstEndRow most l c.potentials r p
 
 -- the certificate is priced, its end rows hold, and this step is the first that fails
-pub record FailsAtStep (most : ℕ) (l : Literals) (c : CertificateParts) (r p q : ℕ) : Type 0 where
-  pub priced : IsPriced most l c
+pub record FailsAtStepFor (most : ℕ) (l : Literals) (c : CertificateParts) (r p q : ℕ) : Type 0 where
+  pub priced : IsPricedFor most l c
   pub ends : EndRowsHold l c.potentials (most + 1)
   pub first : IsFirstStepRow most l c.potentials r p q
 
 -- the reason is the first condition that fails: those before it hold
-abbrev pub IsFirstFailure : ℕ → Literals → CertificateParts → Reason → Type 0
-IsFirstFailure most l c Length = ¬ HasLength most l c.potentials
-IsFirstFailure most l c Ends = HasLength most l c.potentials × ¬ IsCut most (length l.texts) c.ends
-IsFirstFailure most l c Total =
-    HasLength most l c.potentials × IsCut most (length l.texts) c.ends × ¬ HasTotal most l c
-IsFirstFailure most l c (EndRow r p) = FailsAtEnd most l c r p
-IsFirstFailure most l c (Step r p q) = FailsAtStep most l c r p q
+abbrev pub IsFirstFailureFor : ℕ → Literals → CertificateParts → Reason → Type 0
+IsFirstFailureFor most l c Length = ¬ HasLength most l c.potentials
+IsFirstFailureFor most l c Ends = HasLength most l c.potentials × ¬ IsCut most (length l.texts) c.ends
+IsFirstFailureFor most l c Total =
+    HasLength most l c.potentials × IsCut most (length l.texts) c.ends × ¬ HasTotalFor most l c
+IsFirstFailureFor most l c (EndRow r p) = FailsAtEndFor most l c r p
+IsFirstFailureFor most l c (Step r p q) = FailsAtStepFor most l c r p q
+
+-- ---- of a certificate, by its profile
+
+-- it shows that its runs are the cheapest
+abbrev pub IsCertified : Literals → CertificateParts → Type 0
+IsCertified l c = IsCertifiedFor (buckets c.profile) l c
+
+-- the reason is the first condition that fails
+abbrev pub IsFirstFailure : Literals → CertificateParts → Reason → Type 0
+IsFirstFailure l c reason = IsFirstFailureFor (buckets c.profile) l c reason

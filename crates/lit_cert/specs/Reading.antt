@@ -4,25 +4,27 @@ use Rattle.std.specs.List.{flat_map, join_with_byte}
 use Rattle.std.specs.Fmt.{decimal}
 use Rattle.lit_cert.specs.declared.fault.Fault.{Fault}
 use Rattle.lit_cert.specs.declared.fault.Fault.TheVariants.{OutOfMemory, BadCertText, ReadFault, WriteFault}
-use Rattle.lit_cert.specs.Certificates.{CertificateParts}
-use Rattle.lit_cert.specs.Spelling.{head_lines, lines_of, line_text, row_words, rows_of, IsCount, HasEnds, HasText}
+use Rattle.lit_cert.specs.Certificates.{CertificateNumbers}
+use Rattle.lit_base.specs.Profiles.{buckets}
+use Rattle.lit_base.specs.declared.profile.Profile.{Profile}
+use Rattle.lit_cert.specs.Spelling.{head_lines, lines_of, line_text, row_words, rows_of, IsCount, HasEnds, HasTextFor}
 
 -- the text begins with the first k lines of the certificate's text; nothing stands after its last line, if k is past that
-pub record Follows (most : ℕ) (text : List ℕ) (k : ℕ) (c : CertificateParts) : Type 0 where
-  pub has_text : HasText most c
+pub record Follows (most : ℕ) (text : List ℕ) (k : ℕ) (c : CertificateNumbers) : Type 0 where
+  pub has_text : HasTextFor most c
   pub rest : List ℕ
   pub lines : text ≡ flat_map line_text (take k (lines_of most c)) ++ rest
   pub whole : length (lines_of most c) < k → rest ≡ []
 
--- the lines up to line k, from 1, are those of a certificate's text
-abbrev pub IsRightTo : ℕ → List ℕ → ℕ → Type 0
-IsRightTo most text k = (c : CertificateParts) × Follows most text k c
+-- the lines up to line k, from 1, are lines of a certificate's text
+abbrev pub IsRightFor : ℕ → List ℕ → ℕ → Type 0
+IsRightFor most text k = (c : CertificateNumbers) × Follows most text k c
 
 -- line k, from 1, is not of its form, not ended by a newline, missing, or past the end; the lines before it are right
-pub record IsFirstBad (most : ℕ) (text : List ℕ) (k : ℕ) : Type 0 where
+pub record IsFirstBadFor (most : ℕ) (text : List ℕ) (k : ℕ) : Type 0 where
   pub from_one : 1 ≤ k
-  pub before : IsRightTo most text (k - 1)
-  pub wrong : IsRightTo most text k → ⊥
+  pub before : IsRightFor most text (k - 1)
+  pub wrong : IsRightFor most text k → ⊥
 
 -- ---- reading one line
 
@@ -30,7 +32,7 @@ pub record IsFirstBad (most : ℕ) (text : List ℕ) (k : ℕ) : Type 0 where
 abbrev pub NoLine : {V : Type 0} → (V → Type 0) → (V → List (List ℕ)) → List ℕ → Type 0
 NoLine {V} fits words text = (v : V) (rest : List ℕ) → fits v → text ≢ line_text (words v) ++ rest
 
--- want of memory, or this line is wrong, and so
+-- want of memory, or this line is wrong in this way
 abbrev pub IsBadLine : ℕ → Type 0 → Fault → Type 0
 IsBadLine line so OutOfMemory = ⊤
 IsBadLine line so (BadCertText k) = (k ≡ line) × so
@@ -41,7 +43,7 @@ IsBadLine line so WriteFault = ⊥
 abbrev pub AreNumbers : List ℕ → Type 0
 AreNumbers xs = All (λ x. x < 2 ^ 64) xs
 
--- the line is these numbers with single spaces between them, at least one and at most so many
+-- the line is these numbers with single spaces between them, at least one and at most `most`
 pub record HasNumbers (most : ℕ) (line numbers : List ℕ) : Type 0 where
   pub some : 1 ≤ length numbers
   pub few : length numbers ≤ most
@@ -53,9 +55,9 @@ pub record StartsWithHead (most n cost : ℕ) (ends text rest : List ℕ) : Type
   pub count : IsCount n
   pub has_ends : HasEnds most ends
   pub small_cost : cost < 2 ^ 64
-  pub lines : text ≡ flat_map line_text (head_lines n ends cost) ++ rest
+  pub lines : text ≡ flat_map line_text (head_lines most n ends cost) ++ rest
 
--- so many numbers of 64 bits
+-- n numbers of 64 bits
 pub record IsRow (n : ℕ) (row : List ℕ) : Type 0 where
   pub len : length row ≡ n
   pub numbers : AreNumbers row
@@ -75,8 +77,27 @@ IsBadRow most n text ReadFault = ⊥
 IsBadRow most n text WriteFault = ⊥
 
 -- want of memory, or the first bad line of the text
-abbrev pub IsBadText : ℕ → List ℕ → Fault → Type 0
-IsBadText most text OutOfMemory = ⊤
-IsBadText most text (BadCertText k) = IsFirstBad most text k
-IsBadText most text ReadFault = ⊥
-IsBadText most text WriteFault = ⊥
+abbrev pub IsBadTextFor : ℕ → List ℕ → Fault → Type 0
+IsBadTextFor most text OutOfMemory = ⊤
+IsBadTextFor most text (BadCertText k) = IsFirstBadFor most text k
+IsBadTextFor most text ReadFault = ⊥
+IsBadTextFor most text WriteFault = ⊥
+
+-- ---- of a text, whatever its profile
+
+-- the lines up to line k are lines of the text of a certificate of some profile
+abbrev pub IsRightTo : List ℕ → ℕ → Type 0
+IsRightTo text k = (profile : Profile) × IsRightFor (buckets profile) text k
+
+-- line k is not of its form, not ended by a newline, missing, or past the end; the lines before it are right
+pub record IsFirstBad (text : List ℕ) (k : ℕ) : Type 0 where
+  pub from_one : 1 ≤ k
+  pub before : IsRightTo text (k - 1)
+  pub wrong : IsRightTo text k → ⊥
+
+-- want of memory, or the first bad line of the text
+abbrev pub IsBadText : List ℕ → Fault → Type 0
+IsBadText text OutOfMemory = ⊤
+IsBadText text (BadCertText k) = IsFirstBad text k
+IsBadText text ReadFault = ⊥
+IsBadText text WriteFault = ⊥

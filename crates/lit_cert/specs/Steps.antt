@@ -1,9 +1,9 @@
--- Steps of one row: by the potentials of the row, and those of the row before it.
+-- Steps of one row: by the potentials of the row and of the row before it.
 use Rattle.std.specs.Prelude.{◌≡◌, ℕ, ◌+◌, ◌<◌, ◌≤◌, List, length, slice_index}
 use Rattle.lit_base.specs.Literals.{Literals}
 use Rattle.lit_cert.specs.Certified.{cost_of}
 
--- what the run from p to q costs, and the potential at its end
+-- the cost of the run from p to q, with the potential at its end
 abbrev pub price_of : Literals → List ℕ → ℕ → ℕ → ℕ
 price_of l before p q = cost_of l p q + slice_index before q
 
@@ -22,7 +22,7 @@ abbrev pub RunsSuffice : Literals → List ℕ → List ℕ → ℕ → ℕ → 
 RunsSuffice l here before low high first end =
     (p : ℕ) → low ≤ p → p < high → Fits l here before p first end → Fits l here before p 0 (length l.texts)
 
--- q is the end of a cheapest run from p of those that end from first up to but not including end, and price its price
+-- q is the end of a cheapest run from p, among the ends from first up to but not including end, and price is its price
 pub record IsLeastRun (l : Literals) (before : List ℕ) (p first end q price : ℕ) : Type 0 where
   pub low : first ≤ q
   pub high : q < end

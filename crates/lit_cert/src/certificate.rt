@@ -1,16 +1,17 @@
-//! A grouping of literals into runs, with what shows that no other one is cheaper.
-use lit_base::Ends;
+//! A grouping of literals into runs, with numbers which show that no other one is cheaper.
+use lit_base::{Ends, Profile};
 use std::marker::Model;
 
-/// A grouping of n literals into runs, with the numbers by which a reader can check that no other
-/// one is cheaper.
+/// A grouping of n literals into runs, with the numbers by which a reader can check that no other grouping is cheaper.
 #[derive(Debug, Drop)]
 pub struct Certificate {
+    /// How many runs there may be.
+    pub profile: Profile,
     /// Where the runs end.
     pub ends: Ends,
     /// The price of the runs together.
     pub cost: u64,
-    /// Eight rows of n prices: `h(r, p)`, for r from 1 to 8, stands at `(r - 1) * n + p`.
+    /// A row of n prices for each bucket of the profile: `h(r, p)`, for r from 1 on, stands at `(r - 1) * n + p`.
     pub potentials: Vec<u64>,
 }
 
@@ -19,5 +20,5 @@ impl Model for Certificate {
 
     ghost Value = { CertificateParts };
 
-    ghost view = { λ c. record { ends = c.ends.items; cost = c.cost; potentials = c.potentials.items } };
+    ghost view = { λ c. record { profile = c.profile; ends = c.ends.items; cost = c.cost; potentials = c.potentials.items } };
 }

@@ -1,27 +1,28 @@
 //! The check that a certificate shows its runs to be the cheapest.
 ghost use Rattle.std.specs.Prelude.{◌≡◌, ◌+◌, ◌*◌, ◌<◌, ◌≤◌, ◌↔◌, length, IsTrue, IsOk, IsErrOf, OnOk, MatchOption, MatchResult};
 ghost use Rattle.lit_base.specs.Literals.{lengths};
+ghost use Rattle.lit_base.specs.Profiles.{buckets};
 ghost use Rattle.lit_base.specs.Cuts.{IsCut, NoCutBelow};
 ghost use Rattle.lit_base.specs.Assignments.{IsAssignment, NoAssignmentBelow, assign_price, assignment_of};
-ghost use Rattle.lit_cert.specs.Certified.{EndRowsHold, EndsHold, HasLength, HasTotal, IsCertified, IsFirstEnd, IsFirstEndRow, IsFirstFailure, IsFirstRun, IsFirstStep, IsFirstStepRow, IsPriced, RunsHold, StepRowsHold, StepsHold};
+ghost use Rattle.lit_cert.specs.Certified.{EndRowsHold, EndsHold, HasLength, HasTotalFor, IsCertified, IsFirstEnd, IsFirstEndRow, IsFirstFailure, IsFirstRun, IsFirstStep, IsFirstStepRow, IsPricedFor, RunsHold, StepRowsHold, StepsHold};
 ghost use Rattle.lit_cert.specs.declared.reason.Reason.{Reason};
 
 use crate::certificate::Certificate;
 use crate::dividing::row_holds;
 use crate::reason::Reason;
-use lit_base::{BUCKETS, LitList, assignment_law, cost, cut_cost, is_cut, potentials_law};
+use lit_base::{LitList, assignment_law, buckets, cost, cut_cost, is_cut, potentials_law};
 
-/// Whether the certificate shows that its runs are the cheapest: then no assignment of the literals
-/// to at most eight buckets costs less than the certificate says, and its runs cost exactly that.
-/// Else the answer is the first condition that fails. Whoever made the certificate is not trusted.
+/// Whether the certificate shows that its runs are the cheapest. If it does, its runs cost exactly what it says, and no
+/// assignment of the literals to at most as many buckets as its profile has costs less. Otherwise `Err` has the first
+/// condition that fails. The maker of the certificate is not trusted.
 pub fn check(list: &LitList, certificate: &Certificate) -> Result<(), Reason>
-    ensures yes { IsOk result ↔ IsCertified 8 list.now certificate.now }
-    ensures no { (reason : Reason) → IsErrOf result reason ↔ IsFirstFailure 8 list.now certificate.now reason }
+    ensures yes { IsOk result ↔ IsCertified list.now certificate.now }
+    ensures no { (reason : Reason) → IsErrOf result reason ↔ IsFirstFailure list.now certificate.now reason }
 
-    ensures least { OnOk result (NoAssignmentBelow 8 list.now certificate.now.cost) }
-    ensures least_cut { OnOk result (NoCutBelow 8 list.now certificate.now.cost) }
-    ensures assignment { OnOk result (IsAssignment 8 (length list.now.texts) (assignment_of certificate.now.ends)) }
-    ensures reached { OnOk result (assign_price 8 (lengths list.now) (assignment_of certificate.now.ends) ≡ certificate.now.cost) }
+    ensures least { OnOk result (NoAssignmentBelow (buckets certificate.now.profile) list.now certificate.now.cost) }
+    ensures least_cut { OnOk result (NoCutBelow (buckets certificate.now.profile) list.now certificate.now.cost) }
+    ensures assignment { OnOk result (IsAssignment (buckets certificate.now.profile) (length list.now.texts) (assignment_of certificate.now.ends)) }
+    ensures reached { OnOk result (assign_price (buckets certificate.now.profile) (lengths list.now) (assignment_of certificate.now.ends) ≡ certificate.now.cost) }
 {
     check_priced(list, certificate)?;
     check_bounds(list, certificate)?;
@@ -29,30 +30,31 @@ pub fn check(list: &LitList, certificate: &Certificate) -> Result<(), Reason>
     Ok(())
 }
 
-/// The law that a certificate which holds is right: no assignment to at most eight buckets and no
-/// cut costs less than it says, and its runs, read as an assignment, cost exactly that.
+/// The law that a certificate which holds is right: no cut, and no assignment to at most as many buckets as its profile
+/// has, costs less than it says; its runs, read as an assignment, cost exactly that.
 pub fn certified_law(list: &LitList, certificate: &Certificate)
-    requires { IsCertified 8 list.now certificate.now }
-    ensures least { NoAssignmentBelow 8 list.now certificate.now.cost }
-    ensures least_cut { NoCutBelow 8 list.now certificate.now.cost }
-    ensures assignment { IsAssignment 8 (length list.now.texts) (assignment_of certificate.now.ends) }
-    ensures reached { assign_price 8 (lengths list.now) (assignment_of certificate.now.ends) ≡ certificate.now.cost }
+    requires { IsCertified list.now certificate.now }
+    ensures least { NoAssignmentBelow (buckets certificate.now.profile) list.now certificate.now.cost }
+    ensures least_cut { NoCutBelow (buckets certificate.now.profile) list.now certificate.now.cost }
+    ensures assignment { IsAssignment (buckets certificate.now.profile) (length list.now.texts) (assignment_of certificate.now.ends) }
+    ensures reached { assign_price (buckets certificate.now.profile) (lengths list.now) (assignment_of certificate.now.ends) ≡ certificate.now.cost }
 {
-    potentials_law(list, BUCKETS, certificate.potentials.as_slice());
-    assignment_law(list, BUCKETS, certificate.ends.as_slice());
+    let most = buckets(certificate.profile);
+    potentials_law(list, most, certificate.potentials.as_slice());
+    assignment_law(list, most, certificate.ends.as_slice());
 }
 
-/// Checks that the certificate is one for the literals, and tells what its runs cost.
+/// Checks that the certificate is one for the literals, and states the price of its runs.
 fn check_priced(list: &LitList, certificate: &Certificate) -> Result<(), Reason>
     ensures { MatchResult result
-        (λ _. IsPriced 8 list.now certificate.now)
-        (λ reason. IsFirstFailure 8 list.now certificate.now reason) }
+        (λ _. IsPricedFor (buckets certificate.now.profile) list.now certificate.now)
+        (λ reason. IsFirstFailure list.now certificate.now reason) }
 {
     let n = list.len();
-    if n == 0 || certificate.potentials.len() != BUCKETS * n {
+    if n == 0 || certificate.potentials.len() != buckets(certificate.profile) * n {
         return Err(Reason::Length);
     }
-    if !is_cut(list, &certificate.ends) {
+    if !is_cut(list, certificate.profile, &certificate.ends) {
         return Err(Reason::Ends);
     }
     if !has_total(list, certificate) {
@@ -61,28 +63,29 @@ fn check_priced(list: &LitList, certificate: &Certificate) -> Result<(), Reason>
     Ok(())
 }
 
-/// Whether the price of the runs, the cost and `h(8, 0)` are one number.
+/// Whether the price of the runs, the cost and the potential of all literals are one number.
 fn has_total(list: &LitList, certificate: &Certificate) -> bool
-    requires size { HasLength 8 list.now certificate.now.potentials }
-    requires cut { IsCut 8 (length list.now.texts) certificate.now.ends }
-    ensures { IsTrue result ↔ HasTotal 8 list.now certificate.now }
+    requires size { HasLength (buckets certificate.now.profile) list.now certificate.now.potentials }
+    requires cut { IsCut (buckets certificate.now.profile) (length list.now.texts) certificate.now.ends }
+    ensures { IsTrue result ↔ HasTotalFor (buckets certificate.now.profile) list.now certificate.now }
 {
-    let bound = certificate.potentials[(BUCKETS - 1) * list.len()];
+    let bound = certificate.potentials[(buckets(certificate.profile) - 1) * list.len()];
     cut_cost(list, &certificate.ends) == certificate.cost && bound == certificate.cost
 }
 
-/// Checks that the potentials bound from below what runs cost.
+/// Checks that the potentials bound the costs of runs from below.
 fn check_bounds(list: &LitList, certificate: &Certificate) -> Result<(), Reason>
-    requires { IsPriced 8 list.now certificate.now }
+    requires { IsPricedFor (buckets certificate.now.profile) list.now certificate.now }
     ensures { MatchResult result
-        (λ _. IsCertified 8 list.now certificate.now)
-        (λ reason. IsFirstFailure 8 list.now certificate.now reason) }
+        (λ _. IsCertified list.now certificate.now)
+        (λ reason. IsFirstFailure list.now certificate.now reason) }
 {
+    let most = buckets(certificate.profile);
     let potentials = certificate.potentials.as_slice();
-    if let Some((r, p)) = first_end_row(list, potentials, BUCKETS) {
+    if let Some((r, p)) = first_end_row(list, potentials, most) {
         return Err(Reason::EndRow { r, p });
     }
-    if let Some((r, p, q)) = first_step_row(list, potentials, BUCKETS) {
+    if let Some((r, p, q)) = first_step_row(list, potentials, most) {
         return Err(Reason::Step { r, p, q });
     }
     Ok(())
@@ -138,8 +141,8 @@ fn first_step_row(list: &LitList, potentials: &[u64], most: usize) -> Option<(us
     None
 }
 
-/// The first place p of row r, and the first place q after it, at which that is so. Where there is
-/// none it takes time n log n, else n^2.
+/// The first place p of row r, and the first place q after it, at which the step fails. Where there is none it takes
+/// time n log n, otherwise n^2.
 fn first_step(list: &LitList, potentials: &[u64], r: usize) -> Option<(usize, usize)>
     requires from_two { 2 ≤ r }
     requires within { r * length list.now.texts ≤ length potentials.now }

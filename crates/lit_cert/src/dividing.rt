@@ -24,10 +24,9 @@ pub fn row_holds(list: &LitList, potentials: &[u64], r: usize) -> bool
     places_hold(list, here, before, 0, n - 1, 1, n)
 }
 
-/// Whether the potentials of the places from `low` up to `high` are above no run and what stands
-/// behind it. Ends from `first` up to `end` suffice for them. A cheapest run from the middle place
-/// divides the work: by the quadrangle inequality the places before it need no later end than that
-/// run's, and the places behind it no earlier one.
+/// Whether no potential of the places from `low` up to `high` is above a run and the potential after it. Ends from
+/// `first` up to `end` suffice for them. A cheapest run from the middle place divides the work: by the quadrangle
+/// inequality the places before it need no later end than that run's, and the places after it no earlier one.
 fn places_hold(
     list: &LitList,
     here: &[u64],
@@ -57,8 +56,8 @@ fn places_hold(
         && places_hold(list, here, before, p + 1, high, q, end)
 }
 
-/// The end of a cheapest run from place p, of those that end from `first` up to `end`, and what it
-/// costs with the potential behind it.
+/// The end of a cheapest run from place p, among the ends from `first` up to `end`, and its cost with the potential
+/// after it.
 fn least_run(list: &LitList, before: &[u64], p: usize, first: usize, end: usize) -> (usize, u64)
     requires small { All (λ h. h < 2 ^ 40) before.now }
     requires within { end ≤ length before.now }

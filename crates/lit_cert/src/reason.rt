@@ -6,13 +6,14 @@ use thiserror::Error;
 /// up to but not including q, and `h(r, p)` a potential, where `h(r, n)` stands for 0.
 #[derive(Clone, Copy, Debug, PartialEq, Eq, Error)]
 pub enum Reason {
-    /// There is no literal, or there are not eight potentials for each.
+    /// There is no literal, or there are not as many potentials for each as the profile has buckets.
     #[error("length")]
     Length,
     /// The ends are no cut of the literals.
     #[error("ends")]
     Ends,
-    /// The price of the runs, the certificate's cost and `h(8, 0)` are not one number.
+    /// The price of the runs, the certificate's cost and the potential `h(b, 0)`, for the b buckets of the profile, are
+    /// not one number.
     #[error("total")]
     Total,
     /// `h(r, p)` is above `c(p, n)`.

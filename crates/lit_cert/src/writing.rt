@@ -4,11 +4,12 @@ ghost use Rattle.std.specs.Fmt.{decimal};
 ghost use Rattle.std.specs.Io.KnownBytes.{Appends};
 ghost use Rattle.byte_io.specs.Transfers.{AppendsPrefix};
 ghost use Rattle.lit_cert.specs.Faults.{IsWritersFault};
-ghost use Rattle.lit_cert.specs.Spelling.{IsShaped, ends_words, line_text, row_words, spelling};
+ghost use Rattle.lit_cert.specs.Spelling.{IsShaped, ends_words, line_text, row_words, spelling, version_of};
+ghost use Rattle.lit_base.specs.Profiles.{buckets};
 
 use crate::certificate::Certificate;
 use crate::fault::Fault;
-use lit_base::{BUCKETS, ByteOut, Ends, Failed, write_all};
+use lit_base::{ByteOut, Ends, Failed, Profile, buckets, write_all};
 use std::alloc::{AllocError, Global};
 use std::fmt::Write;
 
@@ -38,18 +39,30 @@ fn push_row(text: &mut String, number: usize, row: &[u64]) -> Result<(), AllocEr
     text.push_str("\n")
 }
 
+/// The version of the text.
+fn version_of(profile: Profile) -> u32
+    ensures { result ≡ version_of (buckets profile) }
+{
+    match profile {
+        Profile::Eight => 1,
+        Profile::Sixteen => 2,
+    }
+}
+
 /// The whole text.
 fn text_of(alloc: Global, certificate: &Certificate) -> Result<String, AllocError>
-    requires { IsShaped 8 certificate.now }
-    ensures { IfOk result (λ text. string_bytes text ≡ spelling 8 certificate.now) }
+    requires { IsShaped certificate.now }
+    ensures { IfOk result (λ text. string_bytes text ≡ spelling certificate.now) }
 {
-    let n = certificate.potentials.len() / BUCKETS;
+    let most = buckets(certificate.profile);
+    let n = certificate.potentials.len() / most;
+    let version = version_of(certificate.profile);
     let cost = certificate.cost;
     let mut text = String::new(alloc);
-    write!(text, "litcert 1\nliterals {n}\n")?;
+    write!(text, "litcert {version}\nliterals {n}\n")?;
     push_ends(&mut text, &certificate.ends)?;
     write!(text, "cost {cost}\n")?;
-    for r in 0..BUCKETS {
+    for r in 0..most {
         let row = &certificate.potentials[r * n..(r + 1) * n];
         push_row(&mut text, r + 1, row)?;
     }
@@ -63,19 +76,20 @@ fn text_of(alloc: Global, certificate: &Certificate) -> Result<String, AllocErro
 /// - `WriteFault`, where a write failed or took nothing.
 /// - `OutOfMemory`, where a growth was refused.
 ///
-/// After both of them a front of the text was written.
+/// After `WriteFault` a prefix of the text was written, and after `OutOfMemory` nothing.
 pub fn write_cert<W: ByteOut>(
     alloc: Global,
     certificate: &Certificate,
     out: &mut W,
 ) -> Result<(), Fault>
-    requires shape { IsShaped 8 certificate.now }
+    requires shape { IsShaped certificate.now }
     ensures ok { OnOk result
-        (Appends (W.written out.old) (W.written out.new) (spelling 8 certificate.now)) }
+        (Appends (W.written out.old) (W.written out.new) (spelling certificate.now)) }
     ensures err { OnErr result
-        (AppendsPrefix (W.written out.old) (W.written out.new) (spelling 8 certificate.now)) }
+        (AppendsPrefix (W.written out.old) (W.written out.new) (spelling certificate.now)) }
+    ensures same { result ≡ Err Fault.OutOfMemory → out.new ≡ out.old }
 
-    // A fault is told only where a write failed.
+    // `WriteFault` is returned only if a write failed.
     ensures fault { result ≡ Err Fault.WriteFault → IsTrue (W.has_failed out.new) }
     ensures flag { result ≢ Err Fault.WriteFault → W.has_failed out.new ≡ W.has_failed out.old }
     ensures faults { IfErr result IsWritersFault }

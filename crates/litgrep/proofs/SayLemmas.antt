@@ -1,4 +1,4 @@
--- What is said, from what a writer writes.
+-- Messages, from the text that a writer writes.
 use Rattle.std.proofs.Common.{◌≡◌, ℕ, true, false, ◌||◌, List, Result, Ok, Err, OnOk, OnErr, refl, sym, ap, ◌∙◌}
 use Rattle.std.proofs.Math.Bool.{or-true}
 use Rattle.byte_io.specs.Transfers.{Says}

@@ -1,4 +1,4 @@
--- The options that clap's matches tell. POSIX.1-2017 `grep`, OPTIONS and OPERANDS.
+-- The options in clap's matches. POSIX.1-2017 `grep`, OPTIONS and OPERANDS.
 use Rattle.std.specs.Prelude.{◌≡◌, ℕ, ◌||◌, Bool, true, false, List, [], map, length, take, drop, nat_lt, if◌then◌else◌, codes, string_bytes}
 use Rattle.std.specs.Option.{option_map_or}
 use Rattle.std.specs.Borrow.{Bor}
@@ -10,7 +10,7 @@ use Rattle.program_words.specs.Matches.{is_used}
 use Rattle.program_words.specs.declared.fault.Fault.{Fault}
 use Rattle.program_words.specs.declared.fault.Fault.TheVariants.{Usage, OutOfMemory}
 
--- the texts behind references
+-- the texts after references
 abbrev pub texts : List (Bor (List ℕ)) → List (List ℕ)
 texts = map (λ text. text.now)
 
@@ -37,7 +37,7 @@ abbrev pub searched_of : ArgMatches → List (List ℕ)
 searched_of m = if names_patterns m then texts_of m (codes "operands")
     else drop 1 (texts_of m (codes "operands"))
 
--- the options that the matches tell, with these pattern lists and these files to search
+-- the options in the matches, with these pattern lists and these files to search
 pub record Tells (m : ArgMatches) (patterns searched : List (List ℕ)) (o : GrepOptions) : Type 0 where
   pub fold : o.fold ≡ (if is_used m (codes "fold") then Ascii else No)
   pub invert : o.invert ≡ is_used m (codes "invert")
@@ -51,11 +51,11 @@ pub record Tells (m : ArgMatches) (patterns searched : List (List ℕ)) (o : Gre
   pub files : map string_bytes o.files.items ≡ texts_of m (codes "files")
   pub operands : map string_bytes o.operands.items ≡ searched
 
--- the options that the matches tell
+-- the options in the matches
 abbrev pub IsOptionsOf : ArgMatches → GrepOptions → Type 0
 IsOptionsOf m = Tells m (lists_of m) (searched_of m)
 
--- what is answered where no pattern is given: the text that is printed, or that memory ran out
+-- the fault where no pattern is given: the text that is printed, or that memory ran out
 abbrev pub IsNoPattern : Fault → Type 0
 IsNoPattern (Usage text) = string_bytes text ≡ codes "litgrep: no pattern given\n"
 IsNoPattern OutOfMemory = Unit {0}
@@ -65,6 +65,6 @@ abbrev pub IsRefusalOf : ArgMatches → Fault → Type 0
 IsRefusalOf m (Usage text) = (gives_pattern m ≡ false) × IsNoPattern (Usage text)
 IsRefusalOf m OutOfMemory = Unit {0}
 
--- the options that some matches tell, which give a pattern
+-- the options in some matches, which give a pattern
 abbrev pub AreOptions : GrepOptions → Type 0
 AreOptions o = (m : ArgMatches) × (gives_pattern m ≡ true) × IsOptionsOf m o

@@ -37,14 +37,26 @@ every line, with -x every empty one. -e and -f may be repeated and mixed, and
 all their patterns count; a LIST may begin with -. Of -c, -l and -q, -q goes
 before -l, and -l before -c.
 
-Limits: 4096 patterns of at most 4095 bytes each and 1048576 in all; 1024
-different literals; 1052672 bytes in one LIST or pattern file. What is beyond
-is refused with `litgrep: patterns refused (N)`, N being 2 for too many
-patterns, 3 for one that is too long, 6 for too many different literals and 7
-for too many bytes.
+Limits: 4096 patterns of at most 4095 bytes each and 1048576 in all; 1052672
+bytes in one LIST or pattern file. What is beyond is refused with
+`litgrep: patterns refused (N)`, N being 2 for too many patterns, 3 for one
+that is too long and 7 for too many bytes.
 
 Status: 0 if a line is selected, 1 if none is, 2 at an error; with -q 0 if a
 line is selected, whatever the errors.
+
+GNU grep has more options, which POSIX has not. In their place:
+  for -a, -U, --line-buffered   nothing, since litgrep always does that
+  for -y                        -i
+  for -H                        a second file: litgrep cat f /dev/null
+  for -h, --no-filename         a run for each file
+  for -L                        -q on each file, and its status
+  for -m 5                      litgrep cat f | head -n 5
+  for -r, --include             find . -exec litgrep cat /dev/null {} +
+  for -z                        tr, before and behind litgrep
+  for -o, -b                    litplan scan
+  for -w, --color               GNU grep on the lines that litgrep selects
+  for -A, -B, -C, -E, -G, -P    GNU grep
 
 Examples:
   litgrep -n -e cat -e dog notes.txt

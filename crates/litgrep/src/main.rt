@@ -2,9 +2,14 @@
 //! locale.
 #![tactic(auto)]
 
+mod advice;
 mod help;
+mod marked_words;
+mod operand_files;
 mod options;
 mod program;
+mod request;
+mod standard_input;
 mod words;
 
 use byte_io::ToWrite;

@@ -1,4 +1,4 @@
-//! The options that clap's matches tell. POSIX.1-2017 `grep`, OPTIONS and OPERANDS.
+//! The options in clap's matches. POSIX.1-2017 `grep`, OPTIONS and OPERANDS.
 ghost use Rattle.std.specs.Prelude.{◌≡◌, IfErr, IfOk, OnOk, codes, if◌then◌else◌, map, string_bytes, true};
 ghost use Rattle.lit_base.specs.declared.fold.Fold.TheVariants.{Ascii, No};
 ghost use Rattle.litgrep.specs.Options.{IsNoPattern, IsOptionsOf, IsRefusalOf, Tells, gives_pattern, texts, texts_of};
@@ -10,7 +10,7 @@ use lit_base::Fold;
 use program_words::Fault;
 use std::alloc::{AllocError, Global};
 
-/// The options that clap's matches tell, each under the name of its field as id.
+/// The options in clap's matches, each under the name of its field as id.
 ///
 /// `Usage` where no pattern is given: neither -e nor -f nor an operand. `OutOfMemory` where a
 /// growth was refused.
@@ -31,7 +31,7 @@ pub fn options_of(alloc: Global, matches: &ArgMatches<'_>) -> Result<GrepOptions
     Ok(told(alloc, matches, leading, files)?)
 }
 
-/// The options of these pattern lists and these files to search, with all else that the matches tell.
+/// The options with the given pattern lists and files to search, and all else from the matches.
 fn told(
     alloc: Global,
     matches: &ArgMatches<'_>,
@@ -55,7 +55,7 @@ fn told(
     })
 }
 
-/// What is answered where no pattern is given.
+/// The fault where no pattern is given.
 fn no_pattern(alloc: Global) -> Fault
     ensures { IsNoPattern result }
 {

@@ -5,10 +5,12 @@ ghost use Rattle.grep_run.specs.Messages.{out_of_memory};
 ghost use Rattle.grep_run.specs.Writers.{Writes, WritesFront, is_write_fault, writer};
 ghost use Rattle.program_words.specs.Words.{message_on};
 
-use crate::words::options;
+use crate::operand_files::OperandFiles;
+use crate::request::{Request, read_request};
+use crate::standard_input::StandardInput;
 use byte_io::{ByteOut, SystemFiles};
 use grep_run::{GrepOptions, Status, Stop, run, say_out_of_memory, write_whole};
-use program_words::{Fault, words};
+use program_words::Fault;
 use std::io::Read;
 use std::rt::{Env, Files};
 
@@ -23,47 +25,33 @@ pub fn serve<R: Env + Files + AllocGlobal, S: Read + Copy + Drop, W: ByteOut, E:
     ensures { result ≢ Status.Trouble
         → (W.has_failed out.new || E.has_failed err.new) ≡ (W.has_failed out.old || E.has_failed err.old) }
 {
-    match words(rt, "litgrep") {
-        Ok(words) => serve_words(rt, standard, words.as_slice(), out, err),
-        Err(fault) => refuse(&fault, err),
-    }
-}
-
-fn serve_words<R: Files + AllocGlobal, S: Read + Copy + Drop, W: ByteOut, E: ByteOut>(
-    rt: &R,
-    standard: S,
-    words: &[String],
-    out: &mut W,
-    err: &mut E,
-) -> Status
-    ensures { result ≢ Status.Trouble
-        → (W.has_failed out.new || E.has_failed err.new) ≡ (W.has_failed out.old || E.has_failed err.old) }
-{
-    match options(rt.alloc(), words) {
-        Ok(options) => {
-            let mut files = files_for(rt, standard, &options);
+    match read_request(rt) {
+        Ok(Request { options, unnamed }) => {
+            let mut files = OperandFiles {
+                files: files_for(rt, standard, &options),
+                unnamed: unnamed.as_slice(),
+            };
             run(rt.alloc(), &options, &mut files, out, err)
         }
         Err(fault) => refuse(&fault, err),
     }
 }
 
-/// The files of the system that a run may read. One that its lines go to is missing: it would grow as
-/// it is read, without end.
+/// The files of the system that a run may read. One that its lines go to is missing, and standard input
+/// cannot be read if it is one: it would grow as it is read, without end.
 fn files_for<'a, R: Files, S: Read + Copy + Drop>(
     rt: &'a R,
     standard: S,
     options: &GrepOptions,
-) -> SystemFiles<'a, R, S> {
-    let files = SystemFiles::new(rt, standard);
+) -> SystemFiles<'a, R, StandardInput<S>> {
     if options.count || options.list || options.quiet {
-        files
+        SystemFiles::new(rt, StandardInput::Readable(standard))
     } else {
-        files.without_output()
+        SystemFiles::new(rt, StandardInput::apart_from_output(rt, standard)).without_output()
     }
 }
 
-/// Says what is wrong with the words. Where that cannot be written, the status alone tells it.
+/// Writes the message on words that are refused. Where that cannot be written, only the status shows it.
 fn refuse<E: ByteOut>(fault: &Fault, err: &mut E) -> Status
     ensures status { result ≡ Status.Trouble }
     ensures said { Says (E.has_failed err.new) (E.written err.old) (E.written err.new) (message_on out_of_memory fault.now) }

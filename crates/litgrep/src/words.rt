@@ -2,6 +2,7 @@
 ghost use Rattle.std.specs.Prelude.{◌<◌, IfOk, length};
 ghost use Rattle.litgrep.specs.Options.{AreOptions};
 
+use crate::advice::advised;
 use crate::help::{HELP, USAGE};
 use crate::options::options_of;
 use clap::{Arg, ArgAction, Command};
@@ -25,8 +26,8 @@ static FLAGS: [(&str, char, &str); 9] = [
 /// The options that the words after the program's name ask for.
 ///
 /// # Errors
-/// - `Usage` where clap gives no matches, help and version included, with clap's text, and where no
-///   pattern is given.
+/// - `Usage` where clap gives no matches, help and version included, with clap's text or advice on an
+///   option of GNU grep, and where no pattern is given.
 /// - `OutOfMemory` where a growth was refused.
 pub fn options(alloc: Global, words: &[String]) -> Result<GrepOptions, Fault>
     ensures { IfOk result AreOptions }
@@ -42,8 +43,10 @@ pub fn options(alloc: Global, words: &[String]) -> Result<GrepOptions, Fault>
 fn matched(alloc: Global, words: &[String]) -> Result<GrepOptions, Fault>
     ensures { IfOk result AreOptions }
 {
-    let matches = matches_of(alloc, command(alloc)?, words)?;
-    options_of(alloc, &matches)
+    match matches_of(alloc, command(alloc)?, words) {
+        Ok(matches) => options_of(alloc, &matches),
+        Err(fault) => Err(advised(alloc, fault)),
+    }
 }
 
 /// What litgrep takes.
@@ -77,7 +80,7 @@ fn command<'a>(alloc: Global) -> Result<Command<'a>, AllocError> {
     command.arg(lists)?.arg(files)?.arg(operands)
 }
 
-/// How clap is told a word, so that it takes the argument of -e or -f as POSIX has it.
+/// How clap gets a word, so that it takes the argument of -e or -f as POSIX has it.
 #[derive(Clone, Copy)]
 enum Spelling<'a> {
     /// As it stands.
@@ -99,7 +102,7 @@ fn any_is_respelled(words: &[String]) -> bool {
     false
 }
 
-/// Copies of the words as clap is told them: behind `--` as they stand.
+/// Copies of the words as clap gets them: after `--` as they stand.
 fn spelled_words(alloc: Global, words: &[String]) -> Result<Vec<String>, AllocError> {
     let mut spelled = Vec::with_capacity(alloc, words.len())?;
     let mut are_operands = false;
@@ -126,7 +129,7 @@ fn spelled_words(alloc: Global, words: &[String]) -> Result<Vec<String>, AllocEr
     Ok(spelled)
 }
 
-/// How clap is told the word at a place. Most words are files: these are not looked at further.
+/// How clap gets the word at a place. Most words are files, and are passed as they stand.
 fn spelling_of(words: &[String], place: usize) -> Spelling<'_>
     requires { place < length words.now }
 {
@@ -144,7 +147,7 @@ fn spelling_of(words: &[String], place: usize) -> Spelling<'_>
     }
 }
 
-/// How clap is told a word with these letters before a word that begins with `-`.
+/// How clap gets a word with these letters before a word that begins with `-`.
 fn joined<'a>(letters: &str, argument: &'a str) -> Spelling<'a> {
     if takes_argument(letters) {
         return Spelling::Joined { by: "", argument };

@@ -1,16 +1,37 @@
--- The request that clap's matches of a subcommand tell.
-use Rattle.std.specs.Prelude.{◌≡◌, ℕ, Bool, List, [], None, Some, codes, false, string_bytes, true, unwrap_or}
-use Rattle.clap.specs.Words.{first_value, found_of, one_text}
+-- The request in clap's matches of a subcommand.
+use Rattle.std.specs.Prelude.{◌≡◌, ◌⊎◌, ℕ, Bool, List, [], None, Some, codes, false, if◌then◌else◌, is_some, map, string_bytes, true, unwrap_or}
+use Rattle.std.specs.Borrow.{Bor}
+use Rattle.std.specs.Option.{option_map_or}
+use Rattle.std.specs.Str.{bytes_eq}
+use Rattle.clap.specs.Words.{first_value, found_of, matched_of, one_text, raw_values}
 use Rattle.clap.specs.declared.parser.matches.ArgMatches.{ArgMatches}
 use Rattle.lit_base.specs.declared.fold.Fold.{Fold}
 use Rattle.lit_base.specs.declared.fold.Fold.TheVariants.{Ascii, No}
+use Rattle.lit_base.specs.declared.profile.Profile.{Profile}
+use Rattle.lit_base.specs.declared.profile.Profile.TheVariants.{Eight, Sixteen}
 use Rattle.plan_run.specs.declared.request.Request.{Request}
-use Rattle.plan_run.specs.declared.request.Request.TheVariants.{Check, Explain, Pack, Plan, Scan}
+use Rattle.plan_run.specs.declared.request.Request.TheVariants.{Check, CheckPlan, Explain, ExplainCertificate, ExplainPlan, Migrate, Pack, Plan, Scan}
 use Rattle.program_words.specs.Matches.{IsNumber}
 
 -- the text of an argument, empty where it has none
 abbrev pub text_of : ArgMatches → List ℕ → List ℕ
 text_of m id = unwrap_or (first_value (found_of m) id) []
+
+-- the texts behind references
+abbrev pub texts : List (Bor (List ℕ)) → List (List ℕ)
+texts = map (λ text. text.now)
+
+-- the texts given for an argument, none where it was not used
+abbrev pub texts_of : ArgMatches → List ℕ → List (List ℕ)
+texts_of m id = option_map_or raw_values (matched_of (found_of m) id) []
+
+-- whether an argument was given
+abbrev pub is_given : ArgMatches → List ℕ → Bool
+is_given m id = is_some (matched_of (found_of m) id)
+
+-- the number of a plan, which stands where a file of patterns else does: 0 where there is none
+abbrev pub IsPlace : ArgMatches → ℕ → Type 0
+IsPlace m place = ((is_given m (codes "file") ≡ false) × (place ≡ 0)) ⊎ IsNumber m (codes "file") place
 
 -- whether a flag was set
 pub record IsFlag (m : ArgMatches) (id : List ℕ) (set : Bool) : Type 0 where
@@ -24,13 +45,22 @@ pub record IsFold (m : ArgMatches) (fold : Fold) : Type 0 where
   pub no : one_text (found_of m) (codes "fold") ≡ Some (codes "false") → fold ≡ No
   pub unused : one_text (found_of m) (codes "fold") ≡ None → fold ≡ No
 
--- the request that the matches of the subcommand of a name tell, each argument under its name as id
+-- the profile, by its number of buckets: eight, unless it is sixteen. clap lets no other number through
+abbrev pub profile_of : ArgMatches → Profile
+profile_of m = if bytes_eq (text_of m (codes "buckets")) (codes "16") then Sixteen else Eight
+
+-- the request in the matches of the subcommand of a name, each argument under its name as id
 abbrev pub IsRequestOf : List ℕ → ArgMatches → Request → Type 0
-IsRequestOf name m (Plan fold file) = (name ≡ codes "plan") × IsFold m fold × (string_bytes file ≡ text_of m (codes "file"))
-IsRequestOf name m (Check fold file certificate) = (name ≡ codes "check") × IsFold m fold × (string_bytes file ≡ text_of m (codes "file"))
+IsRequestOf name m (Plan fold profile file) = (name ≡ codes "plan") × IsFold m fold × (profile ≡ profile_of m) × (string_bytes file ≡ text_of m (codes "file"))
+IsRequestOf name m (Check fold file certificate) = (name ≡ codes "check") × (is_given m (codes "plan") ≡ false) × IsFold m fold × (string_bytes file ≡ text_of m (codes "file"))
     × (string_bytes certificate ≡ text_of m (codes "certificate"))
-IsRequestOf name m (Pack fold file output) = (name ≡ codes "pack") × IsFold m fold × (string_bytes file ≡ text_of m (codes "file"))
+IsRequestOf name m (CheckPlan file place) = (name ≡ codes "check") × (is_given m (codes "plan") ≡ true) × (string_bytes file ≡ text_of m (codes "plan")) × IsPlace m place
+IsRequestOf name m (Pack fold profile files output) = (name ≡ codes "pack") × IsFold m fold × (profile ≡ profile_of m) × (map string_bytes files.names.items ≡ texts_of m (codes "file"))
     × (string_bytes output ≡ text_of m (codes "output"))
-IsRequestOf name m (Explain fold svg file) = (name ≡ codes "explain") × IsFold m fold × IsFlag m (codes "svg") svg × (string_bytes file ≡ text_of m (codes "file"))
-IsRequestOf name m (Scan scan) = (name ≡ codes "scan") × IsFold m scan.fold × IsNumber m (codes "workers") scan.workers.count × IsFlag m (codes "count") scan.count
+IsRequestOf name m (Explain fold profile svg file) = (name ≡ codes "explain") × (is_given m (codes "plan") ≡ false) × (is_given m (codes "certificate") ≡ false) × IsFold m fold × (profile ≡ profile_of m) × IsFlag m (codes "svg") svg × (string_bytes file ≡ text_of m (codes "file"))
+IsRequestOf name m (ExplainPlan svg file place) = (name ≡ codes "explain") × (is_given m (codes "plan") ≡ true) × IsFlag m (codes "svg") svg × (string_bytes file ≡ text_of m (codes "plan")) × IsPlace m place
+IsRequestOf name m (ExplainCertificate certificate) = (name ≡ codes "explain") × (is_given m (codes "plan") ≡ false) × (is_given m (codes "certificate") ≡ true)
+    × (string_bytes certificate ≡ text_of m (codes "certificate"))
+IsRequestOf name m (Migrate input output) = (name ≡ codes "migrate") × (string_bytes input ≡ text_of m (codes "input")) × (string_bytes output ≡ text_of m (codes "output"))
+IsRequestOf name m (Scan scan) = (name ≡ codes "scan") × IsFold m scan.fold × IsNumber m (codes "workers") scan.workers.count × IsFlag m (codes "count") scan.count × IsFlag m (codes "names") scan.names
     × (string_bytes scan.file ≡ text_of m (codes "file")) × (string_bytes scan.input ≡ text_of m (codes "input"))

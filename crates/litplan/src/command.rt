@@ -15,8 +15,8 @@ use std::alloc::Global;
 use std::rt::Env;
 use std::thread::Threads;
 
-/// Serves the words of the command line: the answer goes to `out`, messages to `err`. A write that
-/// failed is told by `Trouble`.
+/// Serves the words of the command line: the answer goes to `out`, messages to `err`. A write that failed gives
+/// `Trouble`.
 pub fn serve<R: Env + Threads + Sync + AllocGlobal, F: Files, W: ByteOut, E: ByteOut>(
     rt: &R,
     files: &mut F,
@@ -24,10 +24,10 @@ pub fn serve<R: Env + Threads + Sync + AllocGlobal, F: Files, W: ByteOut, E: Byt
     err: &mut E,
 ) -> Status
     ensures ends { Told (F.sources files.old) (F.sources files.new) (λ s left. AreShort s
-        → EndsSomehow s left result (W.has_failed out.old) (W.has_failed out.new) (E.has_failed err.new)
+        → EndsSomehow F.Output.written F.Output.has_failed s left result (W.has_failed out.old) (W.has_failed out.new) (E.has_failed err.new)
         (W.written out.old) (W.written out.new) (E.written err.old) (E.written err.new)) }
 
-    // Whatever the files tell, a write that failed is told.
+    // A write that failed shows in the status, whatever is known of the files.
     ensures fault { result ≢ Status.Trouble
         → (W.has_failed out.new || E.has_failed err.new) ≡ (W.has_failed out.old || E.has_failed err.old) }
 {
@@ -48,10 +48,10 @@ pub fn command<R: Threads + Sync, F: Files, W: ByteOut, E: ByteOut>(
     err: &mut E,
 ) -> Status
     ensures ends { Told (F.sources files.old) (F.sources files.new) (λ s left. AreShort s
-        → EndsSomehow s left result (W.has_failed out.old) (W.has_failed out.new) (E.has_failed err.new)
+        → EndsSomehow F.Output.written F.Output.has_failed s left result (W.has_failed out.old) (W.has_failed out.new) (E.has_failed err.new)
         (W.written out.old) (W.written out.new) (E.written err.old) (E.written err.new)) }
 
-    // Whatever the files tell, a write that failed is told.
+    // A write that failed shows in the status, whatever is known of the files.
     ensures fault { result ≢ Status.Trouble
         → (W.has_failed out.new || E.has_failed err.new) ≡ (W.has_failed out.old || E.has_failed err.old) }
 {
@@ -61,7 +61,7 @@ pub fn command<R: Threads + Sync, F: Files, W: ByteOut, E: ByteOut>(
     }
 }
 
-/// Says what is wrong with the words. Where that cannot be written, the status alone tells it.
+/// Writes the message on words that are refused. Where that cannot be written, only the status shows it.
 fn refuse<E: ByteOut>(alloc: Global, fault: &Fault, err: &mut E) -> Status
     ensures status { result ≡ Status.Trouble }
     ensures said { Says (E.has_failed err.new) (E.written err.old) (E.written err.new) (message_on out_of_memory fault.now) }

@@ -1,11 +1,11 @@
 //! The words of the command line, read with clap.
-ghost use Rattle.std.specs.Prelude.{◌≡◌, IfOk, IfSome, codes, string_bytes};
+ghost use Rattle.std.specs.Prelude.{◌≡◌, IfOk, IfSome, codes, map, string_bytes};
 ghost use Rattle.program_words.specs.Matches.{IsNumber};
-ghost use Rattle.litplan.specs.Requests.{IsFlag, IsFold, IsRequestOf, text_of};
+ghost use Rattle.litplan.specs.Requests.{IsFlag, IsFold, IsPlace, IsRequestOf, is_given, profile_of, text_of, texts, texts_of};
 
 use clap::{Arg, ArgAction, ArgMatches, Command, value_parser};
-use lit_base::Fold;
-use plan_run::{Request, Scan, Workers};
+use lit_base::{Fold, Profile};
+use plan_run::{PatternFiles, Request, Scan, Workers};
 use program_words::{Fault, VERSION, matches_of};
 use std::alloc::{AllocError, Global};
 
@@ -25,7 +25,8 @@ pub fn requested(alloc: Global, words: &[String]) -> Result<Request, Fault> {
 /// The request that clap's matches of the subcommand of a name tell, each argument under its name as id.
 ///
 /// # Errors
-/// - `Usage` where there is no such command, or no such number of workers: clap lets neither through.
+/// - `Usage` where there is no such command or no such number of workers, which clap lets not through; where there are more
+///   than 64 files of patterns; and where what stands for the number of a plan is none.
 /// - `OutOfMemory` where a growth was refused.
 pub fn request_of(alloc: Global, name: &str, found: &ArgMatches<'_>) -> Result<Request, Fault>
     ensures { IfOk result (IsRequestOf name.now found.now) }
@@ -33,29 +34,100 @@ pub fn request_of(alloc: Global, name: &str, found: &ArgMatches<'_>) -> Result<R
     match name {
         "plan" => Ok(Request::Plan {
             fold: fold_of(found),
+            profile: profile_of(found),
             file: value(alloc, found, "file")?,
         }),
-        "check" => Ok(Request::Check {
-            fold: fold_of(found),
-            file: value(alloc, found, "file")?,
-            certificate: value(alloc, found, "certificate")?,
-        }),
-        "pack" => Ok(Request::Pack {
-            fold: fold_of(found),
-            file: value(alloc, found, "file")?,
+        "check" => check_of(alloc, found),
+        "pack" => pack_of(alloc, found),
+        "explain" => explain_of(alloc, found),
+        "migrate" => Ok(Request::Migrate {
+            input: value(alloc, found, "input")?,
             output: value(alloc, found, "output")?,
-        }),
-        "explain" => Ok(Request::Explain {
-            fold: fold_of(found),
-            svg: flag_of(found, "svg"),
-            file: value(alloc, found, "file")?,
         }),
         "scan" => Ok(Request::Scan(scan_of(alloc, found)?)),
         _ => Err(no_command(alloc)),
     }
 }
 
-/// The scan that clap's matches tell.
+/// The check that clap's matches tell: of a certificate, or of a plan of a plan file.
+fn check_of(alloc: Global, found: &ArgMatches<'_>) -> Result<Request, Fault>
+    ensures { IfOk result (IsRequestOf (codes "check") found.now) }
+{
+    if found.contains_id("plan") {
+        return Ok(Request::CheckPlan {
+            file: value(alloc, found, "plan")?,
+            place: place_of(alloc, found)?,
+        });
+    }
+    Ok(Request::Check {
+        fold: fold_of(found),
+        file: value(alloc, found, "file")?,
+        certificate: value(alloc, found, "certificate")?,
+    })
+}
+
+/// The plan file to be made that clap's matches tell.
+fn pack_of(alloc: Global, found: &ArgMatches<'_>) -> Result<Request, Fault>
+    ensures { IfOk result (IsRequestOf (codes "pack") found.now) }
+{
+    let Some(files) = PatternFiles::new(strings(alloc, values(found, "file"))?) else {
+        return Err(Fault::usage(String::from_str(
+            alloc,
+            "litplan: more than 64 files of patterns\n",
+        )));
+    };
+    Ok(Request::Pack {
+        fold: fold_of(found),
+        profile: profile_of(found),
+        files,
+        output: value(alloc, found, "output")?,
+    })
+}
+
+/// What clap's matches tell to explain: a list, a plan of a plan file, or a certificate.
+fn explain_of(alloc: Global, found: &ArgMatches<'_>) -> Result<Request, Fault>
+    ensures { IfOk result (IsRequestOf (codes "explain") found.now) }
+{
+    if found.contains_id("plan") {
+        return Ok(Request::ExplainPlan {
+            svg: flag_of(found, "svg"),
+            file: value(alloc, found, "plan")?,
+            place: place_of(alloc, found)?,
+        });
+    }
+    if found.contains_id("certificate") {
+        let certificate = value(alloc, found, "certificate")?;
+        return Ok(Request::ExplainCertificate { certificate });
+    }
+    Ok(Request::Explain {
+        fold: fold_of(found),
+        profile: profile_of(found),
+        svg: flag_of(found, "svg"),
+        file: value(alloc, found, "file")?,
+    })
+}
+
+/// The number of a plan, which stands where a file of patterns else does: 0 if there is none.
+fn place_of(alloc: Global, found: &ArgMatches<'_>) -> Result<usize, Fault>
+    ensures { IfOk result (IsPlace found.now) }
+{
+    if !found.contains_id("file") {
+        return Ok(0);
+    }
+    match number_of(found) {
+        Some(place) => Ok(place),
+        None => Err(Fault::usage(String::from_str(alloc, "litplan: no such number of a plan\n"))),
+    }
+}
+
+/// The number that stands where a file of patterns else does.
+fn number_of(found: &ArgMatches<'_>) -> Option<usize>
+    ensures { IfSome result (IsNumber found.now (codes "file")) }
+{
+    found.get_one::<usize>("file")
+}
+
+/// The scan in clap's matches.
 fn scan_of(alloc: Global, found: &ArgMatches<'_>) -> Result<Scan, Fault>
     ensures { IfOk result (λ scan. IsRequestOf (codes "scan") found.now (Request.Scan scan)) }
 {
@@ -66,19 +138,20 @@ fn scan_of(alloc: Global, found: &ArgMatches<'_>) -> Result<Scan, Fault>
         fold: fold_of(found),
         workers,
         count: flag_of(found, "count"),
+        names: flag_of(found, "names"),
         file: value(alloc, found, "file")?,
         input: value(alloc, found, "input")?,
     })
 }
 
-/// The number of workers that clap's matches tell, if there may be so many.
+/// The number of workers in clap's matches, if there may be as many.
 fn workers_of(found: &ArgMatches<'_>) -> Option<Workers>
     ensures { IfSome result (λ workers. IsNumber found.now (codes "workers") workers.count) }
 {
     Workers::new(found.get_one::<usize>("workers")?)
 }
 
-/// What is answered where the words name no command.
+/// The fault where the words name no command.
 fn no_command(alloc: Global) -> Fault {
     Fault::usage(String::from_str(alloc, "litplan: no command given\n"))
 }
@@ -93,11 +166,40 @@ fn fold_of(matches: &ArgMatches<'_>) -> Fold
     }
 }
 
+/// The profile by the number of buckets in clap's matches: eight, unless that is sixteen.
+fn profile_of(matches: &ArgMatches<'_>) -> Profile
+    ensures { result ≡ profile_of matches.now }
+{
+    if matches.get_str("buckets").unwrap_or_default() == "16" {
+        Profile::Sixteen
+    } else {
+        Profile::Eight
+    }
+}
+
 /// Whether a flag was set.
 fn flag_of(matches: &ArgMatches<'_>, id: &str) -> bool
     ensures { IsFlag matches.now id.now result }
 {
     matches.get_flag(id)
+}
+
+/// The texts given for an argument.
+fn values<'m, 'a>(matches: &'m ArgMatches<'a>, id: &str) -> &'m [&'a str]
+    ensures { texts result.now ≡ texts_of matches.now id.now }
+{
+    matches.get_strs(id).unwrap_or_default()
+}
+
+/// Copies of the words.
+fn strings(alloc: Global, words: &[&str]) -> Result<Vec<String>, AllocError>
+    ensures { IfOk result (λ copies. map string_bytes copies.items ≡ texts words.now) }
+{
+    let mut copies = Vec::with_capacity(alloc, words.len())?;
+    for word in words {
+        copies.push(String::from_str(alloc, word)?)?;
+    }
+    Ok(copies)
 }
 
 /// The value of an argument, which clap requires.
@@ -115,10 +217,12 @@ fn litplan<'a>(alloc: Global) -> Result<Command<'a>, AllocError> {
             "Plans how the literals of a list are grouped, checks such plans, and finds where literals end",
         )
         .override_usage(
-            "litplan plan [-i] FILE\n       litplan check [-i] FILE CERT\n       \
-             litplan pack [-i] FILE OUT\n       \
-             litplan explain [-i] [--svg] FILE\n       \
-             litplan scan [-i] [--count] --workers W FILE INPUT",
+            "litplan plan [-i] [--buckets B] FILE\n       \
+             litplan check [-i] FILE CERT | --plan FILE [I]\n       \
+             litplan pack [-i] [--buckets B] FILE.. OUT\n       \
+             litplan explain [-i] [--buckets B] [--svg] FILE | --plan FILE [I] | --certificate CERT\n       \
+             litplan migrate IN OUT\n       \
+             litplan scan [-i] [--count | --names] --workers W FILE INPUT",
         )
         .no_binary_name(true)
         .subcommand_required(true)
@@ -126,56 +230,118 @@ fn litplan<'a>(alloc: Global) -> Result<Command<'a>, AllocError> {
         .subcommand(check(alloc)?)?
         .subcommand(pack(alloc)?)?
         .subcommand(explain(alloc)?)?
+        .subcommand(migrate(alloc)?)?
         .subcommand(scan(alloc)?)
 }
 
 fn plan<'a>(alloc: Global) -> Result<Command<'a>, AllocError> {
     Command::new(alloc, "plan")
         .about("Prints the certificate of the cheapest grouping of a file's patterns")
-        .override_usage("litplan plan [-i] FILE")
+        .override_usage("litplan plan [-i] [--buckets B] FILE")
         .after_help(PLAN_HELP)
         .arg(fold(alloc)?)?
+        .arg(buckets(alloc))?
         .arg(file(alloc))
 }
 
 fn check<'a>(alloc: Global) -> Result<Command<'a>, AllocError> {
     let certificate = Arg::new(alloc, "certificate")
         .value_name("CERT")
-        .required(true)
+        .required_unless_present("plan")?
         .action(ArgAction::Set)
         .help("A file with a certificate, as `plan` prints it; - is a file of that name");
+    let plan = plan_in_file(alloc)
+        .conflicts_with("fold")?
+        .conflicts_with("certificate")?;
     Command::new(alloc, "check")
         .about("Says whether a certificate shows that no grouping of a file's patterns is cheaper")
-        .override_usage("litplan check [-i] FILE CERT")
+        .override_usage("litplan check [-i] FILE CERT | --plan FILE [I]")
         .after_help(CHECK_HELP)
         .arg(fold(alloc)?)?
-        .arg(file(alloc))?
+        .arg(plan)?
+        .arg(file_or_place(alloc).required_unless_present("plan")?)?
         .arg(certificate)
 }
 
 fn pack<'a>(alloc: Global) -> Result<Command<'a>, AllocError> {
-    let output = Arg::new(alloc, "output")
-        .value_name("OUT")
-        .required(true)
-        .action(ArgAction::Set)
-        .help("The plan file, which is made or emptied; - is a file of that name");
     Command::new(alloc, "pack")
-        .about("Writes the plan of a file's patterns to a plan file")
-        .override_usage("litplan pack [-i] FILE OUT")
+        .about("Writes the plans of files of patterns to a plan file")
+        .override_usage("litplan pack [-i] [--buckets B] FILE.. OUT")
         .after_help(PACK_HELP)
         .arg(fold(alloc)?)?
-        .arg(file(alloc))?
-        .arg(output)
+        .arg(buckets(alloc))?
+        .arg(file(alloc).num_args(1..).action(ArgAction::Append))?
+        .arg(output(alloc))
 }
 
 fn explain<'a>(alloc: Global) -> Result<Command<'a>, AllocError> {
+    let file = file_or_place(alloc)
+        .required_unless_present("plan")?
+        .required_unless_present("certificate")?;
     Command::new(alloc, "explain")
-        .about("Shows how a file's patterns are grouped, what that costs, and what was dropped")
-        .override_usage("litplan explain [-i] [--svg] FILE")
+        .about(
+            "Shows how a file's patterns are grouped, or where a list, plan file or certificate is wrong",
+        )
+        .override_usage(
+            "litplan explain [-i] [--buckets B] [--svg] FILE | --plan FILE [I] | --certificate CERT",
+        )
         .after_help(EXPLAIN_HELP)
         .arg(fold(alloc)?)?
+        .arg(buckets(alloc))?
         .arg(svg(alloc)?)?
-        .arg(file(alloc))
+        .arg(planned_alone(alloc)?)?
+        .arg(certificate_alone(alloc)?)?
+        .arg(file)
+}
+
+fn plan_in_file<'a>(alloc: Global) -> Arg<'a> {
+    Arg::new(alloc, "plan")
+        .long("plan")
+        .value_name("FILE")
+        .action(ArgAction::Set)
+        .help("A plan file; - is standard input. Its plan I is taken, from 0, or its first")
+}
+
+fn planned_alone<'a>(alloc: Global) -> Result<Arg<'a>, AllocError> {
+    plan_in_file(alloc)
+        .conflicts_with("fold")?
+        .conflicts_with("buckets")?
+        .conflicts_with("certificate")
+}
+
+fn certificate_alone<'a>(alloc: Global) -> Result<Arg<'a>, AllocError> {
+    Arg::new(alloc, "certificate")
+        .long("certificate")
+        .value_name("CERT")
+        .action(ArgAction::Set)
+        .help("A file with a certificate; - is a file of that name")
+        .conflicts_with("fold")?
+        .conflicts_with("buckets")?
+        .conflicts_with("svg")?
+        .conflicts_with("file")
+}
+
+fn file_or_place<'a>(alloc: Global) -> Arg<'a> {
+    Arg::new(alloc, "file")
+        .value_name("FILE")
+        .action(ArgAction::Set)
+        .help(
+            "A file of patterns, one a line; - is standard input. With --plan the number I of a plan",
+        )
+}
+
+fn migrate<'a>(alloc: Global) -> Result<Command<'a>, AllocError> {
+    let input = Arg::new(alloc, "input")
+        .value_name("IN")
+        .required(true)
+        .action(ArgAction::Set)
+        .help("The plan file that is read, of version 1 or 2; - is standard input");
+    Command::new(alloc, "migrate")
+        .about("Plans the lists of a plan file anew, with sixteen buckets")
+        .override_usage("litplan migrate IN OUT")
+        .after_help(MIGRATE_HELP)
+        .arg(input)?
+        .arg(output(alloc))
 }
 
 fn scan<'a>(alloc: Global) -> Result<Command<'a>, AllocError> {
@@ -186,18 +352,33 @@ fn scan<'a>(alloc: Global) -> Result<Command<'a>, AllocError> {
         .help("What is searched, read whole; - is standard input");
     Command::new(alloc, "scan")
         .about("Finds a file's patterns in an input, by several workers at once")
-        .override_usage("litplan scan [-i] [--count] --workers W FILE INPUT")
+        .override_usage("litplan scan [-i] [--count | --names] --workers W FILE INPUT")
         .after_help(SCAN_HELP)
         .arg(fold(alloc)?)?
         .arg(count(alloc)?)?
+        .arg(names(alloc)?)?
         .arg(workers(alloc))?
         .arg(file(alloc))?
         .arg(input)
 }
 
+fn buckets<'a>(alloc: Global) -> Arg<'a> {
+    Arg::new(alloc, "buckets")
+        .long("buckets")
+        .value_name("B")
+        .action(ArgAction::Set)
+        .value_parser(["8", "16"].as_slice())
+        .help("How many buckets the plan may have; 8 if not given")
+}
+
 fn count<'a>(alloc: Global) -> Result<Arg<'a>, AllocError> {
     let count = flag(alloc, "count")?.long("count");
     Ok(count.help("Print only the number of hits"))
+}
+
+fn names<'a>(alloc: Global) -> Result<Arg<'a>, AllocError> {
+    let names = flag(alloc, "names")?.long("names").conflicts_with("count")?;
+    Ok(names.help("Print the start of each hit and its literal, in place of its end"))
 }
 
 fn svg<'a>(alloc: Global) -> Result<Arg<'a>, AllocError> {
@@ -226,6 +407,14 @@ fn flag<'a>(alloc: Global, id: &'a str) -> Result<Arg<'a>, AllocError> {
     flag.overrides_with(id)
 }
 
+fn output<'a>(alloc: Global) -> Arg<'a> {
+    Arg::new(alloc, "output")
+        .value_name("OUT")
+        .required(true)
+        .action(ArgAction::Set)
+        .help("The plan file, which is made or emptied; - is a file of that name")
+}
+
 fn file<'a>(alloc: Global) -> Arg<'a> {
     Arg::new(alloc, "file")
         .value_name("FILE")
@@ -243,7 +432,8 @@ Example: the plan of three literals
 
 const CHECK_HELP: &str = "\
 Prints `optimal COST` (status 0), or `not certified: REASON` with the first condition that fails (status 1).
-Whoever wrote the certificate is not trusted. Status 2 with a message where a file cannot be read.
+Whoever wrote the certificate is not trusted. With --plan it checks plan I of a plan file. Status 2 with a message where a
+file cannot be read, or has no such plan; `litplan explain` says where it is wrong.
 
 Example: plan a file, and check the plan
   litplan plan words > words.cert
@@ -251,26 +441,45 @@ Example: plan a file, and check the plan
 
 const PACK_HELP: &str = "\
 The patterns are read and planned before OUT is made; it then holds their plan with its certificate, for whoever checks it
-again. Status 0, or 2 with a message. Where OUT cannot be written to its end, what it holds is a front of the plan file.
+again. With several FILEs, at most 64, it holds a plan of each, in their order. OUT must not be one of them: `litplan: OUT:
+cannot be used`. Status 0, or 2 with a message. Where OUT cannot be written to its end, what it holds is a front of the plan
+file.
 
-Example: the plan file of a list
-  litplan pack words words.plan";
+Example: the plan file of a list, and of three
+  litplan pack words words.plan
+  litplan pack words names hosts all.plan";
 
 const EXPLAIN_HELP: &str = "\
 Prints a row for each group: how many patterns it has, the bytes of its shortest, those that the filter looks at (bytes),
 its weight and cost, its share of the cost in percent, how many of the 16,777,216 endings of three bytes pass its filter,
-and its first and last pattern, by length and then by bytes. Below: what the plan costs, and what one group and eight even
-ones would; which lines say again what an earlier line says; and how many are empty. Status 0, or 2 with a message.
+and its first and last pattern, by length and then by bytes. Below: what the plan costs, and what one group and B even
+ones would; which lines say again what an earlier line says; and how many are empty. With --plan it explains plan I of a
+plan file, and with --certificate it prints how many runs a certificate has and what they cost.
 
-Example: the plan of a list, and a drawing of it
+Where a list, a plan file or a certificate is wrong, it prints where: the line, from 1, or the byte, from 0 (status 1). Else
+status 0, or 2 with a message.
+
+Example: the plan of a list, a drawing of it, and where a plan file is wrong
   litplan explain words
-  litplan explain --svg words > plan.svg";
+  litplan explain --svg words > plan.svg
+  litplan explain --plan words.plan";
+
+const MIGRATE_HELP: &str = "\
+Writes a plan of sixteen buckets for each plan of IN, in the same order. Prints a line `plan I OLD NEW` for each: its number,
+from 0, what it cost, and what the new plan costs, which is no more. IN is read whole before OUT is made. Status 0, or 2 with
+a message. Where OUT cannot be written to its end, what it holds is a front of the plan file.
+
+Example: bring an old plan file up to date
+  litplan migrate old.plan new.plan";
 
 const SCAN_HELP: &str = "\
 Prints a line `LIT END` for each place at which a pattern ends: its number in the list, from 0, by length and then by
 bytes, and how many bytes of INPUT there are up to its end. The lines stand by END, then by LIT, and are the same for
 each W. INPUT is held in memory, in a buffer that doubles: up to twice its size. A hit takes 16 bytes more, with several
-workers up to 24, and a worker that has 256 KiB of INPUT up to 3.1 MiB. Status 0, or 2 with a message.
+workers up to 24, and a worker that has 256 KiB of INPUT up to 9.4 MiB. Status 0, or 2 with a message.
+
+With --names the lines are `LIT START \"LITERAL\"`: how many bytes there are before it, and the literal, with any byte that is
+not printable ASCII as \\x and two digits, and a quote or a backslash behind a backslash.
 
 Example: where the words of a list end in a log
   litplan scan --workers 4 words access.log";

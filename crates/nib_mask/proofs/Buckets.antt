@@ -43,9 +43,9 @@ module _ (test : List (List ℕ) → Bool) (texts : List (List ℕ)) where
       let runs = runs_from texts p ends in
       subst (λ n. mask_l (map test runs) < 2 ^ n) (length-map runs test ∙ length-runs texts p ends) (mask_l-lt (map test runs))
 
-  -- no more than seven runs leave room for one more bit in a byte
-  pub runs_mask-seven : (p : ℕ) (ends : List ℕ) → length ends ≤ 7 → runs_mask test texts p ends < 128
-  runs_mask-seven p ends few = omega (arith, runs_mask-lt p ends, pow_mono {i = length ends} {j = 7} few)
+  -- no more than fifteen runs leave room for one more bit of sixteen
+  pub runs_mask-fifteen : (p : ℕ) (ends : List ℕ) → length ends ≤ 15 → runs_mask test texts p ends < 32768
+  runs_mask-fifteen p ends few = omega (arith, runs_mask-lt p ends, pow_mono {i = length ends} {j = 15} few)
 
   -- the bit of a run is the run's test
   pub bit_at-runs_mask : (p : ℕ) (ends : List ℕ) (b : ℕ) → bit_at (runs_mask test texts p ends) b ≡ cond (get_or (map test (runs_from texts p ends)) b false) 1 0
@@ -97,7 +97,7 @@ run_passes test texts p (end ∷ ends) place cuts from inside pass =
           ap (λ b. get_or tests b false) later ∙ run_passes test texts end ends place cuts.1 past inside pass
     ]
 
--- so it has its bit
+-- so its bit is set
 pub bit_at-bucket : (test : List (List ℕ) → Bool) (texts : List (List ℕ)) (ends : List ℕ) (place : ℕ) → CutsFrom (length texts) 0 ends → place < length texts → ((run : List (List ℕ)) → Holds run (get_or texts place []) → test run ≡ true) → bit_at (runs_mask test texts 0 ends) (bucket_of ends place) ≡ 1
 bit_at-bucket test texts ends place cuts inside pass =
     bit_at-runs_mask test texts 0 ends (bucket_of ends place)

@@ -54,7 +54,7 @@ front-kept fold position byte half front agrees = elim (cases_Bool (reaches posi
   | inr short ↦ or_left _ _ (ap not short)
 ]
 
--- a front that reaches the position is kept by the half of its byte there and by that of the byte's capital alone
+-- a front that reaches the position is kept only by the half of its byte there and the half of the byte's capital
 pub front_halves : (fold : Fold) (position byte value : ℕ) (half : Half) (front : List ℕ) → reaches position front ≡ true → byte ≡ get_or front (length front + position - 3) 0 → keeps_front fold position half value front ≡ true → (half_of half byte ≡ value) ⊎ (half_of half (capital fold byte) ≡ value)
 front_halves fold position byte value half front long is keeps =
     let has : has_half fold position half value front ≡ true = sym (ap (λ r. not r || has_half fold position half value front) long) ∙ keeps in

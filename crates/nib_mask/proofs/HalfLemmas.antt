@@ -1,4 +1,4 @@
--- Halves told by the bits of a number.
+-- Halves, by the bits of a number.
 use Rattle.std.proofs.Common.{◌≡◌, ℕ, ◌+◌, ◌-◌, ◌*◌, ◌^◌, ◌%◌, ◌<◌, max, ◌&&◌, ◌||◌, ◌==◌, not, Bool, true, false, cond, List, length, get_or, bit_or, refl, sym, ap, ◌∙◌, inl, inr, arith, w16}
 use Rattle.std.specs.Int.{bit_at}
 use Rattle.std.proofs.lemmas.Bool.{cases_eq, eq-eqb, ne_eqb}
@@ -24,12 +24,12 @@ either true false = refl
 either false true = refl
 either false false = refl
 
--- both numbers together tell what passes one of the tests
+-- both numbers together have the bits of what passes one of the tests
 pub tells-either : (a b : ℕ) (f g : ℕ → Bool) → TellsHalves a f → TellsHalves b g → TellsHalves (bit_or a b) (λ value. f value || g value)
 tells-either a b f g of_a of_b value less =
     bit_at_or a b value ∙ (λ i. max (of_a value less i) (of_b value less i)) ∙ either (f value) (g value)
 
--- a number that tells of one test tells of another with the same answers
+-- a number with the bits of one test has the bits of another test with the same answers
 pub tells-same : (a : ℕ) (f g : ℕ → Bool) → ((value : ℕ) → f value ≡ g value) → TellsHalves a f → TellsHalves a g
 tells-same a f g same of_f value less = of_f value less ∙ ap (λ b. cond b 1 0) (same value)
 
@@ -42,7 +42,7 @@ pub tells-all : (f : ℕ → Bool) → ((value : ℕ) → f value ≡ true) → 
 tells-all f all value less = bit_at_ones 16 value less ∙ ap (λ b. cond b 1 0) (sym (all value))
 
 module _ (fold : Fold) (position : ℕ) (half : Half) where
-  -- a literal that reaches the position has the half of its byte there and that of the byte's capital
+  -- a literal that reaches the position has the half of its byte there and the half of the byte's capital
   pub has_half-long : (literal : List ℕ) (byte : ℕ) → reaches position literal ≡ true → byte ≡ get_or literal (length literal + position - 3) 0 → (value : ℕ) → ((half_of half byte == value) || (half_of half (capital fold byte) == value)) ≡ has_half fold position half value literal
   unfolding has_half
   has_half-long literal byte long is value =

@@ -40,7 +40,7 @@ cases_folded Ascii byte other is =
     ]
 
 module _ (fold : Fold) (position byte : ℕ) where
-  -- the literal has both halves of such a byte
+  -- the literal has both halves of a byte like this
   pub has_half-agrees : (half : Half) (literal : List ℕ) → Agrees fold position byte literal → reaches position literal ≡ true → has_half fold position half (half_of half byte) literal ≡ true
   unfolding has_half
   has_half-agrees half literal agrees long =
@@ -67,7 +67,7 @@ module _ (fold : Fold) (position byte : ℕ) where
   shares_half-held half value run literal holds has =
       list_any_at (has_half fold position half value) run holds.place [] holds.inside (ap (has_half fold position half value) holds.stands ∙ has)
 
-  -- the position keeps a run with such a literal
+  -- the position keeps a run with a literal like this
   pub passes_at-agrees : (run : List (List ℕ)) (literal : List ℕ) → Holds run literal → Agrees fold position byte literal → passes_at fold position byte run ≡ true
   unfolding passes_at
   passes_at-agrees run literal holds agrees =
@@ -108,7 +108,7 @@ agrees-occurs l text before place end position i occurs two low at = record {
 }
 
 -- where a literal ends, its bucket is in the filter set
-pub bit_at-occurs : (l : Literals) (ends text before : List ℕ) (place end : ℕ) → IsCut 8 (length l.texts) ends → length before ≡ 2 → Occurs l text place end → bit_at (filter_set_at l ends before text end) (bucket_of ends place) ≡ 1
+pub bit_at-occurs : (l : Literals) (ends text before : List ℕ) (place end : ℕ) → IsCut 16 (length l.texts) ends → length before ≡ 2 → Occurs l text place end → bit_at (filter_set_at l ends before text end) (bucket_of ends place) ≡ 1
 unfolding filter_set
 bit_at-occurs l ends text before place end cut two occurs =
     let stands = get_or_from_slice_get l.texts place occurs.literal [] occurs.stands in

@@ -3,5 +3,6 @@ pub mod Fingerprints
 pub mod FrontLemmas
 pub mod HalfLemmas
 pub mod LawLemmas
+pub mod PartLemmas
 pub mod Ranges
 pub mod TableLemmas

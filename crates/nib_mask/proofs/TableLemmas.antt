@@ -64,7 +64,7 @@ table_value-is l ends masks tables a b c small_a small_b small_c =
     ∙ ap (λ n. bit_and n (runs_mask (passes_at l.folding 2 c) l.texts 0 ends)) (runs_mask-and (passes_at l.folding 0 a) (passes_at l.folding 1 b) l.texts 0 ends)
     ∙ runs_mask-and (λ run. passes_at l.folding 0 a run && passes_at l.folding 1 b run) (passes_at l.folding 2 c) l.texts 0 ends
 
--- a byte of a text, or what is read past its end
+-- a byte of a text, or the 0 read past its end
 byte-lt : (text : List ℕ) (i : ℕ) → All (λ b. b < 256) text → get_or text i 0 < 256
 byte-lt text i bytes =
     elim (cases_lt i (length text)) [
@@ -89,7 +89,7 @@ some-occurs l text place end nonempty occurs =
     omega (arith, some, len, begins)
 
 -- no occurrence goes past tables whose filter bytes are the filter sets
-pub covers-from_set : (l : Literals) (ends : List ℕ) (masks : Masks) → IsCut 8 (length l.texts) ends → All (λ len. 1 ≤ len) (lengths l) → ((a b c : ℕ) → a < 256 → b < 256 → c < 256 → table_value masks a b c ≡ filter_set l ends a b c) → Covers l masks
+pub covers-from_set : (l : Literals) (ends : List ℕ) (masks : Masks) → IsCut 16 (length l.texts) ends → All (λ len. 1 ≤ len) (lengths l) → ((a b c : ℕ) → a < 256 → b < 256 → c < 256 → table_value masks a b c ≡ filter_set l ends a b c) → Covers l masks
 covers-from_set l ends masks cut nonempty set text place end bytes occurs = record {
   some = some-occurs l text place end nonempty occurs;
   within = occurs.ends;

@@ -1,4 +1,4 @@
--- The filter set of three bytes: the buckets of which a literal may end with them, as far as the halves of the bytes tell.
+-- The filter set of three bytes: the buckets whose literals may end with them, judged by the halves of the bytes.
 use Rattle.std.specs.Prelude.{ℕ, ◌+◌, ◌-◌, ◌/◌, ◌%◌, ◌==◌, ◌&&◌, ◌||◌, not, nat_le, if◌then◌else◌, Bool, List, length, slice_index}
 use Rattle.std.specs.List.{list_all, list_any}
 use Rattle.lit_base.specs.declared.fold.Fold.{Fold}
@@ -18,7 +18,7 @@ abbrev pub capital : Fold → ℕ → ℕ
 capital No byte = byte
 capital Ascii byte = if nat_le 97 byte && nat_le byte 122 then byte - 32 else byte
 
--- a literal has a byte at the position: 2 is its last byte's, 1 that of the byte before, 0 that of the one before both
+-- a literal has a byte at the position; 2 is its last byte, 1 the byte before, 0 the byte before both
 abbrev pub reaches : ℕ → List ℕ → Bool
 reaches position literal = nat_le 3 (length literal + position)
 

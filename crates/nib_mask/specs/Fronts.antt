@@ -1,4 +1,4 @@
--- Tables by fronts of literals: by the last bytes, up to three, that stand so far before each literal's end.
+-- Tables over prefixes ("fronts") of literals: over up to three last bytes of each prefix.
 use Rattle.std.specs.Prelude.{◌≡◌, ℕ, ◌-◌, ◌%◌, ◌<◌, ◌||◌, not, true, Bool, List, All, length, take, slice_index}
 use Rattle.std.specs.Int.{bit_at}
 use Rattle.lit_base.specs.declared.fold.Fold.{Fold}
@@ -10,18 +10,18 @@ use Rattle.nib_mask.specs.declared.masks.Masks.{Masks}
 use Rattle.nib_mask.specs.Candidates.{IsCandidate}
 use Rattle.nib_mask.specs.FilterSet.{has_half, reaches}
 
--- a literal but for so many of its last bytes
+-- a literal without its last bytes, as many as its offset says
 abbrev pub front_at : Literals → ℕ → ℕ → List ℕ
 front_at l place offset = take (length (literal_at l place) - offset) (literal_at l place)
 
--- a front keeps its bucket at a table's entry: it does not reach the position, or has a byte with that half there
+-- a prefix keeps its bucket at a table's entry: it does not reach the position, or has a byte with that half there
 abbrev pub keeps_front : Fold → ℕ → Half → ℕ → List ℕ → Bool
 keeps_front fold position half value front = not (reaches position front) || has_half fold position half value front
 
--- an entry has the bucket's bit of each front before a place of the list that keeps it
+-- an entry has the bucket's bit of each prefix that keeps it, among the first `count` literals
 abbrev pub KeepsFronts : Literals → ℕ → List ℕ → List ℕ → ℕ → Half → ℕ → ℕ → Type 0
 KeepsFronts l count offsets buckets position half value entry = (place : ℕ) → place < count → keeps_front l.folding position half value (front_at l place (slice_index offsets place)) ≡ true → bit_at entry (slice_index buckets place % 8) ≡ 1
 
--- no occurrence of a literal before a place of the list goes past tables by its front: where the front ends, there is a candidate
+-- tables over prefixes miss no occurrence of the first `count` literals: where the prefix ends, there is a candidate
 abbrev pub CoversFronts : Literals → ℕ → List ℕ → Masks → Type 0
 CoversFronts l count offsets masks = (text : List ℕ) (place end : ℕ) → All (λ b. b < 256) text → place < count → slice_index offsets place < length (literal_at l place) → Occurs l text place end → IsCandidate masks text (end - slice_index offsets place)

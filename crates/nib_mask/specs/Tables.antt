@@ -6,13 +6,13 @@ use Rattle.nib_mask.specs.declared.half.Half.{Half}
 use Rattle.nib_mask.specs.declared.masks.Masks.{Masks}
 use Rattle.nib_mask.specs.FilterSet.{is_used, shares_half}
 
--- what a byte has at a position: the entry of its low half and that of its high half, as far as they agree
+-- what a byte has at a position: the bits that the entries of its low half and of its high half share
 unfoldable pub value_at : Masks → ℕ → ℕ → ℕ
 value_at masks position byte =
     bit_and (slice_index (slice_index_or masks.low position []) (byte % 16))
     (slice_index (slice_index_or masks.high position []) (byte / 16))
 
--- the filter byte of three bytes: what they have at the positions 0, 1 and 2, as far as all agree
+-- the filter byte of three bytes: the bits that they share at the positions 0, 1 and 2
 unfoldable pub table_value : Masks → ℕ → ℕ → ℕ → ℕ
 table_value masks a b c = bit_and (bit_and (value_at masks 0 a) (value_at masks 1 b)) (value_at masks 2 c)
 

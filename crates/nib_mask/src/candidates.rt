@@ -1,5 +1,4 @@
-//! The law that the filter's users stand on, as a call whose contract is the law, and which does
-//! nothing.
+//! The law that users of the filter rely on, as a call. Its contract is the law; the call does nothing.
 
 ghost use Rattle.std.specs.Prelude.{◌≡◌, length};
 ghost use Rattle.std.specs.Int.{bit_at};
@@ -20,7 +19,7 @@ pub fn candidate_law(
     end_at: usize,
     before: [u8; 2],
 )
-    requires cut { IsCut 8 (length list.now.texts) ends.now.items }
+    requires cut { IsCut 16 (length list.now.texts) ends.now.items }
     requires occurs { Occurs list.now text.now lit end_at }
     ensures { bit_at (filter_set_at list.now ends.now.items before text.now end_at) (bucket_of ends.now.items lit) ≡ 1 }
 {}

@@ -1,5 +1,5 @@
-//! What a literal has at the three positions that the filter looks at. The positions count from 0
-//! to 2, which is that of a literal's last byte.
+//! The bytes of a literal at the three positions that the filter reads. Positions count from 0 to 2; position 2 is the
+//! literal's last byte.
 
 ghost use Rattle.std.specs.Prelude.{◌≡◌, ◌<◌, ◌==◌, true};
 ghost use Rattle.nib_mask.specs.FilterSet.{capital, has_half, reaches};
@@ -26,7 +26,7 @@ pub fn reaches(position: usize, literal: &[u8]) -> bool
     literal.len() + position >= 3
 }
 
-/// The half that the literal's byte at the position has, and that of its capital, each told by its bit.
+/// A bit for the half of the literal's byte at the position, and a bit for the same half of its capital.
 pub fn halves_at(fold: Fold, position: usize, half: Half, literal: &[u8]) -> u16
     requires position { position < 3 }
     requires reached { reaches position literal.now ≡ true }
@@ -36,7 +36,7 @@ pub fn halves_at(fold: Fold, position: usize, half: Half, literal: &[u8]) -> u16
     bit_of(half_of(half, byte)) | bit_of(half_of(half, capital(fold, byte)))
 }
 
-/// The number whose one bit tells a half.
+/// The number whose only bit stands for a half.
 fn bit_of(value: u8) -> u16
     requires { value < 16 }
     ensures { TellsHalves result (λ other. value == other) }

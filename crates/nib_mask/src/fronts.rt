@@ -1,25 +1,27 @@
-//! Tables by fronts of literals.
+//! Tables over prefixes ("fronts") of literals.
 
 ghost use Rattle.std.specs.Prelude.{◌≡◌, ℕ, ◌%◌, ◌<◌, ◌≤◌, true, length, slice_index};
 ghost use Rattle.std.specs.Int.{bit_at};
+ghost use Rattle.nib_mask.specs.Halves.{widened};
 ghost use Rattle.nib_mask.specs.Fronts.{CoversFronts, KeepsFronts, front_at, keeps_front};
 
+use crate::byte_masks::ByteMasks;
 use crate::fingerprint::{capital, reaches};
 use crate::half::{Half, half_of};
-use crate::masks::Masks;
 use lit_base::{Fold, LitList};
 
-impl Masks {
-    /// The tables for the literals before a place of a list, each told by its front: what it is but for so many of its
-    /// last bytes as its offset says. Where such a literal ends in a text, its front ends at a candidate. A front has the
-    /// bucket that is given for it, counted modulo eight; which one decides only how many other places pass.
-    pub fn of_fronts(list: &LitList, count: usize, offsets: &[u8], buckets: &[u8]) -> Masks
+impl ByteMasks {
+    /// The tables for the first `count` literals of a list, by their prefixes. The prefix of a literal ends
+    /// `offsets[place]` bytes before the literal does. Where a literal longer than its offset ends in a text, its
+    /// prefix ends at a candidate. `buckets[place]`, modulo eight, is the bucket of a prefix; it decides only how many
+    /// other positions pass.
+    pub fn of_fronts(list: &LitList, count: usize, offsets: &[u8], buckets: &[u8]) -> ByteMasks
         requires count { count ≤ length list.now.texts }
         requires offsets { count ≤ length offsets.now }
         requires buckets { count ≤ length buckets.now }
-        ensures { CoversFronts list.now count offsets.now result }
+        ensures { CoversFronts list.now count offsets.now (widened result) }
     {
-        Masks {
+        ByteMasks {
             low: [
                 table(list, count, offsets, buckets, 0, Half::Low),
                 table(list, count, offsets, buckets, 1, Half::Low),
@@ -59,7 +61,7 @@ fn table(
     table
 }
 
-/// The front of a literal.
+/// The prefix of a literal: all but its last `offset` bytes.
 fn front_at(list: &LitList, place: usize, offset: usize) -> &[u8]
     requires { place < length list.now.texts }
     ensures { result.now ≡ front_at list.now place offset }
@@ -69,7 +71,8 @@ fn front_at(list: &LitList, place: usize, offset: usize) -> &[u8]
     front
 }
 
-/// Gives the entries that keep a front its bucket: all where it does not reach the position.
+/// Sets the bucket's bit in the entries that keep a prefix, or in all entries if the prefix does not reach the
+/// position.
 fn add_front(
     table: &mut [u8; 16],
     fold: Fold,
@@ -91,7 +94,7 @@ fn add_front(
     }
 }
 
-/// Gives all entries a bucket.
+/// Sets a bucket's bit in all entries.
 fn add_to_all(table: &mut [u8; 16], bucket: u8)
     ensures here { (value : ℕ) → value < 16 → bit_at (slice_index table.new value) (bucket % 8) ≡ 1 }
     ensures kept { (value bit : ℕ) → bit_at (slice_index table.old value) bit ≡ 1 → bit_at (slice_index table.new value) bit ≡ 1 }
@@ -101,7 +104,7 @@ fn add_to_all(table: &mut [u8; 16], bucket: u8)
     }
 }
 
-/// Gives the entry of one value a bucket.
+/// Sets a bucket's bit in the entry of one value.
 fn add_bucket(table: &mut [u8; 16], value: u8, bucket: u8)
     requires { value < 16 }
     ensures here { bit_at (slice_index table.new value) (bucket % 8) ≡ 1 }
@@ -111,7 +114,7 @@ fn add_bucket(table: &mut [u8; 16], value: u8, bucket: u8)
     table[value] = with_bucket(table[value], bucket);
 }
 
-/// A number with the bit of one more bucket.
+/// A number with one more bucket's bit set.
 fn with_bucket(kept: u8, bucket: u8) -> u8
     ensures here { bit_at result (bucket % 8) ≡ 1 }
     ensures others { (bit : ℕ) → bit_at kept bit ≡ 1 → bit_at result bit ≡ 1 }

@@ -1,9 +1,9 @@
-//! The halves of a byte, by which the tables are looked up.
+//! The halves of a byte, which index the tables.
 
 ghost use Rattle.std.specs.Prelude.{◌≡◌, ◌<◌};
 ghost use Rattle.nib_mask.specs.FilterSet.{half_of};
 
-/// Which four bits of a byte a table is looked up by.
+/// The four bits of a byte that index a table.
 #[derive(Clone, Copy, Debug, PartialEq, Eq)]
 pub enum Half {
     /// The low four.

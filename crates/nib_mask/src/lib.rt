@@ -1,14 +1,16 @@
-//! The filter of a packed search: small tables by which most places of a text are seen to end no
-//! literal, at a look at three bytes. What searches a text for many literals stands on it.
+//! The filter of a packed search: small tables that rule out most positions of a text by three bytes each. The search
+//! for many literals rests on it.
 //!
-//! Theorem: no occurrence of a literal goes past the filter.
+//! Theorem: the filter passes every occurrence of a literal.
 #![tactic(auto)]
 
+mod byte_masks;
 mod candidates;
 mod fingerprint;
 mod fronts;
 mod half;
 mod masks;
 
+pub use byte_masks::ByteMasks;
 pub use candidates::candidate_law;
 pub use masks::{Masks, plain_byte};

@@ -1,4 +1,4 @@
-//! The tables, their making, and a look into them.
+//! The tables: building them, and looking up bytes in them.
 
 ghost use Rattle.std.specs.Prelude.{◌≡◌, ℕ, ◌+◌, ◌*◌, ◌<◌, ◌≤◌, length, slice_index, slice_range};
 ghost use Rattle.std.specs.Int.{bit_at};
@@ -11,20 +11,20 @@ use crate::fingerprint::{halves_at, reaches};
 use crate::half::Half;
 use lit_base::{Ends, LitList};
 
-/// The tables of a filter, of 16 entries each: for each of the last three bytes up to a place one
-/// table by the byte's low half and one by its high half. Bit b of an entry stands for bucket b.
+/// The tables of a filter, of 16 entries each. For each of the last three bytes up to a position there is one table by
+/// the byte's low half and one by its high half. Bit b of an entry stands for bucket b.
 #[derive(Clone, Copy, Debug, PartialEq, Eq)]
 pub struct Masks {
     /// By the low half, of the third-last byte, the second-last and the last.
-    pub low: [[u8; 16]; 3],
+    pub low: [[u16; 16]; 3],
     /// By the high half, likewise.
-    pub high: [[u8; 16]; 3],
+    pub high: [[u16; 16]; 3],
 }
 
 impl Masks {
     /// The tables for the literals of a list, each run of the cut being a bucket.
     pub fn of(list: &LitList, ends: &Ends) -> Masks
-        requires { IsCut 8 (length list.now.texts) ends.now.items }
+        requires { IsCut 16 (length list.now.texts) ends.now.items }
         ensures set { GivesFilterSets list.now ends.now.items result }
         ensures covers { Covers list.now result }
     {
@@ -47,9 +47,9 @@ impl Masks {
 
 /// The table of one position by one half, where the first run begins at place `start`: bit b of an
 /// entry says whether the table keeps run b there.
-fn table(list: &LitList, start: usize, ends: &[u16], position: usize, half: Half) -> [u8; 16]
+fn table(list: &LitList, start: usize, ends: &[u16], position: usize, half: Half) -> [u16; 16]
     requires cuts { CutsFrom (length list.now.texts) start ends.now }
-    requires few { length ends.now ≤ 8 }
+    requires few { length ends.now ≤ 16 }
     requires position { position < 3 }
     ensures { (value : ℕ) → value < 16
         → slice_index result value ≡ runs_mask (allows list.now.folding position half value) list.now.texts start ends.now }
@@ -66,8 +66,8 @@ fn table(list: &LitList, start: usize, ends: &[u16], position: usize, half: Half
 }
 
 /// The entries of later runs, with the bit of a run before them.
-fn with_first(kept: u16, later: &[u8; 16]) -> [u8; 16]
-    requires { (value : ℕ) → value < 16 → slice_index later.now value < 128 }
+fn with_first(kept: u16, later: &[u16; 16]) -> [u16; 16]
+    requires { (value : ℕ) → value < 16 → slice_index later.now value < 32768 }
     ensures { (value : ℕ) → value < 16 → slice_index result value ≡ bit_at kept value + 2 * slice_index later.now value }
 {
     let mut table = [0; 16];
@@ -78,16 +78,16 @@ fn with_first(kept: u16, later: &[u8; 16]) -> [u8; 16]
 }
 
 /// The entry for one value of the half.
-fn entry(kept: u16, value: usize, later: u8) -> u8
+fn entry(kept: u16, value: usize, later: u16) -> u16
     requires value { value < 16 }
-    requires later { later < 128 }
+    requires later { later < 32768 }
     ensures { result ≡ bit_at kept value + 2 * later }
 {
-    u8::from(kept >> value & 1 == 1) + 2 * later
+    u16::from(kept >> value & 1 == 1) + 2 * later
 }
 
-/// The halves at which a table keeps the run from `start` up to but not including `end`, each told
-/// by its bit: all where a literal does not reach the position, and else those of the literals.
+/// The halves at which a table keeps the run from `start` up to but not including `end`, a bit for each half. All bits
+/// are set if a literal does not reach the position; otherwise the bits of the literals' halves.
 fn kept_halves(list: &LitList, start: usize, end: usize, position: usize, half: Half) -> u16
     requires within { end ≤ length list.now.texts }
     requires position { position < 3 }
@@ -105,17 +105,17 @@ fn kept_halves(list: &LitList, start: usize, end: usize, position: usize, half: 
     halves
 }
 
-/// The filter byte of three bytes: bucket b has its bit set where all six entries have it.
+/// The filter number of three bytes: bit b is set if all six entries have it.
 #[tactic(auto, unfolding(crate::specs::Tables::table_value))]
-pub fn plain_byte(masks: &Masks, a: u8, b: u8, c: u8) -> u8
+pub fn plain_byte(masks: &Masks, a: u8, b: u8, c: u8) -> u16
     ensures { result ≡ table_value masks.now a b c }
 {
     byte_at(masks, 0, a) & byte_at(masks, 1, b) & byte_at(masks, 2, c)
 }
 
-/// What a byte has at a position.
+/// The bits that both tables of a position have for a byte.
 #[tactic(auto, unfolding(crate::specs::Tables::value_at))]
-fn byte_at(masks: &Masks, position: usize, byte: u8) -> u8
+fn byte_at(masks: &Masks, position: usize, byte: u8) -> u16
     requires { position < 3 }
     ensures { result ≡ value_at masks.now position byte }
 {

@@ -6,7 +6,7 @@ use Rattle.std.proofs.lemmas.List.{length-take, take-append-drop}
 use Rattle.std.proofs.lemmas.Option.{slice_get_within, get_or_from_slice_get}
 use Rattle.lit_base.specs.Literals.{IsNormal, Literals}
 use Rattle.lit_base.specs.Occurrences.{IsHits, Occurs}
-use Rattle.flow_scan.specs.NextEnds.{NoEndAfter}
+use Rattle.lit_base.specs.NextEnds.{NoEndAfter}
 use Rattle.flow_scan.proofs.Occurring.{occurs_of_front}
 
 -- where nothing ends in a text, nothing ends in its front
@@ -39,6 +39,6 @@ no_hits l text (h ∷ rest) normal none all =
     let here : Occurs l text h.0 h.1 = (all.members h.0 h.1).0 (0, omega arith, refl) in
     absurd (none h.1 (ends_later l text h.0 h.1 normal here) (h.0, here))
 
--- what is fine is no error
+-- a result that is fine is no error
 pub fine_or_err : {T E : Type 0} (r : Result T E) (e : E) → r ≡ Err e → IsOk r → ⊥
 fine_or_err r e failed fine = true≢false (sym fine ∙ ap is_ok failed)

@@ -1,4 +1,4 @@
-//! What workers pass on their way into their parts and out of them.
+//! Calls of workers before and after their parts.
 use std::marker::Sync;
 
 /// What each worker calls before it scans its part and after it. Workers are numbered from 1, and

@@ -1,4 +1,4 @@
-//! Scans by several workers at once: the hits are those of one scan, whoever finds them.
+//! Scans by several workers at once: the hits are the hits of one scan, whoever finds them.
 #![tactic(auto)]
 
 mod gate;

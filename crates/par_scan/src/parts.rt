@@ -1,7 +1,7 @@
 //! A text in parts, each scanned by a worker of its own.
 ghost use Rattle.std.specs.Prelude.{◌≡◌, ◌+◌, ◌-◌, ◌*◌, ◌<◌, ◌≤◌, IfOk, IfSome, IsOk, IsOkUnless, length};
 ghost use Rattle.lit_base.specs.Occurrences.{IsHits};
-ghost use Rattle.flow_scan.specs.NextEnds.{NoEndAfter};
+ghost use Rattle.lit_base.specs.NextEnds.{NoEndAfter};
 ghost use Rattle.flow_scan.specs.Tails.{Continues};
 ghost use Rattle.flow_scan.specs.declared.fault.Fault.TheVariants.{OutOfMemory};
 ghost use denote.Param.Send.{IsSync};
@@ -14,13 +14,13 @@ use std::thread::{Threads, join};
 /// How many workers may share a text.
 pub const MAX_WORKERS: usize = 16;
 
-/// Of fewer bytes nothing is learned: at two nanoseconds a byte, which is a slow search, half a millisecond is lost in so many,
-/// and to learn takes as long.
+/// A finder tunes itself only to parts of at least this many bytes: a slow search, at two nanoseconds a byte, takes
+/// half a millisecond for them, and tuning takes as long.
 const LEAST_LEARNED: usize = 262_144;
 
-/// All hits in a text, in order, found by so many workers, each of which scans a part of the text
-/// between its calls of the gate. The parts are as even as they can be. That of a worker that cannot
-/// be started is scanned by the calling thread, which waits for the others.
+/// All hits in a text, in order, found by `workers` workers. Each calls the gate, scans a part of the text, and calls
+/// the gate again. The parts are as even as they can be. The calling thread scans the part of a worker that cannot be
+/// started, and waits for the others.
 ///
 /// The only refusal is `OutOfMemory`.
 pub fn scan_parts<R: Threads + Sync, G: Gate>(
@@ -66,7 +66,7 @@ pub fn scan_parts<R: Threads + Sync, G: Gate>(
     Ok(hits)
 }
 
-/// How much of so many bytes the last worker takes where all take as much as each other, or a byte more.
+/// The part of the last worker, out of `len` bytes, where all take as many bytes, or one more.
 fn last_part(len: usize, workers: usize) -> usize
     requires { 1 ≤ workers }
     ensures most { workers * result ≤ len }
@@ -75,7 +75,7 @@ fn last_part(len: usize, workers: usize) -> usize
     len / workers
 }
 
-/// A worker's scan, of what ends in the text behind a place.
+/// A worker's scan: the hits that end in the text after a position.
 fn scan_part<G: Gate>(
     alloc: Global,
     gate: &G,
@@ -95,7 +95,7 @@ fn scan_part<G: Gate>(
     hits
 }
 
-/// What ends in a text behind a place, by a scan that learns from the text where it is long.
+/// The hits that end in a text after a position, by a finder if the rest of the text is long.
 fn hits_behind(
     alloc: Global,
     compiled: &Compiled,
@@ -113,7 +113,7 @@ fn hits_behind(
     }
 }
 
-/// What learns from so many bytes of a text, where these are many and there is memory for it.
+/// A finder for `count` bytes of a text, if these are many and there is memory for it.
 fn finder_for<'p>(alloc: Global, compiled: &'p Compiled, count: usize) -> Option<EndFinder<'p>>
     ensures { IfSome result (λ plan. plan ≡ compiled.now) }
 {

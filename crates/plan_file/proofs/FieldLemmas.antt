@@ -1,4 +1,4 @@
--- A field that is read is the field that was written, and what was written is read again.
+-- A field that is read is the field that was written, and a field that was written is read again.
 use Rattle.std.proofs.Common.{◌≡◌, ℕ, zero, suc, ◌+◌, ◌^◌, ◌<◌, ◌≤◌, Bool, true, false, cond, ltb, List, [], ◌∷◌, ◌++◌, length, get_or, take, drop, Result, Ok, Err, refl, sym, ap, subst, ◌∙◌, append_assoc, arith, inl, inr}
 use Rattle.std.specs.List.{AllByRecursion}
 use Rattle.std.specs.Int.{Width, w16, w32, w64, byte_len, from_be_bytes, to_be_bytes}
@@ -46,7 +46,7 @@ done x = Ok x
 pub ok_is : {A : Type 0} (x y : A) → done x ≡ done y → x ≡ y
 ok_is x y e = cc
 
--- what was read of a field whose number passed
+-- a field that was read, whose number passed
 pub field_ok : (bytes : List ℕ) (passes : ℕ → Bool) (cause : Cause) (read : Result (ℕ × List ℕ) Wrong) (n : ℕ × List ℕ) → field bytes passes cause read ≡ Ok n → (read ≡ Ok n) × (passes n.0 ≡ true)
 field_ok bytes passes cause (Ok m) n e =
     let p = passed_ok (passes m.0) (wrong_at cause bytes) m n e in
@@ -146,7 +146,7 @@ number_rest w bytes x e =
     let long : byte_len w ≤ length bytes = ltb-false _ _ g.0 in
     subst (λ (y : ℕ × List ℕ). length bytes ≡ byte_len w + length y.1) g.1 (omega (arith, length-drop (byte_len w) bytes))
 
--- and how many so many bytes leave
+-- and how many bytes remain after n bytes
 pub bytes_rest : (n : ℕ) (bytes : List ℕ) (x : List ℕ × List ℕ) → bytes_at n bytes ≡ Ok x → length bytes ≡ n + length x.1
 bytes_rest n bytes x e =
     let g = guard_ok (ltb (length bytes) n) (wrong_at Short bytes) (take n bytes, drop n bytes) x e in

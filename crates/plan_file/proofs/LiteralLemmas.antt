@@ -41,7 +41,7 @@ heads_same e = (cc)
 tails_same : {x y : ℕ} {xs ys : List ℕ} → x ∷ xs ≡ y ∷ ys → xs ≡ ys
 tails_same e = (cc)
 
--- of a text without such a byte the folded text is the text
+-- a text without a byte that is not folded is its folded text
 pub folded_whole : (fold : Fold) (text : List ℕ) → length text ≤ folded_len fold text → folded_text fold text ≡ text
 folded_whole fold [] all = refl
 folded_whole fold (b ∷ bs) all = step (folded_whole fold bs) (eqb (folded fold b) b) refl
@@ -63,7 +63,7 @@ folded_len_whole fold (b ∷ bs) e =
 
 -- ---- one literal
 
--- a literal that may follow another one, where there is room for so many bytes
+-- a literal that may follow another one, where there is room for `room` bytes
 pub record IsNext (fold : Fold) (room : ℕ) (before text : List ℕ) : Type 0 where
   pub some : 1 ≤ length text
   pub short : length text ≤ MAX_LITERAL_LEN
@@ -91,7 +91,7 @@ guard_then : {A : Type 0} (b : Bool) (d : Wrong) (next : Result A Wrong) (y : A)
 guard_then true d next y e = absurd cc
 guard_then false d next y e = (refl, e)
 
--- what was read of a literal
+-- a literal that was read
 record Parts (fold : Fold) (room : ℕ) (before bytes : List ℕ) (x : List ℕ × List ℕ) : Type 0 where
   len : ℕ
   rest : List ℕ

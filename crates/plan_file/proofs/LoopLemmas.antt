@@ -11,7 +11,7 @@ use Rattle.plan_file.specs.declared.fault.Wrong.{Wrong}
 use Rattle.plan_file.specs.Faults.{IfWrong}
 use Rattle.plan_file.specs.Reading.{◌>>=◌, number_at, numbers_at, literal_at, literals_at}
 
--- what was read before, and what is still read
+-- the items read before, and the rest still to read
 abbrev pub with_front : {A : Type 0} → List A → Result (List A × List ℕ) Wrong → Result (List A × List ℕ) Wrong
 with_front front read = read >>= λ x. Ok (front ++ x.0, x.1)
 
@@ -52,7 +52,7 @@ numbers_done w front count i bytes total le so_far =
 
 -- ---- literals
 
--- the literals that were read, so many, the room that they leave, the last of them and the bytes behind it
+-- the literals that were read, the room that they leave, the last of them and the bytes after it
 pub record Left (fold : Fold) (count i room : ℕ) (before rest : List ℕ) (texts : List (List ℕ)) (total : Result (List (List ℕ) × List ℕ) Wrong) : Type 0 where
   pub number : length texts ≡ i
   pub total_len : room + sum_by length texts ≡ MAX_LIST_LEN

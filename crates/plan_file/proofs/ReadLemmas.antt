@@ -1,5 +1,5 @@
--- What is promised of a device, by what was made of the bytes that it gave.
-use Rattle.std.proofs.Common.{◌≡◌, ◌≢◌, ℕ, ◌^◌, ◌<◌, List, [], ◌++◌, length, Option, Some, None, Result, Ok, Err, refl, sym, ap, subst, ◌∙◌, arith}
+-- The promises on a device, by the answer made of the bytes that it gave.
+use Rattle.std.proofs.Common.{◌≡◌, ◌≢◌, ℕ, ◌^◌, ◌<◌, List, [], ◌++◌, length, Option, Some, None, Result, Ok, Err, refl, sym, ap, subst, ◌∙◌, append_assoc, arith}
 use Rattle.std.specs.Option.{IfSome}
 use Rattle.std.specs.Result.{IfErr, IfOk, OnOk}
 use Rattle.std.proofs.lemmas.List.{length-append}
@@ -12,13 +12,13 @@ use Rattle.plan_file.specs.declared.fault.Fault.{Fault}
 use Rattle.plan_file.specs.declared.fault.Fault.TheVariants.{OutOfMemory, BadPlanFile, ReadFault, WriteFault}
 use Rattle.plan_file.specs.Faults.{IfBadFile}
 use Rattle.plan_file.specs.FirstFaults.{IsFirstFault}
-use Rattle.plan_file.specs.Spelling.{ArePlans, spelling}
+use Rattle.plan_file.specs.Spelling.{IsFile}
 use Rattle.plan_file.proofs.LongLemmas.{IsLong, first_longer, none_spells, spelled_short}
 use Rattle.plan_file.proofs.OneWay.{one_fault}
 
--- the plans are those of the text
+-- the plans are the plans of the text
 abbrev pub Spells : {X : Type 0} → (X → List Plan) → List ℕ → Result X Fault → Type 0
-Spells items text r = IfOk r (λ v. ArePlans 8 1024 (items v) × (text ≡ spelling (items v)))
+Spells items text r = IfOk r (λ v. IsFile text (items v))
 
 abbrev bad_file : {X : Type 0} → ℕ → Cause → Result X Fault
 bad_file place cause = Err (BadPlanFile place cause)
@@ -31,54 +31,63 @@ came_is x y before text empty r =
 
 -- nothing is read of too many bytes
 pub found_long : {X : Type 0} (items : X → List Plan) (old new : Option Coming) (before text : List ℕ) (r : Result X Fault) → IsLong text → ReadsInto old new before text → Spells items text r
-    → Told old new (λ x y. IfOk r (λ v. ArePlans 8 1024 (items v) × (x.text ≡ spelling (items v)) × EndsHere y))
+    → Told old new (λ x y. IfOk r (λ v. IsFile x.text (items v) × EndsHere y))
 found_long items None new before text r long reads found = tt
 found_long items (Some x) None before text r long reads found = absurd reads.given
-found_long items (Some x) (Some y) before text (Ok v) long reads found = absurd (none_spells text (items v) long found.0 found.1)
+found_long items (Some x) (Some y) before text (Ok v) long reads found = absurd (none_spells text (items v) long found)
 found_long items (Some x) (Some y) before text (Err e) long reads found = tt
 
 pub ending_long : {X : Type 0} (items : X → List Plan) (old : Option Coming) (text : List ℕ) (r : Result X Fault) → IsLong text → Spells items text r → IfSome old (λ x. OnOk r (x.ending ≢ Faulty))
 ending_long items None text r long found = tt
-ending_long items (Some x) text (Ok v) long found = absurd (none_spells text (items v) long found.0 found.1)
+ending_long items (Some x) text (Ok v) long found = absurd (none_spells text (items v) long found)
 ending_long items (Some x) text (Err e) long found = tt
 
 -- what came is no file then
 pub only_long : (Q : List Plan → Type 0) (old new : Option Coming) (before text : List ℕ) → before ≡ [] → IsLong text → ReadsInto old new before text
-    → IfSome old (λ x. x.ending ≡ Clean → (plans : List Plan) → ArePlans 8 1024 plans → x.text ≡ spelling plans → Q plans)
+    → IfSome old (λ x. x.ending ≡ Clean → (plans : List Plan) → IsFile x.text plans → Q plans)
 only_long Q None new before text empty long reads = tt
 only_long Q (Some x) None before text empty long reads = absurd reads.given
 only_long Q (Some x) (Some y) before text empty long reads =
-    λ clean plans are e. absurd (too_long plans are e)
+    λ clean plans f. absurd (too_long plans f)
   where
-    too_long : (plans : List Plan) → ArePlans 8 1024 plans → x.text ≡ spelling plans → ⊥
-    too_long plans are e = omega (arith, spelled_short x.text plans are e, long, ap length (came_is x y before text empty reads), length-append text y.text)
+    too_long : (plans : List Plan) → IsFile x.text plans → ⊥
+    too_long plans f = omega (arith, spelled_short x.text plans f, long, ap length (came_is x y before text empty reads), length-append text y.text)
 
 -- no read fails where a file comes cleanly
 pub only_failed : (Q : List Plan → Type 0) (limit : ℕ) (old : Option Coming) (before text : List ℕ) → IfSome old (λ x. length x.text < 2 ^ 40 → FaultFollows limit before text x)
-    → IfSome old (λ x. x.ending ≡ Clean → (plans : List Plan) → ArePlans 8 1024 plans → x.text ≡ spelling plans → Q plans)
+    → IfSome old (λ x. x.ending ≡ Clean → (plans : List Plan) → IsFile x.text plans → Q plans)
 only_failed Q limit None before text failed = tt
 only_failed Q limit (Some x) before text failed =
-    λ clean plans are e. absurd ((failed (short plans are e)).ending clean)
+    λ clean plans f. absurd ((failed (short plans f)).ending clean)
   where
-    short : (plans : List Plan) → ArePlans 8 1024 plans → x.text ≡ spelling plans → length x.text < 2 ^ 40
-    short plans are e = omega (arith, spelled_short x.text plans are e)
+    short : (plans : List Plan) → IsFile x.text plans → length x.text < 2 ^ 40
+    short plans f = omega (arith, spelled_short x.text plans f)
 
--- the first fault of the front is that of all bytes
-pub wrong_long : {X : Type 0} (old new : Option Coming) (before text : List ℕ) (r : Result X Fault) → before ≡ [] → IsLong text → ReadsInto old new before text → IfErr r (IfBadFile (IsFirstFault 8 1024 text))
-    → IfSome old (λ x. (place : ℕ) (cause : Cause) → r ≡ Err (BadPlanFile place cause) → IsFirstFault 8 1024 x.text place cause)
+-- the first fault of the front is the first fault of all bytes
+pub wrong_long : {X : Type 0} (old new : Option Coming) (before text : List ℕ) (r : Result X Fault) → before ≡ [] → IsLong text → ReadsInto old new before text → IfErr r (IfBadFile (IsFirstFault text))
+    → IfSome old (λ x. (place : ℕ) (cause : Cause) → r ≡ Err (BadPlanFile place cause) → IsFirstFault x.text place cause)
 wrong_long None new before text r empty long reads wrong = tt
 wrong_long (Some x) None before text r empty long reads wrong = absurd reads.given
 wrong_long (Some x) (Some y) before text r empty long reads wrong = λ place cause is.
-    subst (λ (t : List ℕ). IsFirstFault 8 1024 t place cause) (sym (came_is x y before text empty reads)) (first_longer text y.text place cause long (IfErr-at_err (IfBadFile (IsFirstFault 8 1024 text)) is wrong))
+    subst (λ (t : List ℕ). IsFirstFault t place cause) (sym (came_is x y before text empty reads)) (first_longer text y.text place cause long (IfErr-at_err (IfBadFile (IsFirstFault text)) is wrong))
 
--- and is told
-pub exact_long : {X : Type 0} (items : X → List Plan) (old new : Option Coming) (before text : List ℕ) (r : Result X Fault) → before ≡ [] → IsLong text → ReadsInto old new before text → Spells items text r → IfErr r (IfBadFile (IsFirstFault 8 1024 text))
-    → IfSome old (λ x. x.ending ≡ Clean → length x.text < 2 ^ 40 → (place : ℕ) (cause : Cause) → IsFirstFault 8 1024 x.text place cause → r ≢ Err OutOfMemory → r ≡ Err (BadPlanFile place cause))
+-- whatever would have followed
+pub shown_long : {X : Type 0} (old new : Option Coming) (before text : List ℕ) (r : Result X Fault) → before ≡ [] → IsLong text → ReadsInto old new before text → IfErr r (IfBadFile (IsFirstFault text))
+    → IfSome old (λ x. x.ending ≡ Faulty → (place : ℕ) (cause : Cause) → r ≡ Err (BadPlanFile place cause) → (more : List ℕ) → IsFirstFault (x.text ++ more) place cause)
+shown_long None new before text r empty long reads wrong = tt
+shown_long (Some x) None before text r empty long reads wrong = absurd reads.given
+shown_long (Some x) (Some y) before text r empty long reads wrong = λ faulty place cause is more.
+    let all : x.text ++ more ≡ text ++ (y.text ++ more) = ap (λ (t : List ℕ). t ++ more) (came_is x y before text empty reads) ∙ append_assoc text y.text more in
+    subst (λ (t : List ℕ). IsFirstFault t place cause) (sym all) (first_longer text (y.text ++ more) place cause long (IfErr-at_err (IfBadFile (IsFirstFault text)) is wrong))
+
+-- and is returned
+pub exact_long : {X : Type 0} (items : X → List Plan) (old new : Option Coming) (before text : List ℕ) (r : Result X Fault) → before ≡ [] → IsLong text → ReadsInto old new before text → Spells items text r → IfErr r (IfBadFile (IsFirstFault text))
+    → IfSome old (λ x. x.ending ≡ Clean → length x.text < 2 ^ 40 → (place : ℕ) (cause : Cause) → IsFirstFault x.text place cause → r ≢ Err OutOfMemory → r ≡ Err (BadPlanFile place cause))
 exact_long items None new before text r empty long reads found wrong = tt
 exact_long items (Some x) None before text r empty long reads found wrong = absurd reads.given
-exact_long items (Some x) (Some y) before text (Ok v) empty long reads found wrong = λ clean short place cause first memory. absurd (none_spells text (items v) long found.0 found.1)
+exact_long items (Some x) (Some y) before text (Ok v) empty long reads found wrong = λ clean short place cause first memory. absurd (none_spells text (items v) long found)
 exact_long items (Some x) (Some y) before text (Err OutOfMemory) empty long reads found wrong = λ clean short place cause first memory. absurd (memory refl)
 exact_long items (Some x) (Some y) before text (Err (BadPlanFile p c)) empty long reads found wrong = λ clean short place cause first memory.
-    one_fault bad_file 8 1024 x.text p place c cause (subst (λ (t : List ℕ). IsFirstFault 8 1024 t p c) (sym (came_is x y before text empty reads)) (first_longer text y.text p c long wrong)) first
+    one_fault bad_file x.text p place c cause (subst (λ (t : List ℕ). IsFirstFault t p c) (sym (came_is x y before text empty reads)) (first_longer text y.text p c long wrong)) first
 exact_long items (Some x) (Some y) before text (Err ReadFault) empty long reads found wrong = absurd wrong
 exact_long items (Some x) (Some y) before text (Err WriteFault) empty long reads found wrong = absurd wrong

@@ -8,37 +8,38 @@ use Rattle.flow_scan.specs.Plans.{Plan}
 use Rattle.plan_file.specs.declared.fault.Cause.TheVariants.{Trailing}
 use Rattle.plan_file.specs.declared.fault.Stop.{Stop}
 use Rattle.plan_file.specs.declared.fault.Stop.TheVariants as stop
+use Rattle.plan_file.specs.declared.version.Version.{Version}
 use Rattle.plan_file.specs.Faults.{IfWrong}
 use Rattle.plan_file.specs.FirstFaults.{AreEntries, IsWrong, IsWrongBehind, IsWrongEntry, IsWrongNext}
 use Rattle.plan_file.specs.Reading.{head_at, wrong_at}
-use Rattle.plan_file.specs.Spelling.{head_text, plan_text, spelling, ArePlans, IsPlan}
+use Rattle.plan_file.specs.Spelling.{head_text, plan_text, IsFile, IsPlan}
 use Rattle.plan_file.proofs.FieldLemmas.{IsBytes}
 use Rattle.plan_file.proofs.PlanLemmas.{head_takes}
 
 -- ---- reading one after the other
 
--- the plans that were read, so many, and the bytes behind them
-pub record SoFar (most limit i : ℕ) (bytes : List ℕ) (plans : List Plan) (rest : List ℕ) : Type 0 where
-  pub each : All (IsPlan most limit) plans
+-- i plans that were read, and the bytes after them
+pub record SoFar (version : Version) (i : ℕ) (bytes : List ℕ) (plans : List Plan) (rest : List ℕ) : Type 0 where
+  pub each : All (IsPlan version) plans
   pub number : length plans ≡ i
   pub text_is : bytes ≡ flat_map plan_text plans ++ rest
 
-pub so_far_none : (most limit : ℕ) (bytes : List ℕ) → SoFar most limit 0 bytes [] bytes
-so_far_none most limit bytes = record { each = All-nil (IsPlan most limit); number = refl; text_is = refl }
+pub so_far_none : (version : Version) (bytes : List ℕ) → SoFar version 0 bytes [] bytes
+so_far_none version bytes = record { each = All-nil (IsPlan version); number = refl; text_is = refl }
 
-pub so_far_more : (most limit i : ℕ) (bytes : List ℕ) (plans more : List Plan) (p : Plan) (rest after : List ℕ) → SoFar most limit i bytes plans rest → IsPlan most limit p → rest ≡ plan_text p ++ after → more ≡ plans ++ p ∷ [] → SoFar most limit (i + 1) bytes more after
-so_far_more most limit i bytes plans more p rest after s is e m =
+pub so_far_more : (version : Version) (i : ℕ) (bytes : List ℕ) (plans more : List Plan) (p : Plan) (rest after : List ℕ) → SoFar version i bytes plans rest → IsPlan version p → rest ≡ plan_text p ++ after → more ≡ plans ++ p ∷ [] → SoFar version (i + 1) bytes more after
+so_far_more version i bytes plans more p rest after s is e m =
     let text : bytes ≡ flat_map plan_text (plans ++ p ∷ []) ++ after =
     s.text_is ∙ ap (λ (t : List ℕ). flat_map plan_text plans ++ t) e ∙ sym (append_assoc (flat_map plan_text plans) (plan_text p) after)
     ∙ ap (λ (t : List ℕ). (flat_map plan_text plans ++ t) ++ after) (sym (append-nil (plan_text p)))
     ∙ ap (λ (t : List ℕ). t ++ after) (sym (flat_map-append plan_text plans (p ∷ []))) in
-    subst (λ (ps : List Plan). SoFar most limit (i + 1) bytes ps after) (sym m)
-    (record { each = All-push (IsPlan most limit) plans p s.each is; number = omega (arith, length-append plans (p ∷ []), s.number); text_is = text })
+    subst (λ (ps : List Plan). SoFar version (i + 1) bytes ps after) (sym m)
+    (record { each = All-push (IsPlan version) plans p s.each is; number = omega (arith, length-append plans (p ∷ []), s.number); text_is = text })
 
--- what is wrong with the next entry is wrong behind the plans that were read
-pub wrong_next : (most limit count i : ℕ) (bytes : List ℕ) (plans : List Plan) (rest : List ℕ) (e : Stop) → i < count → SoFar most limit i bytes plans rest → IfWrong (IsWrongEntry most limit rest) e → IfWrong (IsWrongBehind most limit count bytes) e
-wrong_next most limit count i bytes plans rest stop.OutOfMemory lt s wrong = tt
-wrong_next most limit count i bytes plans rest (stop.Wrong w) lt s wrong =
+-- a fault of the next entry is a fault after the plans that were read
+pub wrong_next : (version : Version) (count i : ℕ) (bytes : List ℕ) (plans : List Plan) (rest : List ℕ) (e : Stop) → i < count → SoFar version i bytes plans rest → IfWrong (IsWrongEntry version rest) e → IfWrong (IsWrongBehind version count bytes) e
+wrong_next version count i bytes plans rest stop.OutOfMemory lt s wrong = tt
+wrong_next version count i bytes plans rest (stop.Wrong w) lt s wrong =
     let k : suc (count - (i + 1)) ≡ count - length plans = omega (arith, s.number) in
     record {
       plans = plans;
@@ -46,12 +47,12 @@ wrong_next most limit count i bytes plans rest (stop.Wrong w) lt s wrong =
       each = s.each;
       within = omega (arith, s.number);
       text_is = s.text_is;
-      wrong = subst (λ (n : ℕ). IsWrongNext most limit n rest w) k wrong;
+      wrong = subst (λ (n : ℕ). IsWrongNext version n rest w) k wrong;
     }
 
--- bytes behind the last plan are wrong
-pub wrong_trailing : (most limit count i : ℕ) (bytes : List ℕ) (plans : List Plan) (rest : List ℕ) → count ≤ i → i ≤ count → SoFar most limit i bytes plans rest → rest ≢ [] → IsWrongBehind most limit count bytes (wrong_at Trailing rest)
-wrong_trailing most limit count i bytes plans rest done le s some =
+-- bytes after the last plan are wrong
+pub wrong_trailing : (version : Version) (count i : ℕ) (bytes : List ℕ) (plans : List Plan) (rest : List ℕ) → count ≤ i → i ≤ count → SoFar version i bytes plans rest → rest ≢ [] → IsWrongBehind version count bytes (wrong_at Trailing rest)
+wrong_trailing version count i bytes plans rest done le s some =
     let k : 0 ≡ count - length plans = omega (arith, s.number) in
     record {
       plans = plans;
@@ -59,36 +60,40 @@ wrong_trailing most limit count i bytes plans rest done le s some =
       each = s.each;
       within = omega (arith, s.number);
       text_is = s.text_is;
-      wrong = subst (λ (n : ℕ). IsWrongNext most limit n rest (wrong_at Trailing rest)) k (some, refl);
+      wrong = subst (λ (n : ℕ). IsWrongNext version n rest (wrong_at Trailing rest)) k (some, refl);
     }
 
 -- all plans were read, and nothing follows
-pub all_read : (most limit count i : ℕ) (bytes : List ℕ) (plans : List Plan) (rest : List ℕ) → count ≤ i → i ≤ count → SoFar most limit i bytes plans rest → rest ≡ [] → AreEntries most limit count bytes plans
-all_read most limit count i bytes plans rest done le s none = record {
+pub all_read : (version : Version) (count i : ℕ) (bytes : List ℕ) (plans : List Plan) (rest : List ℕ) → count ≤ i → i ≤ count → SoFar version i bytes plans rest → rest ≡ [] → AreEntries version count bytes plans
+all_read version count i bytes plans rest done le s none = record {
   each = s.each;
   count_is = omega (arith, s.number);
   text_is = s.text_is ∙ ap (λ (t : List ℕ). flat_map plan_text plans ++ t) none ∙ append-nil (flat_map plan_text plans);
 }
 
--- a head and as many plans as it tells are the text
-pub whole : (most limit count : ℕ) (text rest : List ℕ) (plans : List Plan) → IsBytes text → head_at text ≡ Ok (count, rest) → AreEntries most limit count rest plans → ArePlans most limit plans × (text ≡ spelling plans)
-whole most limit count text rest plans fits head are =
-    let h = head_takes text (count, rest) fits head in (
-      record { few = omega (arith, h.1, are.count_is); each = are.each },
-      h.0.parts ∙ ap (λ (t : List ℕ). head_text count ++ t) are.text_is ∙ ap (λ (k : ℕ). head_text k ++ flat_map plan_text plans) (sym are.count_is),
-    )
+-- a head and as many plans as it says are the text
+pub whole : (version : Version) (count : ℕ) (text rest : List ℕ) (plans : List Plan) → IsBytes text → head_at text ≡ Ok ((version, count), rest) → AreEntries version count rest plans → IsFile text plans
+whole version count text rest plans fits head are =
+    let h = head_takes text ((version, count), rest) fits head in
+    record {
+      version = version;
+      file = record {
+        are = record { few = omega (arith, h.1, are.count_is); each = are.each };
+        spelled = h.0.parts ∙ ap (λ (t : List ℕ). head_text version count ++ t) are.text_is ∙ ap (λ (k : ℕ). head_text version k ++ flat_map plan_text plans) (sym are.count_is);
+      };
+    }
 
--- what is wrong behind the head is wrong with the text
-pub wrong_behind : (most limit count : ℕ) (text rest : List ℕ) (e : Stop) → head_at text ≡ Ok (count, rest) → IfWrong (IsWrongBehind most limit count rest) e → IfWrong (IsWrong most limit text) e
-wrong_behind most limit count text rest stop.OutOfMemory head wrong = tt
-wrong_behind most limit count text rest (stop.Wrong w) head wrong = inr (count, rest, head, wrong)
+-- a fault after the head is a fault of the text
+pub wrong_behind : (version : Version) (count : ℕ) (text rest : List ℕ) (e : Stop) → head_at text ≡ Ok ((version, count), rest) → IfWrong (IsWrongBehind version count rest) e → IfWrong (IsWrong text) e
+wrong_behind version count text rest stop.OutOfMemory head wrong = tt
+wrong_behind version count text rest (stop.Wrong w) head wrong = inr (version, count, rest, head, wrong)
 
--- what is wrong with the head is wrong with the text
-pub wrong_head : (most limit : ℕ) (text : List ℕ) (e : Stop) → IfWrong (λ w. head_at text ≡ Err w) e → IfWrong (IsWrong most limit text) e
-wrong_head most limit text stop.OutOfMemory wrong = tt
-wrong_head most limit text (stop.Wrong w) wrong = inl wrong
+-- a fault of the head is a fault of the text
+pub wrong_head : (text : List ℕ) (e : Stop) → IfWrong (λ w. head_at text ≡ Err w) e → IfWrong (IsWrong text) e
+wrong_head text stop.OutOfMemory wrong = tt
+wrong_head text (stop.Wrong w) wrong = inl wrong
 
--- one more entry is written behind those before it
+-- one more entry is written after those before it
 pub entries_more : (front old new : List ℕ) (plans : List Plan) (i : ℕ) (p : Plan) → i < length plans → p ≡ get_or plans i p → old ≡ front ++ flat_map plan_text (take i plans)
     → new ≡ old ++ plan_text p → new ≡ front ++ flat_map plan_text (take (i + 1) plans)
 entries_more front old new plans i p within is so_far one =

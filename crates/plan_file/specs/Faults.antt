@@ -1,4 +1,4 @@
--- The numbers by which messages name the faults, and who answers which of them.
+-- The numbers by which messages name the faults, and the faults of each call.
 use Rattle.std.specs.Prelude.{ℕ, ⊤, ◌≡◌, Result, Ok, Err}
 use Rattle.plan_file.specs.declared.fault.Cause.{Cause}
 use Rattle.plan_file.specs.declared.fault.Wrong.{Wrong}
@@ -14,7 +14,7 @@ number_of (BadPlanFile place cause) = 10
 number_of ReadFault = 17
 number_of WriteFault = 18
 
--- a fault of bytes that are held whole: want of memory, or a place and a cause that are such
+-- a fault of bytes that are held whole: want of memory, or a place and a cause for which P holds
 abbrev pub IfBadFile : (ℕ → Cause → Type 0) → Fault → Type 0
 IfBadFile P OutOfMemory = ⊤
 IfBadFile P (BadPlanFile place cause) = P place cause
@@ -37,7 +37,7 @@ IsWritersFault WriteFault = ⊤
 
 -- ---- inside the crate: why reading stops
 
--- want of memory, or something wrong that is such
+-- want of memory, or something wrong for which P holds
 abbrev pub IfWrong : (Wrong → Type 0) → Stop → Type 0
 IfWrong P stop.OutOfMemory = ⊤
 IfWrong P (stop.Wrong w) = P w

@@ -1,25 +1,31 @@
--- The fields of a plan file in reading order, and which of them is the first that is wrong.
-use Rattle.std.specs.Prelude.{ℕ, zero, suc, ◌*◌, ◌-◌, List, [], ◌∷◌, length, take, drop, Bool, ◌&&◌, ◌==◌, not, nat_le, nat_lt, if◌then◌else◌, Result, Ok, Err}
+-- The fields of a plan file in reading order, and the first of them that is wrong.
+use Rattle.std.specs.Prelude.{ℕ, zero, suc, ◌*◌, ◌-◌, ◌%◌, List, [], ◌∷◌, length, take, drop, Bool, ◌&&◌, ◌==◌, not, nat_le, nat_lt, if◌then◌else◌, Result, Ok, Err}
 use Rattle.std.specs.Int.{Width, w16, w32, w64, byte_len, from_be_bytes}
 use Rattle.std.specs.List.{position_or_len}
 use Rattle.std.specs.Ordering.{is_lt}
 use Rattle.lit_base.specs.declared.fold.Fold.{Fold}
 use Rattle.lit_base.specs.declared.fold.Fold.TheVariants.{No, Ascii}
+use Rattle.lit_base.specs.declared.profile.Profile.{Profile}
+use Rattle.lit_base.specs.declared.profile.Profile.TheVariants.{Eight, Sixteen}
 use Rattle.lit_base.specs.declared.limits.TheConstants.{MAX_LITERAL_LEN, MAX_LIST_LEN}
 use Rattle.lit_base.specs.Folding.{folded}
 use Rattle.lit_base.specs.Literals.{Literals, literal_cmp}
+use Rattle.lit_base.specs.Profiles.{buckets}
 use Rattle.lit_cert.specs.Certificates.{CertificateParts}
 use Rattle.flow_scan.specs.Plans.{Plan}
 use Rattle.plan_file.specs.declared.fault.Cause.{Cause}
-use Rattle.plan_file.specs.declared.fault.Cause.TheVariants.{Short, Magic, Version, Count, Flags, Literal, Order, Runs}
+use Rattle.plan_file.specs.declared.fault.Cause.TheVariants.{Short, Magic, Version as wrong_version, Count, Flags, Literal, Order, Runs}
 use Rattle.plan_file.specs.declared.fault.Wrong.{Wrong}
+use Rattle.plan_file.specs.declared.version.Version.{Version}
+use Rattle.plan_file.specs.declared.version.Version.TheVariants.{One, Two}
+use Rattle.plan_file.specs.Spelling.{limit_of}
 
 infixl 10 ◌>>=◌
 abbrev pub ◌>>=◌ : {A B : Type 0} → Result A Wrong → (A → Result B Wrong) → Result B Wrong
 (Ok x) >>= f = f x
 (Err e) >>= f = Err e
 
--- the cause, at the field that begins these bytes: its place is told by how many bytes stand from it on
+-- the cause, at the field that begins these bytes: its place is given by how many bytes stand from it on
 abbrev pub wrong_at : Cause → List ℕ → Wrong
 wrong_at cause bytes = record { left = length bytes; cause = cause }
 
@@ -43,7 +49,7 @@ field bytes passes cause read = do
   n ← read
   if passes n.0 then Ok n else Err (wrong_at cause bytes)
 
--- so many numbers
+-- a count of numbers
 unfoldable pub numbers_at : Width → ℕ → List ℕ → Result (List ℕ × List ℕ) Wrong
 numbers_at w zero bytes = Ok ([], bytes)
 numbers_at w (suc n) bytes = do
@@ -55,7 +61,7 @@ numbers_at w (suc n) bytes = do
 abbrev pub folded_len : Fold → List ℕ → ℕ
 folded_len fold text = position_or_len (λ b. not (folded fold b == b)) text
 
--- a literal behind another one, where there is room for so many bytes
+-- a literal after another one, where there is room for `room` bytes
 unfoldable pub literal_at : Fold → ℕ → List ℕ → List ℕ → Result (List ℕ × List ℕ) Wrong
 literal_at fold room before bytes = do
   len ← field bytes (λ n. nat_le 1 n && nat_le n MAX_LITERAL_LEN && nat_le n room) Literal (number_at w16 bytes)
@@ -64,7 +70,7 @@ literal_at fold room before bytes = do
       else if is_lt (literal_cmp before text.0) then Ok text
       else Err (wrong_at Order bytes)
 
--- so many literals
+-- a count of literals
 unfoldable pub literals_at : Fold → ℕ → ℕ → List ℕ → List ℕ → Result (List (List ℕ) × List ℕ) Wrong
 literals_at fold zero room before bytes = Ok ([], bytes)
 literals_at fold (suc n) room before bytes = do
@@ -72,38 +78,55 @@ literals_at fold (suc n) room before bytes = do
   others ← literals_at fold n (room - length first.0) first.0 first.1
   Ok (first.0 ∷ others.0, others.1)
 
--- the fold that a flag tells
+-- the greatest flags of an entry
+abbrev pub last_flags : Version → ℕ
+last_flags One = 1
+last_flags Two = 3
+
+-- the fold in the flags: bit 0
 abbrev pub fold_of : ℕ → Fold
-fold_of zero = No
-fold_of (suc b) = Ascii
+fold_of flags = if flags % 2 == 0 then No else Ascii
 
--- the literals of an entry, 1 to `limit`
-unfoldable pub list_at : ℕ → List ℕ → Result (Literals × List ℕ) Wrong
-list_at limit bytes = do
-  flag ← field bytes (λ b. nat_le b 1) Flags (byte_at bytes)
-  n ← field flag.1 (λ n. nat_le 1 n && nat_le n limit) Count (number_at w16 flag.1)
-  texts ← literals_at (fold_of flag.0) n.0 MAX_LIST_LEN [] n.1
-  Ok (record { folding = fold_of flag.0; texts = texts.0 }, texts.1)
+-- the profile in the flags: bit 1
+abbrev pub profile_of : ℕ → Profile
+profile_of flags = if nat_lt flags 2 then Eight else Sixteen
 
--- the certificate of n literals, whether or not it holds: 1 to `most` runs
-unfoldable pub certificate_at : ℕ → ℕ → List ℕ → Result (CertificateParts × List ℕ) Wrong
-certificate_at most n bytes = do
-  runs ← field bytes (λ r. nat_le 1 r && nat_le r most) Runs (byte_at bytes)
+-- the profile and the literals of an entry, at most the version's limit
+unfoldable pub list_at : Version → List ℕ → Result ((Profile × Literals) × List ℕ) Wrong
+list_at version bytes = do
+  flags ← field bytes (λ b. nat_le b (last_flags version)) Flags (byte_at bytes)
+  n ← field flags.1 (λ n. nat_le 1 n && nat_le n (limit_of version)) Count (number_at w16 flags.1)
+  texts ← literals_at (fold_of flags.0) n.0 MAX_LIST_LEN [] n.1
+  Ok ((profile_of flags.0, record { folding = fold_of flags.0; texts = texts.0 }), texts.1)
+
+-- the certificate of n literals, whether or not it holds: at most as many runs as buckets
+unfoldable pub certificate_at : Profile → ℕ → List ℕ → Result (CertificateParts × List ℕ) Wrong
+certificate_at profile n bytes = do
+  runs ← field bytes (λ r. nat_le 1 r && nat_le r (buckets profile)) Runs (byte_at bytes)
   ends ← numbers_at w16 runs.0 runs.1
   cost ← number_at w64 ends.1
-  potentials ← numbers_at w64 (most * n) cost.1
-  Ok (record { ends = ends.0; cost = cost.0; potentials = potentials.0 }, potentials.1)
+  potentials ← numbers_at w64 (buckets profile * n) cost.1
+  Ok (record { profile = profile; ends = ends.0; cost = cost.0; potentials = potentials.0 }, potentials.1)
 
 -- an entry
-unfoldable pub plan_at : ℕ → ℕ → List ℕ → Result (Plan × List ℕ) Wrong
-plan_at most limit bytes = do
-  list ← list_at limit bytes
-  certificate ← certificate_at most (length list.0.texts) list.1
-  Ok (record { literals = list.0; certificate = certificate.0 }, certificate.1)
+unfoldable pub plan_at : Version → List ℕ → Result (Plan × List ℕ) Wrong
+plan_at version bytes = do
+  list ← list_at version bytes
+  certificate ← certificate_at list.0.0 (length list.0.1.texts) list.1
+  Ok (record { literals = list.0.1; certificate = certificate.0 }, certificate.1)
 
--- the head, which tells the number of plans
-unfoldable pub head_at : List ℕ → Result (ℕ × List ℕ) Wrong
+-- there is a version of this number
+abbrev pub is_version : ℕ → Bool
+is_version number = nat_le 1 number && nat_le number 2
+
+-- the version of a number that has one
+abbrev pub version_of : ℕ → Version
+version_of number = if number == 1 then One else Two
+
+-- the head: the version and the number of plans
+unfoldable pub head_at : List ℕ → Result ((Version × ℕ) × List ℕ) Wrong
 head_at bytes = do
   magic ← field bytes (λ m. m == 0x4C504C46) Magic (number_at w32 bytes)
-  version ← field magic.1 (λ v. v == 1) Version (number_at w16 magic.1)
-  field version.1 (λ n. nat_le n 64) Count (number_at w16 version.1)
+  version ← field magic.1 is_version wrong_version (number_at w16 magic.1)
+  count ← field version.1 (λ n. nat_le n 64) Count (number_at w16 version.1)
+  Ok ((version_of version.0, count.0), count.1)

@@ -1,18 +1,44 @@
--- Plan files, version 1: the one spelling of a list of plans. Numbers stand with their greatest byte first.
-use Rattle.std.specs.Prelude.{ℕ, ◌*◌, ◌^◌, ◌<◌, ◌≤◌, ◌≡◌, List, ◌∷◌, ◌++◌, length, All}
+-- Plan files: the one spelling of a list of plans in each version. Numbers stand with their greatest byte first.
+use Rattle.std.specs.Prelude.{⊤, ℕ, ◌*◌, ◌^◌, ◌<◌, ◌≤◌, ◌≡◌, List, ◌∷◌, ◌++◌, length, All}
 use Rattle.std.specs.List.{flat_map}
 use Rattle.std.specs.Int.{Width, w16, w32, w64, to_be_bytes}
 use Rattle.lit_base.specs.declared.fold.Fold.{Fold}
 use Rattle.lit_base.specs.declared.fold.Fold.TheVariants.{No, Ascii}
+use Rattle.lit_base.specs.declared.profile.Profile.{Profile}
+use Rattle.lit_base.specs.declared.profile.Profile.TheVariants.{Eight, Sixteen}
 use Rattle.lit_base.specs.Literals.{Literals, IsNormal}
+use Rattle.lit_base.specs.Profiles.{buckets}
 use Rattle.lit_cert.specs.Certificates.{CertificateParts}
 use Rattle.lit_cert.specs.Certified.{IsCertified}
 use Rattle.flow_scan.specs.Plans.{Plan}
+use Rattle.plan_file.specs.declared.version.Version.{Version}
+use Rattle.plan_file.specs.declared.version.Version.TheVariants.{One, Two}
 
--- the byte that tells a fold
-abbrev pub flag_of : Fold → ℕ
-flag_of No = 0
-flag_of Ascii = 1
+-- ---- what the versions differ in
+
+-- the number of a version
+abbrev pub version_number : Version → ℕ
+version_number One = 1
+version_number Two = 2
+
+-- the most literals of a plan
+abbrev pub limit_of : Version → ℕ
+limit_of One = 1024
+limit_of Two = 4096
+
+-- version 1 has plans of eight buckets alone
+abbrev pub CanTell : Version → Profile → Type 0
+CanTell One profile = profile ≡ Eight
+CanTell Two profile = ⊤
+
+-- ---- the fields of an entry
+
+-- the flags of a fold, bit 0, and a profile, bit 1
+abbrev pub flags_of : Fold → Profile → ℕ
+flags_of No Eight = 0
+flags_of Ascii Eight = 1
+flags_of No Sixteen = 2
+flags_of Ascii Sixteen = 3
 
 -- numbers of a width, one after the other
 abbrev pub numbers_text : Width → List ℕ → List ℕ
@@ -22,44 +48,59 @@ numbers_text w ns = flat_map (to_be_bytes w) ns
 abbrev pub literal_text : List ℕ → List ℕ
 literal_text literal = to_be_bytes w16 (length literal) ++ literal
 
--- literals: their fold, their number, and each of them
-abbrev pub literals_text : Literals → List ℕ
-literals_text l = flag_of l.folding ∷ (to_be_bytes w16 (length l.texts) ++ flat_map literal_text l.texts)
+-- the literals of a plan: their fold and its profile, their number, and each of them
+abbrev pub literals_text : Profile → Literals → List ℕ
+literals_text profile l =
+    flags_of l.folding profile ∷ (to_be_bytes w16 (length l.texts) ++ flat_map literal_text l.texts)
 
 -- a certificate: its number of runs, their ends, the cost, and the potentials
 abbrev pub certificate_text : CertificateParts → List ℕ
 certificate_text c = length c.ends ∷ (numbers_text w16 c.ends ++ (to_be_bytes w64 c.cost ++ numbers_text w64 c.potentials))
 
--- an entry: a plan
+-- an entry: a plan, spelled alike in both versions
 unfoldable pub plan_text : Plan → List ℕ
-plan_text p = literals_text p.literals ++ certificate_text p.certificate
+plan_text p = literals_text p.certificate.profile p.literals ++ certificate_text p.certificate
+
+-- ---- files
 
 -- the head of a file: `LPLF`, the version, and the number of plans
-unfoldable pub head_text : ℕ → List ℕ
-head_text count = to_be_bytes w32 0x4C504C46 ++ (to_be_bytes w16 1 ++ to_be_bytes w16 count)
+unfoldable pub head_text : Version → ℕ → List ℕ
+head_text version count = to_be_bytes w32 0x4C504C46 ++ (to_be_bytes w16 (version_number version) ++ to_be_bytes w16 count)
 
--- a file: its head and the plans, and nothing after them
-abbrev pub spelling : List Plan → List ℕ
-spelling plans = head_text (length plans) ++ flat_map plan_text plans
+-- a file of a version: its head and the plans, and nothing after them
+abbrev pub spelling : Version → List Plan → List ℕ
+spelling version plans = head_text version (length plans) ++ flat_map plan_text plans
 
--- what the fields of an entry can hold: 1 to `limit` literals in normal form, 1 to `most` ends, numbers that fit
-pub record HasFields (most limit : ℕ) (p : Plan) : Type 0 where
+-- each field of an entry is within its bounds: literals in normal form, no more than the version allows; a profile of the
+-- version; at least one end, no more ends than buckets; numbers that fit
+pub record HasFields (version : Version) (p : Plan) : Type 0 where
   pub normal : IsNormal p.literals
   pub some : 1 ≤ length p.literals.texts
-  pub few : length p.literals.texts ≤ limit
+  pub few : length p.literals.texts ≤ limit_of version
+  pub profile : CanTell version p.certificate.profile
   pub some_ends : 1 ≤ length p.certificate.ends
-  pub few_ends : length p.certificate.ends ≤ most
+  pub few_ends : length p.certificate.ends ≤ buckets p.certificate.profile
   pub small_ends : All (λ e. e < 2 ^ 16) p.certificate.ends
   pub small_cost : p.certificate.cost < 2 ^ 64
-  pub potentials : length p.certificate.potentials ≡ most * length p.literals.texts
+  pub potentials : length p.certificate.potentials ≡ buckets p.certificate.profile * length p.literals.texts
   pub small_potentials : All (λ h. h < 2 ^ 64) p.certificate.potentials
 
--- a plan that a file can tell: its certificate holds
-pub record IsPlan (most limit : ℕ) (p : Plan) : Type 0 where
-  pub fields : HasFields most limit p
-  pub certified : IsCertified most p.literals p.certificate
+-- a plan of a file of the version: its certificate holds
+pub record IsPlan (version : Version) (p : Plan) : Type 0 where
+  pub fields : HasFields version p
+  pub certified : IsCertified p.literals p.certificate
 
 -- at most 64 such plans
-pub record ArePlans (most limit : ℕ) (plans : List Plan) : Type 0 where
+pub record ArePlans (version : Version) (plans : List Plan) : Type 0 where
   pub few : length plans ≤ 64
-  pub each : All (IsPlan most limit) plans
+  pub each : All (IsPlan version) plans
+
+-- the text is a file of the version, and these are its plans
+pub record IsFileOf (version : Version) (text : List ℕ) (plans : List Plan) : Type 0 where
+  pub are : ArePlans version plans
+  pub spelled : text ≡ spelling version plans
+
+-- the text is a file of one of the versions, and these are its plans
+pub record IsFile (text : List ℕ) (plans : List Plan) : Type 0 where
+  pub version : Version
+  pub file : IsFileOf version text plans

@@ -1,39 +1,35 @@
-//! The one text of each list of plans.
-ghost use Rattle.std.specs.Prelude.{◌≡◌, ◌≢◌, ◌^◌, ◌<◌, ◌≤◌, ◌++◌, All, length, IfErr, IfOk, IsOkUnless, IsTrue, OnErr, OnOk};
+//! The one text of each list of plans in version 2.
+ghost use Rattle.std.specs.Prelude.{◌≡◌, ◌≢◌, ℕ, List, ◌^◌, ◌<◌, ◌≤◌, ◌++◌, All, length, IfErr, IfOk, IsOkUnless, IsTrue, OnErr, OnOk};
 ghost use Rattle.std.specs.Io.KnownBytes.{Appends};
 ghost use Rattle.byte_io.specs.Transfers.{AppendsPrefix};
 ghost use Rattle.lit_base.specs.Literals.{IsNormal};
+ghost use Rattle.lit_base.specs.declared.profile.Profile.TheVariants.{Eight};
+ghost use Rattle.flow_scan.specs.Plans.{Plan};
 ghost use Rattle.plan_file.specs.Faults.{IsWritersFault};
 ghost use Rattle.std.specs.List.{flat_map};
 ghost use Rattle.std.specs.Int.{w16, w32, w64};
 ghost use Rattle.plan_file.specs.declared.fault.Fault.TheVariants.{OutOfMemory};
-ghost use Rattle.plan_file.specs.Spelling.{ArePlans, IsPlan, certificate_text, flag_of, head_text, literal_text, literals_text, numbers_text, plan_text, spelling};
+ghost use Rattle.plan_file.specs.declared.version.Version.{Version};
+ghost use Rattle.plan_file.specs.declared.version.Version.TheVariants.{One, Two};
+ghost use Rattle.plan_file.specs.Spelling.{ArePlans, IsFileOf, IsPlan, certificate_text, head_text, literal_text, literals_text, numbers_text, plan_text, spelling};
 
 use crate::fault::Fault;
-use crate::limits::{MAGIC, VERSION};
+use crate::flags::flags_of;
+use crate::limits::MAGIC;
+use crate::version::Version;
 use flow_scan::Compiled;
-use lit_base::{ByteOut, Failed, Fold, LitList, write_all};
+use lit_base::{ByteOut, Failed, LitList, Profile, write_all};
 use lit_cert::Certificate;
 use std::alloc::{AllocError, Global};
 
-/// Appends the head of a file of so many plans.
+/// Appends the head of a file of `count` plans.
 #[tactic(auto, unfolding(crate::specs::Spelling::head_text))]
 fn push_head(out: &mut Vec<u8>, count: u16) -> Result<(), AllocError>
-    ensures { OnOk result (out.new.items ≡ out.old.items ++ head_text count) }
+    ensures { OnOk result (out.new.items ≡ out.old.items ++ head_text Two count) }
 {
     out.extend_from_slice(&MAGIC.to_be_bytes())?;
-    out.extend_from_slice(&VERSION.to_be_bytes())?;
+    out.extend_from_slice(&Version::Two.number().to_be_bytes())?;
     out.extend_from_slice(&count.to_be_bytes())
-}
-
-/// The byte that tells a fold.
-fn flag(fold: Fold) -> u8
-    ensures { result ≡ flag_of fold }
-{
-    match fold {
-        Fold::No => 0,
-        Fold::Ascii => 1,
-    }
 }
 
 /// Appends a literal.
@@ -46,14 +42,14 @@ fn push_literal(out: &mut Vec<u8>, literal: &[u8]) -> Result<(), AllocError>
     out.extend_from_slice(literal)
 }
 
-/// Appends literals, with their fold and their number.
-fn push_literals(out: &mut Vec<u8>, list: &LitList) -> Result<(), AllocError>
-    ensures text { OnOk result (out.new.items ≡ out.old.items ++ literals_text list.now) }
+/// Appends the literals of a plan, with their fold, its profile and their number.
+fn push_literals(out: &mut Vec<u8>, profile: Profile, list: &LitList) -> Result<(), AllocError>
+    ensures text { OnOk result (out.new.items ≡ out.old.items ++ literals_text profile list.now) }
     ensures normal { IsNormal list.now }
 {
     list.normal_law();
     let count = list.len();
-    out.push(flag(list.fold()))?;
+    out.push(flags_of(list.fold(), profile))?;
     out.extend_from_slice(&(count as u16).to_be_bytes())?;
     for place in 0..count {
         push_literal(out, list.get(place))?;
@@ -97,20 +93,21 @@ fn push_certificate(out: &mut Vec<u8>, certificate: &Certificate) -> Result<(), 
     push_potentials(out, &certificate.potentials)
 }
 
-/// Appends an entry. Its plan is one that a file can tell.
+/// Appends an entry. Its plan can stand in a file.
 #[tactic(auto, unfolding(crate::specs::Spelling::plan_text))]
 fn push_plan(out: &mut Vec<u8>, plan: &Compiled) -> Result<(), AllocError>
     ensures text { OnOk result (out.new.items ≡ out.old.items ++ plan_text plan.now) }
-    ensures right { OnOk result (IsPlan 8 1024 plan.now) }
+    ensures right { OnOk result (IsPlan Two plan.now) }
 {
-    push_literals(out, plan.list())?;
-    push_certificate(out, plan.certificate())
+    let certificate = plan.certificate();
+    push_literals(out, certificate.profile, plan.list())?;
+    push_certificate(out, certificate)
 }
 
-/// Appends entries, one after the other. Their plans are such.
+/// Appends entries, one after the other. Their plans can stand in a file.
 fn push_plans(out: &mut Vec<u8>, plans: &[Compiled]) -> Result<(), AllocError>
     ensures text { OnOk result (out.new.items ≡ out.old.items ++ flat_map plan_text plans.now) }
-    ensures right { OnOk result (All (IsPlan 8 1024) plans.now) }
+    ensures right { OnOk result (All (IsPlan Two) plans.now) }
 {
     for plan in plans {
         push_plan(out, plan)?;
@@ -118,10 +115,10 @@ fn push_plans(out: &mut Vec<u8>, plans: &[Compiled]) -> Result<(), AllocError>
     Ok(())
 }
 
-/// The text of a file of these plans.
+/// The text of a file of the plans, in version 2.
 fn text_of(alloc: Global, plans: &[Compiled]) -> Result<Vec<u8>, AllocError>
     requires { length plans.now ≤ 64 }
-    ensures { IfOk result (λ text. ArePlans 8 1024 plans.now × (text.items ≡ spelling plans.now)) }
+    ensures { IfOk result (λ text. ArePlans Two plans.now × (text.items ≡ spelling Two plans.now)) }
 {
     let mut text = Vec::new(alloc);
     push_head(&mut text, plans.len() as u16)?;
@@ -129,34 +126,34 @@ fn text_of(alloc: Global, plans: &[Compiled]) -> Result<Vec<u8>, AllocError>
     Ok(text)
 }
 
-/// The text of a file of these plans, at most 64: `decode` reads it as exactly these plans, unless memory
-/// runs out. The only refusal is `OutOfMemory`.
+/// The text of a file of the plans, at most 64, in version 2: `decode` reads it as exactly the same plans, unless
+/// memory runs out. The only error is `OutOfMemory`.
 pub fn encode(alloc: Global, plans: &[Compiled]) -> Result<Vec<u8>, Fault>
     requires { length plans.now ≤ 64 }
-    // What is written is what `decode` reads: plans as a file can tell them, and their spelling.
-    ensures ok { IfOk result (λ text. ArePlans 8 1024 plans.now × (text.items ≡ spelling plans.now)) }
+    // `decode` reads the text: the plans can stand in a file, and it is their spelling.
+    ensures ok { IfOk result (λ text. ArePlans Two plans.now × (text.items ≡ spelling Two plans.now)) }
     ensures refused { IsOkUnless result OutOfMemory }
 {
     Ok(text_of(alloc, plans)?)
 }
 
-/// Writes the text of a file of these plans, at most 64.
+/// Writes the text of a file of the plans, at most 64, in version 2.
 ///
 /// # Errors
 /// - `WriteFault`, where a write failed or took nothing.
 /// - `OutOfMemory`, where a growth was refused. Nothing was written then.
 ///
-/// After a write fault a front of the text was written.
+/// After a write fault a prefix of the text was written.
 pub fn write_plans<W: ByteOut>(alloc: Global, plans: &[Compiled], out: &mut W) -> Result<(), Fault>
     requires few { length plans.now ≤ 64 }
-    // What is written is what `read_plans` reads.
-    ensures ok { OnOk result (ArePlans 8 1024 plans.now
-        × Appends (W.written out.old) (W.written out.new) (spelling plans.now)) }
+    // `read_plans` reads the bytes that are written.
+    ensures ok { OnOk result (ArePlans Two plans.now
+        × Appends (W.written out.old) (W.written out.new) (spelling Two plans.now)) }
     ensures err { OnErr result
-        (AppendsPrefix (W.written out.old) (W.written out.new) (spelling plans.now)) }
+        (AppendsPrefix (W.written out.old) (W.written out.new) (spelling Two plans.now)) }
     ensures same { result ≡ Err Fault.OutOfMemory → out.new ≡ out.old }
 
-    // A fault is told only where a write failed.
+    // `WriteFault` is returned only if a write failed.
     ensures fault { result ≡ Err Fault.WriteFault → IsTrue (W.has_failed out.new) }
     ensures flag { result ≢ Err Fault.WriteFault → W.has_failed out.new ≡ W.has_failed out.old }
     ensures faults { IfErr result IsWritersFault }
@@ -167,3 +164,13 @@ pub fn write_plans<W: ByteOut>(alloc: Global, plans: &[Compiled], out: &mut W) -
         Err(Failed) => Err(Fault::WriteFault),
     }
 }
+
+/// The law of spellings. A list of plans has at most one text in each version. If it has one in version 1, it has one in
+/// version 2. The reverse holds if each plan has eight buckets and at most 1,024 literals.
+pub fn spelling_law()
+    ensures one { (version : Version) (plans : List Plan) (text other : List ℕ) →
+        IsFileOf version text plans → IsFileOf version other plans → text ≡ other }
+    ensures newer { (plans : List Plan) → ArePlans One plans → ArePlans Two plans }
+    ensures older { (plans : List Plan) → ArePlans Two plans →
+        All (λ p. (p.certificate.profile ≡ Eight) × (length p.literals.texts ≤ 1024)) plans → ArePlans One plans }
+{}

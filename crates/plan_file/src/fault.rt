@@ -1,4 +1,4 @@
-//! What is wrong with a plan file, and why plans could not be read or written.
+//! Faults of a plan file, and why plans could not be read or written.
 ghost use Rattle.std.specs.Prelude.{◌≡◌};
 ghost use Rattle.plan_file.specs.Faults.{number_of};
 ghost use Rattle.plan_file.specs.Reading.{wrong_at};
@@ -8,7 +8,7 @@ use lit_cert::Reason;
 use std::alloc::{AllocError, AllocFailed};
 use thiserror::Error;
 
-/// What is wrong with a field of a plan file, or with the whole entry that it ends.
+/// A fault of a field of a plan file, or of the whole entry that it ends.
 #[derive(Clone, Copy, Debug, PartialEq, Eq, Error)]
 pub enum Cause {
     /// The field is not whole, whatever its bytes are.
@@ -17,13 +17,13 @@ pub enum Cause {
     /// The file does not begin with `LPLF`.
     #[error("it does not begin as plan files do")]
     Magic,
-    /// The version is not 1.
+    /// The version is neither 1 nor 2.
     #[error("its version is unknown")]
     Version,
-    /// More than 64 plans, no literal, or more than 1,024 of them.
+    /// More than 64 plans, no literal, or more literals than the version allows: 1,024 or 4,096.
     #[error("a number of plans or of literals is out of range")]
     Count,
-    /// A flag is set that has no meaning.
+    /// A flag is set that has no meaning in the version.
     #[error("an unknown flag is set")]
     Flags,
     /// The length of a literal is 0 or above 4,095, or takes the list past 1,048,576 bytes; or a
@@ -33,7 +33,7 @@ pub enum Cause {
     /// A literal is not after the one before it.
     #[error("the literals are not in order")]
     Order,
-    /// No run, or more than eight.
+    /// No run, or more than the profile has buckets.
     #[error("the number of runs is out of range")]
     Runs,
     /// The certificate of an entry does not hold.
@@ -97,7 +97,7 @@ impl<T: Drop> From<AllocFailed<T>> for Fault {
     }
 }
 
-/// What is wrong, and how many bytes stand from the wrong field on.
+/// A fault, and how many bytes stand from the wrong field on.
 #[derive(Clone, Copy, Debug, PartialEq, Eq)]
 pub struct Wrong {
     pub left: usize,

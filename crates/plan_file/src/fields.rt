@@ -1,4 +1,5 @@
-//! Fields of a plan file, each read from the front of what is left.
+//! Fields of a plan file, each read from the front of the remaining bytes. A field that is not whole is an error with
+//! the cause `Short`.
 ghost use Rattle.std.specs.Prelude.{◌≡◌};
 ghost use Rattle.std.specs.Int.{w16, w32, w64};
 ghost use Rattle.plan_file.specs.Faults.{Gives};
@@ -53,7 +54,7 @@ pub fn first_u64(bytes: &[u8]) -> Result<(u64, &[u8]), Stop>
     Ok((number, rest))
 }
 
-/// So many bytes at the front, and the bytes after them.
+/// `count` bytes at the front, and the bytes after them.
 pub fn first_bytes(count: usize, bytes: &[u8]) -> Result<(&[u8], &[u8]), Stop>
     ensures { Gives (λ x. (x.0.now, x.1.now)) result (bytes_at count bytes.now) }
 {

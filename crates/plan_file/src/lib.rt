@@ -1,5 +1,5 @@
 //! Plan files: plans as bytes, read back only where each byte is as it must be and each plan's
-//! certificate holds.
+//! certificate holds. Both versions of the format are read, and version 2 is written.
 #![tactic(auto)]
 
 mod certificates;
@@ -7,12 +7,14 @@ mod decoding;
 mod encoding;
 mod fault;
 mod fields;
+mod flags;
 mod limits;
 mod literals;
 mod reading;
+mod version;
 
 pub use decoding::decode;
-pub use encoding::{encode, write_plans};
+pub use encoding::{encode, spelling_law, write_plans};
 pub use fault::{Cause, Fault};
 pub use limits::{MAX_PLANS, limits_law};
 pub use reading::read_plans;

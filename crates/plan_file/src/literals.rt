@@ -10,7 +10,9 @@ ghost use Rattle.plan_file.specs.Reading.{folded_len as folded_len_of, list_at, 
 
 use crate::fault::{Cause, Stop, stop_at};
 use crate::fields::{first_byte, first_bytes, first_u16};
-use lit_base::{Fold, LitList, MAX_LIST_LEN, MAX_LITERAL_LEN, MAX_LITERALS, RawList, fold_byte};
+use crate::flags::{fold_of, profile_of};
+use crate::version::Version;
+use lit_base::{Fold, LitList, MAX_LIST_LEN, MAX_LITERAL_LEN, Profile, RawList, fold_byte};
 use std::alloc::Global;
 
 /// How many bytes at the front are folded.
@@ -82,7 +84,7 @@ fn push(list: &mut RawList, literal: &[u8]) -> Result<(), Stop>
     }
 }
 
-/// So many literals, and the bytes after them.
+/// `count` literals, and the bytes after them.
 fn literals_of(
     alloc: Global,
     fold: Fold,
@@ -115,22 +117,27 @@ fn list_of(alloc: Global, fold: Fold, literals: RawList) -> Result<LitList, Stop
     LitList::from_normal(alloc, literals, fold).map_err(no_memory)
 }
 
-/// The literals of the entry at the front, and the bytes after them.
+/// The profile and the literals of the entry at the front, and the bytes after them. `Err` has the first fault of their
+/// fields, or says that memory is short.
 #[tactic(auto, unfolding(crate::specs::Reading::list_at))]
-pub fn first_list(alloc: Global, bytes: &[u8]) -> Result<(LitList, &[u8]), Stop>
-    ensures { Gives (λ x. (x.0, x.1.now)) result (list_at 1024 bytes.now) }
+pub fn first_list(
+    alloc: Global,
+    version: Version,
+    bytes: &[u8],
+) -> Result<(Profile, LitList, &[u8]), Stop>
+    ensures { Gives (λ x. ((x.0, x.1), x.2.now)) result (list_at version bytes.now) }
 {
-    let (flag, rest) = first_byte(bytes)?;
-    if flag > 1 {
+    let (flags, rest) = first_byte(bytes)?;
+    if flags > version.last_flags() {
         return Err(stop_at(bytes, Cause::Flags));
     }
-    let fold = if flag == 0 { Fold::No } else { Fold::Ascii };
     let (count, literals) = first_u16(rest)?;
     let count = usize::from(count);
-    if count < 1 || count > MAX_LITERALS {
+    if count < 1 || count > version.max_literals() {
         return Err(stop_at(rest, Cause::Count));
     }
+    let fold = fold_of(flags);
     let (list, rest) = literals_of(alloc, fold, count, literals)?;
     let list = list_of(alloc, fold, list)?;
-    Ok((list, rest))
+    Ok((profile_of(flags), list, rest))
 }

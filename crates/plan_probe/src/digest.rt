@@ -1,4 +1,4 @@
-//! A number that tells plans apart.
+//! A number by which plans can be compared.
 use flow_scan::Compiled;
 
 /// The digest of no number.
@@ -10,6 +10,13 @@ const PRIME: u64 = 0x0100_0000_01B3;
 /// The digest with one more number.
 fn with(digest: u64, number: u64) -> u64 {
     (digest ^ number).wrapping_mul(PRIME)
+}
+
+/// The digest of some bytes.
+pub fn digest_of_bytes(bytes: &[u8]) -> u64 {
+    bytes
+        .iter()
+        .fold(START, |digest, byte| with(digest, u64::from(*byte)))
 }
 
 /// The digest of the plan's numbers: for each literal its length and its bytes, the ends, the potentials.

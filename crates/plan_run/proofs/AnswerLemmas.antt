@@ -1,7 +1,8 @@
 -- Answers: from what a list has to answer to what a request has.
-use Rattle.std.proofs.Common.{◌≡◌, ◌≢◌, ℕ, ◌*◌, ◌^◌, ◌<◌, ◌≤◌, Bool, true, false, cond, List, [], ◌∷◌, length, Option, None, Some, IfSome, is_some, MatchOption, Result, Ok, Err, refl, sym, ap, ◌∙◌, subst, append-nil, arith}
+use Rattle.std.proofs.Common.{◌≡◌, ◌≢◌, ℕ, ◌*◌, ◌/◌, ◌^◌, ◌<◌, ◌≤◌, Bool, true, false, cond, List, [], ◌∷◌, length, Option, None, Some, IfSome, is_some, MatchOption, Result, Ok, Err, refl, sym, ap, ◌∙◌, subst, append-nil, arith}
 use Rattle.std.specs.Global.{Vec}
 use Rattle.std.proofs.KnownBytes.{Appends-nil}
+use Rattle.std.proofs.Math.Nat.{mul_comm, mul-div_cancel}
 use Rattle.byte_io.specs.Devices.{Clean, Coming, EndsHere, Faulty, Told}
 use Rattle.byte_io.specs.Sources.{AreShort, Ask, Content, IsShort, Named, Sources, after, after_all, ask_of, coming_of, taken_by}
 use Rattle.byte_io.proofs.OpenerLemmas.{short-after}
@@ -9,23 +10,28 @@ use Rattle.byte_io.proofs.ToldLemmas.{Told-then, Told-weaker}
 use Rattle.flow_scan.specs.Plans.{Plan}
 use Rattle.lit_base.specs.Cuts.{CutsFrom}
 use Rattle.lit_base.specs.Literals.{Literals}
-use Rattle.lit_cert.specs.Certificates.{CertificateParts}
+use Rattle.lit_base.specs.Profiles.{buckets}
+use Rattle.lit_cert.specs.Certificates.{CertificateParts, numbers_of}
 use Rattle.lit_cert.specs.Certified.{IsCertified}
 use Rattle.lit_cert.specs.Reading.{IsFirstBad}
 use Rattle.lit_cert.specs.Spelling.{HasText, IsShaped, literals_in, spelling}
 use Rattle.lit_cert.specs.declared.fault.Fault.{Fault}
 use Rattle.lit_cert.specs.declared.fault.Fault.TheVariants.{BadCertText, ReadFault}
 use Rattle.lit_base.specs.declared.fold.Fold.{Fold}
+use Rattle.lit_base.specs.declared.profile.Profile.{Profile}
+use Rattle.lit_base.specs.declared.profile.Profile.TheVariants.{Eight, Sixteen}
 use Rattle.lit_base.specs.declared.lit_list.Normal.{Normal}
-use Rattle.plan_run.specs.Answers.{Answer, AnswersCheck, AnswersExplain, AnswersInput, AnswersList, AnswersPlan, AnswersScan, AnswersUnless, AreHitsTold, IsCheckAnswer, IsExplainAnswer, IsPlanAnswer, IsVerdict, Judged, Unread, Wrong, certificate_source, check_asks, input_source, refused_with, scan_asks, told}
+use Rattle.plan_run.specs.Answers.{Answer, AnswersCheck, AnswersExplain, AnswersExplainCertificate, AnswersInput, AnswersList, AnswersPlan, AnswersPlanAt, AnswersScan, AnswersUnless, AreHitsTold, BadLine, HasList, HasPlans, IsCertificateAnswer, IsCertificateTold, IsCheckAnswer, IsExplainAnswer, IsNoList, IsPlanAnswer, IsPlanAnswerAt, Judged, NoFile, NoList, Unread, certificate_source, check_asks, input_source, refused_with, refuses, scan_asks, told, where_wrong, wrong_at_line}
 use Rattle.plan_run.specs.Lists.{ArePlaces, input_message, list_in, list_message, patterns_in, search_message, text_in}
-use Rattle.plan_run.specs.Messages.{message_on, refused, unusable}
-use Rattle.plan_run.specs.Running.{Asks, Begun, Explains, Silent, TakesList, TakesPlaces, TakesPlan, TakesText, Tells, Writes}
+use Rattle.plan_run.specs.Messages.{message_on, unusable}
+use Rattle.plan_run.specs.Migrated.{IsNoPlanFile}
+use Rattle.plan_run.specs.Running.{Asks, Begun, Explains, NamesStop, Silent, TakesList, TakesPlaces, TakesPlan, TakesPlans, TakesText, Tells, TellsStop, Writes}
 use Rattle.plan_run.specs.declared.status.Status.{Status}
+use Rattle.plan_run.specs.declared.stop.Refusal.{Refusal}
 use Rattle.plan_run.specs.declared.stop.Stop.{Stop}
 use Rattle.plan_run.specs.declared.stop.Stop.TheVariants.{OutOfMemory, Refused, WriteFault}
 
--- a text that was written is such an answer
+-- a text that was written is an answer for which P holds
 pub tells-text : (P : Answer → Type 0) (text : List ℕ) (status : Status) (r : Result Status Stop) (old new : Option (List ℕ))
     → P (told text status) → Writes text status r old new → Tells P r old new
 tells-text P text status (Ok answered) old new right w = record { answer = told text status; right = right; status_is = sym w.0; silent = refl; output = w.1 }
@@ -37,7 +43,7 @@ tells-text P text status (Err OutOfMemory) old new right w = Begun (record { ans
 pub tells-silent : (P : Answer → Type 0) (known : Option (List ℕ)) → Tells P (Err OutOfMemory) known known
 tells-silent P known = Silent (Appends-nil known)
 
--- what is one answer is another
+-- an answer of one kind is an answer of another
 pub tells-weaker : (P Q : Answer → Type 0) (r : Result Status Stop) (old new : Option (List ℕ)) → ((a : Answer) → P a → Q a) → Tells P r old new → Tells Q r old new
 tells-weaker P Q (Ok status) old new weaker t = record { answer = t.answer; right = weaker t.answer t.right; status_is = t.status_is; silent = t.silent; output = t.output }
 tells-weaker P Q (Err (Refused refusal)) old new weaker t = (weaker _ t.0, t.1)
@@ -59,16 +65,16 @@ tells-reason reason P (Refused refusal) known e =
 tells-reason reason P WriteFault known e = absurd e
 tells-reason reason P OutOfMemory known e = Silent (Appends-nil known)
 
--- what is told of a list is told of its file
+-- an answer on a list is an answer on its file
 pub tells-list : (fold : Fold) (name : List ℕ) (source : Option Content) (P : Literals → Answer → Type 0) (list : Literals) (r : Result Status Stop) (old new : Option (List ℕ))
     → TakesList fold name source (Ok list) → Tells (P list) r old new → Tells (AnswersList fold name source P) r old new
 tells-list fold name source P list r old new taken t =
-    tells-unless (list_message fold name source) (P (list_in fold source)) r old new taken.0 (subst (λ l. Tells (P l) r old new) taken.1 t)
+    tells-unless (list_message name source) (P (list_in fold source)) r old new taken.0 (subst (λ l. Tells (P l) r old new) taken.1 t)
 
 -- why there is no list
 pub tells-stop : (fold : Fold) (name : List ℕ) (source : Option Content) (P : Literals → Answer → Type 0) (stop : Stop) (known : Option (List ℕ))
-    → Explains stop (list_message fold name source) → Tells (AnswersList fold name source P) (Err stop) known known
-tells-stop fold name source P stop known e = tells-reason (list_message fold name source) (P (list_in fold source)) stop known e
+    → Explains stop (list_message name source) → Tells (AnswersList fold name source P) (Err stop) known known
+tells-stop fold name source P stop known e = tells-reason (list_message name source) (P (list_in fold source)) stop known e
 
 -- all asks were made
 pub asks-all : {T : Type 0} (r : Result T Stop) (all : List Ask) (s left : Sources) → left ≡ after_all all s → Asks r all s left
@@ -78,22 +84,41 @@ asks-all (Err WriteFault) all s left e = e
 asks-all (Err OutOfMemory) all s left e = record { made = all; rest = []; parts = sym (append-nil all); after = e }
 
 -- the plan of a list that is had
-pub plan-had : (fold : Fold) (file : List ℕ) (known mid : Option Sources) (list : Literals) (r : Result Status Stop) (old new : Option (List ℕ))
-    → Told known mid (λ s left. AreShort s → (left ≡ after (ask_of file) s) × TakesList fold file (taken_by (ask_of file) s) (Ok list)) → Tells (IsPlanAnswer list) r old new
-    → Told known mid (λ s left. AreShort s → Asks r (ask_of file ∷ []) s left × Tells (AnswersPlan fold file s) r old new)
-plan-had fold file known mid list r old new reads tells =
-    Told-weaker known mid _ (λ s left. AreShort s → Asks r (ask_of file ∷ []) s left × Tells (AnswersPlan fold file s) r old new) reads (λ s left h short.
+pub plan-had : (fold : Fold) (profile : Profile) (file : List ℕ) (known mid : Option Sources) (list : Literals) (r : Result Status Stop) (old new : Option (List ℕ))
+    → Told known mid (λ s left. AreShort s → (left ≡ after (ask_of file) s) × TakesList fold file (taken_by (ask_of file) s) (Ok list)) → Tells (IsPlanAnswer profile list) r old new
+    → Told known mid (λ s left. AreShort s → Asks r (ask_of file ∷ []) s left × Tells (AnswersPlan fold profile file s) r old new)
+plan-had fold profile file known mid list r old new reads tells =
+    Told-weaker known mid _ (λ s left. AreShort s → Asks r (ask_of file ∷ []) s left × Tells (AnswersPlan fold profile file s) r old new) reads (λ s left h short.
     let taken = h short in
-    (asks-all r (ask_of file ∷ []) s left taken.0, tells-list fold file (taken_by (ask_of file) s) IsPlanAnswer list r old new taken.1 tells))
+    (asks-all r (ask_of file ∷ []) s left taken.0, tells-list fold file (taken_by (ask_of file) s) (IsPlanAnswer profile) list r old new taken.1 tells))
 
--- and of one that is not
-pub plan-stopped : (fold : Fold) (file : List ℕ) (known mid : Option Sources) (stop : Stop) (out : Option (List ℕ))
+-- and of a file without a list
+pub plan-stopped : (fold : Fold) (profile : Profile) (file : List ℕ) (known mid : Option Sources) (stop : Stop) (out : Option (List ℕ))
     → Told known mid (λ s left. AreShort s → (left ≡ after (ask_of file) s) × TakesList fold file (taken_by (ask_of file) s) (Err stop))
-    → Told known mid (λ s left. AreShort s → Asks {T = Status} (Err stop) (ask_of file ∷ []) s left × Tells (AnswersPlan fold file s) (Err stop) out out)
-plan-stopped fold file known mid stop out reads =
-    Told-weaker known mid _ (λ s left. AreShort s → Asks {T = Status} (Err stop) (ask_of file ∷ []) s left × Tells (AnswersPlan fold file s) (Err stop) out out) reads (λ s left h short.
+    → Told known mid (λ s left. AreShort s → Asks {T = Status} (Err stop) (ask_of file ∷ []) s left × Tells (AnswersPlan fold profile file s) (Err stop) out out)
+plan-stopped fold profile file known mid stop out reads =
+    Told-weaker known mid _ (λ s left. AreShort s → Asks {T = Status} (Err stop) (ask_of file ∷ []) s left × Tells (AnswersPlan fold profile file s) (Err stop) out out) reads (λ s left h short.
     let taken = h short in
-    (asks-all {T = Status} (Err stop) (ask_of file ∷ []) s left taken.0, tells-stop fold file (taken_by (ask_of file) s) IsPlanAnswer stop out taken.1))
+    (asks-all {T = Status} (Err stop) (ask_of file ∷ []) s left taken.0, tells-stop fold file (taken_by (ask_of file) s) (IsPlanAnswer profile) stop out taken.1))
+
+-- behind one ask, more were made
+pub asks-more : {T : Type 0} (r : Result T Stop) (a : Ask) (more : List Ask) (s left : Sources) → Asks r more (after a s) left → Asks r (a ∷ more) s left
+asks-more (Ok _) a more s left e = e
+asks-more (Err (Refused refusal)) a more s left e = e
+asks-more (Err WriteFault) a more s left e = e
+asks-more (Err OutOfMemory) a more s left e = record { made = a ∷ e.made; rest = e.rest; parts = ap (λ xs. a ∷ xs) e.parts; after = e.after }
+
+-- where there is no message, they follow
+pub same-asks : {T : Type 0} (r : Result T Stop) (a : Ask) (more : List Ask) (message : Option (List ℕ)) (s left : Sources) → message ≡ None
+    → Asks r (a ∷ more) s left → Asks r (a ∷ cond (is_some message) [] more) s left
+same-asks r a more None s left e asks = asks
+same-asks r a more (Some text) s left e asks = absurd (cc)
+
+-- a stop has made the same asks in any answer
+pub asks-any : (T U : Type 0) (all : List Ask) (s left : Sources) (stop : Stop) → Asks {T = T} (Err stop) all s left → Asks {T = U} (Err stop) all s left
+asks-any T U all s left (Refused refusal) asks = asks
+asks-any T U all s left WriteFault asks = asks
+asks-any T U all s left OutOfMemory asks = asks
 
 -- where there is no message, another ask follows that for the file of patterns
 pub asks-both : (file : List ℕ) (next : Ask) (message : Option (List ℕ)) → message ≡ None
@@ -105,85 +130,85 @@ asks-both file next (Some text) e = (cc)
 pub check-had : (fold : Fold) (file certificate : List ℕ) (known mid left : Option Sources) (list : Literals) (r : Result Status Stop) (old new : Option (List ℕ))
     → Told known mid (λ s m. AreShort s → (m ≡ after (ask_of file) s) × TakesList fold file (taken_by (ask_of file) s) (Ok list))
     → Told mid left (λ m l. AreShort m → (l ≡ after (Named certificate) m) × Tells (IsCheckAnswer list certificate (taken_by (Named certificate) m)) r old new)
-    → Told known left (λ s l. AreShort s → Asks r (check_asks fold file certificate s) s l × Tells (AnswersCheck fold file certificate s) r old new)
+    → Told known left (λ s l. AreShort s → Asks r (check_asks file certificate s) s l × Tells (AnswersCheck fold file certificate s) r old new)
 check-had fold file certificate known mid left list r old new reads judges =
-    Told-then known mid left _ _ (λ s l. AreShort s → Asks r (check_asks fold file certificate s) s l × Tells (AnswersCheck fold file certificate s) r old new) reads judges (λ s m l h g short.
+    Told-then known mid left _ _ (λ s l. AreShort s → Asks r (check_asks file certificate s) s l × Tells (AnswersCheck fold file certificate s) r old new) reads judges (λ s m l h g short.
     let taken = h short in
     let judged = g (subst AreShort (sym taken.0) (short-after (ask_of file) s short)) in
-    let message : Option (List ℕ) = list_message fold file (taken_by (ask_of file) s) in
+    let message : Option (List ℕ) = list_message file (taken_by (ask_of file) s) in
     let made : l ≡ after_all (ask_of file ∷ Named certificate ∷ []) s = judged.0 ∙ ap (after (Named certificate)) taken.0 in
     let tells = subst (λ x. Tells (IsCheckAnswer list certificate (taken_by (Named certificate) x)) r old new) taken.0 judged.1 in (
-      asks-all r (check_asks fold file certificate s) s l (made ∙ ap (λ asks. after_all asks s) (sym (asks-both file (Named certificate) message taken.1.0))),
+      asks-all r (check_asks file certificate s) s l (made ∙ ap (λ asks. after_all asks s) (sym (asks-both file (Named certificate) message taken.1.0))),
       tells-list fold file (taken_by (ask_of file) s) (λ ls. IsCheckAnswer ls certificate (certificate_source file certificate s)) list r old new taken.1 tells,
     ))
 
 -- where there is one, none does
-pub asks-stopped : (T : Type 0) (file : List ℕ) (next : Ask) (message : Option (List ℕ)) (stop : Stop) (s left : Sources) → Explains stop message → left ≡ after (ask_of file) s
-    → Asks {T = T} (Err stop) (ask_of file ∷ cond (is_some message) [] (next ∷ [])) s left
+pub asks-stopped : (T : Type 0) (file : List ℕ) (next : List Ask) (message : Option (List ℕ)) (stop : Stop) (s left : Sources) → Explains stop message → left ≡ after (ask_of file) s
+    → Asks {T = T} (Err stop) (ask_of file ∷ cond (is_some message) [] next) s left
 asks-stopped T file next None (Refused refusal) s left e after = (cc)
 asks-stopped T file next (Some text) (Refused refusal) s left e after = after
 asks-stopped T file next message WriteFault s left e after = absurd e
 asks-stopped T file next message OutOfMemory s left e after =
-    record { made = ask_of file ∷ []; rest = cond (is_some message) [] (next ∷ []); parts = refl; after = after }
+    record { made = ask_of file ∷ []; rest = cond (is_some message) [] next; parts = refl; after = after }
 
 pub check-stopped : (fold : Fold) (file certificate : List ℕ) (known mid : Option Sources) (stop : Stop) (out : Option (List ℕ))
     → Told known mid (λ s left. AreShort s → (left ≡ after (ask_of file) s) × TakesList fold file (taken_by (ask_of file) s) (Err stop))
-    → Told known mid (λ s left. AreShort s → Asks {T = Status} (Err stop) (check_asks fold file certificate s) s left × Tells (AnswersCheck fold file certificate s) (Err stop) out out)
+    → Told known mid (λ s left. AreShort s → Asks {T = Status} (Err stop) (check_asks file certificate s) s left × Tells (AnswersCheck fold file certificate s) (Err stop) out out)
 check-stopped fold file certificate known mid stop out reads =
-    Told-weaker known mid _ (λ s left. AreShort s → Asks {T = Status} (Err stop) (check_asks fold file certificate s) s left × Tells (AnswersCheck fold file certificate s) (Err stop) out out) reads (λ s left h short.
+    Told-weaker known mid _ (λ s left. AreShort s → Asks {T = Status} (Err stop) (check_asks file certificate s) s left × Tells (AnswersCheck fold file certificate s) (Err stop) out out) reads (λ s left h short.
     let taken = h short in (
-      asks-stopped Status file (Named certificate) (list_message fold file (taken_by (ask_of file) s)) stop s left taken.1 taken.0,
+      asks-stopped Status file (Named certificate ∷ []) (list_message file (taken_by (ask_of file) s)) stop s left taken.1 taken.0,
       tells-stop fold file (taken_by (ask_of file) s) (λ ls. IsCheckAnswer ls certificate (certificate_source file certificate s)) stop out taken.1,
     ))
 
 -- the hits in an input that is read
-pub input-had : (list : Literals) (count : Bool) (input : List ℕ) (known left : Option Sources) (text : Vec ℕ) (r : Result Status Stop) (old new : Option (List ℕ))
-    → Told known left (λ s l. AreShort s → (l ≡ after (ask_of input) s) × TakesText input (taken_by (ask_of input) s) (Ok text)) → Tells (AreHitsTold list count text.items) r old new
-    → Told known left (λ s l. AreShort s → (l ≡ after (ask_of input) s) × Tells (AnswersInput list count input (taken_by (ask_of input) s)) r old new)
-input-had list count input known left text r old new reads tells =
-    Told-weaker known left _ (λ s l. AreShort s → (l ≡ after (ask_of input) s) × Tells (AnswersInput list count input (taken_by (ask_of input) s)) r old new) reads (λ s l h short.
+pub input-had : (list : Literals) (count names : Bool) (input : List ℕ) (known left : Option Sources) (text : Vec ℕ) (r : Result Status Stop) (old new : Option (List ℕ))
+    → Told known left (λ s l. AreShort s → (l ≡ after (ask_of input) s) × TakesText input (taken_by (ask_of input) s) (Ok text)) → Tells (AreHitsTold list count names text.items) r old new
+    → Told known left (λ s l. AreShort s → (l ≡ after (ask_of input) s) × Tells (AnswersInput list count names input (taken_by (ask_of input) s)) r old new)
+input-had list count names input known left text r old new reads tells =
+    Told-weaker known left _ (λ s l. AreShort s → (l ≡ after (ask_of input) s) × Tells (AnswersInput list count names input (taken_by (ask_of input) s)) r old new) reads (λ s l h short.
     let taken = h short in
     let source : Option Content = taken_by (ask_of input) s in
-    (taken.0, tells-unless (input_message input source) (AreHitsTold list count (text_in source)) r old new taken.1.0 (subst (λ t. Tells (AreHitsTold list count t) r old new) taken.1.1 tells)))
+    (taken.0, tells-unless (input_message input source) (AreHitsTold list count names (text_in source)) r old new taken.1.0 (subst (λ t. Tells (AreHitsTold list count names t) r old new) taken.1.1 tells)))
 
--- and of one that is not
-pub input-stopped : (list : Literals) (count : Bool) (input : List ℕ) (known left : Option Sources) (stop : Stop) (out : Option (List ℕ))
+-- and of an input that was not read
+pub input-stopped : (list : Literals) (count names : Bool) (input : List ℕ) (known left : Option Sources) (stop : Stop) (out : Option (List ℕ))
     → Told known left (λ s l. AreShort s → (l ≡ after (ask_of input) s) × TakesText input (taken_by (ask_of input) s) (Err stop))
-    → Told known left (λ s l. AreShort s → (l ≡ after (ask_of input) s) × Tells (AnswersInput list count input (taken_by (ask_of input) s)) (Err stop) out out)
-input-stopped list count input known left stop out reads =
-    Told-weaker known left _ (λ s l. AreShort s → (l ≡ after (ask_of input) s) × Tells (AnswersInput list count input (taken_by (ask_of input) s)) (Err stop) out out) reads (λ s l h short.
+    → Told known left (λ s l. AreShort s → (l ≡ after (ask_of input) s) × Tells (AnswersInput list count names input (taken_by (ask_of input) s)) (Err stop) out out)
+input-stopped list count names input known left stop out reads =
+    Told-weaker known left _ (λ s l. AreShort s → (l ≡ after (ask_of input) s) × Tells (AnswersInput list count names input (taken_by (ask_of input) s)) (Err stop) out out) reads (λ s l h short.
     let taken = h short in
     let source : Option Content = taken_by (ask_of input) s in
-    (taken.0, tells-reason (input_message input source) (AreHitsTold list count (text_in source)) stop out taken.1))
+    (taken.0, tells-reason (input_message input source) (AreHitsTold list count names (text_in source)) stop out taken.1))
 
 -- the scan of an input by a plan that is had
-pub scan-had : (fold : Fold) (count : Bool) (file input : List ℕ) (known mid left : Option Sources) (plan : Plan) (r : Result Status Stop) (old new : Option (List ℕ))
-    → Told known mid (λ s m. AreShort s → (m ≡ after (ask_of file) s) × TakesPlan fold file (taken_by (ask_of file) s) (Ok plan))
-    → Told mid left (λ m l. AreShort m → (l ≡ after (ask_of input) m) × Tells (AnswersInput plan.literals count input (taken_by (ask_of input) m)) r old new)
-    → Told known left (λ s l. AreShort s → Asks r (scan_asks fold file input s) s l × Tells (AnswersScan fold count file input s) r old new)
-scan-had fold count file input known mid left plan r old new reads scans =
-    Told-then known mid left _ _ (λ s l. AreShort s → Asks r (scan_asks fold file input s) s l × Tells (AnswersScan fold count file input s) r old new) reads scans (λ s m l h g short.
+pub scan-had : (fold : Fold) (count names : Bool) (file input : List ℕ) (known mid left : Option Sources) (plan : Plan) (r : Result Status Stop) (old new : Option (List ℕ))
+    → Told known mid (λ s m. AreShort s → (m ≡ after (ask_of file) s) × TakesPlan fold Eight file (taken_by (ask_of file) s) (Ok plan))
+    → Told mid left (λ m l. AreShort m → (l ≡ after (ask_of input) m) × Tells (AnswersInput plan.literals count names input (taken_by (ask_of input) m)) r old new)
+    → Told known left (λ s l. AreShort s → Asks r (scan_asks fold file input s) s l × Tells (AnswersScan fold count names file input s) r old new)
+scan-had fold count names file input known mid left plan r old new reads scans =
+    Told-then known mid left _ _ (λ s l. AreShort s → Asks r (scan_asks fold file input s) s l × Tells (AnswersScan fold count names file input s) r old new) reads scans (λ s m l h g short.
     let taken = h short in
     let scanned = g (subst AreShort (sym taken.0) (short-after (ask_of file) s short)) in
     let message : Option (List ℕ) = search_message fold file (taken_by (ask_of file) s) in
     let list : Literals = list_in fold (taken_by (ask_of file) s) in
     let made : l ≡ after_all (ask_of file ∷ ask_of input ∷ []) s = scanned.0 ∙ ap (after (ask_of input)) taken.0 in
-    let tells = subst (λ x. Tells (AnswersInput plan.literals count input (taken_by (ask_of input) x)) r old new) taken.0 scanned.1 in
-    let answer = AnswersInput list count input (input_source file input s) in (
+    let tells = subst (λ x. Tells (AnswersInput plan.literals count names input (taken_by (ask_of input) x)) r old new) taken.0 scanned.1 in
+    let answer = AnswersInput list count names input (input_source file input s) in (
       asks-all r (scan_asks fold file input s) s l (made ∙ ap (λ asks. after_all asks s) (sym (asks-both file (ask_of input) message taken.1.0))),
-      tells-unless message answer r old new taken.1.0 (subst (λ ls. Tells (AnswersInput ls count input (input_source file input s)) r old new) taken.1.1.literals tells),
+      tells-unless message answer r old new taken.1.0 (subst (λ ls. Tells (AnswersInput ls count names input (input_source file input s)) r old new) taken.1.1.literals tells),
     ))
 
--- and by one that is not
-pub scan-stopped : (fold : Fold) (count : Bool) (file input : List ℕ) (known mid : Option Sources) (stop : Stop) (out : Option (List ℕ))
-    → Told known mid (λ s left. AreShort s → (left ≡ after (ask_of file) s) × TakesPlan fold file (taken_by (ask_of file) s) (Err stop))
-    → Told known mid (λ s left. AreShort s → Asks {T = Status} (Err stop) (scan_asks fold file input s) s left × Tells (AnswersScan fold count file input s) (Err stop) out out)
-scan-stopped fold count file input known mid stop out reads =
-    Told-weaker known mid _ (λ s left. AreShort s → Asks {T = Status} (Err stop) (scan_asks fold file input s) s left × Tells (AnswersScan fold count file input s) (Err stop) out out) reads (λ s left h short.
+-- and by a file without a plan
+pub scan-stopped : (fold : Fold) (count names : Bool) (file input : List ℕ) (known mid : Option Sources) (stop : Stop) (out : Option (List ℕ))
+    → Told known mid (λ s left. AreShort s → (left ≡ after (ask_of file) s) × TakesPlan fold Eight file (taken_by (ask_of file) s) (Err stop))
+    → Told known mid (λ s left. AreShort s → Asks {T = Status} (Err stop) (scan_asks fold file input s) s left × Tells (AnswersScan fold count names file input s) (Err stop) out out)
+scan-stopped fold count names file input known mid stop out reads =
+    Told-weaker known mid _ (λ s left. AreShort s → Asks {T = Status} (Err stop) (scan_asks fold file input s) s left × Tells (AnswersScan fold count names file input s) (Err stop) out out) reads (λ s left h short.
     let taken = h short in
     let message : Option (List ℕ) = search_message fold file (taken_by (ask_of file) s) in (
-      asks-stopped Status file (ask_of input) message stop s left taken.1 taken.0,
-      tells-reason message (AnswersInput (list_in fold (taken_by (ask_of file) s)) count input (input_source file input s)) stop out taken.1,
+      asks-stopped Status file (ask_of input ∷ []) message stop s left taken.1 taken.0,
+      tells-reason message (AnswersInput (list_in fold (taken_by (ask_of file) s)) count names input (input_source file input s)) stop out taken.1,
     ))
 
 -- ---- a list and its certificate
@@ -192,76 +217,173 @@ ends-some : (n : ℕ) (ends : List ℕ) → 0 < n → CutsFrom n 0 ends → 1 �
 ends-some n [] some cuts = omega (arith, some, cuts)
 ends-some n (end ∷ ends) some cuts = omega arith
 
+-- there is a bucket
+some-buckets : (profile : Profile) → 0 < buckets profile
+some-buckets Eight = omega arith
+some-buckets Sixteen = omega arith
+
+-- the number of potentials in rows, one for each literal, gives the number of literals
+rows-tell : (most n rows : ℕ) → 0 < most → rows ≡ most * n → rows / most ≡ n
+rows-tell most n rows some is = ap (λ m. m / most) (is ∙ mul_comm most n) ∙ mul-div_cancel n some
+
 -- a certificate that holds has a text
-pub shaped : (list : Literals) (c : CertificateParts) → IsCertified 8 list c → length list.texts ≤ 1024 → IsShaped 8 c
+pub shaped : (list : Literals) (c : CertificateParts) → IsCertified list c → length list.texts ≤ 4096 → IsShaped c
 shaped list c p few =
-    let rows : length c.potentials ≡ 8 * length list.texts = p.priced.size.rows in
-    let n : literals_in 8 c ≡ length list.texts = omega (arith, rows) in
+    let most : ℕ = buckets c.profile in
+    let rows : length c.potentials ≡ most * length list.texts = p.priced.size.rows in
+    let n : literals_in most (numbers_of c) ≡ length list.texts = rows-tell most (length list.texts) (length c.potentials) (some-buckets c.profile) rows in
     record {
-      rows = omega (arith, rows);
+      rows = rows ∙ ap (λ k. most * k) (sym n);
       literals = record { some = omega (arith, n, p.priced.size.some); few = omega (arith, n, few) };
       ends = ends-some (length list.texts) c.ends p.priced.cut.some p.priced.cut.cuts;
+      few_ends = p.priced.cut.few;
     }
 
--- a test by what it is not
-false-if : (b : Bool) → b ≢ true → b ≡ false
+-- a test that is not true is false
+pub false-if : (b : Bool) → b ≢ true → b ≡ false
 false-if true not = absurd (not refl)
 false-if false not = refl
 
-true-if : (b : Bool) → b ≢ false → b ≡ true
+pub true-if : (b : Bool) → b ≢ false → b ≡ true
 true-if true not = refl
 true-if false not = absurd (not refl)
 
 -- a fault in reading a certificate: one follows the file's bytes
-pub unread : (list : Literals) (name : List ℕ) (known : Option Coming) (r : Result CertificateParts Fault) (c : Content)
+pub unread : (wrong : ℕ → Answer) (P : CertificateParts → Answer → Type 0) (name : List ℕ) (known : Option Coming) (r : Result CertificateParts Fault) (c : Content)
     → IfSome known (λ x. x.ending ≡ Clean → length x.text < 2 ^ 40 → r ≢ Err ReadFault) → r ≡ Err ReadFault → known ≡ Some (coming_of c) → IsShort c
-    → IsCheckAnswer list name (Some c) (refused_with (unusable name))
-unread list name known r c clean fault e short =
+    → IsCertificateAnswer wrong P name (Some c) (refused_with (unusable name))
+unread wrong P name known r c clean fault e short =
     let here : (coming_of c).ending ≡ Clean → length c.text < 2 ^ 40 → r ≢ Err ReadFault =
     subst (λ k. IfSome k (λ x. x.ending ≡ Clean → length x.text < 2 ^ 40 → r ≢ Err ReadFault)) e clean in
     Unread c refl (true-if c.is_faulty (λ unset. here (ap (λ b. cond b Faulty Clean) unset) short fault)) refl
 
 -- a wrong line in it: it is the first wrong one of the file
-pub wrong : (list : Literals) (name : List ℕ) (known : Option Coming) (r : Result CertificateParts Fault) (line : ℕ) (c : Content)
-    → IfSome known (λ x. (k : ℕ) → r ≡ Err (BadCertText k) → IsFirstBad 8 x.text k) → r ≡ Err (BadCertText line) → known ≡ Some (coming_of c)
-    → IsCheckAnswer list name (Some c) (refused_with (refused 9))
-wrong list name known r line c bad is e =
-    Wrong c line refl (subst (λ k. IfSome k (λ x. (n : ℕ) → r ≡ Err (BadCertText n) → IsFirstBad 8 x.text n)) e bad line is) refl
+pub bad-line : (wrong : ℕ → Answer) (P : CertificateParts → Answer → Type 0) (name : List ℕ) (known : Option Coming) (r : Result CertificateParts Fault) (line : ℕ) (c : Content)
+    → IfSome known (λ x. (k : ℕ) → r ≡ Err (BadCertText k) → IsFirstBad x.text k) → r ≡ Err (BadCertText line) → known ≡ Some (coming_of c)
+    → IsCertificateAnswer wrong P name (Some c) (wrong line)
+bad-line wrong P name known r line c bad is e =
+    BadLine c line refl (subst (λ k. IfSome k (λ x. (n : ℕ) → r ≡ Err (BadCertText n) → IsFirstBad x.text n)) e bad line is) refl
 
--- what a file of a certificate tells: it is read whole and judged
-pub judged : (list : Literals) (name : List ℕ) (certificate : CertificateParts) (r : Result Status Stop) (old new : Option (List ℕ)) (known left : Option Coming) (c : Content)
-    → Told known left (λ x y. HasText 8 certificate × (x.text ≡ spelling 8 certificate) × EndsHere y) → IfSome known (λ x. x.ending ≢ Faulty)
-    → Tells (IsVerdict list certificate) r old new → known ≡ Some (coming_of c) → Tells (IsCheckAnswer list name (Some c)) r old new
-judged list name certificate r old new None left c found clean tells e = (cc)
-judged list name certificate r old new (Some x) None c found clean tells e = absurd found
-judged list name certificate r old new (Some x) (Some y) c found clean tells e =
+-- a file of a certificate: it is read whole and judged
+pub judged : (wrong : ℕ → Answer) (P : CertificateParts → Answer → Type 0) (name : List ℕ) (certificate : CertificateParts) (r : Result Status Stop) (old new : Option (List ℕ)) (known left : Option Coming) (c : Content)
+    → Told known left (λ x y. HasText certificate × (x.text ≡ spelling certificate) × EndsHere y) → IfSome known (λ x. x.ending ≢ Faulty)
+    → Tells (P certificate) r old new → known ≡ Some (coming_of c) → Tells (IsCertificateAnswer wrong P name (Some c)) r old new
+judged wrong P name certificate r old new None left c found clean tells e = (cc)
+judged wrong P name certificate r old new (Some x) None c found clean tells e = absurd found
+judged wrong P name certificate r old new (Some x) (Some y) c found clean tells e =
     let same : x ≡ coming_of c = (cc) in
-    tells-weaker (IsVerdict list certificate) (IsCheckAnswer list name (Some c)) r old new (λ a verdict.
+    tells-weaker (P certificate) (IsCertificateAnswer wrong P name (Some c)) r old new (λ a verdict.
     Judged c certificate refl (false-if c.is_faulty (λ set. subst (λ z. z.ending ≢ Faulty) same clean (ap (λ b. cond b Faulty Clean) set))) found.0 (ap (λ z. z.text) (sym same) ∙ found.1) verdict) tells
 
 -- ---- a plan that is explained
 
 -- the plan of a list that is had
-pub explain-had : (fold : Fold) (svg : Bool) (file : List ℕ) (known mid : Option Sources) (found : Literals × Normal) (r : Result Status Stop) (old new : Option (List ℕ))
+pub explain-had : (fold : Fold) (profile : Profile) (svg : Bool) (file : List ℕ) (known mid : Option Sources) (found : Literals × Normal) (r : Result Status Stop) (old new : Option (List ℕ))
     → Told known mid (λ s left. AreShort s → (left ≡ after (ask_of file) s) × TakesPlaces fold file (taken_by (ask_of file) s) (Ok found))
-    → ((patterns : List (List ℕ)) → ArePlaces found.0 patterns found.1.place_of.items → Tells (IsExplainAnswer found.0 svg patterns) r old new)
-    → Told known mid (λ s left. AreShort s → Asks r (ask_of file ∷ []) s left × Tells (AnswersExplain fold svg file s) r old new)
-explain-had fold svg file known mid found r old new reads tells =
-    Told-weaker known mid _ (λ s left. AreShort s → Asks r (ask_of file ∷ []) s left × Tells (AnswersExplain fold svg file s) r old new) reads (λ s left h short.
+    → ((patterns : List (List ℕ)) → ArePlaces found.0 patterns found.1.place_of.items → Tells (IsExplainAnswer profile found.0 svg patterns) r old new)
+    → Told known mid (λ s left. AreShort s → Asks r (ask_of file ∷ []) s left × Tells (AnswersExplain fold profile svg file s) r old new)
+explain-had fold profile svg file known mid found r old new reads tells =
+    Told-weaker known mid _ (λ s left. AreShort s → Asks r (ask_of file ∷ []) s left × Tells (AnswersExplain fold profile svg file s) r old new) reads (λ s left h short.
+    let taken = h short in
+    let source : Option Content = taken_by (ask_of file) s in
+    let told = subst (λ list. Tells (IsExplainAnswer profile list svg (patterns_in source)) r old new) taken.1.1 (tells (patterns_in source) taken.1.2) in (
+      asks-all r (ask_of file ∷ []) s left taken.0,
+      tells-weaker (IsExplainAnswer profile (list_in fold source) svg (patterns_in source)) (AnswersExplain fold profile svg file s) r old new (λ a right. HasList taken.1.0 right) told,
+    ))
+
+-- what is told of a stop, where it is right of each refusal that the stop may be
+pub tells-flaw : (P : Answer → Type 0) (stop : Stop) (r : Result Status Stop) (old new : Option (List ℕ)) → ((refusal : Refusal) → stop ≡ Refused refusal → P (where_wrong refusal))
+    → TellsStop stop r old new → Tells P r old new
+tells-flaw P (Refused refusal) r old new right t =
+    tells-weaker (λ a. a ≡ where_wrong refusal) P r old new (λ a is. subst P (sym is) (right refusal refl)) t
+tells-flaw P WriteFault r old new right t = absurd t
+tells-flaw P OutOfMemory r old new right t = subst (λ x. Tells P x old new) (sym t.0) (Silent t.1)
+
+-- what both say
+both : {T : Type 0} (a b : Option T) (P Q : T → T → Type 0) → Told a b P → Told a b Q → Told a b (λ x y. P x y × Q x y)
+both None b P Q p q = tt
+both (Some x) None P Q p q = absurd p
+both (Some x) (Some y) P Q p q = (p, q)
+
+-- why a file of patterns gives no list
+no-list : (file : List ℕ) (source : Option Content) (stop : Stop) → Explains stop (list_message file source) → NamesStop source stop
+    → (refusal : Refusal) → stop ≡ Refused refusal → IsNoList file source refusal
+no-list file source (Refused refusal) why named other e =
+    let same : refusal ≡ other = (cc) in
+    subst (λ x. IsNoList file source x) same (record { message = why; names = named })
+no-list file source WriteFault why named other e = absurd (cc)
+no-list file source OutOfMemory why named other e = absurd (cc)
+
+-- and of a file without a list
+pub explain-stopped : (fold : Fold) (profile : Profile) (svg : Bool) (file : List ℕ) (known mid : Option Sources) (stop : Stop) (r : Result Status Stop) (old new : Option (List ℕ))
+    → Told known mid (λ s left. AreShort s → (left ≡ after (ask_of file) s) × TakesPlaces fold file (taken_by (ask_of file) s) (Err stop))
+    → Told known mid (λ s left. AreShort s → NamesStop (taken_by (ask_of file) s) stop)
+    → TellsStop stop r old new
+    → Told known mid (λ s left. AreShort s → Asks r (ask_of file ∷ []) s left × Tells (AnswersExplain fold profile svg file s) r old new)
+explain-stopped fold profile svg file known mid stop r old new reads names tells =
+    Told-weaker known mid _ (λ s left. AreShort s → Asks r (ask_of file ∷ []) s left × Tells (AnswersExplain fold profile svg file s) r old new)
+    (both known mid (λ s left. AreShort s → (left ≡ after (ask_of file) s) × TakesPlaces fold file (taken_by (ask_of file) s) (Err stop)) (λ s left. AreShort s → NamesStop (taken_by (ask_of file) s) stop) reads names) (λ s left h short.
+    let taken = h.0 short in
+    let source : Option Content = taken_by (ask_of file) s in (
+      asks-all r (ask_of file ∷ []) s left taken.0,
+      tells-flaw (AnswersExplain fold profile svg file s) stop r old new (λ refusal is. NoList refusal (no-list file source stop taken.1 (h.1 short) refusal is) refl) tells,
+    ))
+
+-- ---- a plan of a plan file
+
+-- what is told of one of its plans
+pub plan-at-had : (wrong : Refusal → Answer) (P : Plan → Answer → Type 0) (file : List ℕ) (place : ℕ) (known mid : Option Sources) (plans : Vec Plan) (r : Result Status Stop) (old new : Option (List ℕ))
+    → Told known mid (λ s left. AreShort s → (left ≡ after (ask_of file) s) × TakesPlans file (taken_by (ask_of file) s) (Ok plans))
+    → Tells (IsPlanAnswerAt P file place plans.items) r old new
+    → Told known mid (λ s left. AreShort s → Asks r (ask_of file ∷ []) s left × Tells (AnswersPlanAt wrong P file place (taken_by (ask_of file) s)) r old new)
+plan-at-had wrong P file place known mid plans r old new reads tells =
+    Told-weaker known mid _ (λ s left. AreShort s → Asks r (ask_of file ∷ []) s left × Tells (AnswersPlanAt wrong P file place (taken_by (ask_of file) s)) r old new) reads (λ s left h short.
+    let taken = h short in (
+      asks-all r (ask_of file ∷ []) s left taken.0,
+      tells-weaker (IsPlanAnswerAt P file place plans.items) (AnswersPlanAt wrong P file place (taken_by (ask_of file) s)) r old new (λ a right. HasPlans plans.items taken.1 right) tells,
+    ))
+
+-- why there are none
+no-file : (file : List ℕ) (source : Option Content) (stop : Stop) → TakesPlans file source (Err stop) → (refusal : Refusal) → stop ≡ Refused refusal → IsNoPlanFile file source refusal
+no-file file source (Refused refusal) takes other e =
+    let same : refusal ≡ other = (cc) in
+    subst (λ x. IsNoPlanFile file source x) same takes
+no-file file source WriteFault takes other e = absurd (cc)
+no-file file source OutOfMemory takes other e = absurd (cc)
+
+-- which is explained
+pub plan-at-wrong : (P : Plan → Answer → Type 0) (file : List ℕ) (place : ℕ) (known mid : Option Sources) (stop : Stop) (r : Result Status Stop) (old new : Option (List ℕ))
+    → Told known mid (λ s left. AreShort s → (left ≡ after (ask_of file) s) × TakesPlans file (taken_by (ask_of file) s) (Err stop))
+    → TellsStop stop r old new
+    → Told known mid (λ s left. AreShort s → Asks r (ask_of file ∷ []) s left × Tells (AnswersPlanAt where_wrong P file place (taken_by (ask_of file) s)) r old new)
+plan-at-wrong P file place known mid stop r old new reads tells =
+    Told-weaker known mid _ (λ s left. AreShort s → Asks r (ask_of file ∷ []) s left × Tells (AnswersPlanAt where_wrong P file place (taken_by (ask_of file) s)) r old new) reads (λ s left h short.
     let taken = h short in
     let source : Option Content = taken_by (ask_of file) s in (
       asks-all r (ask_of file ∷ []) s left taken.0,
-      tells-list fold file source (λ list. IsExplainAnswer list svg (patterns_in source)) found.0 r old new (taken.1.0, taken.1.1) (tells (patterns_in source) taken.1.2),
+      tells-flaw (AnswersPlanAt where_wrong P file place source) stop r old new (λ refusal is. NoFile refusal (no-file file source stop taken.1 refusal is) refl) tells,
     ))
 
--- and of one that is not
-pub explain-stopped : (fold : Fold) (svg : Bool) (file : List ℕ) (known mid : Option Sources) (stop : Stop) (out : Option (List ℕ))
-    → Told known mid (λ s left. AreShort s → (left ≡ after (ask_of file) s) × TakesPlaces fold file (taken_by (ask_of file) s) (Err stop))
-    → Told known mid (λ s left. AreShort s → Asks {T = Status} (Err stop) (ask_of file ∷ []) s left × Tells (AnswersExplain fold svg file s) (Err stop) out out)
-explain-stopped fold svg file known mid stop out reads =
-    Told-weaker known mid _ (λ s left. AreShort s → Asks {T = Status} (Err stop) (ask_of file ∷ []) s left × Tells (AnswersExplain fold svg file s) (Err stop) out out) reads (λ s left h short.
+-- or has its message
+tells-no-file : (P : Plan → Answer → Type 0) (file : List ℕ) (place : ℕ) (source : Option Content) (stop : Stop) (known : Option (List ℕ)) → TakesPlans file source (Err stop)
+    → Tells (AnswersPlanAt refuses P file place source) (Err stop) known known
+tells-no-file P file place source (Refused refusal) known takes = (NoFile refusal takes refl, Appends-nil known)
+tells-no-file P file place source WriteFault known takes = absurd takes
+tells-no-file P file place source OutOfMemory known takes = tells-silent (AnswersPlanAt refuses P file place source) known
+
+pub plan-at-stopped : (P : Plan → Answer → Type 0) (file : List ℕ) (place : ℕ) (known mid : Option Sources) (stop : Stop) (out : Option (List ℕ))
+    → Told known mid (λ s left. AreShort s → (left ≡ after (ask_of file) s) × TakesPlans file (taken_by (ask_of file) s) (Err stop))
+    → Told known mid (λ s left. AreShort s → Asks {T = Status} (Err stop) (ask_of file ∷ []) s left × Tells (AnswersPlanAt refuses P file place (taken_by (ask_of file) s)) (Err stop) out out)
+plan-at-stopped P file place known mid stop out reads =
+    Told-weaker known mid _ (λ s left. AreShort s → Asks {T = Status} (Err stop) (ask_of file ∷ []) s left × Tells (AnswersPlanAt refuses P file place (taken_by (ask_of file) s)) (Err stop) out out) reads (λ s left h short.
     let taken = h short in
-    let source : Option Content = taken_by (ask_of file) s in (
-      asks-all {T = Status} (Err stop) (ask_of file ∷ []) s left taken.0,
-      tells-stop fold file source (λ list. IsExplainAnswer list svg (patterns_in source)) stop out taken.1,
-    ))
+    (asks-all {T = Status} (Err stop) (ask_of file ∷ []) s left taken.0, tells-no-file P file place (taken_by (ask_of file) s) stop out taken.1))
+
+-- ---- a certificate that is explained
+
+pub certificate-read : (name : List ℕ) (known left : Option Sources) (r : Result Status Stop) (old new : Option (List ℕ))
+    → Told known left (λ s l. AreShort s → (l ≡ after (Named name) s) × Tells (IsCertificateAnswer wrong_at_line IsCertificateTold name (taken_by (Named name) s)) r old new)
+    → Told known left (λ s l. AreShort s → Asks r (Named name ∷ []) s l × Tells (AnswersExplainCertificate name s) r old new)
+certificate-read name known left r old new reads =
+    Told-weaker known left _ (λ s l. AreShort s → Asks r (Named name ∷ []) s l × Tells (AnswersExplainCertificate name s) r old new) reads (λ s l h short.
+    let read = h short in (asks-all r (Named name ∷ []) s l read.0, read.1))

@@ -2,4 +2,7 @@ pub mod AnswerLemmas
 pub mod EndLemmas
 pub mod ListLemmas
 pub mod ListingLemmas
+pub mod MigrateLemmas
 pub mod PackLemmas
+pub mod PlanAtLemmas
+pub mod RequestLemmas

@@ -1,27 +1,31 @@
--- A plan file that is made, from the plan and the file of it to what a request has to answer.
-use Rattle.std.proofs.Common.{◌≡◌, ℕ, Bool, List, [], ◌∷◌, Option, None, Some, Result, Ok, Err, inl, inr, refl, sym, ap, subst, ◌∙◌}
+-- A plan file that is made, from the plans and the file of them to what a request has to answer.
+use Rattle.std.proofs.Common.{◌≡◌, ℕ, Bool, true, false, cond, List, [], ◌∷◌, ◌++◌, Option, None, Some, IfSome, is_some, Result, Ok, Err, inl, inr, ◌+◌, ◌-◌, ◌<◌, ◌≤◌, arith, drop, get_or, length, take, refl, sym, ap, subst, ◌∙◌, append_assoc, append-nil, take_all}
 use Rattle.std.proofs.KnownBytes.{Appends-nil}
 use Rattle.std.specs.Global.{Global}
-use Rattle.std.specs.Prelude.{String, string_bytes}
+use Rattle.std.specs.Prelude.{String, map, string_bytes}
 use Rattle.byte_io.specs.Devices.{Told}
 use Rattle.byte_io.specs.Sources.{AreShort, Ask, Created, Named, Sources, Standard, after, after_all, ask_of, can_create, taken_by}
-use Rattle.byte_io.proofs.ToldLemmas.{Told-then, Told-weaker}
+use Rattle.byte_io.proofs.OpenerLemmas.{short-after}
+use Rattle.byte_io.proofs.ToldLemmas.{Told-none, Told-then, Told-weaker}
 use Rattle.flow_scan.specs.Plans.{Plan}
 use Rattle.lit_base.specs.declared.fold.Fold.{Fold}
-use Rattle.plan_run.specs.Answers.{AnswersPack, IsPackAnswer, Packed, pack_asks}
-use Rattle.plan_run.specs.Lists.{first_message, list_in, search_message}
-use Rattle.plan_run.specs.Messages.{unusable}
-use Rattle.plan_run.specs.Packing.{LeavesFile, LeavesPack, Made, MakesFile, MakesPack, answer_of}
-use Rattle.plan_run.specs.Running.{Answers, Asks, Explains, IsPlanOf, TakesPlan, Tells}
+use Rattle.lit_base.specs.declared.profile.Profile.{Profile}
+use Rattle.plan_run.specs.Answers.{Answer, AnswersPack, AnswersUnless, Cut, IsPackAnswer, Packed, Unmade, asks_for_plans, pack_asks, pack_message, reads_file, refused_with}
+use Rattle.plan_run.specs.Lists.{ArePlansOf, IsPlanOf, first_message, list_in, search_message, search_messages}
+use Rattle.plan_run.specs.Messages.{message_on, unusable}
+use Rattle.plan_run.specs.Packing.{HoldsFrontOf, HoldsPlansOf, IsBefore, LeavesFile, LeavesPack, Made, MakesFile, MakesPack, Other, Own, PacksFiles, answer_of}
+use Rattle.plan_run.specs.PlanFiles.{HoldsFront, HoldsPlans}
+use Rattle.plan_run.specs.Running.{Answers, Asks, Explains, TakesPlan, Tells, is_refusal}
+use Rattle.plan_run.specs.declared.pattern_files.PatternFiles.{PatternFiles}
 use Rattle.plan_run.specs.declared.request.Request.TheVariants.{Pack}
 use Rattle.plan_run.specs.declared.status.Status.{Status}
 use Rattle.plan_run.specs.declared.status.Status.TheVariants.{Done}
 use Rattle.plan_run.specs.declared.stop.Stop.{Stop}
 use Rattle.plan_run.specs.declared.stop.Stop.TheVariants.{OutOfMemory, Refused, WriteFault}
-use Rattle.plan_run.proofs.AnswerLemmas.{asks-all, asks-both, asks-stopped, tells-text, tells-unless}
+use Rattle.plan_run.proofs.AnswerLemmas.{asks-all, asks-any, asks-more, asks-stopped, same-asks, tells-reason, tells-silent, tells-text, tells-unless}
 
 -- no ask changes under which names files can be made
-same-creatable : (ask : Ask) (s : Sources) → (after ask s).creatable ≡ s.creatable
+pub same-creatable : (ask : Ask) (s : Sources) → (after ask s).creatable ≡ s.creatable
 same-creatable (Named name) s = refl
 same-creatable Standard s = refl
 same-creatable (Created name) s = refl
@@ -33,67 +37,227 @@ first-explains (Refused refusal) (Some text) later e = e
 first-explains WriteFault reason later e = e
 first-explains OutOfMemory reason later e = tt
 
--- the file of a plan that the patterns have is the patterns' plan file
-leaves-plan : {O : Type 0} (written : O → Option (List ℕ)) (fold : Fold) (file output : List ℕ) (s left : Sources) (can : Bool) (plan : Plan) (begun : Option O)
-    → search_message fold file (taken_by (ask_of file) s) ≡ None → IsPlanOf (list_in fold (taken_by (ask_of file) s)) plan → can ≡ can_create output s.creatable
-    → LeavesFile written plan can begun → LeavesPack written fold file output s left begun
-leaves-plan written fold file output s left can plan (Some made) none right same leaves =
-    (none, sym same ∙ leaves.0, record { plan = plan; right = right; holds = leaves.1 })
-leaves-plan written fold file output s left can plan None none right same leaves = inr (sym same ∙ leaves)
+-- where there is none, the other does
+then-explains : (stop : Stop) (reason later : Option (List ℕ)) → reason ≡ None → Explains stop later → Explains stop (first_message reason later)
+then-explains stop reason later none e = subst (λ r. Explains stop (first_message r later)) (sym none) e
 
-packs-plan : {O : Type 0} (written : O → Option (List ℕ)) (fold : Fold) (file output : List ℕ) (s left : Sources) (can : Bool) (plan : Plan) (r : Made O)
-    → search_message fold file (taken_by (ask_of file) s) ≡ None → IsPlanOf (list_in fold (taken_by (ask_of file) s)) plan → can ≡ can_create output s.creatable
-    → MakesFile written plan output can r → MakesPack written fold file output s left r
-packs-plan written fold file output s left can plan (Ok made) none right same makes =
-    (none, sym same ∙ makes.0, record { plan = plan; right = right; holds = makes.1 })
-packs-plan written fold file output s left can plan (Err stopped) none right same makes = (
-  subst (λ reason. Explains stopped.0 (first_message reason (Some (unusable output)))) (sym none) makes.0,
-  leaves-plan written fold file output s left can plan stopped.1 none right same makes.1,
+-- ---- the file of plans behind no further files
+
+pub packs-made : {O : Type 0} (written : O → Option (List ℕ)) (fold : Fold) (profile : Profile) (before : List Plan) (output : List ℕ) (s left : Sources) (r : Made O)
+    → MakesFile written before output (can_create output s.creatable) r → MakesPack written fold profile before [] output s left r
+packs-made written fold profile before output s left (Ok made) makes =
+    (refl, makes.0, record { plans = []; right = refl; holds = subst (λ ps. HoldsPlans ps (written made)) (sym (append-nil before)) makes.1 })
+packs-made written fold profile before output s left (Err (stop, Some made)) makes =
+    (makes.0, (refl, makes.1.0, record { plans = []; right = refl; holds = subst (λ ps. HoldsFront ps (written made)) (sym (append-nil before)) makes.1.1 }))
+packs-made written fold profile before output s left (Err (stop, None)) makes = (makes.0, inr makes.1)
+
+pub pack-made : {O : Type 0} (written : O → Option (List ℕ)) (fold : Fold) (profile : Profile) (before : List Plan) (output : List ℕ) (known left : Option Sources) (r : Made O)
+    → Told known left (λ s l. (l ≡ after (Created output) s) × MakesFile written before output (can_create output s.creatable) r)
+    → Told known left (λ s l. AreShort s → Asks (answer_of r) (asks_for_plans fold [] (Created output) s) s l × MakesPack written fold profile before [] output s l r)
+pack-made written fold profile before output known left r makes =
+    Told-weaker known left _ (λ s l. AreShort s → Asks (answer_of r) (asks_for_plans fold [] (Created output) s) s l × MakesPack written fold profile before [] output s l r) makes (λ s l h short.
+    (asks-all (answer_of r) (Created output ∷ []) s l h.0, packs-made written fold profile before output s l r h.1))
+
+-- ---- one file of patterns, and those behind it
+
+packs-next : {O : Type 0} (written : O → Option (List ℕ)) (fold : Fold) (profile : Profile) (before : List Plan) (file : List ℕ) (names : List (List ℕ)) (output : List ℕ) (s left : Sources) (plan : Plan) (r : Made O)
+    → search_message fold file (taken_by (ask_of file) s) ≡ None → IsPlanOf profile (list_in fold (taken_by (ask_of file) s)) plan
+    → MakesPack written fold profile (before ++ plan ∷ []) names output (after (ask_of file) s) left r → MakesPack written fold profile before (file ∷ names) output s left r
+packs-next written fold profile before file names output s left plan (Ok made) none right makes = (
+  ap (λ m. first_message m (search_messages fold names (after (ask_of file) s))) none ∙ makes.0,
+  ap (can_create output) (sym (same-creatable (ask_of file) s)) ∙ makes.1,
+  record {
+    plans = plan ∷ makes.2.plans;
+    right = (right, makes.2.right);
+    holds = subst (λ ps. HoldsPlans ps (written made)) (append_assoc before (plan ∷ []) makes.2.plans) makes.2.holds;
+  },
 )
+packs-next written fold profile before file names output s left plan (Err (stop, Some made)) none right makes =
+    let first : first_message (search_message fold file (taken_by (ask_of file) s)) (search_messages fold names (after (ask_of file) s)) ≡ search_messages fold names (after (ask_of file) s) =
+    ap (λ m. first_message m (search_messages fold names (after (ask_of file) s))) none in (
+      subst (λ m. Explains stop (first_message m (Some (unusable output)))) (sym first) makes.0,
+      (
+        first ∙ makes.1.0,
+        ap (can_create output) (sym (same-creatable (ask_of file) s)) ∙ makes.1.1,
+        record {
+          plans = plan ∷ makes.1.2.plans;
+          right = (right, makes.1.2.right);
+          holds = subst (λ ps. HoldsFront ps (written made)) (append_assoc before (plan ∷ []) makes.1.2.plans) makes.1.2.holds;
+        },
+      ),
+    )
+packs-next written fold profile before file names output s left plan (Err (stop, None)) none right (why, inl kept) =
+    let first : first_message (search_message fold file (taken_by (ask_of file) s)) (search_messages fold names (after (ask_of file) s)) ≡ search_messages fold names (after (ask_of file) s) =
+    ap (λ m. first_message m (search_messages fold names (after (ask_of file) s))) none in (
+      subst (λ m. Explains stop (first_message m (Some (unusable output)))) (sym first) why,
+      inl (inr kept.0, subst (λ m. Explains stop m) (sym first) kept.1),
+    )
+packs-next written fold profile before file names output s left plan (Err (stop, None)) none right (why, inr cannot) =
+    let first : first_message (search_message fold file (taken_by (ask_of file) s)) (search_messages fold names (after (ask_of file) s)) ≡ search_messages fold names (after (ask_of file) s) =
+    ap (λ m. first_message m (search_messages fold names (after (ask_of file) s))) none in (
+      subst (λ m. Explains stop (first_message m (Some (unusable output)))) (sym first) why,
+      inr (ap (can_create output) (sym (same-creatable (ask_of file) s)) ∙ cannot),
+    )
 
 -- the plan file of patterns that have a plan
-pub pack-had : {O : Type 0} (written : O → Option (List ℕ)) (fold : Fold) (file output : List ℕ) (known mid left : Option Sources) (plan : Plan) (r : Made O)
-    → Told known mid (λ s m. AreShort s → (m ≡ after (ask_of file) s) × TakesPlan fold file (taken_by (ask_of file) s) (Ok plan))
-    → Told mid left (λ m l. (l ≡ after (Created output) m) × MakesFile written plan output (can_create output m.creatable) r)
-    → Told known left (λ s l. AreShort s → Asks (answer_of r) (pack_asks fold file output s) s l × MakesPack written fold file output s l r)
-pack-had written fold file output known mid left plan r reads makes =
-    Told-then known mid left _ _ (λ s l. AreShort s → Asks (answer_of r) (pack_asks fold file output s) s l × MakesPack written fold file output s l r) reads makes (λ s m l h g short.
+pub pack-next : {O : Type 0} (written : O → Option (List ℕ)) (fold : Fold) (profile : Profile) (before : List Plan) (file : List ℕ) (names : List (List ℕ)) (output : List ℕ) (known mid left : Option Sources) (plan : Plan) (r : Made O)
+    → Told known mid (λ s m. AreShort s → (m ≡ after (ask_of file) s) × TakesPlan fold profile file (taken_by (ask_of file) s) (Ok plan))
+    → Told mid left (λ m l. AreShort m → Asks (answer_of r) (asks_for_plans fold names (Created output) m) m l × MakesPack written fold profile (before ++ plan ∷ []) names output m l r)
+    → Told known left (λ s l. AreShort s → Asks (answer_of r) (asks_for_plans fold (file ∷ names) (Created output) s) s l × MakesPack written fold profile before (file ∷ names) output s l r)
+pack-next written fold profile before file names output known mid left plan r reads makes =
+    Told-then known mid left _ _ (λ s l. AreShort s → Asks (answer_of r) (asks_for_plans fold (file ∷ names) (Created output) s) s l × MakesPack written fold profile before (file ∷ names) output s l r) reads makes (λ s m l h g short.
     let taken = h short in
-    let message : Option (List ℕ) = search_message fold file (taken_by (ask_of file) s) in
-    let made : l ≡ after_all (ask_of file ∷ Created output ∷ []) s = g.0 ∙ ap (after (Created output)) taken.0 in
-    let same : can_create output m.creatable ≡ can_create output s.creatable =
-    ap (λ (x : Sources). can_create output x.creatable) taken.0 ∙ ap (can_create output) (same-creatable (ask_of file) s) in (
-      asks-all (answer_of r) (pack_asks fold file output s) s l (made ∙ ap (λ asks. after_all asks s) (sym (asks-both file (Created output) message taken.1.0))),
-      packs-plan written fold file output s l (can_create output m.creatable) plan r taken.1.0 taken.1.1 same g.1,
+    let rest = g (subst AreShort (sym taken.0) (short-after (ask_of file) s short)) in
+    let here = subst (λ x. Asks (answer_of r) (asks_for_plans fold names (Created output) x) x l × MakesPack written fold profile (before ++ plan ∷ []) names output x l r) taken.0 rest in
+    let more : List Ask = asks_for_plans fold names (Created output) (after (ask_of file) s) in
+    let message : Option (List ℕ) = search_message fold file (taken_by (ask_of file) s) in (
+      same-asks (answer_of r) (ask_of file) more message s l taken.1.0 (asks-more (answer_of r) (ask_of file) more s l here.0),
+      packs-next written fold profile before file names output s l plan r taken.1.0 taken.1.1 here.1,
     ))
 
 -- and of patterns that have none
-pub pack-stopped : {O : Type 0} (written : O → Option (List ℕ)) (fold : Fold) (file output : List ℕ) (known mid : Option Sources) (stop : Stop)
-    → Told known mid (λ s left. AreShort s → (left ≡ after (ask_of file) s) × TakesPlan fold file (taken_by (ask_of file) s) (Err stop))
-    → Told known mid (λ s left. AreShort s → Asks {T = O} (Err stop) (pack_asks fold file output s) s left × MakesPack {O = O} written fold file output s left (Err (stop, None)))
-pack-stopped {O} written fold file output known mid stop reads =
-    Told-weaker known mid _ (λ s left. AreShort s → Asks {T = O} (Err stop) (pack_asks fold file output s) s left × MakesPack {O = O} written fold file output s left (Err (stop, None))) reads (λ s left h short.
+pub pack-stopped : {O : Type 0} (written : O → Option (List ℕ)) (fold : Fold) (profile : Profile) (before : List Plan) (file : List ℕ) (names : List (List ℕ)) (output : List ℕ) (known mid : Option Sources) (stop : Stop)
+    → Told known mid (λ s left. AreShort s → (left ≡ after (ask_of file) s) × TakesPlan fold profile file (taken_by (ask_of file) s) (Err stop))
+    → Told known mid (λ s left. AreShort s → Asks {T = O} (Err stop) (asks_for_plans fold (file ∷ names) (Created output) s) s left × MakesPack {O = O} written fold profile before (file ∷ names) output s left (Err (stop, None)))
+pack-stopped {O} written fold profile before file names output known mid stop reads =
+    Told-weaker known mid _ (λ s left. AreShort s → Asks {T = O} (Err stop) (asks_for_plans fold (file ∷ names) (Created output) s) s left × MakesPack {O = O} written fold profile before (file ∷ names) output s left (Err (stop, None))) reads (λ s left h short.
     let taken = h short in
     let message : Option (List ℕ) = search_message fold file (taken_by (ask_of file) s) in
-    (asks-stopped O file (Created output) message stop s left taken.1 taken.0, (first-explains stop message (Some (unusable output)) taken.1, inl taken.0)))
+    let others : Option (List ℕ) = search_messages fold names (after (ask_of file) s) in
+    let first : Explains stop (first_message message others) = first-explains stop message others taken.1 in (
+      asks-stopped O file (asks_for_plans fold names (Created output) (after (ask_of file) s)) message stop s left taken.1 taken.0,
+      (first-explains stop (first_message message others) (Some (unusable output)) first, inl (inl taken.0, first)),
+    ))
 
--- what is told of a plan file that was made
-pub pack-told : {O : Type 0} (written : O → Option (List ℕ)) (fold : Fold) (file output : List ℕ) (known left : Option Sources) (made : O)
-    → Told known left (λ s l. AreShort s → Asks {T = O} (Ok made) (pack_asks fold file output s) s l × MakesPack written fold file output s l (Ok made))
-    → Told known left (λ s l. AreShort s → Asks {T = Status} (Ok Done) (pack_asks fold file output s) s l × ((out : Option (List ℕ)) → Tells (AnswersPack fold file output s) (Ok Done) out out))
-pack-told written fold file output known left made packs =
-    Told-weaker known left _ (λ s l. AreShort s → Asks {T = Status} (Ok Done) (pack_asks fold file output s) s l × ((out : Option (List ℕ)) → Tells (AnswersPack fold file output s) (Ok Done) out out)) packs (λ s l h short.
+-- memory ran out behind a plan
+pub pack-starved : {O : Type 0} (written : O → Option (List ℕ)) (fold : Fold) (profile : Profile) (before : List Plan) (file : List ℕ) (names : List (List ℕ)) (output : List ℕ) (known mid : Option Sources) (plan : Plan)
+    → Told known mid (λ s left. AreShort s → (left ≡ after (ask_of file) s) × TakesPlan fold profile file (taken_by (ask_of file) s) (Ok plan))
+    → Told known mid (λ s left. AreShort s → Asks {T = O} (Err OutOfMemory) (asks_for_plans fold (file ∷ names) (Created output) s) s left × MakesPack {O = O} written fold profile before (file ∷ names) output s left (Err (OutOfMemory, None)))
+pack-starved {O} written fold profile before file names output known mid plan reads =
+    pack-stopped {O = O} written fold profile before file names output known mid OutOfMemory
+    (Told-weaker known mid _ (λ s left. AreShort s → (left ≡ after (ask_of file) s) × TakesPlan fold profile file (taken_by (ask_of file) s) (Err OutOfMemory)) reads (λ s left h short. ((h short).0, tt)))
+
+-- the same of the names of files that have such a list
+pub packs-of : {O : Type 0} (written : O → Option (List ℕ)) (fold : Fold) (profile : Profile) (before : List Plan) (all names : List (List ℕ)) (output : List ℕ) (known left : Option Sources) (r : Made O)
+    → all ≡ names
+    → Told known left (λ s l. AreShort s → Asks (answer_of r) (asks_for_plans fold names (Created output) s) s l × MakesPack written fold profile before names output s l r)
+    → Told known left (λ s l. AreShort s → Asks (answer_of r) (asks_for_plans fold all (Created output) s) s l × MakesPack written fold profile before all output s l r)
+packs-of written fold profile before all names output known left r same makes =
+    subst (λ xs. Told known left (λ s l. AreShort s → Asks (answer_of r) (asks_for_plans fold xs (Created output) s) s l × MakesPack written fold profile before xs output s l r)) (sym same) makes
+
+-- none is left of them
+pub names-none : {Z : Type 0} (names : List (String Z)) → length names < 1 → map string_bytes names ≡ []
+names-none [] none = refl
+names-none (name ∷ names) none = absurd (omega arith)
+
+-- the first of them, and the rest
+pub names-first : {Z : Type 0} (names : List (String Z)) (item default : String Z) (file : List ℕ) → 1 ≤ length names → item ≡ get_or names 0 default → file ≡ string_bytes item
+    → map string_bytes names ≡ file ∷ map string_bytes (take (length names - 1) (drop 1 names))
+names-first [] item default file some is same = absurd (omega arith)
+names-first (name ∷ rest) item default file some is same =
+    let all : take (length (name ∷ rest) - 1) (drop 1 (name ∷ rest)) ≡ rest = take_all (length (name ∷ rest) - 1) rest (omega arith) in
+    ap (λ n. n ∷ map string_bytes rest) (sym (same ∙ ap string_bytes is)) ∙ ap (λ xs. file ∷ map string_bytes xs) (sym all)
+
+-- ---- files of patterns, unless one of them is the plan file
+
+pub pack-own : {O : Type 0} (written : O → Option (List ℕ)) (fold : Fold) (profile : Profile) (names : List (List ℕ)) (output : List ℕ) (known : Option Sources) (stop : Stop)
+    → reads_file names output ≡ true → Explains stop (Some (unusable output))
+    → Told known known (λ s l. AreShort s → Asks {T = O} (Err stop) (pack_asks fold names output s) s l × PacksFiles {O = O} written fold profile names output s l (Err (stop, None)))
+pack-own {O} written fold profile names output known stop own why =
+    Told-none known (λ s l. AreShort s → Asks {T = O} (Err stop) (pack_asks fold names output s) s l × PacksFiles {O = O} written fold profile names output s l (Err (stop, None))) (λ s short. (
+      subst (λ b. Asks {T = O} (Err stop) (cond b [] (asks_for_plans fold names (Created output) s)) s s) (sym own) (asks-all {T = O} (Err stop) [] s s refl),
+      Own stop own why refl refl,
+    ))
+
+pub pack-other : {O : Type 0} (written : O → Option (List ℕ)) (fold : Fold) (profile : Profile) (names : List (List ℕ)) (output : List ℕ) (known left : Option Sources) (r : Made O)
+    → reads_file names output ≡ false
+    → Told known left (λ s l. AreShort s → Asks (answer_of r) (asks_for_plans fold names (Created output) s) s l × MakesPack written fold profile [] names output s l r)
+    → Told known left (λ s l. AreShort s → Asks (answer_of r) (pack_asks fold names output s) s l × PacksFiles written fold profile names output s l r)
+pack-other written fold profile names output known left r other makes =
+    Told-weaker known left _ (λ s l. AreShort s → Asks (answer_of r) (pack_asks fold names output s) s l × PacksFiles written fold profile names output s l r) makes (λ s l h short.
+    let p = h short in (
+      subst (λ b. Asks (answer_of r) (cond b [] (asks_for_plans fold names (Created output) s)) s l) (sym other) p.0,
+      Other other p.1,
+    ))
+
+-- ---- what is told
+
+-- of a plan file that was made
+tells-packed : {O : Type 0} (written : O → Option (List ℕ)) (has_failed : O → Bool) (fold : Fold) (profile : Profile) (names : List (List ℕ)) (output : List ℕ) (s left : Sources) (made : O) (out : Option (List ℕ))
+    → has_failed made ≡ false → PacksFiles written fold profile names output s left (Ok made)
+    → Tells (AnswersPack written has_failed fold profile names output s) (Ok Done) out out
+tells-packed written has_failed fold profile names output s left made out whole (Own stop own why same is) = absurd (cc)
+tells-packed written has_failed fold profile names output s left made out whole (Other other makes) =
+    let answer = IsPackAnswer written has_failed (ArePlansOf fold profile names s) output (can_create output s.creatable) in
+    let none : pack_message fold names output s ≡ None = ap (λ b. cond b (Some (unusable output)) (search_messages fold names s)) other ∙ makes.0 in
+    tells-unless (pack_message fold names output s) answer (Ok Done) out out none
+    (tells-text answer [] Done (Ok Done) out out (Packed makes.2.plans made makes.2.right makes.1 makes.2.holds whole refl) (refl, Appends-nil out))
+
+pub pack-told : {O : Type 0} (written : O → Option (List ℕ)) (has_failed : O → Bool) (fold : Fold) (profile : Profile) (names : List (List ℕ)) (output : List ℕ) (known left : Option Sources) (made : O)
+    → has_failed made ≡ false
+    → Told known left (λ s l. AreShort s → Asks {T = O} (Ok made) (pack_asks fold names output s) s l × PacksFiles written fold profile names output s l (Ok made))
+    → Told known left (λ s l. AreShort s → Asks {T = Status} (Ok Done) (pack_asks fold names output s) s l × ((out : Option (List ℕ)) → Tells (AnswersPack written has_failed fold profile names output s) (Ok Done) out out))
+pack-told written has_failed fold profile names output known left made whole packs =
+    Told-weaker known left _ (λ s l. AreShort s → Asks {T = Status} (Ok Done) (pack_asks fold names output s) s l × ((out : Option (List ℕ)) → Tells (AnswersPack written has_failed fold profile names output s) (Ok Done) out out)) packs (λ s l h short.
     let p = h short in
-    let message : Option (List ℕ) = search_message fold file (taken_by (ask_of file) s) in
-    let answer = IsPackAnswer output (can_create output s.creatable) in
-    (p.0, λ out. tells-unless message answer (Ok Done) out out p.1.0 (tells-text answer [] Done (Ok Done) out out (Packed p.1.1 refl) (refl, Appends-nil out))))
+    (p.0, λ out. tells-packed written has_failed fold profile names output s l made out whole p.1))
 
--- what was answered and asked for is what the request has to answer
-pub pack-answers : (fold : Fold) (file output : String Global) (known left : Option Sources) (r : Result Status Stop) (out : Option (List ℕ))
-    → Told known left (λ s l. AreShort s → Asks r (pack_asks fold (string_bytes file) (string_bytes output) s) s l
-    × ((old : Option (List ℕ)) → Tells (AnswersPack fold (string_bytes file) (string_bytes output) s) r old old))
-    → Told known left (λ s l. AreShort s → Answers (Pack fold file output) s l r out out)
-pack-answers fold file output known left r out answers =
-    Told-weaker known left _ (λ s l. AreShort s → Answers (Pack fold file output) s l r out out) answers (λ s l h short.
+-- what is answered where this is the message on the files of patterns
+abbrev IsToldOf : {O : Type 0} → (O → Option (List ℕ)) → (O → Bool) → Fold → Profile → List (List ℕ) → List ℕ → Sources → Option (List ℕ) → Answer → Type 0
+IsToldOf written has_failed fold profile names output s message =
+    AnswersUnless message (IsPackAnswer written has_failed (ArePlansOf fold profile names s) output (can_create output s.creatable))
+
+-- a file that is not made, or not whole, has its message where nothing comes before
+tells-cut : {O : Type 0} (written : O → Option (List ℕ)) (has_failed : O → Bool) (fold : Fold) (profile : Profile) (names : List (List ℕ)) (output : List ℕ) (s left : Sources) (message : Option (List ℕ)) (stop : Stop) (begun : Option O) (out : Option (List ℕ))
+    → message ≡ search_messages fold names s → Explains stop (first_message message (Some (unusable output))) → LeavesPack written fold profile [] names output s left stop begun
+    → IfSome begun (λ made. has_failed made ≡ is_refusal stop)
+    → Tells (IsToldOf written has_failed fold profile names output s message) (Err stop) out out
+tells-cut written has_failed fold profile names output s left message OutOfMemory begun out same why leaves broken = tells-silent (IsToldOf written has_failed fold profile names output s message) out
+tells-cut written has_failed fold profile names output s left message WriteFault begun out same why leaves broken = absurd why
+tells-cut written has_failed fold profile names output s left (Some text) (Refused refusal) begun out same why leaves broken =
+    (ap refused_with (cc), Appends-nil out)
+tells-cut written has_failed fold profile names output s left None (Refused refusal) (Some made) out same why leaves broken =
+    let text : message_on refusal ≡ unusable output = (cc) in
+    (Cut leaves.2.plans made leaves.2.right leaves.1 leaves.2.holds broken (ap refused_with text), Appends-nil out)
+tells-cut written has_failed fold profile names output s left None (Refused refusal) None out same why (inl kept) broken = absurd (cc)
+tells-cut written has_failed fold profile names output s left None (Refused refusal) None out same why (inr cannot) broken =
+    let text : message_on refusal ≡ unusable output = (cc) in
+    (Unmade cannot (ap refused_with text), Appends-nil out)
+
+tells-unpacked : {O : Type 0} (written : O → Option (List ℕ)) (has_failed : O → Bool) (fold : Fold) (profile : Profile) (names : List (List ℕ)) (output : List ℕ) (s left : Sources) (stopped : Stop × Option O) (out : Option (List ℕ))
+    → IfSome stopped.1 (λ made. has_failed made ≡ is_refusal stopped.0) → PacksFiles written fold profile names output s left (Err stopped)
+    → Tells (AnswersPack written has_failed fold profile names output s) (Err stopped.0) out out
+tells-unpacked written has_failed fold profile names output s left stopped out broken (Own stop own why same is) =
+    let stop_is : stop ≡ stopped.0 = (cc) in
+    let message : pack_message fold names output s ≡ Some (unusable output) = ap (λ b. cond b (Some (unusable output)) (search_messages fold names s)) own in
+    subst (λ x. Tells (AnswersPack written has_failed fold profile names output s) (Err x) out out) stop_is
+    (tells-reason (pack_message fold names output s) (IsPackAnswer written has_failed (ArePlansOf fold profile names s) output (can_create output s.creatable)) stop out
+    (subst (λ m. Explains stop m) (sym message) why))
+tells-unpacked written has_failed fold profile names output s left stopped out broken (Other other makes) =
+    let message : pack_message fold names output s ≡ search_messages fold names s = ap (λ b. cond b (Some (unusable output)) (search_messages fold names s)) other in
+    subst (λ m. Tells (IsToldOf written has_failed fold profile names output s m) (Err stopped.0) out out) (sym message)
+    (tells-cut written has_failed fold profile names output s left (search_messages fold names s) stopped.0 stopped.1 out refl makes.0 makes.1 broken)
+
+pub pack-untold : {O : Type 0} (written : O → Option (List ℕ)) (has_failed : O → Bool) (fold : Fold) (profile : Profile) (names : List (List ℕ)) (output : List ℕ) (known left : Option Sources) (stopped : Stop × Option O) (stop : Stop)
+    → stop ≡ stopped.0 → IfSome stopped.1 (λ made. has_failed made ≡ is_refusal stopped.0)
+    → Told known left (λ s l. AreShort s → Asks {T = O} (Err stopped.0) (pack_asks fold names output s) s l × PacksFiles written fold profile names output s l (Err stopped))
+    → Told known left (λ s l. AreShort s → Asks {T = Status} (Err stop) (pack_asks fold names output s) s l × ((out : Option (List ℕ)) → Tells (AnswersPack written has_failed fold profile names output s) (Err stop) out out))
+pack-untold {O} written has_failed fold profile names output known left stopped stop same broken packs =
+    Told-weaker known left _ (λ s l. AreShort s → Asks {T = Status} (Err stop) (pack_asks fold names output s) s l × ((out : Option (List ℕ)) → Tells (AnswersPack written has_failed fold profile names output s) (Err stop) out out)) packs (λ s l h short.
+    let p = h short in (
+      subst (λ x. Asks {T = Status} (Err x) (pack_asks fold names output s) s l) (sym same) (asks-any O Status (pack_asks fold names output s) s l stopped.0 p.0),
+      λ out. subst (λ x. Tells (AnswersPack written has_failed fold profile names output s) (Err x) out out) (sym same) (tells-unpacked written has_failed fold profile names output s l stopped out broken p.1),
+    ))
+
+-- the answer and the asks are right for the request
+pub pack-answers : {O : Type 0} (written : O → Option (List ℕ)) (has_failed : O → Bool) (fold : Fold) (profile : Profile) (files : PatternFiles) (output : String Global) (from : List (String Global)) (to : List ℕ) (known left : Option Sources) (r : Result Status Stop) (out : Option (List ℕ))
+    → from ≡ files.names.items → to ≡ string_bytes output
+    → Told known left (λ s l. AreShort s → Asks r (pack_asks fold (map string_bytes from) to s) s l × ((old : Option (List ℕ)) → Tells (AnswersPack written has_failed fold profile (map string_bytes from) to s) r old old))
+    → Told known left (λ s l. AreShort s → Answers written has_failed (Pack fold profile files output) s l r out out)
+pack-answers written has_failed fold profile files output from to known left r out here there answers =
+    Told-weaker known left _ (λ s l. AreShort s → Answers written has_failed (Pack fold profile files output) s l r out out) answers (λ s l h short.
     let t = h short in
-    record { asks = t.0; tells = t.1 out })
+    record {
+      asks = subst (λ x. Asks r (pack_asks fold (map string_bytes x) (string_bytes output) s) s l) here (subst (λ y. Asks r (pack_asks fold (map string_bytes from) y s) s l) there t.0);
+      tells = subst (λ x. Tells (AnswersPack written has_failed fold profile (map string_bytes x) (string_bytes output) s) r out out) here (subst (λ y. Tells (AnswersPack written has_failed fold profile (map string_bytes from) y s) r out out) there (t.1 out));
+    })

@@ -1,11 +1,16 @@
 -- What a request has to answer, for the files that there are.
-use Rattle.std.specs.Prelude.{◌≡◌, ℕ, Bool, true, false, List, [], ◌∷◌, length, if◌then◌else◌, is_some, Option, Some, None, MatchOption, string_bytes}
-use Rattle.byte_io.specs.Sources.{Ask, Content, Created, Named, Sources, after, ask_of, can_create, taken_by}
+use Rattle.std.specs.Prelude.{◌≡◌, ℕ, Bool, true, false, List, [], ◌∷◌, codes, length, if◌then◌else◌, is_some, map, Option, Some, None, MatchOption, string_bytes}
+use Rattle.std.specs.List.{slice_get}
+use Rattle.std.specs.Str.{bytes_eq}
+use Rattle.byte_io.specs.Sources.{Ask, Content, Created, Named, Sources, after, after_all, ask_of, can_create, taken_by}
+use Rattle.flow_scan.specs.Plans as plan
 use Rattle.list_plan.specs.Planned.{IsPlanned}
 use Rattle.lit_base.specs.Costs.{run_cost}
 use Rattle.lit_base.specs.Literals.{Literals, lengths}
 use Rattle.lit_base.specs.Occurrences.{IsHits}
+use Rattle.lit_base.specs.Profiles.{buckets}
 use Rattle.lit_base.specs.declared.fold.Fold.{Fold}
+use Rattle.lit_base.specs.declared.profile.Profile.{Profile}
 use Rattle.lit_cert.specs.Certificates.{CertificateParts}
 use Rattle.lit_cert.specs.Certified.{IsCertified, IsFirstFailure}
 use Rattle.lit_cert.specs.Reading.{IsFirstBad}
@@ -15,11 +20,15 @@ use Rattle.plan_view.specs.Drawings.{plan_svg}
 use Rattle.plan_view.specs.Texts.{plan_text}
 use Rattle.run_planner.specs.FirstCut.{IsFirstCut}
 use Rattle.plan_run.specs.declared.request.Request.{Request}
-use Rattle.plan_run.specs.declared.request.Request.TheVariants.{Plan, Check, Pack, Explain, Scan}
+use Rattle.plan_run.specs.declared.request.Request.TheVariants.{Plan, Check, CheckPlan, Pack, Explain, ExplainPlan, ExplainCertificate, Migrate, Scan}
 use Rattle.plan_run.specs.declared.status.Status.{Status}
-use Rattle.plan_run.specs.declared.status.Status.TheVariants.{Done, NotCertified, Trouble}
-use Rattle.plan_run.specs.Lists.{ArePlaces, input_message, list_in, list_message, patterns_in, search_message, text_in}
-use Rattle.plan_run.specs.Messages.{hits_text, not_certified, optimal, refused, unusable}
+use Rattle.plan_run.specs.declared.status.Status.TheVariants.{Done, NotCertified, Trouble, Wrong}
+use Rattle.plan_run.specs.declared.stop.Refusal.{Refusal}
+use Rattle.plan_run.specs.declared.stop.Refusal.TheVariants.{NoLiterals}
+use Rattle.plan_run.specs.Lists.{ArePlaces, ArePlansOf, NamesRefused, input_message, list_in, list_message, patterns_in, search_message, search_messages, text_in}
+use Rattle.plan_run.specs.Messages.{certificate_head, hits_text, message_on, no_plan, not_certified, optimal, refused, unusable, wrong_input, wrong_line}
+use Rattle.plan_run.specs.Migrated.{AreMigrated, IsNoPlanFile, IsSourceOf, migrated_lines}
+use Rattle.plan_run.specs.PlanFiles.{HoldsFront, HoldsPlans}
 
 -- a text on standard output, a message, and a status
 pub record Answer : Type 0 where
@@ -35,24 +44,45 @@ told text status = record { output = text; message = []; status = status }
 abbrev pub refused_with : List ℕ → Answer
 refused_with text = record { output = []; message = text; status = Trouble }
 
--- on a list that is to be planned: its certificate, or that there is nothing to plan
-pub data IsPlanAnswer (list : Literals) (a : Answer) : Type 0 where
-  Empty : length list.texts ≡ 0 → a ≡ refused_with (refused 5) → IsPlanAnswer list a
-  Planned : (c : CertificateParts) → IsPlanned list c → a ≡ told (spelling 8 c) Done → IsPlanAnswer list a
+-- what is told of a refusal: its message
+abbrev pub refuses : Refusal → Answer
+refuses refusal = refused_with (message_on refusal)
+
+-- where an input is explained: where it is wrong, if the refusal says so; else its message
+abbrev pub wrong_or_message : Option (List ℕ) → Refusal → Answer
+wrong_or_message None refusal = refuses refusal
+wrong_or_message (Some text) refusal = told text Wrong
+
+abbrev pub where_wrong : Refusal → Answer
+where_wrong refusal = wrong_or_message (wrong_input refusal) refusal
+
+-- on a list that is to be planned: its certificate of the profile, or that there is nothing to plan
+pub data IsPlanAnswer (profile : Profile) (list : Literals) (a : Answer) : Type 0 where
+  Empty : length list.texts ≡ 0 → a ≡ refused_with (refused 5) → IsPlanAnswer profile list a
+  Planned : (c : CertificateParts) → IsPlanned list profile c → a ≡ told (spelling c) Done → IsPlanAnswer profile list a
 
 -- on a list and a certificate: that it holds, or the first condition that fails
 pub data IsVerdict (list : Literals) (c : CertificateParts) (a : Answer) : Type 0 where
-  Holds : IsCertified 8 list c → a ≡ told (optimal c.cost) Done → IsVerdict list c a
-  Fails : (reason : Reason) → IsFirstFailure 8 list c reason → a ≡ told (not_certified reason) NotCertified → IsVerdict list c a
+  Holds : IsCertified list c → a ≡ told (optimal c.cost) Done → IsVerdict list c a
+  Fails : (reason : Reason) → IsFirstFailure list c reason → a ≡ told (not_certified reason) NotCertified → IsVerdict list c a
 
--- on a list and what stands under the certificate's name: a message where nothing does, where reading it fails, or where it
--- is no certificate's text; else the verdict. Where reading fails behind a wrong line, either message is right
-pub data IsCheckAnswer (list : Literals) (name : List ℕ) (source : Option Content) (a : Answer) : Type 0 where
-  Missing : source ≡ None → a ≡ refused_with (unusable name) → IsCheckAnswer list name source a
-  Unread : (c : Content) → source ≡ Some c → c.is_faulty ≡ true → a ≡ refused_with (unusable name) → IsCheckAnswer list name source a
-  Wrong : (c : Content) (line : ℕ) → source ≡ Some c → IsFirstBad 8 c.text line → a ≡ refused_with (refused 9) → IsCheckAnswer list name source a
-  Judged : (c : Content) (certificate : CertificateParts) → source ≡ Some c → c.is_faulty ≡ false → HasText 8 certificate
-      → c.text ≡ spelling 8 certificate → IsVerdict list certificate a → IsCheckAnswer list name source a
+-- on what stands under the certificate's name: a message where nothing does, or where reading it fails; the answer on its first
+-- wrong line, where it is no certificate's text; else that on the certificate. Where reading fails behind a wrong line, either
+-- is right
+pub data IsCertificateAnswer (wrong : ℕ → Answer) (P : CertificateParts → Answer → Type 0) (name : List ℕ) (source : Option Content) (a : Answer) : Type 0 where
+  Missing : source ≡ None → a ≡ refused_with (unusable name) → IsCertificateAnswer wrong P name source a
+  Unread : (c : Content) → source ≡ Some c → c.is_faulty ≡ true → a ≡ refused_with (unusable name) → IsCertificateAnswer wrong P name source a
+  BadLine : (c : Content) (line : ℕ) → source ≡ Some c → IsFirstBad c.text line → a ≡ wrong line → IsCertificateAnswer wrong P name source a
+  Judged : (c : Content) (certificate : CertificateParts) → source ≡ Some c → c.is_faulty ≡ false → HasText certificate
+      → c.text ≡ spelling certificate → P certificate a → IsCertificateAnswer wrong P name source a
+
+-- the message on a wrong line
+abbrev pub bad_line : ℕ → Answer
+bad_line line = refused_with (refused 9)
+
+-- on a list and a certificate of this name: the verdict
+abbrev pub IsCheckAnswer : Literals → List ℕ → Option Content → Answer → Type 0
+IsCheckAnswer list name source a = IsCertificateAnswer bad_line (IsVerdict list) name source a
 
 -- the message where there is one, else what has to be answered
 abbrev pub AnswersUnless : Option (List ℕ) → (Answer → Type 0) → Answer → Type 0
@@ -60,99 +90,204 @@ AnswersUnless reason P a = MatchOption reason (P a) (λ message. a ≡ refused_w
 
 -- the message on a file of patterns that gives no list; else what the list has to answer
 abbrev pub AnswersList : Fold → List ℕ → Option Content → (Literals → Answer → Type 0) → Answer → Type 0
-AnswersList fold name source P = AnswersUnless (list_message fold name source) (P (list_in fold source))
+AnswersList fold name source P = AnswersUnless (list_message name source) (P (list_in fold source))
 
 -- what stands under the certificate's name, once the file of patterns is read
 abbrev pub certificate_source : List ℕ → List ℕ → Sources → Option Content
 certificate_source file certificate s = taken_by (Named certificate) (after (ask_of file) s)
 
 -- to plan, and to check
-abbrev pub AnswersPlan : Fold → List ℕ → Sources → Answer → Type 0
-AnswersPlan fold file s = AnswersList fold file (taken_by (ask_of file) s) IsPlanAnswer
+abbrev pub AnswersPlan : Fold → Profile → List ℕ → Sources → Answer → Type 0
+AnswersPlan fold profile file s = AnswersList fold file (taken_by (ask_of file) s) (IsPlanAnswer profile)
 
 abbrev pub AnswersCheck : Fold → List ℕ → List ℕ → Sources → Answer → Type 0
 AnswersCheck fold file certificate s =
     AnswersList fold file (taken_by (ask_of file) s) (λ list. IsCheckAnswer list certificate (certificate_source file certificate s))
 
--- on a list and a text: the hits of the whole text, or their number
-pub record AreHitsTold (list : Literals) (count : Bool) (text : List ℕ) (a : Answer) : Type 0 where
+-- on a list and a text: the hits of the whole text, with their literals or without; or their number
+pub record AreHitsTold (list : Literals) (count names : Bool) (text : List ℕ) (a : Answer) : Type 0 where
   pub hits : List (ℕ × ℕ)
   pub right : IsHits list text hits
-  pub is : a ≡ told (hits_text count hits) Done
+  pub is : a ≡ told (hits_text count names list hits) Done
 
--- on a list and what is to be searched: the message where that cannot be read; else its hits
-abbrev pub AnswersInput : Literals → Bool → List ℕ → Option Content → Answer → Type 0
-AnswersInput list count name source = AnswersUnless (input_message name source) (AreHitsTold list count (text_in source))
+-- on a list and an input: the message where the input cannot be read; else its hits
+abbrev pub AnswersInput : Literals → Bool → Bool → List ℕ → Option Content → Answer → Type 0
+AnswersInput list count names name source = AnswersUnless (input_message name source) (AreHitsTold list count names (text_in source))
 
--- what is to be searched, once there is a plan
+-- the input, once there is a plan
 abbrev pub input_source : List ℕ → List ℕ → Sources → Option Content
 input_source file input s = taken_by (ask_of input) (after (ask_of file) s)
 
 -- to scan
-abbrev pub AnswersScan : Fold → Bool → List ℕ → List ℕ → Sources → Answer → Type 0
-AnswersScan fold count file input s =
+abbrev pub AnswersScan : Fold → Bool → Bool → List ℕ → List ℕ → Sources → Answer → Type 0
+AnswersScan fold count names file input s =
     AnswersUnless (search_message fold file (taken_by (ask_of file) s))
-    (AnswersInput (list_in fold (taken_by (ask_of file) s)) count input (input_source file input s))
+    (AnswersInput (list_in fold (taken_by (ask_of file) s)) count names input (input_source file input s))
 
--- on a plan and the name of its file, which can be made or not: nothing is told; or the message, where the file cannot be
--- made, or a write to it fails
-pub data IsPackAnswer (name : List ℕ) (can : Bool) (a : Answer) : Type 0 where
-  Packed : can ≡ true → a ≡ told [] Done → IsPackAnswer name can a
-  Unpacked : a ≡ refused_with (unusable name) → IsPackAnswer name can a
+-- on plans and the name of their file, which can be made or not: nothing is told where it was made and holds them; the message
+-- where it cannot be made, or where a write to it failed, so that it holds a front alone
+pub data IsPackAnswer {O : Type 0} (written : O → Option (List ℕ)) (has_failed : O → Bool) (P : List plan.Plan → Type 0) (name : List ℕ) (can : Bool) (a : Answer) : Type 0 where
+  Packed : (plans : List plan.Plan) (made : O) → P plans → can ≡ true → HoldsPlans plans (written made) → has_failed made ≡ false
+      → a ≡ told [] Done → IsPackAnswer written has_failed P name can a
+  Unmade : can ≡ false → a ≡ refused_with (unusable name) → IsPackAnswer written has_failed P name can a
+  Cut : (plans : List plan.Plan) (made : O) → P plans → can ≡ true → HoldsFront plans (written made) → has_failed made ≡ true
+      → a ≡ refused_with (unusable name) → IsPackAnswer written has_failed P name can a
+
+-- whether the file of this name is one of the operands, of which `-` is standard input
+abbrev pub is_file : List ℕ → List ℕ → Bool
+is_file operand name = if bytes_eq operand (codes "-") then false else bytes_eq operand name
+
+abbrev pub reads_file : List (List ℕ) → List ℕ → Bool
+reads_file [] name = false
+reads_file (operand ∷ operands) name = if is_file operand name then true else reads_file operands name
+
+-- the message where no plan file is made: it is one of the files of patterns; or one of these gives no plan
+abbrev pub pack_message : Fold → List (List ℕ) → List ℕ → Sources → Option (List ℕ)
+pack_message fold names output s = if reads_file names output then Some (unusable output) else search_messages fold names s
 
 -- to pack
-abbrev pub AnswersPack : Fold → List ℕ → List ℕ → Sources → Answer → Type 0
-AnswersPack fold file output s =
-    AnswersUnless (search_message fold file (taken_by (ask_of file) s)) (IsPackAnswer output (can_create output s.creatable))
+abbrev pub AnswersPack : {O : Type 0} → (O → Option (List ℕ)) → (O → Bool) → Fold → Profile → List (List ℕ) → List ℕ → Sources → Answer → Type 0
+AnswersPack written has_failed fold profile names output s =
+    AnswersUnless (pack_message fold names output s) (IsPackAnswer written has_failed (ArePlansOf fold profile names s) output (can_create output s.creatable))
 
--- a list that is cut at these ends, whose patterns stand at these places: its drawing where that is asked for, else its text
-abbrev pub explained : Bool → Literals → List ℕ → List (Option ℕ) → List ℕ
-explained svg list ends places = if svg then plan_svg list ends else plan_text list ends places
+-- a list that is cut at these ends for plans of a profile, whose patterns stand at these places: its drawing where that is
+-- asked for, else its text
+abbrev pub explained : Profile → Bool → Literals → List ℕ → List (Option ℕ) → List ℕ
+explained profile svg list ends places = if svg then plan_svg profile list ends else plan_text profile list ends places
 
--- on a list of these patterns: what there is to see of the first of its cheapest cuts
-pub record IsExplained (list : Literals) (svg : Bool) (patterns : List (List ℕ)) (a : Answer) : Type 0 where
+-- on the list of the patterns: the view of the first of its cheapest cuts into as many runs as there are buckets
+pub record IsExplained (profile : Profile) (list : Literals) (svg : Bool) (patterns : List (List ℕ)) (a : Answer) : Type 0 where
   pub ends : List ℕ
   pub places : List (Option ℕ)
-  pub first : IsFirstCut (run_cost (lengths list)) 8 (length list.texts) ends
+  pub first : IsFirstCut (run_cost (lengths list)) (buckets profile) (length list.texts) ends
   pub placed : ArePlaces list patterns places
-  pub is : a ≡ told (explained svg list ends places) Done
+  pub is : a ≡ told (explained profile svg list ends places) Done
 
 -- likewise, or that there is nothing to explain
-pub data IsExplainAnswer (list : Literals) (svg : Bool) (patterns : List (List ℕ)) (a : Answer) : Type 0 where
-  Unplanned : length list.texts ≡ 0 → a ≡ refused_with (refused 5) → IsExplainAnswer list svg patterns a
-  Explained : IsExplained list svg patterns a → IsExplainAnswer list svg patterns a
+pub data IsExplainAnswer (profile : Profile) (list : Literals) (svg : Bool) (patterns : List (List ℕ)) (a : Answer) : Type 0 where
+  Unplanned : length list.texts ≡ 0 → a ≡ where_wrong NoLiterals → IsExplainAnswer profile list svg patterns a
+  Explained : IsExplained profile list svg patterns a → IsExplainAnswer profile list svg patterns a
 
--- to explain
-abbrev pub AnswersExplain : Fold → Bool → List ℕ → Sources → Answer → Type 0
-AnswersExplain fold svg file s =
-    AnswersList fold file (taken_by (ask_of file) s) (λ list. IsExplainAnswer list svg (patterns_in (taken_by (ask_of file) s)))
+-- the refusal of what was asked for where it gives no list
+pub record IsNoList (name : List ℕ) (source : Option Content) (refusal : Refusal) : Type 0 where
+  pub message : list_message name source ≡ Some (message_on refusal)
+  pub names : NamesRefused source refusal
 
--- what a request has to answer
-abbrev pub IsAnswerTo : Request → Sources → Answer → Type 0
-IsAnswerTo (Plan fold file) s a = AnswersPlan fold (string_bytes file) s a
-IsAnswerTo (Check fold file certificate) s a = AnswersCheck fold (string_bytes file) (string_bytes certificate) s a
-IsAnswerTo (Pack fold file output) s a = AnswersPack fold (string_bytes file) (string_bytes output) s a
-IsAnswerTo (Explain fold svg file) s a = AnswersExplain fold svg (string_bytes file) s a
-IsAnswerTo (Scan r) s a = AnswersScan r.fold r.count (string_bytes r.file) (string_bytes r.input) s a
+-- to explain what was asked for: where it is wrong, or its plan
+pub data ExplainsList (fold : Fold) (profile : Profile) (svg : Bool) (name : List ℕ) (source : Option Content) (a : Answer) : Type 0 where
+  NoList : (refusal : Refusal) → IsNoList name source refusal → a ≡ where_wrong refusal → ExplainsList fold profile svg name source a
+  HasList : list_message name source ≡ None → IsExplainAnswer profile (list_in fold source) svg (patterns_in source) a
+      → ExplainsList fold profile svg name source a
 
--- what is asked for, in order: the file of patterns, and the certificate once there is a list
-abbrev pub check_asks : Fold → List ℕ → List ℕ → Sources → List Ask
-check_asks fold file certificate s =
-    ask_of file ∷ (if is_some (list_message fold file (taken_by (ask_of file) s)) then [] else Named certificate ∷ [])
+abbrev pub AnswersExplain : Fold → Profile → Bool → List ℕ → Sources → Answer → Type 0
+AnswersExplain fold profile svg file s a = ExplainsList fold profile svg file (taken_by (ask_of file) s) a
 
--- likewise the file of patterns, and the plan's file once there is a plan
-abbrev pub pack_asks : Fold → List ℕ → List ℕ → Sources → List Ask
-pack_asks fold file output s =
-    ask_of file ∷ (if is_some (search_message fold file (taken_by (ask_of file) s)) then [] else Created output ∷ [])
+-- on the plans of a file of this name: that it has none of this number, or what is told of the one
+pub data IsPlanAnswerAt (P : plan.Plan → Answer → Type 0) (name : List ℕ) (place : ℕ) (plans : List plan.Plan) (a : Answer) : Type 0 where
+  NoneThere : slice_get plans place ≡ None → a ≡ refused_with (no_plan name place) → IsPlanAnswerAt P name place plans a
+  OneThere : (p : plan.Plan) → slice_get plans place ≡ Some p → P p a → IsPlanAnswerAt P name place plans a
+
+-- on what stands for a plan file: the answer on what is wrong with it, or that on one of its plans
+pub data AnswersPlanAt (wrong : Refusal → Answer) (P : plan.Plan → Answer → Type 0) (name : List ℕ) (place : ℕ) (source : Option Content) (a : Answer) : Type 0 where
+  NoFile : (refusal : Refusal) → IsNoPlanFile name source refusal → a ≡ wrong refusal → AnswersPlanAt wrong P name place source a
+  HasPlans : (plans : List plan.Plan) → IsSourceOf source plans → IsPlanAnswerAt P name place plans a → AnswersPlanAt wrong P name place source a
+
+-- to check a plan of a plan file
+abbrev pub AnswersCheckPlan : List ℕ → ℕ → Sources → Answer → Type 0
+AnswersCheckPlan file place s a = AnswersPlanAt refuses (λ p. IsVerdict p.literals p.certificate) file place (taken_by (ask_of file) s) a
+
+-- and to explain it
+abbrev pub IsPlanExplained : Bool → plan.Plan → Answer → Type 0
+IsPlanExplained svg p a = a ≡ told (explained p.certificate.profile svg p.literals p.certificate.ends []) Done
+
+abbrev pub AnswersExplainPlan : Bool → List ℕ → ℕ → Sources → Answer → Type 0
+AnswersExplainPlan svg file place s a = AnswersPlanAt where_wrong (IsPlanExplained svg) file place (taken_by (ask_of file) s) a
+
+-- to explain a certificate
+abbrev pub wrong_at_line : ℕ → Answer
+wrong_at_line line = told (wrong_line line) Wrong
+
+abbrev pub IsCertificateTold : CertificateParts → Answer → Type 0
+IsCertificateTold c a = a ≡ told (certificate_head (length c.ends) c.cost) Done
+
+abbrev pub AnswersExplainCertificate : List ℕ → Sources → Answer → Type 0
+AnswersExplainCertificate name s a = IsCertificateAnswer wrong_at_line IsCertificateTold name (taken_by (Named name) s) a
+
+-- to migrate the plans of one file to another: the message where there are none; what each plan cost and costs, where the other
+-- file was made and holds the new plans; the message where it cannot be made, or where a write to it failed, so that it holds a
+-- front alone
+pub data AnswersMigrate {O : Type 0} (written : O → Option (List ℕ)) (has_failed : O → Bool) (input output : List ℕ) (s : Sources) (a : Answer) : Type 0 where
+  NoPlans : (refusal : Refusal) → IsNoPlanFile input (taken_by (ask_of input) s) refusal → a ≡ refuses refusal → AnswersMigrate written has_failed input output s a
+  NotMade : (old : List plan.Plan) → IsSourceOf (taken_by (ask_of input) s) old → can_create output s.creatable ≡ false
+      → a ≡ refused_with (unusable output) → AnswersMigrate written has_failed input output s a
+  CutShort : (old new : List plan.Plan) (made : O) → IsSourceOf (taken_by (ask_of input) s) old → AreMigrated old new → can_create output s.creatable ≡ true
+      → HoldsFront new (written made) → has_failed made ≡ true → a ≡ refused_with (unusable output) → AnswersMigrate written has_failed input output s a
+  Migrated : (old new : List plan.Plan) (made : O) → IsSourceOf (taken_by (ask_of input) s) old → AreMigrated old new → can_create output s.creatable ≡ true
+      → HoldsPlans new (written made) → has_failed made ≡ false → a ≡ told (migrated_lines 0 old new) Done → AnswersMigrate written has_failed input output s a
+
+-- what a request has to answer, with what the device of a file that it makes tells of it
+abbrev pub IsAnswerTo : {O : Type 0} → (O → Option (List ℕ)) → (O → Bool) → Request → Sources → Answer → Type 0
+IsAnswerTo written has_failed (Plan fold profile file) s a = AnswersPlan fold profile (string_bytes file) s a
+IsAnswerTo written has_failed (Check fold file certificate) s a = AnswersCheck fold (string_bytes file) (string_bytes certificate) s a
+IsAnswerTo written has_failed (CheckPlan file place) s a = AnswersCheckPlan (string_bytes file) place s a
+IsAnswerTo written has_failed (Pack fold profile files output) s a = AnswersPack written has_failed fold profile (map string_bytes files.names.items) (string_bytes output) s a
+IsAnswerTo written has_failed (Explain fold profile svg file) s a = AnswersExplain fold profile svg (string_bytes file) s a
+IsAnswerTo written has_failed (ExplainPlan svg file place) s a = AnswersExplainPlan svg (string_bytes file) place s a
+IsAnswerTo written has_failed (ExplainCertificate certificate) s a = AnswersExplainCertificate (string_bytes certificate) s a
+IsAnswerTo written has_failed (Migrate input output) s a = AnswersMigrate written has_failed (string_bytes input) (string_bytes output) s a
+IsAnswerTo written has_failed (Scan r) s a = AnswersScan r.fold r.count r.names (string_bytes r.file) (string_bytes r.input) s a
+
+-- the asks, in order: the file of patterns, and the certificate once there is a list
+abbrev pub check_asks : List ℕ → List ℕ → Sources → List Ask
+check_asks file certificate s =
+    ask_of file ∷ (if is_some (list_message file (taken_by (ask_of file) s)) then [] else Named certificate ∷ [])
+
+-- the files of patterns until one gives no plan, and what comes once all have one
+abbrev pub asks_for_plans : Fold → List (List ℕ) → Ask → Sources → List Ask
+asks_for_plans fold [] last s = last ∷ []
+asks_for_plans fold (name ∷ names) last s =
+    ask_of name ∷ (if is_some (search_message fold name (taken_by (ask_of name) s)) then [] else asks_for_plans fold names last (after (ask_of name) s))
+
+-- to pack, nothing where the plan file is one of them, and else it comes last
+abbrev pub pack_asks : Fold → List (List ℕ) → List ℕ → Sources → List Ask
+pack_asks fold names output s = if reads_file names output then [] else asks_for_plans fold names (Created output) s
 
 -- likewise the file of patterns, and the input once there is a plan
 abbrev pub scan_asks : Fold → List ℕ → List ℕ → Sources → List Ask
 scan_asks fold file input s =
     ask_of file ∷ (if is_some (search_message fold file (taken_by (ask_of file) s)) then [] else ask_of input ∷ [])
 
+-- likewise the plan file that is read, and the new one once there are plans
+abbrev pub migrate_asks : List ℕ → List ℕ → List Ask
+migrate_asks input output = ask_of input ∷ Created output ∷ []
+
+-- all that a request may ask for
 abbrev pub asks_of : Request → Sources → List Ask
-asks_of (Plan fold file) s = ask_of (string_bytes file) ∷ []
-asks_of (Check fold file certificate) s = check_asks fold (string_bytes file) (string_bytes certificate) s
-asks_of (Pack fold file output) s = pack_asks fold (string_bytes file) (string_bytes output) s
-asks_of (Explain fold svg file) s = ask_of (string_bytes file) ∷ []
+asks_of (Plan fold profile file) s = ask_of (string_bytes file) ∷ []
+asks_of (Check fold file certificate) s = check_asks (string_bytes file) (string_bytes certificate) s
+asks_of (CheckPlan file place) s = ask_of (string_bytes file) ∷ []
+asks_of (Pack fold profile files output) s = pack_asks fold (map string_bytes files.names.items) (string_bytes output) s
+asks_of (Explain fold profile svg file) s = ask_of (string_bytes file) ∷ []
+asks_of (ExplainPlan svg file place) s = ask_of (string_bytes file) ∷ []
+asks_of (ExplainCertificate certificate) s = Named (string_bytes certificate) ∷ []
+asks_of (Migrate input output) s = migrate_asks (string_bytes input) (string_bytes output)
 asks_of (Scan r) s = scan_asks r.fold (string_bytes r.file) (string_bytes r.input) s
+
+-- what migrating leaves: the other file is made only where there are plans
+pub data LeavesMigrate (input output : List ℕ) (s left : Sources) : Type 0 where
+  WithoutPlans : (refusal : Refusal) → IsNoPlanFile input (taken_by (ask_of input) s) refusal → left ≡ after (ask_of input) s
+      → LeavesMigrate input output s left
+  WithPlans : (plans : List plan.Plan) → IsSourceOf (taken_by (ask_of input) s) plans → left ≡ after_all (migrate_asks input output) s
+      → LeavesMigrate input output s left
+
+-- what a request leaves once it has asked for all
+abbrev pub IsLeftBy : Request → Sources → Sources → Type 0
+IsLeftBy (Plan fold profile file) s left = left ≡ after_all (asks_of (Plan fold profile file) s) s
+IsLeftBy (Check fold file certificate) s left = left ≡ after_all (asks_of (Check fold file certificate) s) s
+IsLeftBy (CheckPlan file place) s left = left ≡ after_all (asks_of (CheckPlan file place) s) s
+IsLeftBy (Pack fold profile files output) s left = left ≡ after_all (asks_of (Pack fold profile files output) s) s
+IsLeftBy (Explain fold profile svg file) s left = left ≡ after_all (asks_of (Explain fold profile svg file) s) s
+IsLeftBy (ExplainPlan svg file place) s left = left ≡ after_all (asks_of (ExplainPlan svg file place) s) s
+IsLeftBy (ExplainCertificate certificate) s left = left ≡ after_all (asks_of (ExplainCertificate certificate) s) s
+IsLeftBy (Migrate input output) s left = LeavesMigrate (string_bytes input) (string_bytes output) s left
+IsLeftBy (Scan r) s left = left ≡ after_all (asks_of (Scan r) s) s

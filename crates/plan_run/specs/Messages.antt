@@ -1,14 +1,25 @@
--- What is written: the messages on standard error, the verdicts on a certificate, and hits.
-use Rattle.std.specs.Prelude.{ℕ, Bool, List, ◌++◌, codes, decimal, flat_map, length, if◌then◌else◌}
+-- What is written: the messages on standard error, where an input is wrong, the verdicts on a certificate, and hits.
+use Rattle.std.specs.Prelude.{ℕ, ◌+◌, ◌-◌, Bool, List, [], ◌++◌, codes, decimal, flat_map, length, if◌then◌else◌, Option, None, Some}
+use Rattle.std.specs.List.{slice_get}
 use Rattle.lit_base.specs.Faults.{number_of}
+use Rattle.lit_base.specs.Literals.{Literals}
+use Rattle.lit_base.specs.declared.fault.Fault.{Fault}
+use Rattle.lit_base.specs.declared.fault.Fault.TheVariants.{ListTooLarge, LiteralTooLong, OutOfMemory, TooManyLiterals, TooManyPatterns}
 use Rattle.lit_cert.specs.declared.reason.Reason.{Reason}
 use Rattle.lit_cert.specs.declared.reason.Reason.TheVariants.{Length, Ends, Total, EndRow, Step}
+use Rattle.plan_file.specs.declared.fault.Cause.{Cause}
+use Rattle.plan_file.specs.declared.fault.Cause.TheVariants.{Count, Flags, Literal, Magic, NotCertified, Order, Runs, Short, Trailing, Version}
+use Rattle.plan_view.specs.Quotes.{whole}
 use Rattle.plan_run.specs.declared.stop.Refusal.{Refusal}
-use Rattle.plan_run.specs.declared.stop.Refusal.TheVariants.{Unusable, Patterns, NoLiterals, NoCertificate}
+use Rattle.plan_run.specs.declared.stop.Refusal.TheVariants.{Unusable, Patterns, NoLiterals, NoCertificate, NoPlanFile, NoPlan}
 
 -- on a file that cannot be opened or read
 abbrev pub unusable : List ℕ → List ℕ
 unusable name = codes "litplan: " ++ (name ++ codes ": cannot be used\n")
+
+-- on a plan file that has no plan of this number
+abbrev pub no_plan : List ℕ → ℕ → List ℕ
+no_plan name place = codes "litplan: " ++ (name ++ (codes ": no plan " ++ (decimal place ++ codes "\n")))
 
 -- on any other refusal, by its number
 abbrev pub refused : ℕ → List ℕ
@@ -27,6 +38,8 @@ message_on (Unusable name) = unusable name.now
 message_on (Patterns fault) = refused (number_of fault)
 message_on NoLiterals = refused 5
 message_on (NoCertificate line) = refused 9
+message_on (NoPlanFile place cause) = refused 10
+message_on (NoPlan name place) = no_plan name.now place
 
 -- the verdict that a certificate holds
 abbrev pub optimal : ℕ → List ℕ
@@ -40,18 +53,69 @@ not_certified Total = codes "not certified: total\n"
 not_certified (EndRow r p) = codes "not certified: end row " ++ (decimal r ++ (codes " " ++ (decimal p ++ codes "\n")))
 not_certified (Step r p q) = codes "not certified: step " ++ (decimal r ++ (codes " " ++ (decimal p ++ (codes " " ++ (decimal q ++ codes "\n")))))
 
+-- where a list is wrong, if that is known: the first line that is refused, from 1, and its limit
+abbrev pub wrong_list : Fault → Option (List ℕ)
+wrong_list OutOfMemory = None
+wrong_list TooManyPatterns = Some (codes "line 4097: more than 4096 lines\n")
+wrong_list (LiteralTooLong place) = Some (codes "line " ++ (decimal (place + 1) ++ codes ": more than 4095 bytes\n"))
+wrong_list TooManyLiterals = Some (codes "more than 4096 literals\n")
+wrong_list ListTooLarge = Some (codes "more than 1048576 bytes in all lines, or 1052672 with their newlines\n")
+
+-- where a certificate is wrong: the first line that is
+abbrev pub wrong_line : ℕ → List ℕ
+wrong_line line = codes "line " ++ (decimal line ++ codes ": wrong, missing or behind the end\n")
+
+-- what is wrong at a field of a plan file
+abbrev pub wrong_field : Cause → List ℕ
+wrong_field Short = codes "the field is cut short\n"
+wrong_field Magic = codes "a plan file begins with LPLF\n"
+wrong_field Version = codes "the version is neither 1 nor 2\n"
+wrong_field Count = codes "the number of plans or of literals is out of range\n"
+wrong_field Flags = codes "a flag is unknown in this version\n"
+wrong_field Literal = codes "the literal is empty, too long or not folded\n"
+wrong_field Order = codes "the literal is not behind the one before it\n"
+wrong_field Runs = codes "the number of runs is out of range\n"
+wrong_field (NotCertified reason) = not_certified reason
+wrong_field Trailing = codes "bytes follow the last plan\n"
+
+-- where a plan file is wrong: the first byte of the field, from 0, and what is
+abbrev pub wrong_byte : ℕ → Cause → List ℕ
+wrong_byte place cause = codes "byte " ++ (decimal place ++ (codes ": " ++ wrong_field cause))
+
+-- where an input is wrong, for a refusal that says so
+abbrev pub wrong_input : Refusal → Option (List ℕ)
+wrong_input (Unusable name) = None
+wrong_input (Patterns fault) = wrong_list fault
+wrong_input NoLiterals = Some (codes "no line has a literal\n")
+wrong_input (NoCertificate line) = Some (wrong_line line)
+wrong_input (NoPlanFile place cause) = Some (wrong_byte place cause)
+wrong_input (NoPlan name place) = None
+
+-- the head of a certificate that can be read: how many runs it has, and their cost
+abbrev pub certificate_head : ℕ → ℕ → List ℕ
+certificate_head runs cost = codes "runs " ++ (decimal runs ++ (codes ", cost " ++ (decimal cost ++ codes "\n")))
+
 -- a hit, by its literal's place and the place at which it ends
 abbrev pub hit_line : ℕ × ℕ → List ℕ
 hit_line hit = decimal hit.0 ++ (codes " " ++ (decimal hit.1 ++ codes "\n"))
 
+-- a hit with its literal, if there is one: where it starts, and the literal itself
+abbrev pub literal_line : Option (List ℕ) → ℕ × ℕ → List ℕ
+literal_line None hit = []
+literal_line (Some literal) hit = decimal hit.0 ++ (codes " " ++ (decimal (hit.1 - length literal) ++ (codes " " ++ (whole literal ++ codes "\n"))))
+
+-- a hit of the list, with its literal where that is asked for
+abbrev pub line_of : Bool → Literals → ℕ × ℕ → List ℕ
+line_of names l hit = if names then literal_line (slice_get l.texts hit.0) hit else hit_line hit
+
 -- hits, a line each
-abbrev pub hit_lines : List (ℕ × ℕ) → List ℕ
-hit_lines hits = flat_map hit_line hits
+abbrev pub hit_lines : Bool → Literals → List (ℕ × ℕ) → List ℕ
+hit_lines names l hits = flat_map (line_of names l) hits
 
 -- how many there are
 abbrev pub hit_count : List (ℕ × ℕ) → List ℕ
 hit_count hits = decimal (length hits) ++ codes "\n"
 
--- the number alone where that is asked for, else the hits
-abbrev pub hits_text : Bool → List (ℕ × ℕ) → List ℕ
-hits_text count hits = if count then hit_count hits else hit_lines hits
+-- the number alone where only that is wanted, else the hits
+abbrev pub hits_text : Bool → Bool → Literals → List (ℕ × ℕ) → List ℕ
+hits_text count names l hits = if count then hit_count hits else hit_lines names l hits

@@ -1,75 +1,83 @@
--- What a file holds that was made for a plan.
-use Rattle.std.specs.Prelude.{◌≡◌, ◌⊎◌, ℕ, Bool, true, false, List, [], ◌∷◌, Option, Some, None, Result, Ok, Err}
+-- Making a plan file: what is left of it where that stops.
+use Rattle.std.specs.Prelude.{◌≡◌, ◌⊎◌, ℕ, Bool, true, false, List, [], ◌∷◌, ◌++◌, Option, Some, None, Result, Ok, Err}
 use Rattle.std.specs.Io.KnownBytes.{Appends}
-use Rattle.byte_io.specs.Sources.{Content, Sources, after, ask_of, can_create, taken_by}
+use Rattle.byte_io.specs.Sources.{Sources, after, ask_of, can_create}
 use Rattle.byte_io.specs.Transfers.{AppendsPrefix}
 use Rattle.flow_scan.specs.Plans.{Plan}
-use Rattle.lit_base.specs.Literals.{Literals}
 use Rattle.lit_base.specs.declared.fold.Fold.{Fold}
+use Rattle.lit_base.specs.declared.profile.Profile.{Profile}
 use Rattle.plan_file.specs.Spelling.{ArePlans, spelling}
-use Rattle.plan_run.specs.Lists.{first_message, list_in, search_message}
+use Rattle.plan_file.specs.declared.version.Version.TheVariants.{Two}
+use Rattle.plan_run.specs.Answers.{reads_file}
+use Rattle.plan_run.specs.Lists.{ArePlansOf, first_message, search_messages}
 use Rattle.plan_run.specs.Messages.{unusable}
-use Rattle.plan_run.specs.Running.{Explains, IsPlanOf}
+use Rattle.plan_run.specs.PlanFiles.{HoldsFront, HoldsPlans}
+use Rattle.plan_run.specs.Running.{Explains}
 use Rattle.plan_run.specs.declared.stop.Stop.{Stop}
 
--- a device was given the plan file of one plan; or a front of it, and not all, where a write to the file of this name failed
--- or memory ran out
-abbrev pub Packs : List ℕ → Plan → Result (Unit {0}) Stop → Option (List ℕ) → Option (List ℕ) → Type 0
-Packs name plan (Ok done) old new = ArePlans 8 1024 (plan ∷ []) × Appends old new (spelling (plan ∷ []))
-Packs name plan (Err stop) old new = Explains stop (Some (unusable name)) × AppendsPrefix old new (spelling (plan ∷ []))
+-- a device was given the plan file of plans, in version 2; or a front of it, and not all, where a write to the file of this
+-- name failed or memory ran out
+abbrev pub Packs : List ℕ → List Plan → Result (Unit {0}) Stop → Option (List ℕ) → Option (List ℕ) → Type 0
+Packs name plans (Ok done) old new = ArePlans Two plans × Appends old new (spelling Two plans)
+Packs name plans (Err stop) old new = Explains stop (Some (unusable name)) × AppendsPrefix old new (spelling Two plans)
 
--- these bytes are the plan file of the plan alone, which readers of plan files take
-pub record HoldsPlan (plan : Plan) (written : Option (List ℕ)) : Type 0 where
-  pub sound : ArePlans 8 1024 (plan ∷ [])
-  pub text : written ≡ Some (spelling (plan ∷ []))
-
--- they are that of the list's plan
-pub record HoldsPlanOf (list : Literals) (written : Option (List ℕ)) : Type 0 where
-  pub plan : Plan
-  pub right : IsPlanOf list plan
-  pub holds : HoldsPlan plan written
-
--- these bytes are a front of the plan file of the plan alone, and not all of it
-abbrev pub HoldsFront : Plan → Option (List ℕ) → Type 0
-HoldsFront plan written = AppendsPrefix (Some []) written (spelling (plan ∷ []))
-
--- of that of the list's plan
-pub record HoldsFrontOf (list : Literals) (written : Option (List ℕ)) : Type 0 where
-  pub plan : Plan
-  pub right : IsPlanOf list plan
-  pub holds : HoldsFront plan written
-
--- what is answered of a file that was to be made: it, or a stop with what was made of it
+-- the answer on a file that was to be made: the file; or a stop, with the file as far as it was made
 abbrev pub Made : Type 0 → Type 0
 Made O = Result O (Stop × Option O)
 
--- without what was made of it
-abbrev pub answer_of : {O : Type 0} → Made O → Result O Stop
+-- without the file as far as it was made
+abbrev pub answer_of : {T O : Type 0} → Result T (Stop × Option O) → Result T Stop
 answer_of (Ok made) = Ok made
 answer_of (Err stopped) = Err stopped.0
 
--- what a stop leaves of a file for the plan: it was made, where it can be, and holds a front; or it cannot be made
-abbrev pub LeavesFile : {O : Type 0} → (O → Option (List ℕ)) → Plan → Bool → Option O → Type 0
-LeavesFile written plan can (Some made) = (can ≡ true) × HoldsFront plan (written made)
-LeavesFile written plan can None = can ≡ false
+-- what a stop leaves of a file for plans: it was made, where it can be, and holds a front; or it cannot be made
+abbrev pub LeavesFile : {O : Type 0} → (O → Option (List ℕ)) → List Plan → Bool → Option O → Type 0
+LeavesFile written plans can (Some made) = (can ≡ true) × HoldsFront plans (written made)
+LeavesFile written plans can None = can ≡ false
 
--- a file of this name was made, where it can be, and holds the plan; or the message, and what was made
-abbrev pub MakesFile : {O : Type 0} → (O → Option (List ℕ)) → Plan → List ℕ → Bool → Made O → Type 0
-MakesFile written plan name can (Ok made) = (can ≡ true) × HoldsPlan plan (written made)
-MakesFile written plan name can (Err stopped) = Explains stopped.0 (Some (unusable name)) × LeavesFile written plan can stopped.1
+-- a file of this name was made, where it can be, and holds the plans; or the message, and the file as far as it was
+-- made
+abbrev pub MakesFile : {O : Type 0} → (O → Option (List ℕ)) → List Plan → List ℕ → Bool → Made O → Type 0
+MakesFile written plans name can (Ok made) = (can ≡ true) × HoldsPlans plans (written made)
+MakesFile written plans name can (Err stopped) = Explains stopped.0 (Some (unusable name)) × LeavesFile written plans can stopped.1
 
--- likewise from a file of patterns: nothing was made where it alone was asked for
-abbrev pub LeavesPack : {O : Type 0} → (O → Option (List ℕ)) → Fold → List ℕ → List ℕ → Sources → Sources → Option O → Type 0
-LeavesPack written fold file output s left (Some made) =
-    let source : Option Content = taken_by (ask_of file) s in
-    (search_message fold file source ≡ None) × (can_create output s.creatable ≡ true) × HoldsFrontOf (list_in fold source) (written made)
-LeavesPack written fold file output s left None = (left ≡ after (ask_of file) s) ⊎ (can_create output s.creatable ≡ false)
+-- ---- from files of patterns
 
--- and its message comes first
-abbrev pub MakesPack : {O : Type 0} → (O → Option (List ℕ)) → Fold → List ℕ → List ℕ → Sources → Sources → Made O → Type 0
-MakesPack written fold file output s left (Ok made) =
-    let source : Option Content = taken_by (ask_of file) s in
-    (search_message fold file source ≡ None) × (can_create output s.creatable ≡ true) × HoldsPlanOf (list_in fold source) (written made)
-MakesPack written fold file output s left (Err stopped) =
-    Explains stopped.0 (first_message (search_message fold file (taken_by (ask_of file) s)) (Some (unusable output)))
-    × LeavesPack written fold file output s left stopped.1
+-- the bytes are the plan file of these plans and of those of the files' lists behind them
+pub record HoldsPlansOf (fold : Fold) (profile : Profile) (before : List Plan) (names : List (List ℕ)) (s : Sources) (written : Option (List ℕ)) : Type 0 where
+  pub plans : List Plan
+  pub right : ArePlansOf fold profile names s plans
+  pub holds : HoldsPlans (before ++ plans) written
+
+-- a front of it, and not all of it
+pub record HoldsFrontOf (fold : Fold) (profile : Profile) (before : List Plan) (names : List (List ℕ)) (s : Sources) (written : Option (List ℕ)) : Type 0 where
+  pub plans : List Plan
+  pub right : ArePlansOf fold profile names s plans
+  pub holds : HoldsFront (before ++ plans) written
+
+-- files of patterns were asked for, the first at least, and nothing else
+abbrev pub IsBefore : List (List ℕ) → Sources → Sources → Type 0
+IsBefore [] s left = ⊥
+IsBefore (name ∷ names) s left = (left ≡ after (ask_of name) s) ⊎ IsBefore names (after (ask_of name) s) left
+
+-- what a stop leaves of the plan file: a front; or nothing, where one of the files gives no plan, or memory ran out there, or it
+-- cannot be made
+abbrev pub LeavesPack : {O : Type 0} → (O → Option (List ℕ)) → Fold → Profile → List Plan → List (List ℕ) → List ℕ → Sources → Sources → Stop → Option O → Type 0
+LeavesPack written fold profile before names output s left stop (Some made) =
+    (search_messages fold names s ≡ None) × (can_create output s.creatable ≡ true) × HoldsFrontOf fold profile before names s (written made)
+LeavesPack written fold profile before names output s left stop None =
+    (IsBefore names s left × Explains stop (search_messages fold names s)) ⊎ (can_create output s.creatable ≡ false)
+
+-- a plan file was made of these plans and of those of the files, or the first message
+abbrev pub MakesPack : {O : Type 0} → (O → Option (List ℕ)) → Fold → Profile → List Plan → List (List ℕ) → List ℕ → Sources → Sources → Made O → Type 0
+MakesPack written fold profile before names output s left (Ok made) =
+    (search_messages fold names s ≡ None) × (can_create output s.creatable ≡ true) × HoldsPlansOf fold profile before names s (written made)
+MakesPack written fold profile before names output s left (Err stopped) =
+    Explains stopped.0 (first_message (search_messages fold names s) (Some (unusable output)))
+    × LeavesPack written fold profile before names output s left stopped.0 stopped.1
+
+-- a plan file was made of the plans of the files alone, unless it is one of these files: then nothing is asked for
+pub data PacksFiles {O : Type 0} (written : O → Option (List ℕ)) (fold : Fold) (profile : Profile) (names : List (List ℕ)) (output : List ℕ) (s left : Sources) (r : Made O) : Type 0 where
+  Own : (stop : Stop) → reads_file names output ≡ true → Explains stop (Some (unusable output)) → left ≡ s → r ≡ Err (stop, None)
+      → PacksFiles written fold profile names output s left r
+  Other : reads_file names output ≡ false → MakesPack written fold profile [] names output s left r → PacksFiles written fold profile names output s left r

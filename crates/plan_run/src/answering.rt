@@ -11,7 +11,7 @@ use crate::status::Status;
 use crate::stop::{Refusal, Stop};
 use crate::telling::tell_certificate;
 use byte_io::{ByteOut, Files};
-use lit_base::{Fold, LitList};
+use lit_base::{Fold, LitList, Profile};
 use run_planner::{Fault, plan};
 use std::alloc::Global;
 
@@ -19,17 +19,18 @@ use std::alloc::Global;
 pub fn answer_plan<'a, F: Files, W: ByteOut>(
     alloc: Global,
     fold: Fold,
+    profile: Profile,
     file: &'a str,
     files: &mut F,
     out: &mut W,
 ) -> Result<Status, Stop<'a>>
     ensures answer { Told (F.sources files.old) (F.sources files.new) (λ s left. AreShort s
         → Asks result (ask_of file.now ∷ []) s left
-        × Tells (AnswersPlan fold file.now s) result (W.written out.old) (W.written out.new)) }
+        × Tells (AnswersPlan fold profile file.now s) result (W.written out.old) (W.written out.new)) }
     ensures flag { W.has_failed out.new ≡ (W.has_failed out.old || is_write_fault result) }
 {
     match list_of(alloc, fold, file, files) {
-        Ok(list) => plan_list(alloc, &list, out),
+        Ok(list) => plan_list(alloc, profile, &list, out),
         Err(stop) => Err(stop),
     }
 }
@@ -44,7 +45,7 @@ pub fn answer_check<'a, F: Files, W: ByteOut>(
     out: &mut W,
 ) -> Result<Status, Stop<'a>>
     ensures answer { Told (F.sources files.old) (F.sources files.new) (λ s left. AreShort s
-        → Asks result (check_asks fold file.now certificate.now s) s left
+        → Asks result (check_asks file.now certificate.now s) s left
         × Tells (AnswersCheck fold file.now certificate.now s) result (W.written out.old) (W.written out.new)) }
     ensures flag { W.has_failed out.new ≡ (W.has_failed out.old || is_write_fault result) }
 {
@@ -55,11 +56,16 @@ pub fn answer_check<'a, F: Files, W: ByteOut>(
 }
 
 /// Writes the certificate of the list's plan.
-fn plan_list<'a, W: ByteOut>(alloc: Global, list: &LitList, out: &mut W) -> Result<Status, Stop<'a>>
-    ensures answer { Tells (IsPlanAnswer list.now) result (W.written out.old) (W.written out.new) }
+fn plan_list<'a, W: ByteOut>(
+    alloc: Global,
+    profile: Profile,
+    list: &LitList,
+    out: &mut W,
+) -> Result<Status, Stop<'a>>
+    ensures answer { Tells (IsPlanAnswer profile list.now) result (W.written out.old) (W.written out.new) }
     ensures flag { W.has_failed out.new ≡ (W.has_failed out.old || is_write_fault result) }
 {
-    match plan(alloc, list) {
+    match plan(alloc, list, profile) {
         Ok(certificate) => {
             list.normal_law();
             tell_certificate(alloc, &certificate, out)

@@ -1,26 +1,32 @@
-//! Explaining the plan of a file's patterns.
-ghost use Rattle.std.specs.Prelude.{◌≡◌, ◌||◌, ◌∷◌, [], ℕ, List, IfOk, length};
+//! Explaining a plan: of a file's patterns, or of a plan file.
+ghost use Rattle.std.specs.Prelude.{◌≡◌, ◌||◌, ◌∷◌, [], ℕ, List, IfOk, Some, length, string_bytes};
 ghost use Rattle.byte_io.specs.Devices.{Told};
-ghost use Rattle.byte_io.specs.Sources.{AreShort, ask_of};
+ghost use Rattle.byte_io.specs.Sources.{AreShort, Content, IsShort, Named, ask_of, coming_of};
 ghost use Rattle.lit_base.specs.Cuts.{IsCut};
-ghost use Rattle.plan_run.specs.Answers.{AnswersExplain, IsExplainAnswer, explained};
+ghost use Rattle.lit_base.specs.Profiles.{buckets};
+ghost use Rattle.plan_run.specs.Answers.{AnswersExplain, AnswersExplainCertificate, AnswersExplainPlan, IsCertificateAnswer, IsCertificateTold, IsExplainAnswer, IsPlanAnswerAt, IsPlanExplained, explained, wrong_at_line};
 ghost use Rattle.plan_run.specs.Lists.{ArePlaces};
+ghost use Rattle.plan_run.specs.Messages.{certificate_head};
 ghost use Rattle.plan_run.specs.Running.{Asks, Tells, is_write_fault};
 
-use crate::reading::placed_list_of;
+use crate::flaws::{tell_refusal, tell_stop};
+use crate::reading::{placed_list_of, plans_of};
 use crate::status::Status;
 use crate::stop::{Refusal, Stop};
-use crate::telling::tell_bytes;
-use byte_io::{ByteOut, Files};
-use lit_base::{Ends, Fold, LitList};
+use crate::telling::{tell, tell_bytes};
+use byte_io::{ByteIn, ByteOut, Files};
+use flow_scan::Compiled;
+use lit_base::{Ends, Fold, LitList, Profile};
+use lit_cert::{Certificate, read_cert};
 use plan_view::{plan_svg, plan_text};
 use run_planner::{Fault, plan};
 use std::alloc::{AllocError, Global};
 
-/// Writes what there is to see of the plan of a file's patterns: a text, or a drawing.
+/// Writes what there is to see of the plan of a file's patterns, a text or a drawing; or where they are wrong.
 pub fn answer_explain<'a, F: Files, W: ByteOut>(
     alloc: Global,
     fold: Fold,
+    profile: Profile,
     svg: bool,
     file: &'a str,
     files: &mut F,
@@ -28,33 +34,36 @@ pub fn answer_explain<'a, F: Files, W: ByteOut>(
 ) -> Result<Status, Stop<'a>>
     ensures answer { Told (F.sources files.old) (F.sources files.new) (λ s left. AreShort s
         → Asks result (ask_of file.now ∷ []) s left
-        × Tells (AnswersExplain fold svg file.now s) result (W.written out.old) (W.written out.new)) }
+        × Tells (AnswersExplain fold profile svg file.now s) result (W.written out.old) (W.written out.new)) }
     ensures flag { W.has_failed out.new ≡ (W.has_failed out.old || is_write_fault result) }
 {
     match placed_list_of(alloc, fold, file, files) {
-        Ok((list, normal)) => explain_list(alloc, svg, &list, normal.place_of.as_slice(), out),
-        Err(stop) => Err(stop),
+        Ok((list, normal)) => {
+            explain_list(alloc, profile, svg, &list, normal.place_of.as_slice(), out)
+        },
+        Err(stop) => tell_stop(alloc, stop, out),
     }
 }
 
 /// Writes what there is to see of the list's plan, whose patterns stand at these places.
 fn explain_list<'a, W: ByteOut>(
     alloc: Global,
+    profile: Profile,
     svg: bool,
     list: &LitList,
     places: &[Option<u16>],
     out: &mut W,
 ) -> Result<Status, Stop<'a>>
     ensures answer { (patterns : List (List ℕ)) → ArePlaces list.now patterns places.now
-        → Tells (IsExplainAnswer list.now svg patterns) result (W.written out.old) (W.written out.new) }
+        → Tells (IsExplainAnswer profile list.now svg patterns) result (W.written out.old) (W.written out.new) }
     ensures flag { W.has_failed out.new ≡ (W.has_failed out.old || is_write_fault result) }
 {
-    match plan(alloc, list) {
+    match plan(alloc, list, profile) {
         Ok(certificate) => {
-            let text = explained(alloc, svg, list, &certificate.ends, places)?;
+            let text = explained(alloc, profile, svg, list, &certificate.ends, places)?;
             tell_bytes(text.as_slice(), Status::Done, out)
         }
-        Err(Fault::NoLiterals) => Err(Stop::Refused(Refusal::NoLiterals)),
+        Err(Fault::NoLiterals) => tell_refusal(alloc, Refusal::NoLiterals, out),
         Err(Fault::OutOfMemory) => Err(Stop::OutOfMemory),
     }
 }
@@ -62,17 +71,139 @@ fn explain_list<'a, W: ByteOut>(
 /// The list's plan as a drawing, or as a text.
 fn explained(
     alloc: Global,
+    profile: Profile,
     svg: bool,
     list: &LitList,
     ends: &Ends,
     places: &[Option<u16>],
 ) -> Result<Vec<u8>, AllocError>
-    requires { IsCut 8 (length list.now.texts) ends.now.items }
-    ensures { IfOk result (λ text. text.items ≡ explained svg list.now ends.now.items places.now) }
+    requires { IsCut (buckets profile) (length list.now.texts) ends.now.items }
+    ensures { IfOk result (λ text. text.items ≡ explained profile svg list.now ends.now.items places.now) }
 {
     if svg {
-        plan_svg(alloc, list, ends)
+        plan_svg(alloc, profile, list, ends)
     } else {
-        plan_text(alloc, list, ends, places)
+        plan_text(alloc, profile, list, ends, places)
     }
+}
+
+/// Writes what there is to see of a plan of a plan file, a text or a drawing; or where the file is wrong.
+pub fn answer_explain_plan<'a, F: Files, W: ByteOut>(
+    alloc: Global,
+    svg: bool,
+    file: &'a str,
+    place: usize,
+    files: &mut F,
+    out: &mut W,
+) -> Result<Status, Stop<'a>>
+    ensures answer { Told (F.sources files.old) (F.sources files.new) (λ s left. AreShort s
+        → Asks result (ask_of file.now ∷ []) s left
+        × Tells (AnswersExplainPlan svg file.now place s) result (W.written out.old) (W.written out.new)) }
+    ensures flag { W.has_failed out.new ≡ (W.has_failed out.old || is_write_fault result) }
+{
+    match plans_of(alloc, file, files) {
+        Ok(plans) => explain_one(alloc, svg, file, place, plans.as_slice(), out),
+        Err(stop) => tell_stop(alloc, stop, out),
+    }
+}
+
+/// Writes what there is to see of one of the plans of a file.
+fn explain_one<'a, W: ByteOut>(
+    alloc: Global,
+    svg: bool,
+    file: &'a str,
+    place: usize,
+    plans: &[Compiled],
+    out: &mut W,
+) -> Result<Status, Stop<'a>>
+    ensures answer { Tells (IsPlanAnswerAt (IsPlanExplained svg) file.now place plans.now) result
+        (W.written out.old) (W.written out.new) }
+    ensures flag { W.has_failed out.new ≡ (W.has_failed out.old || is_write_fault result) }
+{
+    match plans.get(place) {
+        Some(plan) => explain_plan(alloc, svg, plan, out),
+        None => Err(Stop::Refused(Refusal::NoPlan { file, place })),
+    }
+}
+
+/// Writes what there is to see of a plan, whose list has no patterns that were dropped.
+fn explain_plan<'a, W: ByteOut>(
+    alloc: Global,
+    svg: bool,
+    plan: &Compiled,
+    out: &mut W,
+) -> Result<Status, Stop<'a>>
+    ensures answer { Tells (IsPlanExplained svg plan.now) result (W.written out.old) (W.written out.new) }
+    ensures flag { W.has_failed out.new ≡ (W.has_failed out.old || is_write_fault result) }
+{
+    let certificate = plan.certificate();
+    let text = explained(
+        alloc,
+        certificate.profile,
+        svg,
+        plan.list(),
+        &certificate.ends,
+        &[],
+    )?;
+    tell_bytes(text.as_slice(), Status::Done, out)
+}
+
+/// Writes which line of a certificate is wrong, or how many runs it has and their cost.
+pub fn answer_explain_certificate<'a, F: Files, W: ByteOut>(
+    alloc: Global,
+    name: &'a str,
+    files: &mut F,
+    out: &mut W,
+) -> Result<Status, Stop<'a>>
+    ensures answer { Told (F.sources files.old) (F.sources files.new) (λ s left. AreShort s
+        → Asks result (Named name.now ∷ []) s left
+        × Tells (AnswersExplainCertificate name.now s) result (W.written out.old) (W.written out.new)) }
+    ensures flag { W.has_failed out.new ≡ (W.has_failed out.old || is_write_fault result) }
+{
+    match files.open_named(name) {
+        Ok(mut input) => explain_certificate(alloc, name, &mut input, out),
+        Err(_) => Err(Stop::Refused(Refusal::Unusable(name))),
+    }
+}
+
+/// Writes which line of a certificate that is open is wrong, or what it says.
+fn explain_certificate<'a, I: ByteIn, W: ByteOut>(
+    alloc: Global,
+    name: &'a str,
+    input: &mut I,
+    out: &mut W,
+) -> Result<Status, Stop<'a>>
+    ensures answer { (c : Content) → I.coming input.old ≡ Some (coming_of c) → IsShort c
+        → Tells (IsCertificateAnswer wrong_at_line IsCertificateTold name.now (Some c)) result (W.written out.old) (W.written out.new) }
+    ensures flag { W.has_failed out.new ≡ (W.has_failed out.old || is_write_fault result) }
+{
+    match read_cert(alloc, input) {
+        Ok(certificate) => tell_head(alloc, &certificate, out),
+        Err(lit_cert::Fault::BadCertText { line }) => {
+            tell_refusal(alloc, Refusal::NoCertificate { line }, out)
+        }
+        Err(lit_cert::Fault::OutOfMemory) => Err(Stop::OutOfMemory),
+        Err(lit_cert::Fault::ReadFault) => Err(Stop::Refused(Refusal::Unusable(name))),
+        Err(lit_cert::Fault::WriteFault) => unreachable!(),
+    }
+}
+
+/// Writes how many runs a certificate has, and their cost.
+fn tell_head<'a, W: ByteOut>(
+    alloc: Global,
+    certificate: &Certificate,
+    out: &mut W,
+) -> Result<Status, Stop<'a>>
+    ensures answer { Tells (IsCertificateTold certificate.now) result (W.written out.old) (W.written out.new) }
+    ensures flag { W.has_failed out.new ≡ (W.has_failed out.old || is_write_fault result) }
+{
+    let text = head_of(alloc, certificate.ends.as_slice().len(), certificate.cost)?;
+    tell(text.as_str(), Status::Done, out)
+}
+
+/// How many runs a certificate has, and their cost, as they are written.
+fn head_of(alloc: Global, runs: usize, cost: u64) -> Result<String, AllocError>
+    ensures { IfOk result (λ text. string_bytes text ≡ certificate_head runs cost) }
+{
+    format!(in alloc; "runs {runs}, cost {cost}\n")
 }

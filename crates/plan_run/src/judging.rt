@@ -1,15 +1,17 @@
-//! Checking a certificate.
-ghost use Rattle.std.specs.Prelude.{◌≡◌, ◌||◌, IfOk, Some, string_bytes};
+//! Checking a certificate, and a plan of a plan file.
+ghost use Rattle.std.specs.Prelude.{◌≡◌, ◌||◌, ◌∷◌, [], IfOk, Some, string_bytes};
 ghost use Rattle.byte_io.specs.Devices.{Told};
-ghost use Rattle.byte_io.specs.Sources.{AreShort, Content, IsShort, Named, after, coming_of, taken_by};
-ghost use Rattle.plan_run.specs.Answers.{IsCheckAnswer, IsVerdict};
+ghost use Rattle.byte_io.specs.Sources.{AreShort, Content, IsShort, Named, after, ask_of, coming_of, taken_by};
+ghost use Rattle.plan_run.specs.Answers.{AnswersCheckPlan, IsCheckAnswer, IsPlanAnswerAt, IsVerdict};
 ghost use Rattle.plan_run.specs.Messages.{not_certified, optimal};
-ghost use Rattle.plan_run.specs.Running.{Tells, is_write_fault};
+ghost use Rattle.plan_run.specs.Running.{Asks, Tells, is_write_fault};
 
+use crate::reading::plans_of;
 use crate::status::Status;
 use crate::stop::{Refusal, Stop};
 use crate::telling::tell;
 use byte_io::{ByteIn, ByteOut, Files};
+use flow_scan::Compiled;
 use lit_base::LitList;
 use lit_cert::{Certificate, Fault, Reason, check, read_cert};
 use std::alloc::{AllocError, Global};
@@ -55,7 +57,7 @@ fn judge<'a, I: ByteIn, W: ByteOut>(
 }
 
 /// The verdict on a certificate.
-fn verdict<'a, W: ByteOut>(
+pub fn verdict<'a, W: ByteOut>(
     alloc: Global,
     list: &LitList,
     certificate: &Certificate,
@@ -84,7 +86,7 @@ fn optimal(alloc: Global, cost: u64) -> Result<String, AllocError>
 }
 
 /// The verdict that a certificate does not hold: this condition fails.
-fn not_certified(alloc: Global, reason: Reason) -> Result<String, AllocError>
+pub fn not_certified(alloc: Global, reason: Reason) -> Result<String, AllocError>
     ensures { IfOk result (λ text. string_bytes text ≡ not_certified reason) }
 {
     match reason {
@@ -93,5 +95,42 @@ fn not_certified(alloc: Global, reason: Reason) -> Result<String, AllocError>
         Reason::Total => format!(in alloc; "not certified: total\n"),
         Reason::EndRow { r, p } => format!(in alloc; "not certified: end row {r} {p}\n"),
         Reason::Step { r, p, q } => format!(in alloc; "not certified: step {r} {p} {q}\n"),
+    }
+}
+
+/// The verdict on a plan of a plan file.
+pub fn answer_check_plan<'a, F: Files, W: ByteOut>(
+    alloc: Global,
+    file: &'a str,
+    place: usize,
+    files: &mut F,
+    out: &mut W,
+) -> Result<Status, Stop<'a>>
+    ensures answer { Told (F.sources files.old) (F.sources files.new) (λ s left. AreShort s
+        → Asks result (ask_of file.now ∷ []) s left
+        × Tells (AnswersCheckPlan file.now place s) result (W.written out.old) (W.written out.new)) }
+    ensures flag { W.has_failed out.new ≡ (W.has_failed out.old || is_write_fault result) }
+{
+    match plans_of(alloc, file, files) {
+        Ok(plans) => check_plan(alloc, file, place, plans.as_slice(), out),
+        Err(stop) => Err(stop),
+    }
+}
+
+/// The verdict on one of the plans of a file.
+fn check_plan<'a, W: ByteOut>(
+    alloc: Global,
+    file: &'a str,
+    place: usize,
+    plans: &[Compiled],
+    out: &mut W,
+) -> Result<Status, Stop<'a>>
+    ensures answer { Tells (IsPlanAnswerAt (λ p. IsVerdict p.literals p.certificate) file.now place plans.now) result
+        (W.written out.old) (W.written out.new) }
+    ensures flag { W.has_failed out.new ≡ (W.has_failed out.old || is_write_fault result) }
+{
+    match plans.get(place) {
+        Some(plan) => verdict(alloc, plan.list(), plan.certificate(), out),
+        None => Err(Stop::Refused(Refusal::NoPlan { file, place })),
     }
 }

@@ -3,10 +3,14 @@
 
 mod answering;
 mod explaining;
+mod fault;
+mod flaws;
 mod judging;
 mod listing;
 mod message;
+mod migrating;
 mod packing;
+mod pattern_files;
 mod planning;
 mod reading;
 mod request;
@@ -17,8 +21,11 @@ mod stop;
 mod telling;
 mod workers;
 
+pub use fault::Fault;
 pub use message::say;
+pub use migrating::{migrate, migrate_file};
 pub use packing::{Unmade, pack, pack_into};
+pub use pattern_files::PatternFiles;
 pub use request::{Request, Scan};
 pub use running::{answer, run};
 pub use status::Status;

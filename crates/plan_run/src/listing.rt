@@ -1,34 +1,37 @@
 //! Writing hits to standard output.
-ghost use Rattle.std.specs.Prelude.{◌≡◌, ◌++◌, ◌∷◌, ◌||◌, [], IfOk, OnOk, decimal, string_bytes};
-ghost use Rattle.plan_run.specs.Messages.{hit_count, hit_line, hit_lines, hits_text};
+ghost use Rattle.std.specs.Prelude.{◌≡◌, ◌++◌, ◌∷◌, ◌||◌, [], IfOk, OnOk, Some, decimal, string_bytes};
+ghost use Rattle.plan_run.specs.Messages.{hit_count, hit_line, hit_lines, hits_text, line_of, literal_line};
 ghost use Rattle.plan_run.specs.Running.{Writes, is_write_fault};
 
+use crate::request::Scan;
 use crate::status::Status;
 use crate::stop::Stop;
 use crate::telling::{tell, tell_bytes};
 use byte_io::ByteOut;
-use flow_scan::Hit;
+use flow_scan::{Compiled, Hit};
 use itoa::Buffer;
+use plan_view::push_literal;
 use std::alloc::{AllocError, Global};
 
 /// How many hits are written at once.
 const HITS_AT_ONCE: usize = 2048;
 
-/// Writes hits, a line each, or how many they are.
+/// Writes hits of a plan, a line each, or how many they are.
 pub fn tell_hits<'a, W: ByteOut>(
     alloc: Global,
-    count: bool,
+    compiled: &Compiled,
+    scan: &Scan,
     hits: &[Hit],
     out: &mut W,
 ) -> Result<Status, Stop<'a>>
-    ensures text { Writes (hits_text count hits.now) Status.Done result (W.written out.old) (W.written out.new) }
+    ensures text { Writes (hits_text scan.now.count scan.now.names compiled.now.literals hits.now) Status.Done result (W.written out.old) (W.written out.new) }
     ensures flag { W.has_failed out.new ≡ (W.has_failed out.old || is_write_fault result) }
 {
-    if count {
+    if scan.count {
         let text = counted(alloc, hits.len())?;
         return tell(text.as_str(), Status::Done, out);
     }
-    tell_lines(alloc, hits, out)
+    tell_lines(alloc, compiled, scan.names, hits, out)
 }
 
 /// How many hits there are, as it is written.
@@ -39,8 +42,14 @@ fn counted(alloc: Global, count: usize) -> Result<String, AllocError>
 }
 
 /// Writes hits, a line each, as many at once as stand in one buffer.
-fn tell_lines<'a, W: ByteOut>(alloc: Global, hits: &[Hit], out: &mut W) -> Result<Status, Stop<'a>>
-    ensures text { Writes (hit_lines hits.now) Status.Done result (W.written out.old) (W.written out.new) }
+fn tell_lines<'a, W: ByteOut>(
+    alloc: Global,
+    compiled: &Compiled,
+    names: bool,
+    hits: &[Hit],
+    out: &mut W,
+) -> Result<Status, Stop<'a>>
+    ensures text { Writes (hit_lines names compiled.now.literals hits.now) Status.Done result (W.written out.old) (W.written out.new) }
     ensures flag { W.has_failed out.new ≡ (W.has_failed out.old || is_write_fault result) }
 {
     let mut text = Vec::new(alloc);
@@ -48,7 +57,7 @@ fn tell_lines<'a, W: ByteOut>(alloc: Global, hits: &[Hit], out: &mut W) -> Resul
     while !rest.is_empty() {
         let (part, behind) = rest.split_at(rest.len().min(HITS_AT_ONCE));
         text.clear();
-        push_hits(part, &mut text)?;
+        push_hits(compiled, names, part, &mut text)?;
         tell_bytes(text.as_slice(), Status::Done, out)?;
         rest = behind;
     }
@@ -56,12 +65,47 @@ fn tell_lines<'a, W: ByteOut>(alloc: Global, hits: &[Hit], out: &mut W) -> Resul
 }
 
 /// Appends the lines of hits.
-fn push_hits(hits: &[Hit], text: &mut Vec<u8>) -> Result<(), AllocError>
-    ensures { OnOk result (text.new.items ≡ text.old.items ++ hit_lines hits.now) }
+fn push_hits(
+    compiled: &Compiled,
+    names: bool,
+    hits: &[Hit],
+    text: &mut Vec<u8>,
+) -> Result<(), AllocError>
+    ensures { OnOk result (text.new.items ≡ text.old.items ++ hit_lines names compiled.now.literals hits.now) }
 {
     for hit in hits {
-        push_hit(*hit, text)?;
+        push_line(compiled, names, *hit, text)?;
     }
+    Ok(())
+}
+
+/// Appends the line of a hit of a plan, with its literal or without.
+fn push_line(
+    compiled: &Compiled,
+    names: bool,
+    hit: Hit,
+    text: &mut Vec<u8>,
+) -> Result<(), AllocError>
+    ensures { OnOk result (text.new.items ≡ text.old.items ++ line_of names compiled.now.literals hit) }
+{
+    if names {
+        match compiled.literal_of(hit) {
+            Some(literal) => push_literal_line(literal, hit, text),
+            None => Ok(()),
+        }
+    } else {
+        push_hit(hit, text)
+    }
+}
+
+/// Appends where a hit starts, and its literal.
+fn push_literal_line(literal: &[u8], hit: Hit, text: &mut Vec<u8>) -> Result<(), AllocError>
+    ensures { OnOk result (text.new.items ≡ text.old.items ++ literal_line (Some literal.now) hit) }
+{
+    push_number(u64::from(hit.lit), b' ', text)?;
+    push_number(hit.end_at.saturating_sub(literal.len() as u64), b' ', text)?;
+    push_literal(literal, text)?;
+    text.push(b'\n')?;
     Ok(())
 }
 
@@ -74,7 +118,7 @@ fn push_hit(hit: Hit, text: &mut Vec<u8>) -> Result<(), AllocError>
 }
 
 /// Appends a number, and the byte that ends it.
-fn push_number(number: u64, end: u8, text: &mut Vec<u8>) -> Result<(), AllocError>
+pub fn push_number(number: u64, end: u8, text: &mut Vec<u8>) -> Result<(), AllocError>
     ensures { OnOk result (text.new.items ≡ text.old.items ++ (decimal number ++ end ∷ [])) }
 {
     let mut digits = Buffer::new();

@@ -1,4 +1,4 @@
-//! Messages on standard error, each a line behind the program's name.
+//! Messages on standard error, each a line after the program's name.
 ghost use Rattle.std.specs.Prelude.{◌≡◌, IfOk, string_bytes};
 ghost use Rattle.plan_run.specs.Messages.{message_on, refused};
 ghost use Rattle.plan_run.specs.Running.{SaysStop};
@@ -7,8 +7,8 @@ use crate::stop::{Refusal, Stop};
 use byte_io::{ByteOut, say_text};
 use std::alloc::{AllocError, Global};
 
-/// Says why a run stopped. Where there is no memory for a message, that is said in its place. A
-/// message that cannot be written is not written again: the status alone tells it.
+/// Says why a run stopped. Where there is no memory for a message, that is said in its place. A message that cannot be
+/// written is not tried again: only the status shows it.
 pub fn say<E: ByteOut>(alloc: Global, stop: Stop<'_>, err: &mut E)
     ensures { SaysStop stop.entry (E.has_failed err.new) (E.written err.old) (E.written err.new) }
 {
@@ -37,6 +37,8 @@ fn message_of(alloc: Global, refusal: Refusal<'_>) -> Result<String, AllocError>
         Refusal::Patterns(fault) => refused(alloc, fault.number()),
         Refusal::NoLiterals => refused(alloc, 5),
         Refusal::NoCertificate { .. } => refused(alloc, 9),
+        Refusal::NoPlanFile { .. } => refused(alloc, 10),
+        Refusal::NoPlan { file, place } => format!(in alloc; "litplan: {file}: no plan {place}\n"),
     }
 }
 

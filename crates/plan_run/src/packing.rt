@@ -1,9 +1,9 @@
 //! Making a plan file.
-ghost use Rattle.std.specs.Prelude.{◌≡◌, ◌||◌, IfErr, IfOk, IfSome, List, Option, false, ℕ};
+ghost use Rattle.std.specs.Prelude.{◌≡◌, ◌≤◌, ◌+◌, ◌||◌, ◌++◌, ◌∷◌, [], IfErr, IfOk, IfSome, List, Option, false, length, map, string_bytes, ℕ};
 ghost use Rattle.byte_io.specs.Devices.{Told};
 ghost use Rattle.byte_io.specs.Sources.{AreShort, Created, after, can_create};
-ghost use Rattle.plan_run.specs.Answers.{AnswersPack, pack_asks};
-ghost use Rattle.plan_run.specs.Packing.{MakesFile, MakesPack, Packs, answer_of};
+ghost use Rattle.plan_run.specs.Answers.{AnswersPack, asks_for_plans, is_file, pack_asks, reads_file};
+ghost use Rattle.plan_run.specs.Packing.{MakesFile, MakesPack, Packs, PacksFiles, answer_of};
 ghost use Rattle.plan_run.specs.Running.{Asks, Tells, is_refusal, is_refused, is_write};
 
 use crate::planning::plan_of;
@@ -11,47 +11,49 @@ use crate::status::Status;
 use crate::stop::{Refusal, Stop};
 use byte_io::{ByteOut, Files};
 use flow_scan::Compiled;
-use lit_base::Fold;
+use lit_base::{Fold, Profile};
 use plan_file::{Fault, write_plans};
-use std::alloc::Global;
-use std::slice;
+use std::alloc::{AllocError, Global};
 
-/// Why a plan file was not made whole, and what was made of it, if it was begun.
+/// Why a plan file was not made whole, and the file as far as it was made.
 pub type Unmade<'a, O> = (Stop<'a>, Option<O>);
 
-/// Makes the plan file of a file's patterns, and answers nothing but that it stands.
+/// Makes the plan file of files of patterns, and answers nothing but that it stands.
 pub fn answer_pack<'a, F: Files>(
     alloc: Global,
     fold: Fold,
-    file: &'a str,
+    profile: Profile,
+    names: &'a [String],
     output: &'a str,
     files: &mut F,
 ) -> Result<Status, Stop<'a>>
+    requires { length names.now ≤ 64 }
     ensures answer { Told (F.sources files.old) (F.sources files.new) (λ s left. AreShort s
-        → Asks result (pack_asks fold file.now output.now s) s left
-        × ((out : Option (List ℕ)) → Tells (AnswersPack fold file.now output.now s) result out out)) }
+        → Asks result (pack_asks fold (map string_bytes names.now) output.now s) s left
+        × ((out : Option (List ℕ)) → Tells (AnswersPack F.Output.written F.Output.has_failed fold profile (map string_bytes names.now) output.now s) result out out)) }
     ensures unwritten { IfErr result (λ stop. is_write stop ≡ false) }
 {
-    match pack(alloc, fold, file, output, files) {
+    match pack(alloc, fold, profile, names, output, files) {
         Ok(_) => Ok(Status::Done),
         Err(unmade) => Err(stop_of(unmade)),
     }
 }
 
-/// Why a plan file was not made whole. What was made of it is let go.
-fn stop_of<O: Drop>(unmade: Unmade<'_, O>) -> Stop<'_>
+/// Why a plan file was not made whole. The file itself is dropped.
+pub fn stop_of<O: Drop>(unmade: Unmade<'_, O>) -> Stop<'_>
     ensures { result ≡ unmade.entry.0 }
 {
     let (stop, _begun) = unmade;
     stop
 }
 
-/// Makes the plan file of a file's patterns, and answers it as it was written. The patterns are read and
-/// planned before it is made.
+/// Makes the plan file of files of patterns, which has a plan for each, in order; and answers it as it was written. The
+/// patterns of all are read and planned before it is made.
 ///
 /// # Errors
-/// - `Refused` with what is wrong with the patterns; else with the plan file's name, where it cannot be made or
-///   not be written to its end.
+/// - `Refused` with the plan file's name, where it is also the name of a file of patterns: then nothing is read. Else with what
+///   is wrong with the patterns of the first file that gives no plan. Else with the plan file's name, where it cannot be made
+///   or not be written to its end.
 /// - `OutOfMemory`, where a growth was refused.
 ///
 /// Beside them stands the file that was made, if one was: it holds a front of the plan file, and not all of
@@ -59,42 +61,106 @@ fn stop_of<O: Drop>(unmade: Unmade<'_, O>) -> Stop<'_>
 pub fn pack<'a, F: Files>(
     alloc: Global,
     fold: Fold,
-    file: &'a str,
+    profile: Profile,
+    names: &'a [String],
     output: &'a str,
     files: &mut F,
 ) -> Result<F::Output, Unmade<'a, F::Output>>
+    requires { length names.now ≤ 64 }
     ensures packed { Told (F.sources files.old) (F.sources files.new) (λ s left. AreShort s
-        → Asks (answer_of result) (pack_asks fold file.now output.now s) s left
-        × MakesPack F.Output.written fold file.now output.now s left result) }
+        → Asks (answer_of result) (pack_asks fold (map string_bytes names.now) output.now s) s left
+        × PacksFiles F.Output.written fold profile (map string_bytes names.now) output.now s left result) }
 
-    // Whatever the files tell, no write failed to a file that is answered, and one did to a file that is
+    // Whatever is known of the files, no write failed to a file that is returned, and one did to a file that is
     // refused.
     ensures flag { IfOk result (λ made. F.Output.has_failed made ≡ false) }
     ensures broken { IfErr result (λ stopped. IfSome stopped.1 (λ made. F.Output.has_failed made ≡ is_refusal stopped.0)) }
     ensures unwritten { IfErr result (λ stopped. is_write stopped.0 ≡ false) }
 {
-    match plan_of(alloc, fold, file, files) {
-        Ok(plan) => make(alloc, &plan, output, files),
-        Err(stop) => Err((stop, None)),
+    if reads_file(names, output) {
+        return Err((Stop::Refused(Refusal::Unusable(output)), None));
+    }
+    pack_with(alloc, fold, profile, Vec::new(alloc), names, output, files)
+}
+
+/// Whether the file of a name is one of the operands.
+fn reads_file(operands: &[String], name: &str) -> bool
+    ensures { result ≡ reads_file (map string_bytes operands.now) name.now }
+{
+    match operands {
+        [] => false,
+        [operand, rest @ ..] => is_file(operand.as_str(), name) || reads_file(rest, name),
     }
 }
 
-/// Makes the plan file of a plan.
-fn make<'a, F: Files>(
+/// Whether an operand is the file of a name: `-` is standard input.
+fn is_file(operand: &str, name: &str) -> bool
+    ensures { result ≡ is_file operand.now name.now }
+{
+    if operand == "-" {
+        false
+    } else {
+        operand == name
+    }
+}
+
+/// Makes the plan file of these plans, and of those of files of patterns behind them.
+fn pack_with<'a, F: Files>(
     alloc: Global,
-    plan: &Compiled,
+    fold: Fold,
+    profile: Profile,
+    plans: Vec<Compiled>,
+    names: &'a [String],
+    output: &'a str,
+    files: &mut F,
+) -> Result<F::Output, Unmade<'a, F::Output>>
+    requires { length plans.items + length names.now ≤ 64 }
+    ensures packed { Told (F.sources files.old) (F.sources files.new) (λ s left. AreShort s
+        → Asks (answer_of result) (asks_for_plans fold (map string_bytes names.now) (Created output.now) s) s left
+        × MakesPack F.Output.written fold profile plans.items (map string_bytes names.now) output.now s left result) }
+    ensures flag { IfOk result (λ made. F.Output.has_failed made ≡ false) }
+    ensures broken { IfErr result (λ stopped. IfSome stopped.1 (λ made. F.Output.has_failed made ≡ is_refusal stopped.0)) }
+    ensures unwritten { IfErr result (λ stopped. is_write stopped.0 ≡ false) }
+{
+    match names {
+        [] => make(alloc, plans.as_slice(), output, files),
+        [name, rest @ ..] => match plan_of(alloc, fold, profile, name.as_str(), files) {
+            Ok(plan) => match with_plan(plans, plan) {
+                Ok(more) => pack_with(alloc, fold, profile, more, rest, output, files),
+                Err(_) => Err((Stop::OutOfMemory, None)),
+            },
+            Err(stop) => Err((stop, None)),
+        },
+    }
+}
+
+/// The plans and one more behind them.
+fn with_plan(mut plans: Vec<Compiled>, plan: Compiled) -> Result<Vec<Compiled>, AllocError>
+    ensures { IfOk result (λ more. more.items ≡ plans.items ++ plan ∷ []) }
+{
+    match plans.push(plan) {
+        Ok(()) => Ok(plans),
+        Err(_) => Err(AllocError),
+    }
+}
+
+/// Makes the plan file of plans.
+pub fn make<'a, F: Files>(
+    alloc: Global,
+    plans: &[Compiled],
     name: &'a str,
     files: &mut F,
 ) -> Result<F::Output, Unmade<'a, F::Output>>
+    requires { length plans.now ≤ 64 }
     ensures made { Told (F.sources files.old) (F.sources files.new) (λ s left.
         (left ≡ after (Created name.now) s)
-        × MakesFile F.Output.written plan.now name.now (can_create name.now s.creatable) result) }
+        × MakesFile F.Output.written plans.now name.now (can_create name.now s.creatable) result) }
     ensures flag { IfOk result (λ made. F.Output.has_failed made ≡ false) }
     ensures broken { IfErr result (λ stopped. IfSome stopped.1 (λ made. F.Output.has_failed made ≡ is_refusal stopped.0)) }
     ensures unwritten { IfErr result (λ stopped. is_write stopped.0 ≡ false) }
 {
     match files.create_named(name) {
-        Ok(mut made) => match pack_into(alloc, plan, name, &mut made) {
+        Ok(mut made) => match pack_into(alloc, plans, name, &mut made) {
             Ok(()) => Ok(made),
             Err(stop) => Err((stop, Some(made))),
         },
@@ -102,7 +168,7 @@ fn make<'a, F: Files>(
     }
 }
 
-/// Writes the plan file of a plan to a device, which is called so.
+/// Writes the plan file of plans, at most 64, to a device, which is called so.
 ///
 /// # Errors
 /// - `Refused`, with its name, where a write failed.
@@ -111,16 +177,17 @@ fn make<'a, F: Files>(
 /// After both of them a front of the plan file was written, and not all of it.
 pub fn pack_into<'a, W: ByteOut>(
     alloc: Global,
-    plan: &Compiled,
+    plans: &[Compiled],
     name: &'a str,
     out: &mut W,
 ) -> Result<(), Stop<'a>>
-    ensures packed { Packs name.now plan.now result (W.written out.old) (W.written out.new) }
+    requires { length plans.now ≤ 64 }
+    ensures packed { Packs name.now plans.now result (W.written out.old) (W.written out.new) }
 
-    // It is told exactly where a write failed.
+    // It is refused exactly where a write failed.
     ensures flag { W.has_failed out.new ≡ (W.has_failed out.old || is_refused result) }
 {
-    match write_plans(alloc, slice::from_ref(plan), out) {
+    match write_plans(alloc, plans, out) {
         Ok(()) => Ok(()),
         Err(Fault::WriteFault) => Err(Stop::Refused(Refusal::Unusable(name))),
         Err(Fault::OutOfMemory) => Err(Stop::OutOfMemory),

@@ -9,7 +9,7 @@ use crate::stop::{Refusal, Stop};
 use byte_io::Files;
 use flow_scan::Compiled;
 use list_plan::compile;
-use lit_base::{Fold, LitList};
+use lit_base::{Fold, LitList, Profile};
 use run_planner::Fault;
 use std::alloc::Global;
 
@@ -17,25 +17,26 @@ use std::alloc::Global;
 pub fn plan_of<'a, F: Files>(
     alloc: Global,
     fold: Fold,
+    profile: Profile,
     file: &'a str,
     files: &mut F,
 ) -> Result<Compiled, Stop<'a>>
     ensures plan { Told (F.sources files.old) (F.sources files.new) (λ s left. AreShort s
-        → (left ≡ after (ask_of file.now) s) × TakesPlan fold file.now (taken_by (ask_of file.now) s) result) }
+        → (left ≡ after (ask_of file.now) s) × TakesPlan fold profile file.now (taken_by (ask_of file.now) s) result) }
     ensures unwritten { IfErr result (λ stop. is_write stop ≡ false) }
 {
     match list_of(alloc, fold, file, files) {
-        Ok(list) => planned(alloc, list),
+        Ok(list) => planned(alloc, profile, list),
         Err(stop) => Err(stop),
     }
 }
 
 /// The plan of a list.
-fn planned<'a>(alloc: Global, list: LitList) -> Result<Compiled, Stop<'a>>
-    ensures plan { PlansList list result }
+fn planned<'a>(alloc: Global, profile: Profile, list: LitList) -> Result<Compiled, Stop<'a>>
+    ensures plan { PlansList profile list result }
     ensures unwritten { IfErr result (λ stop. is_write stop ≡ false) }
 {
-    match compile(alloc, list) {
+    match compile(alloc, list, profile) {
         Ok(compiled) => Ok(compiled),
         Err(Fault::NoLiterals) => Err(Stop::Refused(Refusal::NoLiterals)),
         Err(Fault::OutOfMemory) => Err(Stop::OutOfMemory),

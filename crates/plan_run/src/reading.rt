@@ -1,14 +1,16 @@
-//! Reading a file of patterns, and what is searched.
-ghost use Rattle.std.specs.Prelude.{◌≡◌, ◌≢◌, IfErr, IfOk, MatchResult, None, Some, false};
+//! Reading a file of patterns, a plan file, and the input of a search.
+ghost use Rattle.std.specs.Prelude.{◌≡◌, ◌≢◌, ◌≤◌, length, IfErr, IfOk, MatchResult, None, Some, false};
 ghost use Rattle.byte_io.specs.Devices.{Told};
 ghost use Rattle.byte_io.specs.Sources.{AreShort, Content, IsShort, after, ask_of, coming_of, taken_by};
 ghost use Rattle.lit_base.specs.Lines.{lines};
 ghost use Rattle.plan_run.specs.Lists.{ArePlaces, list_refusal, literals_of};
-ghost use Rattle.plan_run.specs.Running.{TakesList, TakesPlaces, TakesText, is_write};
+ghost use Rattle.plan_run.specs.Running.{NamesStop, TakesList, TakesPlaces, TakesPlans, TakesText, is_write};
 
 use crate::stop::{Refusal, Stop};
 use byte_io::{ByteIn, Files, ReadError, open_operand, read_to_end};
+use flow_scan::Compiled;
 use lit_base::{Fault, Fold, LitList, MAX_TEXT_LEN, Normal, RawList};
+use plan_file::read_plans;
 use std::alloc::Global;
 
 /// The list of a file of patterns, which is read to its end unless it is too large; `-` is standard
@@ -38,6 +40,10 @@ pub fn placed_list_of<'a, F: Files>(
 ) -> Result<(LitList, Normal), Stop<'a>>
     ensures list { Told (F.sources files.old) (F.sources files.new) (λ s left. AreShort s
         → (left ≡ after (ask_of file.now) s) × TakesPlaces fold file.now (taken_by (ask_of file.now) s) result) }
+
+    // Where patterns are refused, it is told which.
+    ensures named { IfErr result (λ stop. Told (F.sources files.old) (F.sources files.new) (λ s left. AreShort s
+        → NamesStop (taken_by (ask_of file.now) s) stop)) }
     ensures unwritten { IfErr result (λ stop. is_write stop ≡ false) }
 {
     match open_operand(files, file) {
@@ -55,6 +61,8 @@ fn list_from<'a, I: ByteIn>(
 ) -> Result<(LitList, Normal), Stop<'a>>
     ensures list { (c : Content) → I.coming input.old ≡ Some (coming_of c) → IsShort c
         → TakesPlaces fold file.now (Some c) result }
+    ensures named { (c : Content) → I.coming input.old ≡ Some (coming_of c) → IsShort c
+        → IfErr result (NamesStop (Some c)) }
     ensures unwritten { IfErr result (λ stop. is_write stop ≡ false) }
 {
     let mut text = Vec::new(alloc);
@@ -75,12 +83,51 @@ fn listed(alloc: Global, fold: Fold, text: &[u8]) -> Result<(LitList, Normal), F
     ensures ok { IfOk result (λ found. found.0 ≡ record { folding = fold; texts = literals_of fold text.now }) }
     ensures places { IfOk result (λ found. ArePlaces found.0 (lines text.now) found.1.place_of.items) }
     ensures refusal { MatchResult result
-        (λ _. list_refusal fold text.now ≡ None)
-        (λ fault. fault ≢ Fault.OutOfMemory → list_refusal fold text.now ≡ Some fault) }
+        (λ _. list_refusal text.now ≡ None)
+        (λ fault. fault ≢ Fault.OutOfMemory → list_refusal text.now ≡ Some fault) }
 {
     let mut patterns = RawList::new(alloc);
     patterns.add_file_bytes(text)?;
     Ok(LitList::normal(alloc, &patterns, fold)?)
+}
+
+/// The plans of a plan file, which is read to its end; `-` is standard input.
+pub fn plans_of<'a, F: Files>(
+    alloc: Global,
+    file: &'a str,
+    files: &mut F,
+) -> Result<Vec<Compiled>, Stop<'a>>
+    ensures plans { Told (F.sources files.old) (F.sources files.new) (λ s left. AreShort s
+        → (left ≡ after (ask_of file.now) s) × TakesPlans file.now (taken_by (ask_of file.now) s) result) }
+    ensures few { IfOk result (λ plans. length plans.items ≤ 64) }
+    ensures unwritten { IfErr result (λ stop. is_write stop ≡ false) }
+{
+    match open_operand(files, file) {
+        Ok(mut input) => plans_from(alloc, file, &mut input),
+        Err(_) => Err(Stop::Refused(Refusal::Unusable(file))),
+    }
+}
+
+/// The plans of a plan file that is open.
+fn plans_from<'a, I: ByteIn>(
+    alloc: Global,
+    file: &'a str,
+    input: &mut I,
+) -> Result<Vec<Compiled>, Stop<'a>>
+    ensures plans { (c : Content) → I.coming input.old ≡ Some (coming_of c) → IsShort c
+        → TakesPlans file.now (Some c) result }
+    ensures few { IfOk result (λ plans. length plans.items ≤ 64) }
+    ensures unwritten { IfErr result (λ stop. is_write stop ≡ false) }
+{
+    match read_plans(alloc, input) {
+        Ok(plans) => Ok(plans),
+        Err(plan_file::Fault::BadPlanFile { place, cause }) => {
+            Err(Stop::Refused(Refusal::NoPlanFile { place, cause }))
+        }
+        Err(plan_file::Fault::OutOfMemory) => Err(Stop::OutOfMemory),
+        Err(plan_file::Fault::ReadFault) => Err(Stop::Refused(Refusal::Unusable(file))),
+        Err(plan_file::Fault::WriteFault) => unreachable!(),
+    }
 }
 
 /// The whole text of an operand.
@@ -113,7 +160,7 @@ fn text_from<'a, I: ByteIn>(
     match read_to_end(input, usize::MAX, &mut text) {
         Ok(()) => Ok(text),
         Err(ReadError::Failed) => Err(Stop::Refused(Refusal::Unusable(operand))),
-        // No list has so many bytes.
+        // No list is that long.
         Err(ReadError::TooLong) => unreachable!(),
         Err(ReadError::OutOfMemory) => Err(Stop::OutOfMemory),
     }

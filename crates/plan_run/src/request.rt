@@ -1,6 +1,7 @@
 //! What the command line asks for.
+use crate::pattern_files::PatternFiles;
 use crate::workers::Workers;
-use lit_base::Fold;
+use lit_base::{Fold, Profile};
 
 /// What the command line asks for.
 #[derive(Debug, Drop)]
@@ -9,6 +10,8 @@ pub enum Request {
     Plan {
         /// Which case differences are ignored.
         fold: Fold,
+        /// How many buckets the plan may have.
+        profile: Profile,
         /// The file of patterns; `-` is standard input.
         file: String,
     },
@@ -21,12 +24,21 @@ pub enum Request {
         /// The file of the certificate.
         certificate: String,
     },
-    /// Write the plan of the patterns of a file to a plan file.
+    /// Check a plan of a plan file once more.
+    CheckPlan {
+        /// The plan file; `-` is standard input.
+        file: String,
+        /// The number of the plan, from 0.
+        place: usize,
+    },
+    /// Write the plans of the patterns of files to a plan file, in order.
     Pack {
         /// Which case differences are ignored.
         fold: Fold,
-        /// The file of patterns; `-` is standard input.
-        file: String,
+        /// How many buckets each plan may have.
+        profile: Profile,
+        /// The files of patterns; `-` is standard input.
+        files: PatternFiles,
         /// The plan file, which is made or emptied.
         output: String,
     },
@@ -34,16 +46,39 @@ pub enum Request {
     Explain {
         /// Which case differences are ignored.
         fold: Fold,
+        /// How many buckets the plan may have.
+        profile: Profile,
         /// Whether the plan is drawn, in place of a text.
         svg: bool,
         /// The file of patterns; `-` is standard input.
         file: String,
     },
-    /// Find the patterns of a file in an input.
+    /// Explain a plan of a plan file.
+    ExplainPlan {
+        /// Whether the plan is drawn, in place of a text.
+        svg: bool,
+        /// The plan file; `-` is standard input.
+        file: String,
+        /// The number of the plan, from 0.
+        place: usize,
+    },
+    /// Tell which line of a certificate is wrong, or what it says.
+    ExplainCertificate {
+        /// The file of the certificate.
+        certificate: String,
+    },
+    /// Plan the lists of a plan file anew, with sixteen buckets, and write these plans to another.
+    Migrate {
+        /// The plan file that is read; `-` is standard input.
+        input: String,
+        /// The plan file that is made or emptied.
+        output: String,
+    },
+    /// Find the patterns of a file in an input, by a plan of eight buckets.
     Scan(Scan),
 }
 
-/// Which patterns are looked for, and in what.
+/// The patterns of a search, and its input.
 #[derive(Debug, Drop)]
 pub struct Scan {
     /// Which case differences are ignored.
@@ -52,8 +87,10 @@ pub struct Scan {
     pub workers: Workers,
     /// Whether the number of hits is written in place of the hits.
     pub count: bool,
+    /// Whether each hit is written by its start and its literal, in place of its end.
+    pub names: bool,
     /// The file of patterns; `-` is standard input.
     pub file: String,
-    /// What they are looked for in; `-` is standard input.
+    /// The input of the search; `-` is standard input.
     pub input: String,
 }

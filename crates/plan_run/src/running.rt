@@ -5,8 +5,10 @@ ghost use Rattle.byte_io.specs.Sources.{AreShort};
 ghost use Rattle.plan_run.specs.Running.{Answers, Ends, is_write_fault};
 
 use crate::answering::{answer_check, answer_plan};
-use crate::explaining::answer_explain;
+use crate::explaining::{answer_explain, answer_explain_certificate, answer_explain_plan};
+use crate::judging::answer_check_plan;
 use crate::message::say;
+use crate::migrating::answer_migrate;
 use crate::packing::answer_pack;
 use crate::request::Request;
 use crate::scanning::answer_scan;
@@ -30,10 +32,10 @@ pub fn run<R: Threads + Sync, F: Files, W: ByteOut, E: ByteOut>(
     err: &mut E,
 ) -> Status
     ensures ends { Told (F.sources files.old) (F.sources files.new) (λ s left. AreShort s
-        → Ends request.now s left result (W.has_failed out.old) (W.has_failed out.new) (E.has_failed err.new)
+        → Ends F.Output.written F.Output.has_failed request.now s left result (W.has_failed out.old) (W.has_failed out.new) (E.has_failed err.new)
         (W.written out.old) (W.written out.new) (E.written err.old) (E.written err.new)) }
 
-    // Whatever the files tell, a write that failed is told.
+    // A write that failed shows in the status, whatever is known of the files.
     ensures fault { result ≢ Status.Trouble
         → (W.has_failed out.new || E.has_failed err.new) ≡ (W.has_failed out.old || E.has_failed err.old) }
 {
@@ -55,13 +57,17 @@ pub fn answer<'a, R: Threads + Sync, F: Files, W: ByteOut>(
     out: &mut W,
 ) -> Result<Status, Stop<'a>>
     ensures answer { Told (F.sources files.old) (F.sources files.new) (λ s left. AreShort s
-        → Answers request.now s left result (W.written out.old) (W.written out.new)) }
+        → Answers F.Output.written F.Output.has_failed request.now s left result (W.written out.old) (W.written out.new)) }
 
     // A write fault is answered only where a write failed, and a write that failed is answered so.
     ensures flag { W.has_failed out.new ≡ (W.has_failed out.old || is_write_fault result) }
 {
     match request {
-        Request::Plan { fold, file } => answer_plan(alloc, *fold, file.as_str(), files, out),
+        Request::Plan {
+            fold,
+            profile,
+            file,
+        } => answer_plan(alloc, *fold, *profile, file.as_str(), files, out),
         Request::Check {
             fold,
             file,
@@ -74,11 +80,36 @@ pub fn answer<'a, R: Threads + Sync, F: Files, W: ByteOut>(
             files,
             out,
         ),
-        Request::Pack { fold, file, output } => {
-            answer_pack(alloc, *fold, file.as_str(), output.as_str(), files)
+        Request::CheckPlan { file, place } => {
+            answer_check_plan(alloc, file.as_str(), *place, files, out)
         }
-        Request::Explain { fold, svg, file } => {
-            answer_explain(alloc, *fold, *svg, file.as_str(), files, out)
+        Request::Pack {
+            fold,
+            profile,
+            files: sources,
+            output,
+        } => answer_pack(
+            alloc,
+            *fold,
+            *profile,
+            sources.names(),
+            output.as_str(),
+            files,
+        ),
+        Request::Explain {
+            fold,
+            profile,
+            svg,
+            file,
+        } => answer_explain(alloc, *fold, *profile, *svg, file.as_str(), files, out),
+        Request::ExplainPlan { svg, file, place } => {
+            answer_explain_plan(alloc, *svg, file.as_str(), *place, files, out)
+        }
+        Request::ExplainCertificate { certificate } => {
+            answer_explain_certificate(alloc, certificate.as_str(), files, out)
+        }
+        Request::Migrate { input, output } => {
+            answer_migrate(alloc, input.as_str(), output.as_str(), files, out)
         }
         Request::Scan(scan) => answer_scan(rt, alloc, scan, files, out),
     }

@@ -13,12 +13,12 @@ use crate::status::Status;
 use crate::stop::Stop;
 use byte_io::{ByteOut, Files};
 use flow_scan::{Compiled, Fault};
+use lit_base::Profile;
 use par_scan::{NoGate, scan_parts};
 use std::alloc::Global;
 use std::thread::Threads;
 
-/// Writes the hits of a file's patterns in an input, or their number. The file is planned before the
-/// input is asked for.
+/// Writes the hits of a file's patterns in an input, or their number. The file is planned before the input is opened.
 pub fn answer_scan<'a, R: Threads + Sync, F: Files, W: ByteOut>(
     rt: &R,
     alloc: Global,
@@ -28,17 +28,17 @@ pub fn answer_scan<'a, R: Threads + Sync, F: Files, W: ByteOut>(
 ) -> Result<Status, Stop<'a>>
     ensures answer { Told (F.sources files.old) (F.sources files.new) (λ s left. AreShort s
         → Asks result (scan_asks scan.now.fold (string_bytes scan.now.file) (string_bytes scan.now.input) s) s left
-        × Tells (AnswersScan scan.now.fold scan.now.count (string_bytes scan.now.file) (string_bytes scan.now.input) s)
+        × Tells (AnswersScan scan.now.fold scan.now.count scan.now.names (string_bytes scan.now.file) (string_bytes scan.now.input) s)
         result (W.written out.old) (W.written out.new)) }
     ensures flag { W.has_failed out.new ≡ (W.has_failed out.old || is_write_fault result) }
 {
-    match plan_of(alloc, scan.fold, scan.file.as_str(), files) {
+    match plan_of(alloc, scan.fold, Profile::Eight, scan.file.as_str(), files) {
         Ok(compiled) => scan_input(rt, alloc, &compiled, scan, files, out),
         Err(stop) => Err(stop),
     }
 }
 
-/// Writes the hits of a plan in the input that is asked for.
+/// Writes the hits of a plan in the input.
 fn scan_input<'a, R: Threads + Sync, F: Files, W: ByteOut>(
     rt: &R,
     alloc: Global,
@@ -49,7 +49,7 @@ fn scan_input<'a, R: Threads + Sync, F: Files, W: ByteOut>(
 ) -> Result<Status, Stop<'a>>
     ensures answer { Told (F.sources files.old) (F.sources files.new) (λ s left. AreShort s
         → (left ≡ after (ask_of (string_bytes scan.now.input)) s)
-        × Tells (AnswersInput compiled.now.literals scan.now.count (string_bytes scan.now.input)
+        × Tells (AnswersInput compiled.now.literals scan.now.count scan.now.names (string_bytes scan.now.input)
         (taken_by (ask_of (string_bytes scan.now.input)) s)) result (W.written out.old) (W.written out.new)) }
     ensures flag { W.has_failed out.new ≡ (W.has_failed out.old || is_write_fault result) }
 {
@@ -68,11 +68,11 @@ fn scan_text<'a, R: Threads + Sync, W: ByteOut>(
     text: &[u8],
     out: &mut W,
 ) -> Result<Status, Stop<'a>>
-    ensures answer { Tells (AreHitsTold compiled.now.literals scan.now.count text.now) result (W.written out.old) (W.written out.new) }
+    ensures answer { Tells (AreHitsTold compiled.now.literals scan.now.count scan.now.names text.now) result (W.written out.old) (W.written out.new) }
     ensures flag { W.has_failed out.new ≡ (W.has_failed out.old || is_write_fault result) }
 {
     match scan_parts(rt, alloc, &NoGate, compiled, text, scan.workers.count()) {
-        Ok(hits) => tell_hits(alloc, scan.count, hits.as_slice(), out),
+        Ok(hits) => tell_hits(alloc, compiled, scan, hits.as_slice(), out),
         Err(Fault::OutOfMemory) => Err(Stop::OutOfMemory),
         Err(Fault::NotCertified { .. }) => unreachable!(),
         Err(Fault::StreamTooLong) => unreachable!(),

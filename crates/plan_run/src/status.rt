@@ -9,6 +9,8 @@ pub enum Status {
     Done,
     /// A certificate does not hold: 1.
     NotCertified,
+    /// An input that is explained is wrong: 1.
+    Wrong,
     /// There is a message in place of an answer: 2.
     Trouble,
 }
@@ -21,6 +23,7 @@ impl Status {
         match self {
             Status::Done => 0,
             Status::NotCertified => 1,
+            Status::Wrong => 1,
             Status::Trouble => 2,
         }
     }

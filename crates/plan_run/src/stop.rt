@@ -3,6 +3,7 @@ ghost use Rattle.std.specs.Prelude.{◌≡◌};
 ghost use Rattle.plan_run.specs.declared.stop.Stop.TheVariants.{OutOfMemory};
 
 use lit_base::Fault;
+use plan_file::Cause;
 use std::alloc::AllocError;
 
 /// Why a request has a message in place of an answer.
@@ -16,6 +17,10 @@ pub enum Refusal<'a> {
     NoLiterals,
     /// What stands for the certificate is no certificate's text: this line is the first wrong one.
     NoCertificate { line: u32 },
+    /// What stands for the plan file is none: the field at this byte, from 0, is wrong.
+    NoPlanFile { place: usize, cause: Cause },
+    /// The plan file of this name has no plan of this number, from 0.
+    NoPlan { file: &'a str, place: usize },
 }
 
 /// Why a run stops before its answer is written.

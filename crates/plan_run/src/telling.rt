@@ -38,8 +38,8 @@ pub fn tell_certificate<'a, W: ByteOut>(
     certificate: &Certificate,
     out: &mut W,
 ) -> Result<Status, Stop<'a>>
-    requires shape { IsShaped 8 certificate.now }
-    ensures text { Writes (spelling 8 certificate.now) Status.Done result (W.written out.old) (W.written out.new) }
+    requires shape { IsShaped certificate.now }
+    ensures text { Writes (spelling certificate.now) Status.Done result (W.written out.old) (W.written out.new) }
     ensures flag { W.has_failed out.new ≡ (W.has_failed out.old || is_write_fault result) }
 {
     match write_cert(alloc, certificate, out) {

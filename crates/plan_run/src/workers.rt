@@ -12,7 +12,7 @@ pub struct Workers {
 }
 
 impl Workers {
-    /// So many workers, if there may be so many.
+    /// `count` workers, if there may be as many.
     pub fn new(count: usize) -> Option<Workers>
         ensures { MatchOption result (¬ AreWorkers count) (λ workers. workers.count ≡ count) }
     {

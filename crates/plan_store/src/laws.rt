@@ -12,8 +12,7 @@ use flow_scan::Compiled;
 use std::sync::Wait;
 use std::thread::{Threads, join};
 
-/// What one of two threads met: the ticket of its own plan, and what it found under the number that
-/// the other was told.
+/// The result of one of two threads: the ticket of its own plan, and the ticket that it found under the other's number.
 pub type Met = (Ticket, Option<Ticket>);
 
 /// The law that a plan is shown in every thread: one thread publishes it, and another that is handed
@@ -104,8 +103,8 @@ pub fn published_beside_a_find<R: Threads + Wait + Sync>(
     Ok((ticket, found))
 }
 
-/// The law that no number is given to two plans: two threads publish at once, each is told the number of
-/// its own plan, and where the plans differ, so do the numbers. The only refusal is `OutOfMemory`.
+/// The law that no number is given to two plans: two threads publish at once, each gets the number of its own plan, and
+/// where the plans differ, so do the numbers. The only error is `OutOfMemory`.
 pub fn numbers_are_apart<R: Threads + Wait + Sync>(
     rt: &R,
     store: &PlanStore,
@@ -129,9 +128,8 @@ pub fn numbers_are_apart<R: Threads + Wait + Sync>(
     Ok((first, second))
 }
 
-/// The law that two threads find the plans of each other: they publish at once, and then each looks up
-/// the number that the other was told. Where a look-up answers, it answers with the plan of the other
-/// thread. The only refusal is `OutOfMemory`.
+/// The law that two threads find the plans of each other: they publish at once, and then each looks up the number that
+/// the other got. A look-up that returns a ticket shows the plan of the other thread. The only error is `OutOfMemory`.
 pub fn each_finds_the_other<R: Threads + Wait + Sync>(
     rt: &R,
     store: &PlanStore,

@@ -18,7 +18,7 @@ pub struct PlanStore {
     plans: boxcar::Vec<Compiled>,
 }
 
-/// A contract sees how the store is laid out, by which it tells which tickets are of it.
+/// A contract sees how the store is laid out, and so which tickets are of it.
 impl Model for PlanStore {
     ghost use Rattle.boxcar.specs.Table.{Shelves, shelves_coded};
 
@@ -56,7 +56,7 @@ impl PlanStore {
     pub fn at(&self, ticket: &Ticket) -> &Compiled
         requires { IsOf self.now ticket.now }
         ensures plan { result.now ≡ ticket.now.plan }
-        ensures certified { IsCertified 8 result.now.literals result.now.certificate }
+        ensures certified { IsCertified result.now.literals result.now.certificate }
     {
         let plan = self.plans.value(&ticket.pushed);
         let _certified = plan.certificate();

@@ -12,5 +12,5 @@ cut-costs : (ls : List ℕ) (n p : ℕ) (ends : List ℕ) → CutsFrom n p ends 
 cut-costs ls n p [] e some = absurd (omega (arith, e, some))
 cut-costs ls n p (end ∷ ends) e some = omega (arith, run-costs ls p end)
 
-pub priced : (ls : List ℕ) (n : ℕ) (ends : List ℕ) → IsCut 8 n ends → 0 < cut_price (run_cost ls) 0 ends
+pub priced : (ls : List ℕ) (n : ℕ) (ends : List ℕ) → IsCut 16 n ends → 0 < cut_price (run_cost ls) 0 ends
 priced ls n ends cut = cut-costs ls n 0 ends cut.cuts cut.some

@@ -1,7 +1,7 @@
 -- Numbers in columns.
 use Rattle.std.specs.Prelude.{ℕ, ◌-◌, List, ◌++◌, decimal, flat_map, length, replicate}
 
--- a text at the right of a column of so many places, with spaces before it; a longer one goes past the column
+-- a text at the right of a column of `width` places, with spaces before it; a longer one goes past the column
 abbrev pub right : ℕ → List ℕ → List ℕ
 right width text = replicate (width - length text) 32 ++ text
 

@@ -2,14 +2,16 @@
 use Rattle.std.specs.Prelude.{ℕ, ◌+◌, ◌-◌, ◌*◌, ◌/◌, ◌==◌, List, [], ◌∷◌, ◌++◌, codes, decimal, flat_map, if◌then◌else◌, length, max, nat_lt, slice_index}
 use Rattle.lit_base.specs.Costs.{run_cost}
 use Rattle.lit_base.specs.Literals.{Literals, lengths}
+use Rattle.lit_base.specs.declared.profile.Profile.{Profile}
+use Rattle.lit_base.specs.declared.profile.Profile.TheVariants.{Eight, Sixteen}
 use Rattle.plan_view.specs.Rows.{percent, span, total_of}
-use Rattle.plan_view.specs.Texts.{eighths, single}
+use Rattle.plan_view.specs.Texts.{even_parts, single}
 
 -- a byte as XML has it
 abbrev pub xml_byte : ℕ → List ℕ
 xml_byte b = if b == 38 then codes "&amp;" else if b == 60 then codes "&lt;" else if b == 62 then codes "&gt;" else b ∷ []
 
--- a number behind a text
+-- a number after a text
 unfoldable pub said : List ℕ → ℕ → List ℕ
 said label number = label ++ decimal number
 
@@ -21,12 +23,12 @@ across n p = p * 640 / n
 abbrev pub height : ℕ → ℕ → ℕ
 height cost highest = cost * 200 / highest
 
--- the highest of this cost and those of the runs from place p on
+-- the highest of this cost and the costs of the runs from place p on
 abbrev pub highest_cost : List ℕ → ℕ → ℕ → List ℕ → ℕ
 highest_cost ls least p [] = least
 highest_cost ls least p (q ∷ more) = highest_cost ls (max least (run_cost ls p q)) q more
 
--- what a bucket is told by where a pointer rests on it
+-- the title of a bucket, which shows where a pointer rests on it
 unfoldable pub numbers_told : Literals → List ℕ → ℕ → ℕ → ℕ → List ℕ
 numbers_told l ends b p q =
     let cost = run_cost (lengths l) p q in
@@ -52,7 +54,7 @@ unfoldable pub bar_numbers : ℕ → ℕ → ℕ → ℕ → ℕ → List ℕ
 bar_numbers x width high cost shortest =
     if nat_lt width 48 then [] else number_at (x + 3) (255 - high) cost ++ number_at (x + 3) 275 shortest
 
--- a bucket: what is told of it, its bar, and the numbers by it
+-- a bucket: its title, its bar, and the numbers by it
 unfoldable pub drawn : Literals → List ℕ → ℕ → ℕ → ℕ → ℕ → List ℕ
 drawn l ends highest b p q =
     let n = length l.texts in
@@ -66,11 +68,16 @@ abbrev pub drawn_from : Literals → List ℕ → ℕ → ℕ → ℕ → List �
 drawn_from l ends highest b p [] = []
 drawn_from l ends highest b p (q ∷ more) = drawn l ends highest b p q ++ drawn_from l ends highest (b + 1) q more
 
--- what the drawing is headed by: what the plan costs, and what one bucket and even eighths would
-unfoldable pub caption : Literals → List ℕ → List ℕ
-caption l ends =
+-- what stands before the cost of even parts
+abbrev pub even_phrase : Profile → List ℕ
+even_phrase Eight = codes "; even eighths "
+even_phrase Sixteen = codes "; even sixteenths "
+
+-- what the drawing is headed by: what the plan costs, and what one bucket and even parts would
+unfoldable pub caption : Profile → Literals → List ℕ → List ℕ
+caption profile l ends =
     said (codes "<text x=\"40\" y=\"24\">cost ") (total_of l ends) ++ (said (codes "; one bucket for all ") (single l)
-    ++ (said (codes "; even eighths ") (eighths l) ++ codes "</text>\n"))
+    ++ (said (even_phrase profile) (even_parts profile l) ++ codes "</text>\n"))
 
 -- the head of the file: its size, and colours for light and dark pages
 unfoldable pub head : List ℕ
@@ -80,7 +87,7 @@ head =
 unfoldable pub foot : List ℕ
 foot = codes "<path d=\"M40 260H680\"/>\n<text x=\"40\" y=\"300\">literals by length; below a bucket the bytes of its shortest, above it its cost</text>\n</svg>\n"
 
--- the plan of a list that is cut at these ends
-unfoldable pub plan_svg : Literals → List ℕ → List ℕ
-plan_svg l ends =
-    head ++ (caption l ends ++ (drawn_from l ends (highest_cost (lengths l) 1 0 ends) 0 0 ends ++ foot))
+-- the plan, of this profile, of a list that is cut at these ends
+unfoldable pub plan_svg : Profile → Literals → List ℕ → List ℕ
+plan_svg profile l ends =
+    head ++ (caption profile l ends ++ (drawn_from l ends (highest_cost (lengths l) 1 0 ends) 0 0 ends ++ foot))

@@ -5,7 +5,7 @@ use Rattle.std.specs.Prelude.{ℕ, ◌+◌, ◌/◌, ◌%◌, ◌==◌, ◌&&◌
 abbrev pub hex_digit : ℕ → ℕ
 hex_digit n = if nat_lt n 10 then 48 + n else 87 + n
 
--- a byte: a quote or a backslash behind a backslash, printable ASCII as it is, any other byte as \x and two digits
+-- a byte: a quote or a backslash after a backslash, printable ASCII as it is, any other byte as \x and two digits
 abbrev pub shown_byte : ℕ → List ℕ
 shown_byte b =
     if b == 34 || b == 92 then 92 ∷ b ∷ []
@@ -15,3 +15,7 @@ shown_byte b =
 -- a literal: its first 24 bytes, and two dots where it has more
 abbrev pub quoted : List ℕ → List ℕ
 quoted text = 34 ∷ (flat_map shown_byte (take 24 text) ++ 34 ∷ (if nat_lt 24 (length text) then codes ".." else []))
+
+-- all bytes of a literal
+abbrev pub whole : List ℕ → List ℕ
+whole text = 34 ∷ (flat_map shown_byte text ++ 34 ∷ [])

@@ -18,15 +18,15 @@ first_with (Some (Some place)) before = position (has_place place) before
 abbrev pub earlier : List (Option ℕ) → ℕ → Option ℕ
 earlier places k = first_with (slice_get places k) (take k places)
 
--- the k-th pattern with that one, where there is one; both are told by their lines, which count from 1
+-- the k-th pattern with that one, where there is one; both by their lines, which count from 1
 abbrev pub repeat_at : ℕ → Option ℕ → List (ℕ × ℕ)
 repeat_at k None = []
 repeat_at k (Some first) = (k + 1, first + 1) ∷ []
 
--- the lines of the patterns among the first n whose literal an earlier one has, each with the first of those
+-- the lines of the patterns among the first n whose literal an earlier one has, each with the line of the first
 unfoldable pub repeats : List (Option ℕ) → ℕ → List (ℕ × ℕ)
 repeats places n = flat_map (λ k. repeat_at k (earlier places k)) (range_with_len 0 n)
 
--- how many patterns have no literal: the null ones
+-- how many patterns have no literal: the null patterns
 abbrev pub nulls : List (Option ℕ) → ℕ
 nulls places = count_by is_none places

@@ -15,8 +15,8 @@ percent part total = part * 100 / total
 abbrev pub total_of : Literals → List ℕ → ℕ
 total_of l ends = cut_price (run_cost (lengths l)) 0 ends
 
--- bucket b, the literals from place p up to but not including q: its number from 1, how many they are, the bytes of the
--- shortest, those of a fingerprint, the weight, the cost, its share of the total, and how many endings pass
+-- bucket b, the literals from place p up to but not including q: its number from 1; how many they are; the bytes of the
+-- shortest; the bytes of a fingerprint; the weight; the cost; its share of the total; and how many endings pass
 abbrev pub row_numbers : Literals → List ℕ → ℕ → ℕ → ℕ → List (ℕ × ℕ)
 row_numbers l ends b p q =
     let shortest = slice_index (lengths l) p in

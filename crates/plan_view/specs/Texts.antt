@@ -2,6 +2,9 @@
 use Rattle.std.specs.Prelude.{ℕ, ◌+◌, ◌*◌, ◌/◌, List, [], ◌∷◌, ◌++◌, codes, decimal, flat_map, if◌then◌else◌, length, nat_lt, Option, take}
 use Rattle.lit_base.specs.Costs.{run_cost}
 use Rattle.lit_base.specs.Literals.{Literals, lengths}
+use Rattle.lit_base.specs.Profiles.{buckets}
+use Rattle.lit_base.specs.declared.profile.Profile.{Profile}
+use Rattle.lit_base.specs.declared.profile.Profile.TheVariants.{Eight, Sixteen}
 use Rattle.plan_view.specs.Columns.{columns}
 use Rattle.plan_view.specs.Repeats.{nulls, repeats}
 use Rattle.plan_view.specs.Rows.{percent, rows_from, total_of}
@@ -19,31 +22,38 @@ single l = run_cost (lengths l) 0 (length l.texts)
 abbrev pub part_cost : List ℕ → ℕ → ℕ → ℕ
 part_cost ls p q = if nat_lt p q then run_cost ls p q else 0
 
--- where the k-th eighth of n literals begins
-abbrev pub eighth : ℕ → ℕ → ℕ
-eighth n k = k * n / 8
+-- where the k-th of the even parts of n literals begins, as many as the profile has buckets
+abbrev pub part_start : Profile → ℕ → ℕ → ℕ
+part_start profile n k = k * n / buckets profile
 
--- what the list costs in even eighths
-unfoldable pub eighths : Literals → ℕ
-eighths l = let n = length l.texts in sum_below 8 (λ k. part_cost (lengths l) (eighth n k) (eighth n (k + 1)))
+-- what the list costs in even parts
+unfoldable pub even_parts : Profile → Literals → ℕ
+even_parts profile l =
+    let n = length l.texts in
+    sum_below (buckets profile) (λ k. part_cost (lengths l) (part_start profile n k) (part_start profile n (k + 1)))
 
--- a cost below the rows, with its share of the total
+-- what the line of even parts begins with
+abbrev pub even_label : Profile → List ℕ
+even_label Eight = codes "even eighths                             "
+even_label Sixteen = codes "even sixteenths                          "
+
+-- a cost below the rows, and its share of the total, which may be longer than its column
 unfoldable pub sum_line : List ℕ → ℕ → ℕ → List ℕ
-sum_line label cost share = label ++ (columns ((12, cost) ∷ (5, share) ∷ []) ++ codes "\n")
+sum_line label cost share = label ++ (columns ((12, cost) ∷ []) ++ (codes " " ++ (columns ((4, share) ∷ []) ++ codes "\n")))
 
--- what the plan costs, and what one bucket and even eighths would
-abbrev pub sums : Literals → List ℕ → List ℕ
-sums l ends =
+-- what the plan costs, and what one bucket and even parts would
+abbrev pub sums : Profile → Literals → List ℕ → List ℕ
+sums profile l ends =
     let total = total_of l ends in
     sum_line (codes "total                                    ") total 100
     ++ (sum_line (codes "one bucket for all                       ") (single l) (percent (single l) total)
-    ++ sum_line (codes "even eighths                             ") (eighths l) (percent (eighths l) total))
+    ++ sum_line (even_label profile) (even_parts profile l) (percent (even_parts profile l) total))
 
 -- a line that says again what an earlier one says
 abbrev pub repeat_line : ℕ × ℕ → List ℕ
 repeat_line r = codes "  line " ++ (decimal r.0 ++ (codes " is line " ++ (decimal r.1 ++ codes " again\n")))
 
--- a number behind what it counts
+-- a number after its label
 unfoldable pub count_line : List ℕ → ℕ → List ℕ
 count_line label count = label ++ (decimal count ++ codes "\n")
 
@@ -54,6 +64,6 @@ drops places =
     count_line (codes "equal to an earlier line: ") (length found)
     ++ (flat_map repeat_line (take 10 found) ++ count_line (codes "null patterns: ") (nulls places))
 
--- the plan of a list that is cut at these ends, whose patterns stand at these places
-unfoldable pub plan_text : Literals → List ℕ → List (Option ℕ) → List ℕ
-plan_text l ends places = heading ++ (rows_from l ends 0 0 ends ++ (sums l ends ++ drops places))
+-- the plan, of this profile, of a list that is cut at these ends, whose patterns stand at these places
+unfoldable pub plan_text : Profile → Literals → List ℕ → List (Option ℕ) → List ℕ
+plan_text profile l ends places = heading ++ (rows_from l ends 0 0 ends ++ (sums profile l ends ++ drops places))

@@ -2,12 +2,12 @@
 ghost use Rattle.std.specs.Prelude.{◌≡◌, ◌+◌, ◌^◌, ◌<◌, ◌≤◌, ◌++◌, OnOk, IfOk, flat_map, length};
 ghost use Rattle.lit_base.specs.Cuts.{CutsFrom, IsCut};
 ghost use Rattle.lit_base.specs.Literals.{lengths};
-ghost use Rattle.plan_view.specs.Drawings.{across, bar, bar_numbers, caption, drawn, drawn_from, height, highest_cost, number_at, numbers_told, plan_svg, said, title, xml_byte};
+ghost use Rattle.plan_view.specs.Drawings.{across, bar, bar_numbers, caption, drawn, drawn_from, even_phrase, height, highest_cost, number_at, numbers_told, plan_svg, said, title, xml_byte};
 
 use crate::rows::{percent, push_span, run_cost};
-use crate::sums::{eighths, push_number, single};
+use crate::sums::{even_parts, push_number, single};
 use crate::view::View;
-use lit_base::{Ends, LitList};
+use lit_base::{Ends, LitList, Profile};
 use nib_mask::Masks;
 use std::alloc::{AllocError, Global};
 
@@ -18,13 +18,19 @@ const HEAD: &[u8] =
 const FOOT: &[u8] =
     b"<path d=\"M40 260H680\"/>\n<text x=\"40\" y=\"300\">literals by length; below a bucket the bytes of its shortest, above it its cost</text>\n</svg>\n";
 
-/// The plan of a list as an SVG file: a bar for each bucket, as wide as it has literals and as high as it costs.
-pub fn plan_svg(alloc: Global, list: &LitList, ends: &Ends) -> Result<Vec<u8>, AllocError>
-    requires { IsCut 8 (length list.now.texts) ends.now.items }
-    ensures { IfOk result (λ text. text.items ≡ plan_svg list.now ends.now.items) }
+/// The plan of a list as an SVG file: a bar for each bucket, as wide as it has literals and as high as it costs. Its caption
+/// compares the plan with as many even parts as the profile has buckets.
+pub fn plan_svg(
+    alloc: Global,
+    profile: Profile,
+    list: &LitList,
+    ends: &Ends,
+) -> Result<Vec<u8>, AllocError>
+    requires { IsCut 16 (length list.now.texts) ends.now.items }
+    ensures { IfOk result (λ text. text.items ≡ plan_svg profile list.now ends.now.items) }
 {
     let masks = Masks::of(list, ends);
-    let view = View::new(list, ends, &masks);
+    let view = View::new(profile, list, ends, &masks);
     let highest = highest_cost(list, 1, 0, ends.as_slice());
     let mut text = Vec::from_slice(alloc, HEAD)?;
     push_caption(view, &mut text)?;
@@ -33,18 +39,32 @@ pub fn plan_svg(alloc: Global, list: &LitList, ends: &Ends) -> Result<Vec<u8>, A
     Ok(text)
 }
 
-/// Appends what the plan costs, and what one bucket and even eighths would.
+/// Appends what the plan costs, and what one bucket and even parts would.
 fn push_caption(view: View<'_>, text: &mut Vec<u8>) -> Result<(), AllocError>
-    ensures { OnOk result (text.new.items ≡ text.old.items ++ caption view.entry.list.now view.entry.ends.now.items) }
+    ensures { OnOk result (text.new.items ≡ text.old.items ++ caption view.entry.profile view.entry.list.now view.entry.ends.now.items) }
 {
     push_said(b"<text x=\"40\" y=\"24\">cost ", view.total, text)?;
     push_said(b"; one bucket for all ", single(view), text)?;
-    push_said(b"; even eighths ", eighths(view.list), text)?;
+    push_said(
+        even_phrase(view.profile),
+        even_parts(view.profile, view.list),
+        text,
+    )?;
     text.extend_from_slice(b"</text>\n")?;
     Ok(())
 }
 
-/// The highest of this cost and those of the runs from place `start` on.
+/// What stands before the cost of even parts.
+fn even_phrase(profile: Profile) -> &'static [u8]
+    ensures { result.now ≡ even_phrase profile }
+{
+    match profile {
+        Profile::Eight => b"; even eighths ",
+        Profile::Sixteen => b"; even sixteenths ",
+    }
+}
+
+/// The highest of this cost and the costs of the runs from place `start` on.
 fn highest_cost(list: &LitList, least: u64, start: usize, ends: &[u16]) -> u64
     requires cuts { CutsFrom (length list.now.texts) start ends.now }
     requires least { 0 < least }
@@ -70,7 +90,7 @@ fn push_buckets(
     text: &mut Vec<u8>,
 ) -> Result<(), AllocError>
     requires cuts { CutsFrom (length view.list.now.texts) start ends.now }
-    requires few { bucket + length ends.now ≤ 8 }
+    requires few { bucket + length ends.now ≤ 16 }
     requires highest { 0 < highest }
     ensures { OnOk result (text.new.items ≡ text.old.items ++ drawn_from view.entry.list.now view.entry.ends.now.items highest bucket start ends.now) }
 {
@@ -94,7 +114,7 @@ fn push_bucket(
     end: usize,
     text: &mut Vec<u8>,
 ) -> Result<(), AllocError>
-    requires bucket { bucket < 8 }
+    requires bucket { bucket < 16 }
     requires some { start < end }
     requires within { end ≤ length view.list.now.texts }
     requires highest { 0 < highest }
@@ -124,9 +144,9 @@ fn push_bucket(
 fn across(count: usize, place: usize) -> u64
     requires some { 0 < count }
     requires within { place ≤ count }
-    requires few { count ≤ 1024 }
+    requires few { count ≤ 4096 }
     ensures value { result ≡ across count place }
-    ensures bound { result ≤ 655360 }
+    ensures bound { result ≤ 2621440 }
 {
     place as u64 * 640 / count as u64
 }
@@ -140,7 +160,7 @@ fn height(cost: u64, highest: u64) -> u64
     cost * 200 / highest
 }
 
-/// Appends what a bucket is told by where a pointer rests on it.
+/// Appends the title of a bucket, which shows where a pointer rests on it.
 #[tactic(auto, unfolding(crate::specs::Drawings::title))]
 fn push_title(
     view: View<'_>,
@@ -149,7 +169,7 @@ fn push_title(
     end: usize,
     text: &mut Vec<u8>,
 ) -> Result<(), AllocError>
-    requires bucket { bucket < 8 }
+    requires bucket { bucket < 16 }
     requires some { start < end }
     requires within { end ≤ length view.list.now.texts }
     ensures { OnOk result (text.new.items ≡ text.old.items ++ title view.entry.list.now view.entry.ends.now.items bucket start end) }
@@ -170,7 +190,7 @@ fn push_numbers(
     end: usize,
     text: &mut Vec<u8>,
 ) -> Result<(), AllocError>
-    requires bucket { bucket < 8 }
+    requires bucket { bucket < 16 }
     requires some { start < end }
     requires within { end ≤ length view.list.now.texts }
     ensures { OnOk result (text.new.items ≡ text.old.items ++ numbers_told view.entry.list.now view.entry.ends.now.items bucket start end) }
@@ -232,7 +252,7 @@ fn push_number_at(x: u64, y: u64, number: u64, text: &mut Vec<u8>) -> Result<(),
     Ok(())
 }
 
-/// Appends a number behind a text.
+/// Appends a number after a text.
 #[tactic(auto, unfolding(crate::specs::Drawings::said))]
 fn push_said(label: &[u8], number: u64, text: &mut Vec<u8>) -> Result<(), AllocError>
     ensures { OnOk result (text.new.items ≡ text.old.items ++ said label.now number) }

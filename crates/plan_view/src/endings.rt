@@ -11,7 +11,7 @@ use nib_mask::Masks;
 
 /// How many of the 2^24 endings have the bucket in their filter set, by the tables that give these sets.
 pub fn endings(masks: &Masks, bucket: usize) -> u64
-    requires { bucket < 8 }
+    requires { bucket < 16 }
     ensures { (l : Literals) (ends : List ℕ) → GivesFilterSets l ends masks.now → result ≡ endings l ends bucket }
 {
     kept(masks, 0, bucket) * kept(masks, 1, bucket) * kept(masks, 2, bucket)
@@ -21,7 +21,7 @@ pub fn endings(masks: &Masks, bucket: usize) -> u64
 #[tactic(auto, using(crate::proofs::Ranges::sum_more, crate::proofs::Ranges::sum_none))]
 fn kept(masks: &Masks, position: usize, bucket: usize) -> u64
     requires position { position < 3 }
-    requires bucket { bucket < 8 }
+    requires bucket { bucket < 16 }
     ensures value { result ≡ sum_below 256 (λ byte. bit_at (value_at masks.now position byte) bucket) }
     ensures bound { result ≤ 256 }
 {
@@ -32,18 +32,18 @@ fn kept(masks: &Masks, position: usize, bucket: usize) -> u64
     count
 }
 
-/// A bit of a byte.
-fn bit_of(byte: u8, bucket: usize) -> u8
-    requires { bucket < 8 }
-    ensures value { result ≡ bit_at byte bucket }
+/// A bit of a number.
+fn bit_of(number: u16, bucket: usize) -> u16
+    requires { bucket < 16 }
+    ensures value { result ≡ bit_at number bucket }
     ensures bound { result ≤ 1 }
 {
-    byte >> bucket & 1
+    number >> bucket & 1
 }
 
 /// What a byte has at a position.
 #[tactic(auto, unfolding(nib_mask::specs::Tables::value_at))]
-fn byte_at(masks: &Masks, position: usize, byte: u8) -> u8
+fn byte_at(masks: &Masks, position: usize, byte: u8) -> u16
     requires { position < 3 }
     ensures { result ≡ value_at masks.now position byte }
 {

@@ -13,4 +13,5 @@ mod view;
 mod viewing;
 
 pub use drawing::plan_svg;
+pub use quotes::push_literal;
 pub use viewing::plan_text;

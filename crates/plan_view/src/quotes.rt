@@ -1,6 +1,6 @@
 //! Literals as they are shown.
 ghost use Rattle.std.specs.Prelude.{◌≡◌, ◌<◌, ◌++◌, OnOk, flat_map};
-ghost use Rattle.plan_view.specs.Quotes.{hex_digit, quoted, shown_byte};
+ghost use Rattle.plan_view.specs.Quotes.{hex_digit, quoted, shown_byte, whole};
 
 use std::alloc::AllocError;
 
@@ -17,6 +17,19 @@ pub fn push_quoted(literal: &[u8], text: &mut Vec<u8>) -> Result<(), AllocError>
     if literal.len() > MAX_SHOWN {
         text.extend_from_slice(b"..")?;
     }
+    Ok(())
+}
+
+/// Appends a literal between quotes, whole, in printable ASCII.
+///
+/// # Errors
+/// `AllocError`, where a growth was refused.
+pub fn push_literal(literal: &[u8], text: &mut Vec<u8>) -> Result<(), AllocError>
+    ensures { OnOk result (text.new.items ≡ text.old.items ++ whole literal.now) }
+{
+    text.push(b'"')?;
+    push_shown(literal, text)?;
+    text.push(b'"')?;
     Ok(())
 }
 

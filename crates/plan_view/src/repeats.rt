@@ -4,11 +4,11 @@ ghost use Rattle.plan_view.specs.Repeats.{earlier, first_with, nulls, repeat_at,
 
 use std::alloc::{AllocError, Global};
 
-/// The line of a pattern, and that of the first one with the same literal; lines count from 1.
+/// The line of a pattern, and the line of the first one with the same literal; lines count from 1.
 pub type Repeat = (usize, usize);
 
-/// The patterns whose literal an earlier one has, each with the first of those; each pattern is known by the place of its
-/// literal. It compares each pattern with those before it.
+/// The patterns whose literal an earlier one has, each with the first pattern of that literal; each pattern is known by
+/// the place of its literal. It compares each pattern with all before it.
 #[tactic(auto, using(crate::proofs::Ranges::repeats_more, crate::proofs::Ranges::no_repeats))]
 pub fn repeats(alloc: Global, places: &[Option<u16>]) -> Result<Vec<Repeat>, AllocError>
     ensures { IfOk result (λ found. found.items ≡ repeats places.now (length places.now)) }
@@ -48,7 +48,7 @@ fn earlier(places: &[Option<u16>], later: usize) -> Option<usize>
     }
 }
 
-/// The first of these patterns that has this literal.
+/// The first of the patterns with this literal.
 fn first_with(patterns: &[Option<u16>], place: u16) -> Option<usize>
     ensures value { result ≡ first_with (Some (Some place)) patterns.now }
     ensures within { IfSome result (λ first. first < length patterns.now) }

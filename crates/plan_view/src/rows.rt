@@ -21,7 +21,7 @@ pub fn push_rows(
     text: &mut Vec<u8>,
 ) -> Result<(), AllocError>
     requires cuts { CutsFrom (length view.list.now.texts) start ends.now }
-    requires few { bucket + length ends.now ≤ 8 }
+    requires few { bucket + length ends.now ≤ 16 }
     ensures { OnOk result (text.new.items ≡ text.old.items ++ rows_from view.entry.list.now view.entry.ends.now.items bucket start ends.now) }
 {
     match ends {
@@ -42,7 +42,7 @@ fn push_row(
     end: usize,
     text: &mut Vec<u8>,
 ) -> Result<(), AllocError>
-    requires bucket { bucket < 8 }
+    requires bucket { bucket < 16 }
     requires some { start < end }
     requires within { end ≤ length view.list.now.texts }
     ensures { OnOk result (text.new.items ≡ text.old.items ++ row view.entry.list.now view.entry.ends.now.items bucket start end) }
@@ -55,7 +55,7 @@ fn push_row(
 
 /// The numbers in the row of a bucket, each with the width of its column.
 fn numbers_of(view: View<'_>, bucket: usize, start: usize, end: usize) -> [(usize, u64); 8]
-    requires bucket { bucket < 8 }
+    requires bucket { bucket < 16 }
     requires some { start < end }
     requires within { end ≤ length view.list.now.texts }
     ensures { result ≡ row_numbers view.entry.list.now view.entry.ends.now.items bucket start end }
@@ -93,7 +93,7 @@ pub fn push_span(
 
 /// A part of a total in percent, rounded down.
 pub fn percent(part: u64, total: u64) -> u64
-    requires part { part < 2 ^ 44 }
+    requires part { part ≤ 2 ^ 44 }
     requires total { 0 < total }
     ensures { result ≡ percent part total }
 {

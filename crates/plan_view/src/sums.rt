@@ -1,26 +1,27 @@
-//! What is told below the rows: what the plan and other groupings cost, and which patterns were dropped.
+//! The text below the rows: the costs of the plan and of other groupings, and the dropped patterns.
 ghost use Rattle.std.specs.Prelude.{◌≡◌, ◌+◌, ◌^◌, ◌<◌, ◌≤◌, ◌++◌, OnOk, decimal, flat_map, length, take};
 ghost use Rattle.lit_base.specs.Literals.{lengths};
-ghost use Rattle.plan_view.specs.Texts.{count_line, drops, eighth, eighths, part_cost, repeat_line, single, sum_line, sums};
+ghost use Rattle.lit_base.specs.Profiles.{buckets};
+ghost use Rattle.plan_view.specs.Texts.{count_line, drops, even_label, even_parts, part_cost, part_start, repeat_line, single, sum_line, sums};
 
 use crate::columns::push_columns;
 use crate::repeats::{Repeat, nulls, repeats};
 use crate::rows::{percent, run_cost};
 use crate::view::View;
 use itoa::Buffer;
-use lit_base::LitList;
+use lit_base::{LitList, Profile, buckets};
 use std::alloc::{AllocError, Global};
 
-/// How many patterns that were dropped are told one by one.
+/// How many dropped patterns are listed one by one.
 const MAX_TOLD: usize = 10;
 
-/// Appends what the plan costs, and what one bucket and even eighths would.
+/// Appends what the plan costs, and what one bucket and even parts would.
 pub fn push_sums(view: View<'_>, text: &mut Vec<u8>) -> Result<(), AllocError>
-    ensures { OnOk result (text.new.items ≡ text.old.items ++ sums view.entry.list.now view.entry.ends.now.items) }
+    ensures { OnOk result (text.new.items ≡ text.old.items ++ sums view.entry.profile view.entry.list.now view.entry.ends.now.items) }
 {
     let total = view.total;
     let single = single(view);
-    let eighths = eighths(view.list);
+    let even = even_parts(view.profile, view.list);
     push_sum(
         b"total                                    ",
         total,
@@ -33,13 +34,18 @@ pub fn push_sums(view: View<'_>, text: &mut Vec<u8>) -> Result<(), AllocError>
         percent(single, total),
         text,
     )?;
-    push_sum(
-        b"even eighths                             ",
-        eighths,
-        percent(eighths, total),
-        text,
-    )?;
+    push_sum(even_label(view.profile), even, percent(even, total), text)?;
     Ok(())
+}
+
+/// What the line of even parts begins with.
+fn even_label(profile: Profile) -> &'static [u8]
+    ensures { result.now ≡ even_label profile }
+{
+    match profile {
+        Profile::Eight => b"even eighths                             ",
+        Profile::Sixteen => b"even sixteenths                          ",
+    }
 }
 
 /// What one bucket for all literals costs.
@@ -56,33 +62,36 @@ fn push_sum(label: &[u8], cost: u64, share: u64, text: &mut Vec<u8>) -> Result<(
     ensures { OnOk result (text.new.items ≡ text.old.items ++ sum_line label.now cost share) }
 {
     text.extend_from_slice(label)?;
-    push_columns(&[(12, cost), (5, share)], text)?;
+    push_columns(&[(12, cost)], text)?;
+    text.push(b' ')?;
+    push_columns(&[(4, share)], text)?;
     text.push(b'\n')?;
     Ok(())
 }
 
-/// What the list costs in even eighths.
-#[tactic(auto, unfolding(crate::specs::Texts::eighths), using(crate::proofs::Ranges::sum_more, crate::proofs::Ranges::sum_none))]
-pub fn eighths(list: &LitList) -> u64
-    ensures value { result ≡ eighths list.now }
-    ensures bound { result < 2 ^ 44 }
+/// What the list costs in even parts, as many as the profile has buckets.
+#[tactic(auto, unfolding(crate::specs::Texts::even_parts), using(crate::proofs::Ranges::sum_more, crate::proofs::Ranges::sum_none))]
+pub fn even_parts(profile: Profile, list: &LitList) -> u64
+    ensures value { result ≡ even_parts profile list.now }
+    ensures bound { result ≤ 2 ^ 44 }
 {
     let count = list.len();
     let mut sum = 0;
-    for k in 0..8 {
-        sum += part_cost(list, eighth(count, k), eighth(count, k + 1));
+    for k in 0..buckets(profile) {
+        let start = part_start(profile, count, k);
+        sum += part_cost(list, start, part_start(profile, count, k + 1));
     }
     sum
 }
 
-/// Where an eighth of so many literals begins.
-fn eighth(count: usize, k: usize) -> usize
-    requires few { count ≤ 1024 }
-    requires within { k ≤ 8 }
-    ensures value { result ≡ eighth count k }
+/// Where the k-th of the even parts of `count` literals begins.
+fn part_start(profile: Profile, count: usize, k: usize) -> usize
+    requires few { count ≤ 4096 }
+    requires within { k ≤ buckets profile }
+    ensures value { result ≡ part_start profile count k }
     ensures bound { result ≤ count }
 {
-    k * count / 8
+    k * count / buckets(profile)
 }
 
 /// What a part of the list costs, which may be empty.
@@ -113,7 +122,7 @@ pub fn push_drops(
     Ok(())
 }
 
-/// Those of the patterns that are told one by one.
+/// The patterns that are listed one by one.
 #[tactic(auto, using(std::proofs::lemmas::List::take_all))]
 fn told(found: &[Repeat]) -> &[Repeat]
     ensures { result.now ≡ take 10 found.now }
@@ -125,7 +134,7 @@ fn told(found: &[Repeat]) -> &[Repeat]
     }
 }
 
-/// Appends a line that tells a number.
+/// Appends a line with a number.
 #[tactic(auto, unfolding(crate::specs::Texts::count_line))]
 fn push_count(label: &[u8], count: usize, text: &mut Vec<u8>) -> Result<(), AllocError>
     ensures { OnOk result (text.new.items ≡ text.old.items ++ count_line label.now count) }
@@ -136,7 +145,7 @@ fn push_count(label: &[u8], count: usize, text: &mut Vec<u8>) -> Result<(), Allo
     Ok(())
 }
 
-/// Appends the lines that tell of patterns that were dropped.
+/// Appends the lines of dropped patterns.
 fn push_repeats(found: &[Repeat], text: &mut Vec<u8>) -> Result<(), AllocError>
     ensures { OnOk result (text.new.items ≡ text.old.items ++ flat_map repeat_line found.now) }
 {
@@ -146,7 +155,7 @@ fn push_repeats(found: &[Repeat], text: &mut Vec<u8>) -> Result<(), AllocError>
     Ok(())
 }
 
-/// Appends the line that tells of one.
+/// Appends the line of one.
 fn push_repeat(later: usize, first: usize, text: &mut Vec<u8>) -> Result<(), AllocError>
     ensures { OnOk result (text.new.items ≡ text.old.items ++ repeat_line (later, first)) }
 {

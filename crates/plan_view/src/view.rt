@@ -1,15 +1,16 @@
-//! A plan, with what its rows are told by.
+//! A plan, with all that its rows show.
 ghost use Rattle.std.specs.Prelude.{◌≡◌, ◌<◌, length};
 ghost use Rattle.lit_base.specs.Cuts.{IsCut};
 ghost use Rattle.nib_mask.specs.Candidates.{GivesFilterSets};
 ghost use Rattle.plan_view.specs.Rows.{total_of};
 
-use lit_base::{Ends, LitList, cut_cost};
+use lit_base::{Ends, LitList, Profile, cut_cost};
 use nib_mask::Masks;
 
-/// A list that is cut, with the tables of its filter and what the cut costs.
+/// A list that is cut for plans of a profile, with the tables of its filter and what the cut costs.
 #[derive(Clone, Copy)]
 pub struct View<'a> {
+    pub profile: Profile,
     pub list: &'a LitList,
     pub ends: &'a Ends,
     pub masks: &'a Masks,
@@ -22,13 +23,15 @@ pub struct View<'a> {
 
 impl<'a> View<'a> {
     /// The view of a list that is cut at these ends, by the tables that were made for them.
-    pub fn new(list: &'a LitList, ends: &'a Ends, masks: &'a Masks) -> View<'a>
-        requires cut { IsCut 8 (length list.now.texts) ends.now.items }
+    pub fn new(profile: Profile, list: &'a LitList, ends: &'a Ends, masks: &'a Masks) -> View<'a>
+        requires cut { IsCut 16 (length list.now.texts) ends.now.items }
         requires set { GivesFilterSets list.now ends.now.items masks.now }
+        ensures profile { result.profile ≡ profile }
         ensures list { result.list.now ≡ list.now }
         ensures ends { result.ends.now ≡ ends.now }
     {
         View {
+            profile,
             list,
             ends,
             masks,

@@ -6,27 +6,29 @@ ghost use Rattle.plan_view.specs.Texts.{plan_text};
 use crate::rows::push_rows;
 use crate::sums::{push_drops, push_sums};
 use crate::view::View;
-use lit_base::{Ends, LitList};
+use lit_base::{Ends, LitList, Profile};
 use nib_mask::Masks;
 use std::alloc::{AllocError, Global};
 
 const HEADING: &[u8] =
     b"bucket  literals  shortest  bytes  weight        cost    %   endings  first and last literal\n";
 
-/// The plan of a list as a text: a row for each bucket; below them what the plan costs, what one bucket and even eighths
-/// would, and which patterns were dropped. Of each pattern `places` has the place in the list, or none where it is null.
+/// The plan of a list as a text: a row for each bucket; below them what the plan costs, what one bucket and as many even
+/// parts as the profile has buckets would, and which patterns were dropped. Of each pattern `places` has the place in the
+/// list, or none where it is null.
 #[tactic(auto, unfolding(crate::specs::Texts::plan_text))]
 pub fn plan_text(
     alloc: Global,
+    profile: Profile,
     list: &LitList,
     ends: &Ends,
     places: &[Option<u16>],
 ) -> Result<Vec<u8>, AllocError>
-    requires { IsCut 8 (length list.now.texts) ends.now.items }
-    ensures { IfOk result (λ text. text.items ≡ plan_text list.now ends.now.items places.now) }
+    requires { IsCut 16 (length list.now.texts) ends.now.items }
+    ensures { IfOk result (λ text. text.items ≡ plan_text profile list.now ends.now.items places.now) }
 {
     let masks = Masks::of(list, ends);
-    let view = View::new(list, ends, &masks);
+    let view = View::new(profile, list, ends, &masks);
     let mut text = Vec::from_slice(alloc, HEADING)?;
     push_rows(view, 0, 0, ends.as_slice(), &mut text)?;
     push_sums(view, &mut text)?;

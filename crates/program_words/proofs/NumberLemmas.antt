@@ -6,22 +6,22 @@ use Rattle.clap.specs.Words.{ReadsOne, found_of, one_text}
 use Rattle.clap.specs.declared.parser.matches.ArgMatches.{ArgMatches}
 use Rattle.program_words.specs.Matches.{IsNumber}
 
--- what a text gives as a number without a sign, of so many bits
+-- the number in a text without a sign, of `bits` bits
 abbrev Gives : ℕ → List ℕ → Result ℕ ParseIntError → Type 0
 Gives bits text r = ParsesUnsigned bits 10 text r × ExplainsUnsignedError 10 text r × HasUnsignedDigitsIfOk text r
 
 module _ (bits : ℕ) (m : ArgMatches) (id : List ℕ) where
-  -- the same, where the text is told in another way
+  -- the same, where the text is written in another way
   of_text : (text : Option (List ℕ)) → one_text (found_of m) id ≡ text → (r : Option ℕ) → (text ≡ None → r ≡ None) → ((t : List ℕ) → text ≡ Some t → ReadsOne (Gives bits) t r) → IfSome r (IsNumber m id)
   of_text text is None none value = tt
   of_text None is (Some v) none value = let bad = none refl in (cc)
   of_text (Some t) is (Some v) none value = (t, is, (value t refl).0.1)
 
-  -- what is read of an argument is the number that its text spells
+  -- the number read of an argument is the number that its text spells
   pub number_read : (r : Option ℕ) → (one_text (found_of m) id ≡ None → r ≡ None) → ((t : List ℕ) → one_text (found_of m) id ≡ Some t → ReadsOne (Gives bits) t r) → IfSome r (IsNumber m id)
   number_read r none value = of_text (one_text (found_of m) id) refl r none value
 
--- what holds of a number holds of what was made of it, if anything was
+-- a fact on a number holds of the value made of it, if there is one
 pub counted : {X : Type 0} (count : X → ℕ) (Q : Type 0) (P : ℕ → Type 0) (n : ℕ) (r : Option X) → MatchOption r Q (λ x. count x ≡ n) → P n → IfSome r (λ x. P (count x))
 counted count Q P n None made holds = tt
 counted count Q P n (Some x) made holds = subst P (sym made) holds

@@ -1,4 +1,4 @@
--- What clap's matches tell of an argument.
+-- Clap's matches for an argument.
 use Rattle.std.specs.Prelude.{◌≡◌, ℕ, Bool, List, Some, codes, false, nat_lt, true}
 use Rattle.std.specs.Str.Parse.{digits_value, without_leading_plus}
 use Rattle.clap.specs.Words.{count_of, found_of, one_text, rows_of}

@@ -8,7 +8,7 @@ abbrev pub IsUnread : List ℕ → Fault → Type 0
 IsUnread program (Usage text) = string_bytes text ≡ program ++ codes ": a word is not UTF-8\n"
 IsUnread program OutOfMemory = ⊤
 
--- what is said of words that ask for nothing, by a program with this message on want of memory
+-- the message on words that ask for nothing, by a program with this message on want of memory
 abbrev pub message_on : List ℕ → Fault → List ℕ
 message_on out_of_memory (Usage text) = string_bytes text
 message_on out_of_memory OutOfMemory = out_of_memory

@@ -14,8 +14,8 @@ use std::alloc::Global;
 use std::io;
 use std::rt::Env;
 
-/// The version of each program, as `--version` tells it.
-pub const VERSION: &str = "0.1.0";
+/// The version of each program, as `--version` prints it.
+pub const VERSION: &str = "0.2.0";
 
 /// The words after the program's name.
 ///

@@ -6,23 +6,35 @@ use Rattle.lit_base.specs.Costs.{run_cost}
 use Rattle.lit_base.specs.Cuts.{IsCut, cut_price}
 use Rattle.lit_base.specs.Literals.{Literals, lengths}
 use Rattle.lit_base.specs.Potentials.{BoundsBelow, potential}
+use Rattle.lit_base.specs.Profiles.{buckets}
+use Rattle.lit_base.specs.declared.profile.Profile.{Profile}
+use Rattle.lit_base.specs.declared.profile.Profile.TheVariants.{Eight, Sixteen}
 use Rattle.lit_cert.specs.Certificates.{CertificateParts}
-use Rattle.lit_cert.specs.Certified.{IsCertified}
+use Rattle.lit_cert.specs.Certified.{IsCertified, IsCertifiedFor}
 use Rattle.run_planner.specs.FirstCut.{IsFirstCut}
 use Rattle.run_planner.specs.TailCosts.{AreTailCosts}
 use Rattle.run_planner.proofs.Tails.{tail_cost-le}
 
--- what was written through a slice is what the list holds
+-- the list holds the numbers written through a slice
 pub written_back : (rows items : List ℕ) (len : ℕ) → length rows ≡ len → take len (rows ++ drop (length rows) items) ≡ rows
 written_back rows items len size = subst (λ k. take k (rows ++ drop (length rows) items) ≡ rows) size (take-append_seam rows (drop (length rows) items))
 
 -- all prices together, where n has d binary digits
-pub count_all : (n d a b e : ℕ) → 0 < n → n < 2 ^ d → b ≤ a + n + 7 * (d * (n - 1) + n) → e ≤ b + n → e ≤ a + 16 * n * d
-count_all n zero a b e some digits rows ends = absurd (omega (arith, digits, some))
-count_all n (suc k) a b e some digits rows ends =
+pub count_all : (profile : Profile) (n d a b e : ℕ) → 0 < n → n < 2 ^ d → b ≤ a + n + (buckets profile - 1) * (d * (n - 1) + n) → e ≤ b + n → e ≤ a + 2 * buckets profile * n * d
+count_all profile n zero a b e some digits rows ends = absurd (omega (arith, digits, some))
+count_all Eight n (suc k) a b e some digits rows ends =
     let most = mul-le (suc k) (n - 1) (suc k) n (omega arith) (omega arith) in
     let once = mul-le n 1 n (suc k) (omega arith) (omega arith) in
     omega (arith, rows, ends, most, once)
+count_all Sixteen n (suc k) a b e some digits rows ends =
+    let most = mul-le (suc k) (n - 1) (suc k) n (omega arith) (omega arith) in
+    let once = mul-le n 1 n (suc k) (omega arith) (omega arith) in
+    omega (arith, rows, ends, most, once)
+
+-- the last row begins within all rows
+pub last_within : (profile : Profile) (n len : ℕ) → 0 < n → len ≡ buckets profile * n → (buckets profile - 1) * n < len
+last_within Eight n len some is = omega (arith, some, is)
+last_within Sixteen n len some is = omega (arith, some, is)
 
 -- the first cut costs as little as any
 pub first_cut-price : (c : ℕ → ℕ → ℕ) (most n : ℕ) (hs ends : List ℕ) → 1 ≤ most → AreTailCosts c n most hs → IsFirstCut c most n ends → cut_price c 0 ends ≡ potential hs n most 0
@@ -47,7 +59,7 @@ tails-bound c most n hs tails = record {
 }
 
 -- so a certificate of the first cut with the tail costs holds
-pub certified-from_plan : (most : ℕ) (l : Literals) (c : CertificateParts) → 1 ≤ most → IsFirstCut (run_cost (lengths l)) most (length l.texts) c.ends → c.cost ≡ cut_price (run_cost (lengths l)) 0 c.ends → AreTailCosts (run_cost (lengths l)) (length l.texts) most c.potentials → length c.potentials ≡ most * length l.texts → IsCertified most l c
+pub certified-from_plan : (most : ℕ) (l : Literals) (c : CertificateParts) → 1 ≤ most → IsFirstCut (run_cost (lengths l)) most (length l.texts) c.ends → c.cost ≡ cut_price (run_cost (lengths l)) 0 c.ends → AreTailCosts (run_cost (lengths l)) (length l.texts) most c.potentials → length c.potentials ≡ most * length l.texts → IsCertifiedFor most l c
 certified-from_plan most l c from_one first cost tails len = record {
   priced = record {
     size = record { some = first.cut.some; rows = len };
@@ -57,8 +69,8 @@ certified-from_plan most l c from_one first cost tails len = record {
   bounds = tails-bound (run_cost (lengths l)) most (length l.texts) c.potentials tails;
 }
 
--- so does that of a plan by a meter of as many places, whose prices are the costs of the literals
-pub certified-from_meter : (most : ℕ) (l : Literals) (c : CertificateParts) (n : ℕ) (prices : ℕ → ℕ → ℕ) → 1 ≤ most → n ≡ length l.texts → prices ≡ run_cost (lengths l) → IsFirstCut prices most n c.ends → c.cost ≡ cut_price prices 0 c.ends → AreTailCosts prices n most c.potentials → length c.potentials ≡ most * n → IsCertified most l c
+-- so does the certificate of a plan by a meter of as many places, whose prices are the costs of the literals
+pub certified-from_meter : (most : ℕ) (l : Literals) (c : CertificateParts) (n : ℕ) (prices : ℕ → ℕ → ℕ) → 1 ≤ most → n ≡ length l.texts → prices ≡ run_cost (lengths l) → IsFirstCut prices most n c.ends → c.cost ≡ cut_price prices 0 c.ends → AreTailCosts prices n most c.potentials → length c.potentials ≡ most * n → IsCertifiedFor most l c
 certified-from_meter most l c n prices from_one size same first cost tails len =
     let costs = run_cost (lengths l) in
     certified-from_plan most l c from_one
@@ -66,3 +78,12 @@ certified-from_meter most l c n prices from_one size same first cost tails len =
     (cost ∙ ap (λ p. cut_price p 0 c.ends) same)
     (subst (λ k. AreTailCosts costs k most c.potentials) size (subst (λ p. AreTailCosts p n most c.potentials) same tails))
     (len ∙ ap (λ k. most * k) size)
+
+-- by its own profile
+pub certified_by_meter : (profile : Profile) (l : Literals) (c : CertificateParts) (n : ℕ) (prices : ℕ → ℕ → ℕ) → c.profile ≡ profile → n ≡ length l.texts → prices ≡ run_cost (lengths l) → IsFirstCut prices (buckets profile) n c.ends → c.cost ≡ cut_price prices 0 c.ends → AreTailCosts prices n (buckets profile) c.potentials → length c.potentials ≡ buckets profile * n → IsCertified l c
+certified_by_meter profile l c n prices told size same first cost tails len =
+    subst (λ p. IsCertifiedFor (buckets p) l c) (sym told) (certified-from_meter (buckets profile) l c n prices (from_one profile) size same first cost tails len)
+  where
+    from_one : (profile : Profile) → 1 ≤ buckets profile
+    from_one Eight = omega arith
+    from_one Sixteen = omega arith

@@ -13,11 +13,11 @@ use Rattle.run_planner.specs.TailCosts.{IsTailCost, AreTailCosts}
 use Rattle.run_planner.specs.FirstCut.{ComeNoLater, IsNoLaterCut, IsFirstCut, IsFirstTail}
 use Rattle.run_planner.proofs.Tails.{tail_cost-end, tail_cost-le}
 
--- what s runs more cost behind each end, where there are as many
+-- what s runs more cost after each end, where there are as many
 abbrev Behind : (ℕ → ℕ → ℕ) → (ℕ → ℕ) → ℕ → ℕ → Type 0
 Behind c rest n s = (q : ℕ) → q ≤ n → (q < n → 1 ≤ s) → IsTailCost c n s q (rest q)
 
--- behind an end before n there are further runs
+-- after an end before n there are further runs
 more_runs : (n s end : ℕ) (ends : List ℕ) → CutsFrom n end ends → length ends ≤ s → end < n → 1 ≤ s
 more_runs n s end ends cuts few inner = omega (arith, length-cuts n end ends cuts inner, few)
 
@@ -77,7 +77,7 @@ first_tail-next c rest n s p v end ends tail behind past within reached before f
 pub first_tail-end : (c : ℕ → ℕ → ℕ) (n r v : ℕ) → 0 ≡ v → IsFirstTail c n r n v []
 first_tail-end c n r v is = record { cuts = refl; few = omega arith; price = is; first = λ others cuts few same. tt }
 
--- what a row of potentials says of the ends behind which its runs go on
+-- what a row of potentials says of the ends after which its runs go on
 behind-rows : (c : ℕ → ℕ → ℕ) (n s : ℕ) (rows : List ℕ) → AreTailCosts c n (suc s) rows → Behind c (potential rows n s) n s
 behind-rows c n s rows tails q within some = elim (cases_lt q n) [
   | inl inner ↦ tails s q (some inner) (omega arith) inner
@@ -86,7 +86,7 @@ behind-rows c n s rows tails q within some = elim (cases_lt q n) [
       subst (λ k. IsTailCost c n s k (potential rows n s k)) end (subst (λ v. IsTailCost c n s n v) (sym (potential-end rows n s n refl)) (tail_cost-end c n s))
 ]
 
--- by potentials: an end of s runs behind it, one run more, makes a first cheapest cut of each such behind it
+-- by potentials: an end of s runs after it, one run more, makes a first cheapest cut of each such after it
 abbrev pub GoesOn : (ℕ → ℕ → ℕ) → ℕ → List ℕ → ℕ → ℕ → ℕ → ℕ → Type 0
 GoesOn c n rows s r p end =
     (end < n → c p end + potential rows n s end ≡ potential rows n r p)
@@ -107,7 +107,7 @@ fewer_at rows n r w q width some inner =
     let two : r - 2 ≡ (r - 1) - 1 = omega arith in
     rw (width, two) (row_at rows n (r - 1) q (omega (arith, some)) inner)
 
--- what it holds is small
+-- its numbers are small
 pub fewer-small : (c : ℕ → ℕ → ℕ) (rows : List ℕ) (n r w : ℕ) → w ≡ n → 2 ≤ r → AreTailCosts c n r rows → AreSmall c n → All (λ v. v < 2 ^ 40) (slice_range rows ((r - 2) * w) ((r - 1) * w))
 fewer-small c rows n r w width some tails small =
     let two : r - 2 ≡ (r - 1) - 1 = omega arith in
@@ -116,7 +116,7 @@ fewer-small c rows n r w width some tails small =
     let tail = tails (r - 1) q (omega (arith, some)) (omega arith) inner in
     omega (arith, fewer_at rows n r w q width some inner, small q n inner (omega arith), tail_cost-le c n (r - 1) q (potential rows n (r - 1) q) (omega (arith, some)) inner tail))
 
--- where no place is left, the ends so far are the first cheapest cut
+-- where no place remains, the ends so far are the first cheapest cut
 pub first_tail-done : (c : ℕ → ℕ → ℕ) (n : ℕ) (rows : List ℕ) (r left place v : ℕ) (ends : List ℕ) → place ≡ n → ((rest : List ℕ) → IsFirstTail c n left place (potential rows n left place) rest → IsFirstTail c n r 0 v (ends ++ rest)) → IsFirstTail c n r 0 v ends
 first_tail-done c n rows r left place v ends last whole =
     let nothing = first_tail-end c n left (potential rows n left n) (sym (potential-end rows n left n refl)) in

@@ -6,6 +6,8 @@ use Rattle.std.proofs.lemmas.Nat.{mul-le}
 use Rattle.lit_base.specs.Cuts.{cut_price}
 use Rattle.lit_base.specs.Potentials.{potential}
 use Rattle.lit_base.proofs.Least.{potential-inner}
+use Rattle.lit_base.specs.Profiles.{buckets}
+use Rattle.lit_base.specs.declared.profile.Profile.{Profile}
 use Rattle.lit_cert.specs.Certificates.{CertificateParts}
 use Rattle.run_planner.specs.FirstCut.{ComeNoLater, IsFirstCut, IsNoLaterCut}
 use Rattle.run_planner.specs.TailCosts.{AreTailCosts, IsTailCost}
@@ -28,7 +30,7 @@ come_no_later-both (end ∷ ends) (other ∷ others) size there back =
       ]
     ]
 
--- cuts of which each is no later than the other are the same
+-- cuts, each no later than the other, are the same
 no_later-both : (c : ℕ → ℕ → ℕ) (ends others : List ℕ) → IsNoLaterCut c ends others → IsNoLaterCut c others ends → ends ≡ others
 no_later-both c ends others there back =
     elim there [
@@ -88,9 +90,11 @@ tail_costs-one c n most hs others some size other_size tails other =
     ap (λ i. get_or hs i 0) place ∙ (sym (potential-inner hs n r p row.1) ∙ (one ∙ (potential-inner others n r p row.1 ∙ ap (λ i. get_or others i 0) (sym place)))))
 
 -- so a plan is the only one
-pub plan-one : (c : ℕ → ℕ → ℕ) (most n : ℕ) (plan : CertificateParts) → IsPlan c most n plan → IsOnlyPlan c most n plan
-plan-one c most n plan is other also =
+pub plan-one : (c : ℕ → ℕ → ℕ) (profile : Profile) (n : ℕ) (plan : CertificateParts) → IsPlan c profile n plan → IsOnlyPlan c profile n plan
+plan-one c profile n plan is other also =
+    let most = buckets profile in
+    let same : other.profile ≡ plan.profile = also.told ∙ sym is.told in
     let ends = first_cut-one c most n other.ends plan.ends also.first is.first in
     let potentials = tail_costs-one c n most other.potentials plan.potentials is.first.cut.some also.len is.len also.potentials is.potentials in
     let cost : other.cost ≡ plan.cost = also.cost ∙ (ap (cut_price c 0) ends ∙ sym is.cost) in
-    λ i. record { ends = ends i; cost = cost i; potentials = potentials i }
+    λ i. record { profile = same i; ends = ends i; cost = cost i; potentials = potentials i }

@@ -1,4 +1,4 @@
--- Tail costs: those of one run, and those of one run more.
+-- Tail costs: of one run, and of one run more.
 use Rattle.std.proofs.Common.{◌≡◌, inl, inr, ℕ, zero, suc, ◌+◌, ◌-◌, ◌*◌, ◌^◌, ◌<◌, ◌≤◌, List, [], ◌∷◌, ◌++◌, length, get_or, take, drop, All, refl, sym, ap, ◌∙◌, subst, arith}
 use Rattle.std.specs.List.{slice_index}
 use Rattle.std.proofs.lemmas.Bool.{cases_lt}
@@ -14,7 +14,7 @@ use Rattle.lit_base.proofs.Least.{potential-inner}
 use Rattle.run_planner.specs.Splits.{IsLeastSplit}
 use Rattle.run_planner.specs.TailCosts.{IsTailCost, AreTailCosts}
 
--- nothing is left after the last place, and costs nothing
+-- after the last place nothing remains, and costs nothing
 pub tail_cost-end : (c : ℕ → ℕ → ℕ) (n r : ℕ) → IsTailCost c n r n 0
 tail_cost-end c n r = record { reached = ([], refl, omega arith, refl); least = λ ends cuts few. omega arith }
 
@@ -74,7 +74,7 @@ pub row_end : (n r : ℕ) → 1 ≤ r → (r - 1) * n + n ≡ r * n
 row_end n zero some = absurd (omega (arith, some))
 row_end n (suc r) some = let one : suc r - 1 ≡ r = omega arith in rw one (omega arith)
 
--- what the row behind says: each entry is that of row r
+-- an entry of the row after is the entry of row r
 pub later_at : (n r q : ℕ) (rows done later : List ℕ) → 1 ≤ r → done ≡ take (r * n) rows → later ≡ drop ((r - 1) * n) done → q < n → get_or later q 0 ≡ potential rows n r q
 later_at n r q rows done later some front back inner =
     let row : (r - 1) * n + n ≡ r * n = row_end n r some in
@@ -83,14 +83,14 @@ later_at n r q rows done later some front back inner =
     ap (λ l. get_or l ((r - 1) * n + q) 0) front ∙ get_or-take (r * n) rows ((r - 1) * n + q) 0 (omega (arith, row, inner)) in
     at ∙ (before ∙ sym (potential-inner rows n r q inner))
 
--- and how many entries the row behind has
+-- and how many entries the row after has
 pub later-length : (n r : ℕ) (rows done later : List ℕ) → 1 ≤ r → r * n ≤ length rows → done ≡ take (r * n) rows → later ≡ drop ((r - 1) * n) done → length later ≡ n
 later-length n r rows done later some within front back =
     let row = row_end n r some in
     let size : length done ≡ r * n = ap length front ∙ length-take-le (r * n) rows within in
     omega (arith, row, size, ap length back, length-drop ((r - 1) * n) done)
 
--- what the row behind holds are tail costs, at its end too
+-- what the row after holds are tail costs, at its end too
 pub later_tails : (c : ℕ → ℕ → ℕ) (n r : ℕ) (rows done later : List ℕ) → 1 ≤ r → r * n ≤ length rows → done ≡ take (r * n) rows → later ≡ drop ((r - 1) * n) done → AreTailCosts c n r rows → (q : ℕ) → q ≤ n → IsTailCost c n r q (get_or later q 0)
 later_tails c n r rows done later some within front back tails q inner =
     row_tails c n r rows some tails q inner (get_or later q 0) (later_at n r q rows done later some front back) (λ end. get_or_past later q 0 (omega (arith, end, later-length n r rows done later some within front back)))
@@ -104,7 +104,7 @@ later-small c n r rows done later some within front back tails small =
     let tail = later_tails c n r rows done later some within front back tails q (omega arith) in
     omega (arith, small q n inner (omega arith), tail_cost-le c n r q (get_or later q 0) some inner tail))
 
--- one row more, each entry the least split by the row behind
+-- one row more, each entry the least split by the row after
 pub rows_next : (c : ℕ → ℕ → ℕ) (n r : ℕ) (rows done later rest : List ℕ) → 1 ≤ r → r * n ≤ length rows → done ≡ take (r * n) rows → later ≡ drop ((r - 1) * n) done → AreTailCosts c n r rows → ((p : ℕ) → p < n → IsLeastSplit c (slice_index later) n p (slice_index rest p)) → AreTailCosts c n (r + 1) (done ++ rest)
 rows_next c n r rows done later rest some within front back tails filled s p from_one to inner =
     let size : length done ≡ r * n = ap length front ∙ length-take-le (r * n) rows within in

@@ -1,6 +1,5 @@
 pub mod Faults
 pub mod FirstCut
-pub mod ListPrices
 pub mod Plans
 pub mod Splits
 pub mod Squares

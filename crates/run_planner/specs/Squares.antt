@@ -1,24 +1,6 @@
--- The squares of widths, which are the prices of a meter of the tests.
-use Rattle.std.proofs.Common.{◌≡◌, ℕ, ◌+◌, ◌-◌, ◌*◌, ◌≤◌, arith}
-use Rattle.std.proofs.lemmas.Nat.{mul-le}
-use Rattle.lit_base.specs.Costs.{AreSmall, MeetQuadrangle}
+-- The prices of a meter of the tests.
+use Rattle.std.specs.Prelude.{ℕ, ◌-◌, ◌*◌}
 
 -- the square of a run's width
 abbrev pub square_of : ℕ → ℕ → ℕ
 square_of p q = (q - p) * (q - p)
-
--- they stay small
-pub squares-small : AreSmall square_of 3
-squares-small p q some within = omega (arith, mul-le (q - p) (q - p) 3 3 (omega arith) (omega arith))
-
--- four squares
-four_squares : (x y z : ℕ) → (x + y) * (x + y) + (y + z) * (y + z) ≤ (x + y + z) * (x + y + z) + y * y
-four_squares x y z = omega arith
-
--- they meet the quadrangle inequality
-pub squares-quadrangle : MeetQuadrangle square_of 3
-squares-quadrangle i j k l ij jk kl within =
-    let ik : (j - i) + (k - j) ≡ k - i = omega arith in
-    let jl : (k - j) + (l - k) ≡ l - j = omega arith in
-    let il : (k - i) + (l - k) ≡ l - i = omega arith in
-    rw (ik, jl, il) at (four_squares (j - i) (k - j) (l - k))

@@ -1,4 +1,4 @@
--- Tail costs: what cutting the places that are left costs at least.
+-- Tail costs: the least costs of cutting the remaining places.
 use Rattle.std.specs.Prelude.{◌≡◌, ℕ, ◌<◌, ◌≤◌, List, length}
 use Rattle.lit_base.specs.Cuts.{CutsFrom, cut_price}
 use Rattle.lit_base.specs.Potentials.{potential}

@@ -18,7 +18,7 @@ pub(crate) fn first_cut<M: Meter>(meter: &mut M, n: u16, rows: &[u64], most: usi
     requires some { 0 < n }
     requires few { n ≤ 4096 }
     requires from_one { 1 ≤ most }
-    requires few_runs { most ≤ 8 }
+    requires few_runs { most ≤ 16 }
     requires len { length rows.now ≡ most * n }
     requires filled { AreTailCosts (M.prices meter.old) n most rows.now }
     requires room { M.count meter.old + 8192 < 2 ^ 64 }
@@ -58,7 +58,7 @@ fn first_ends<M: Meter>(meter: &mut M, n: u16, rows: &[u64], runs: usize) -> End
     requires some { 0 < n }
     requires few { n ≤ 4096 }
     requires from_one { 1 ≤ runs }
-    requires few_runs { runs ≤ 8 }
+    requires few_runs { runs ≤ 16 }
     requires within { runs * n ≤ length rows.now }
     requires filled { AreTailCosts (M.prices meter.old) n runs rows.now }
     requires room { M.count meter.old + 8192 < 2 ^ 64 }
@@ -107,8 +107,8 @@ fn first_run_end<M: Meter>(meter: &mut M, n: u16, rows: &[u64], runs: usize, pla
     first_reaching(meter, later, n, place, price)
 }
 
-/// The first end before n of a run from `place` that costs so much with what is left after it, by
-/// the row of one run fewer, or n where there is none.
+/// The first end before n of a run from `place` that costs `price` together with the least cost after it, by the row of
+/// one run fewer; n if there is none.
 fn first_reaching<M: Meter>(meter: &mut M, later: &[u64], n: u16, place: u16, price: u64) -> u16
     requires size { M.size meter.old ≡ n }
     requires few { n ≤ 4096 }

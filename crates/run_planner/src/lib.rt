@@ -1,5 +1,5 @@
-//! The planner: the cheapest cut of a list of literals into runs, first among equals, with the
-//! exact potentials that show that nothing is cheaper, in few evaluations of a run's price.
+//! The planner. It finds the cheapest cut of a list of literals into runs, the first among equals, and the exact
+//! potentials which show that nothing is cheaper. It computes the price of few runs.
 #![tactic(auto)]
 
 mod fault;

@@ -1,13 +1,12 @@
-//! What answers the price of a run, and the meter of a list of literals.
+//! Meters, which give the price of a run, and the meter of a list of literals.
 
 ghost use Rattle.std.specs.Prelude.{◌≡◌, ℕ, ◌+◌, ◌-◌, ◌^◌, ◌<◌, ◌≤◌, length};
-ghost use Rattle.std.specs.List.Sorted.{IsNonDecreasing};
 ghost use Rattle.lit_base.specs.Literals.{lengths};
 ghost use Rattle.lit_base.specs.Costs.{AreSmall, MeetQuadrangle, run_cost};
 
-use lit_base::{LitList, cost};
+use lit_base::{LitList, cost, run_cost_law};
 
-/// What answers the price of a run of places, and counts how often it was asked.
+/// Gives the price of a run of places, and counts how often it did.
 ///
 /// Its prices meet the quadrangle inequality: two runs that overlap cost together no more than the
 /// run round both and the run within both.
@@ -18,7 +17,7 @@ pub trait Meter {
     /// The price of the run from one place up to but not including another.
     ghost prices: { Self → ℕ → ℕ → ℕ };
 
-    /// How often it was asked.
+    /// How often it gave a price.
     ghost count: { Self → ℕ };
 
     /// The price of the run from place `p` up to but not including `q`.
@@ -44,21 +43,23 @@ pub struct ListMeter<'a> {
     list: &'a LitList,
     count: u64,
     ghost few: { length list.now.texts ≤ 4096 },
-    ghost rising: { IsNonDecreasing (lengths list.now) },
+    ghost stays_small: { AreSmall (run_cost (lengths list.now)) (length list.now.texts) },
+    ghost meets_quadrangle: { MeetQuadrangle (run_cost (lengths list.now)) (length list.now.texts) },
 }
 
 impl<'a> ListMeter<'a> {
-    /// The meter of the list, which was not asked yet.
+    /// The meter of the list, which gave no price yet.
     pub fn new(list: &'a LitList) -> Self
         ensures size { ⟦<ListMeter<'a> as Meter>⟧.size result ≡ length list.now.texts }
         ensures prices { ⟦<ListMeter<'a> as Meter>⟧.prices result ≡ run_cost (lengths list.now) }
         ensures count { ⟦<ListMeter<'a> as Meter>⟧.count result ≡ 0 }
     {
         let _few = list.len();
+        run_cost_law(list);
         ListMeter { list, count: 0 }
     }
 
-    /// How often it was asked.
+    /// How often it gave a price.
     pub fn count(&self) -> u64
         ensures { result ≡ ⟦<ListMeter<'a> as Meter>⟧.count self.now }
     {
@@ -70,7 +71,6 @@ impl<'a> Meter for ListMeter<'a> {
     ghost use Rattle.std.specs.Prelude.{length};
     ghost use Rattle.lit_base.specs.Literals.{lengths};
     ghost use Rattle.lit_base.specs.Costs.{run_cost};
-    ghost use Rattle.run_planner.specs.ListPrices.{run_costs-small, run_costs-quadrangle};
 
     ghost size = { λ m. length m.list.now.texts };
 
@@ -84,7 +84,7 @@ impl<'a> Meter for ListMeter<'a> {
         cost(usize::from(q) - start, self.list.get(start).len())
     }
 
-    ghost small = { λ m. run_costs-small m.list.now m.few };
+    ghost small = { λ m. m.stays_small };
 
-    ghost quadrangle = { λ m. run_costs-quadrangle m.list.now m.rising };
+    ghost quadrangle = { λ m. m.meets_quadrangle };
 }

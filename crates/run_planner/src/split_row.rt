@@ -1,21 +1,21 @@
-//! One row of potentials from the row of one run fewer, by divide and conquer. Where the prices meet
-//! the quadrangle inequality, the best end of a run never moves back as its first place moves on: so
-//! the best end of the middle place bounds those of the places on both sides.
+//! One row of potentials from the row of one run fewer, by divide and conquer. Where the prices meet the quadrangle
+//! inequality, the best end of a run never moves back as its first place moves on. So the best end of the middle place
+//! bounds the best ends of the places on both sides.
 
 ghost use Rattle.std.specs.Prelude.{◌≡◌, ℕ, ◌+◌, ◌-◌, ◌*◌, ◌^◌, ◌<◌, ◌≤◌, All, length, slice_index};
 ghost use Rattle.run_planner.specs.Splits.{IsBestEnd, IsLeastSplit, Suffice, SufficeAt};
 
 use crate::meter::Meter;
 
-/// The best end of a run, and what the run costs with what is left after it.
+/// The best end of a run, and the price of the run with the least price after it.
 #[derive(Clone, Copy, Drop)]
 struct Best {
     price: u64,
     end: u16,
 }
 
-/// What the run from `place` to `end` costs with what is left after it, by the row of one run fewer:
-/// nothing after the last place.
+/// The price of the run from `place` to `end` with the least price after it, by the row of one run fewer. There is no
+/// price after the last place.
 fn price_to<M: Meter>(meter: &mut M, later: &[u64], place: u16, end: u16) -> u64
     requires size { M.size meter.old ≡ length later.now }
     requires small { All (λ v. v < 2 ^ 40) later.now }
@@ -64,11 +64,11 @@ fn best_end<M: Meter>(meter: &mut M, later: &[u64], place: u16, first: u16, last
 }
 
 /// Fills the places of the row from `low` up to but not including `high`, where no end of a run from
-/// one of them beats all those from `first` to `last`: the middle place by all these ends, then the
-/// places before it by those up to its best end, and the places after it by those from there on.
+/// one of them beats all those from `first` to `last`. It fills the middle place by all these ends, then the places
+/// before it by the ends up to its best end, and the places after it by the ends from there on.
 ///
-/// Both sides share only that end. So with d binary digits of the number of places, at most
-/// `d * (last - first)` prices and one for each place are asked.
+/// Both sides share only that end. So with d binary digits of the number of places it asks for at most `d * (last -
+/// first)` prices, and one for each place.
 pub(crate) fn fill_row<M: Meter>(
     meter: &mut M,
     later: &[u64],

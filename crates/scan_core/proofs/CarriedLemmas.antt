@@ -108,7 +108,7 @@ carried_removed n (a ∷ bs) (t ∷ ss) c =
 
 -- the refusals are the same
 refusals_same : (tails : SessionParts Bound) (bytes : SessionParts Streamed) (request : RequestParts) → IsSeen tails bytes → refusal_of by_bytes bytes request ≡ refusal_of by_tails tails request
-refusals_same tails bytes (Publish folding literals) seen = ap (λ (told : List Entry). publish_refusal (length told) folding literals) seen.told
+refusals_same tails bytes (Publish folding profile literals) seen = ap (λ (told : List Entry). publish_refusal (length told) literals) seen.told
 refusals_same tails bytes (Open stream number) seen =
     ap (λ b. if b then Some StreamInUse else if nat_le MAX_STREAMS (length bytes.streams) then Some StreamQuota else None) (same_is_some (stream_at stream tails) (stream_at stream bytes) (agree stream tails.streams bytes.streams seen.streams))
     ∙ ap (λ n. if is_some (stream_at stream tails) then Some StreamInUse else if nat_le MAX_STREAMS n then Some StreamQuota else None) (same_count tails.streams bytes.streams seen.streams)
@@ -123,7 +123,7 @@ refusals_same tails bytes (Close stream) seen =
 refusals_same tails bytes (ShowPlan stream) seen =
     same_refusal (stream_at stream tails) (stream_at stream bytes) (λ state. None) (λ state. None) (agree stream tails.streams bytes.streams seen.streams) (λ b s c. refl)
 
--- the hits behind a tail are those of all bytes whose ends lie past the bytes before
+-- the hits after a tail are the hits of all bytes whose ends lie past the bytes before
 hits_past : (l : Literals) (tail bytes piece : List ℕ) (place : ℕ) (hits : List (ℕ × ℕ)) → HasBounds l → tail ≡ last_bytes (carry_of l) bytes → place ≡ length bytes → AreAdded l tail piece place hits → AreHitsPast l (bytes ++ piece) (length bytes) hits
 hits_past l tail bytes piece place hits bounds last reached added =
     let all : AreAdded l bytes piece (length bytes) hits =
@@ -161,7 +161,7 @@ abbrev Follows : SessionParts Streamed → RequestParts → Outcome Bound → Ty
 Follows bytes request outcome = (after : SessionParts Streamed) × IsSeen outcome.after after × IsAccepted by_bytes bytes request record { replies = outcome.replies; met = outcome.met; after = after }
 
 follows : (tails : SessionParts Bound) (bytes : SessionParts Streamed) (request : RequestParts) (outcome : Outcome Bound) → IsSeen tails bytes → IsAccepted by_tails tails request outcome → Follows bytes request outcome
-follows tails bytes (Publish folding literals) outcome seen a = subst (Follows bytes (Publish folding literals)) (sym a.is) (
+follows tails bytes (Publish folding profile literals) outcome seen a = subst (Follows bytes (Publish folding profile literals)) (sym a.is) (
   record bytes { told = bytes.told ++ a.entry ∷ [] },
   record { told = ap (λ (es : List Entry). es ++ a.entry ∷ []) seen.told; streams = seen.streams },
   record { entry = a.entry; plan = a.plan; sound = a.sound; agreed = agreed_seen tails bytes a.entry seen a.agreed; is = refl },

@@ -10,7 +10,7 @@ pub somes-map : {T : Type 0} (xs : List T) → somes (map Some xs) ≡ xs
 somes-map [] = refl
 somes-map (x ∷ xs) = ap (λ ys. x ∷ ys) (somes-map xs)
 
--- what a list with all of these has
+-- the elements of a list where none is missing
 pub somes_all : {T : Type 0} (items : List (Option T)) (xs : List T) → items ≡ map Some xs → somes items ≡ xs
 somes_all items xs all = ap somes all ∙ somes-map xs
 
@@ -18,7 +18,7 @@ somes_all items xs all = ap somes all ∙ somes-map xs
 pub all_somes : {T : Type 0} (items : List (Option T)) (xs : List T) → items ≡ map Some xs → items ≡ map Some (somes items)
 all_somes items xs all = all ∙ ap (map Some) (sym (somes_all items xs all))
 
--- what is removed from images is removed from the elements
+-- removing from images is removing from the elements
 pub remove-map : {X Y : Type 0} (f : X → Y) (xs : List X) (i : ℕ) → remove (map f xs) i ≡ map f (remove xs i)
 remove-map f xs i =
     ap (λ ys. ys ++ drop (suc i) (map f xs)) (take-map f i xs)

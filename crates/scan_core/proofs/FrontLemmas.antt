@@ -1,4 +1,4 @@
--- A Feed that is answered front by front comes to what it comes to at once.
+-- A Feed that is answered prefix by prefix has the same outcome as a Feed answered at once.
 use Rattle.std.proofs.Common.{◌≡◌, ℕ, ◌+◌, ◌^◌, ◌<◌, ◌≤◌, true, false, List, [], ◌++◌, length, take, Option, Some, None, IfOk, IfErr, MatchOption, refl, sym, ap, ◌∙◌, subst, arith, inl, inr}
 use Rattle.std.specs.Prelude.{nat_eq, nat_le, if◌then◌else◌}
 use Rattle.std.specs.Map.{lookup, set_value}
@@ -41,7 +41,7 @@ fed_twice scan first second =
     last_of_last c (scan.tail ++ first) second ∙ ap (last_bytes c) (append_assoc scan.tail first second) in
     λ i. record scan { place = place i; tail = tail i }
 
--- a place that fits, behind a piece of an open stream
+-- a place that fits, after a piece of an open stream
 pub place_fits : (s : Serving) (stream index : ℕ) (piece : List ℕ) (at : StandsAt stream s.streams index) (behind : Option ℕ) → IsKept at.state.scan
     → MatchOption behind (2 ^ 64 ≤ at.state.scan.place + length piece) (λ place. (place ≡ at.state.scan.place + length piece) × (place < 2 ^ 64))
     → IfOk (ok_or behind StreamTooLong) (λ place. MayFeed s stream piece place)
@@ -54,7 +54,7 @@ place_fits s stream index piece at (Some place) kept is = record {
   fits = is.1;
 }
 
--- and one that does not
+-- and a piece that does not fit
 pub place_refused : (s : Serving) (stream index : ℕ) (piece : List ℕ) (at : StandsAt stream s.streams index) (behind : Option ℕ)
     → MatchOption behind (2 ^ 64 ≤ at.state.scan.place + length piece) (λ place. (place ≡ at.state.scan.place + length piece) × (place < 2 ^ 64))
     → IfErr (ok_or behind StreamTooLong) (λ refusal. refusal_of by_tails (parts_of s) (Feed stream piece) ≡ Some refusal)
@@ -72,13 +72,13 @@ feeding_none s stream piece place may = record {
       ∙ ap (λ streams. record s { streams = streams }) (set_same stream s.streams may.state may.here));
 }
 
--- the stream stands behind what it was fed
+-- the stream stands after the bytes that it was fed
 pub stands_behind : (s t : Serving) (stream : ℕ) (bytes : List ℕ) (hits : List (ℕ × ℕ)) → (f : IsFeeding s stream bytes hits t) → stream_at stream (parts_of t) ≡ Some (record f.state { scan = fed f.state.scan bytes })
 stands_behind s t stream bytes hits f =
     ap (λ (u : Serving). lookup (nat_eq stream) u.streams) f.is
     ∙ lookup_set stream s.streams f.state (record f.state { scan = fed f.state.scan bytes }) f.here
 
--- the hits of what is fed next are those of all that was fed
+-- the hits of the next bytes, added to the earlier hits, are the hits of all bytes that were fed
 both_added : (s t : Serving) (stream : ℕ) (bytes more : List ℕ) (hits rest : List (ℕ × ℕ)) → (f : IsFeeding s stream bytes hits t)
     → AreAdded f.state.scan.plan.literals (tail_after f.state.scan.plan.literals f.state.scan.tail bytes) more (f.state.scan.place + length bytes) rest
     → AreAdded f.state.scan.plan.literals f.state.scan.tail (bytes ++ more) f.state.scan.place (hits ++ rest)
@@ -87,7 +87,7 @@ both_added s t stream bytes more hits rest f added =
     added_joined scan.plan.literals scan.tail bytes more scan.place hits rest f.added
     (added_behind_all scan.plan.literals (scan.tail ++ bytes) more (scan.place + length bytes) rest f.kept.bounds added)
 
--- the session behind both
+-- the session after both
 both_fed : (s t u : Serving) (stream : ℕ) (bytes more : List ℕ) (state : Bound) → t ≡ fed_by s stream state bytes → u ≡ fed_by t stream (record state { scan = fed state.scan bytes }) more → u ≡ fed_by s stream state (bytes ++ more)
 both_fed s t u stream bytes more state first second =
     let one : Bound = record state { scan = fed state.scan bytes } in
@@ -125,7 +125,7 @@ feeding_goes_on s t stream piece bytes rest hits place may is f =
     ap (λ o. stream_refusal o (λ (state : Bound). if nat_le (2 ^ 64) (state.scan.place + length rest) then Some StreamTooLong else None)) (stands_behind s t stream bytes hits f)
     ∙ ap (λ b. if b then Some StreamTooLong else None) room
 
--- whatever is left, there are its hits
+-- for any remaining bytes there are the hits
 pub feeding_completes : (s t : Serving) (stream : ℕ) (bytes rest : List ℕ) (hits : List (ℕ × ℕ)) → IsFeeding s stream bytes hits t → (more : List (ℕ × ℕ)) × (u : Serving) × IsFeeding s stream (bytes ++ rest) (hits ++ more) u
 feeding_completes s t stream bytes rest hits f =
     let scan = f.state.scan in
@@ -168,7 +168,7 @@ room_of n m none = elim (cases_lt m n) [
       absurd (none-some StreamTooLong (sym none ∙ ap (λ b. if b then Some StreamTooLong else None) so))
 ]
 
--- behind a piece that is not refused the place fits
+-- after a piece that is not refused the place fits
 pub feed_room : (s : Serving) (stream index : ℕ) (piece : List ℕ) (at : StandsAt stream s.streams index) → refusal_of by_tails (parts_of s) (Feed stream piece) ≡ None → at.state.scan.place + length piece < 2 ^ 64
 feed_room s stream index piece at none =
     room_of (2 ^ 64) (at.state.scan.place + length piece)

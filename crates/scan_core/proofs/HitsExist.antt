@@ -78,7 +78,7 @@ hits_at l text end at =
     let all = hits_before l text end at (length l.texts) in
     (all.0, hits_at_ended l text end at (length l.texts) all.0 all.1 (λ place later o. absurd (omega (arith, later, slice_get_within l.texts place o.literal o.stands))))
 
--- the hits behind a place and up to another
+-- the hits after a place and up to another
 hits_up_to : (l : Literals) (text : List ℕ) (from at k : ℕ) → from + k ≤ length text → (found : List (ℕ × ℕ)) × AreHitsBehind l (take (from + k) text) from at found
 hits_up_to l text from at zero within =
     ([], hits_none l (take (from + 0) text) from at (none_past l (take (from + 0) text) from (omega (arith, length-take (from + 0) text))))
@@ -89,7 +89,7 @@ hits_up_to l text from at (suc k) within =
       hits_further l text from (from + k) (from + suc k) at early.0 here.0 (omega arith) (omega arith) within (λ other after before. absurd (omega (arith, after, before))) early.1 here.1,
     )
 
--- the hits behind a place
+-- the hits after a place
 pub hits_exist : (l : Literals) (text : List ℕ) (from at : ℕ) → (found : List (ℕ × ℕ)) × AreHitsBehind l text from at found
 hits_exist l text from at = elim (cases_lt (length text) from) [
   | inl past ↦ ([], hits_none l text from at (none_past l text from (omega (arith, past))))

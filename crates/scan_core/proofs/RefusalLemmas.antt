@@ -1,4 +1,4 @@
--- The first literal that is refused by itself, one literal further.
+-- The first refused literal, one literal further.
 use Rattle.std.proofs.Common.{◌≡◌, ℕ, ◌+◌, ◌<◌, true, false, List, drop, length, get_or, Option, Some, None, refl, sym, ap, ◌∙◌}
 use Rattle.std.specs.Prelude.{is_some}
 use Rattle.std.specs.Global.{Vec}
@@ -8,7 +8,7 @@ use Rattle.scan_wire.specs.Messages.{texts_of}
 use Rattle.scan_core.specs.declared.refusal.Refusal.{Refusal}
 use Rattle.scan_core.specs.Refusals.{earlier, first_refusal, literal_refusal}
 
--- that of the literal at a place, or else of those behind it
+-- the refusal of the literal at a place, or else of the later literals
 pub refusal_from : (literals : List (Vec ℕ)) (i : ℕ) (v : Vec ℕ) → i < length literals → v ≡ get_or literals i v → first_refusal i (texts_of (drop i literals)) ≡ earlier (literal_refusal i v.items) (first_refusal (i + 1) (texts_of (drop (i + 1) literals)))
 refusal_from literals i v within at =
     ap (λ (ls : List (Vec ℕ)). first_refusal i (texts_of ls)) (drop_more literals i v within)

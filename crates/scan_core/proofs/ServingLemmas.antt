@@ -1,4 +1,4 @@
--- What holds of all streams of a session, with one fewer; and what a search for one tells.
+-- What holds of all streams of a session, with one fewer; and the results of a search for one.
 use Rattle.std.proofs.Common.{ℕ, ◌≡◌, true, false, suc, List, take, drop, All, Option, Some, None, MatchOption, sym}
 use Rattle.std.specs.Prelude.{is_some}
 use Rattle.std.specs.List.{remove}

@@ -7,37 +7,36 @@ use Rattle.std.specs.List.{remove}
 use Rattle.std.proofs.lemmas.Bool.Decides.{nat_tests}
 use Rattle.std.proofs.lemmas.List.{length-map, map-append}
 use Rattle.lit_base.specs.declared.fold.Fold.{Fold}
-use Rattle.lit_base.specs.declared.limits.TheConstants.{MAX_LITERALS}
-use Rattle.lit_base.specs.NormalForm.{normal_form}
+use Rattle.lit_base.specs.declared.profile.Profile.{Profile}
 use Rattle.plan_store.specs.Tickets.{Told}
 use Rattle.flow_scan.specs.Scanners.{fed, started}
 use Rattle.flow_scan.specs.Tails.{AreAdded}
 use Rattle.scan_wire.specs.Messages.{RequestParts, ReplyParts, Publish, Open, Feed, Close, ShowPlan, Published, Opened, Closed}
 use Rattle.scan_core.specs.declared.refusal.Refusal.{Refusal}
-use Rattle.scan_core.specs.declared.refusal.Refusal.TheVariants.{StreamInUse, StreamQuota, NoSuchPlan, NoSuchStream, StreamTooLong, TooManyLiterals}
+use Rattle.scan_core.specs.declared.refusal.Refusal.TheVariants.{StreamInUse, StreamQuota, NoSuchPlan, NoSuchStream, StreamTooLong}
 use Rattle.scan_core.specs.declared.limits.TheConstants.{MAX_STREAMS}
 use Rattle.scan_wire.specs.declared.message.TheConstants.{MAX_HITS}
 use Rattle.scan_core.specs.Blocks.{AreBlocks}
 use Rattle.scan_core.specs.Publishing.{IsPlanFor}
-use Rattle.scan_core.specs.Refusals.{crowd_refusal, earlier, publish_refusal, raw_refusal}
+use Rattle.scan_core.specs.Refusals.{publish_refusal}
 use Rattle.scan_core.specs.Sessions.{Bound, IsEvent, Serving, by_tails, entry_of, parts_of}
 use Rattle.scan_core.specs.Steps.{AgreeWith, Entry, IsAccepted, IsSound, IsStep, Outcome, Reading, SessionParts, closed, fed_replies, known_entries, moved, opened, plan_reply, published, refusal_of, refused, refused_reply, shown, stream_at, stream_of, stream_refusal}
 use Rattle.scan_core.specs.Streams.{MovesTo, StandsAt}
 use Rattle.scan_core.specs.Together.{known_to, tickets_of}
 use Rattle.scan_core.proofs.StreamLemmas.{lookup_at, remove_at, set_at}
 
--- the entries of open streams are those of their tickets
+-- the entries of open streams are the entries of their tickets
 opened_shown : (streams : List (ℕ × Bound)) → map (λ (stream : ℕ × Bound). by_tails.opened_by stream.1) streams ≡ map entry_of (map (λ (stream : ℕ × Bound). stream.1.ticket) streams)
 opened_shown [] = refl
 opened_shown (stream ∷ streams) = ap (λ es. entry_of stream.1.ticket ∷ es) (opened_shown streams)
 
--- the entries that a session knows are those of its tickets
+-- the entries that a session knows are the entries of its tickets
 known_shown : (s : Serving) → known_entries by_tails (parts_of s) ≡ known_to s
 known_shown s =
     ap (λ es. map entry_of s.told ++ es) (opened_shown s.streams)
     ∙ sym (map-append entry_of s.told (map (λ (stream : ℕ × Bound). stream.1.ticket) s.streams))
 
--- a ticket that agrees with those of a session agrees with what the session knows
+-- a ticket that agrees with the tickets of a session agrees with the entries that the session knows
 agreed_known : (s : Serving) (ticket : Told) → AgreeWith (known_to s) (entry_of ticket) → AgreeWith (known_entries by_tails (parts_of s)) (entry_of ticket)
 agreed_known s ticket agreed = subst (λ (entries : List Entry). AgreeWith entries (entry_of ticket)) (sym (known_shown s)) agreed
 
@@ -59,29 +58,18 @@ event_refused s request refusal reply is told =
     let P : ReplyParts → Type 0 = λ r. IsEvent s request (r ∷ []) s in
     subst P (sym told) record { met = None; step = step_refused by_tails (parts_of s) request refusal is; store = refl }
 
--- a number of plans told is a number of entries
-told_count : (s : Serving) (fold : Fold) (literals : List (List ℕ)) → publish_refusal (length (parts_of s).told) fold literals ≡ publish_refusal (length s.told) fold literals
-told_count s fold literals = ap (λ n. publish_refusal n fold literals) (length-map s.told entry_of)
+-- the number of published plans is a number of entries
+told_count : (s : Serving) (literals : List (List ℕ)) → publish_refusal (length (parts_of s).told) literals ≡ publish_refusal (length s.told) literals
+told_count s literals = ap (λ n. publish_refusal n literals) (length-map s.told entry_of)
 
--- a Publish that is refused by its literals
-pub published_raw : (s : Serving) (fold : Fold) (literals : List (List ℕ)) (refusal : Refusal) (reply : ReplyParts) → Some refusal ≡ raw_refusal (length s.told) literals → reply ≡ refused_reply 0 refusal → IsEvent s (Publish fold literals) (reply ∷ []) s
-published_raw s fold literals refusal reply raw told =
-    event_refused s (Publish fold literals) refusal reply (told_count s fold literals ∙ ap (λ o. earlier o (crowd_refusal (normal_form fold literals))) (sym raw)) told
-
--- a Publish of too many literals
-pub published_crowd : (s : Serving) (fold : Fold) (literals : List (List ℕ)) (reply : ReplyParts) → None ≡ raw_refusal (length s.told) literals → MAX_LITERALS < length (normal_form fold literals) → reply ≡ refused_reply 0 TooManyLiterals → IsEvent s (Publish fold literals) (reply ∷ []) s
-published_crowd s fold literals reply raw many told =
-    let crowd : crowd_refusal (normal_form fold literals) ≡ Some TooManyLiterals = grind (arith, nat_tests) in
-    event_refused s (Publish fold literals) TooManyLiterals reply
-    (told_count s fold literals ∙ ap (λ o. earlier o (crowd_refusal (normal_form fold literals))) (sym raw) ∙ crowd) told
+-- a Publish that is refused
+pub published_refused : (s : Serving) (fold : Fold) (profile : Profile) (literals : List (List ℕ)) (refusal : Refusal) (reply : ReplyParts) → Some refusal ≡ publish_refusal (length s.told) literals → reply ≡ refused_reply 0 refusal → IsEvent s (Publish fold profile literals) (reply ∷ []) s
+published_refused s fold profile literals refusal reply is told =
+    event_refused s (Publish fold profile literals) refusal reply (told_count s literals ∙ sym is) told
 
 -- a Publish that is stored
-pub published_entry : (s : Serving) (fold : Fold) (literals : List (List ℕ)) (ticket : Told) (reply : ReplyParts) (new : Serving) → None ≡ raw_refusal (length s.told) literals → IsPlanFor fold literals ticket.plan → AgreeWith (known_to s) (entry_of ticket) → reply ≡ Published ticket.number → new ≡ record s { told = s.told ++ ticket ∷ [] } → IsEvent s (Publish fold literals) (reply ∷ []) new
-published_entry s fold literals ticket reply new raw planned agreed told after =
-    let few = planned.few in
-    let crowd : crowd_refusal (normal_form fold literals) ≡ None = grind (arith, nat_tests) in
-    let none : refusal_of by_tails (parts_of s) (Publish fold literals) ≡ None =
-    told_count s fold literals ∙ ap (λ o. earlier o (crowd_refusal (normal_form fold literals))) (sym raw) ∙ crowd in
+pub published_entry : (s : Serving) (fold : Fold) (profile : Profile) (literals : List (List ℕ)) (ticket : Told) (reply : ReplyParts) (new : Serving) → None ≡ publish_refusal (length s.told) literals → IsPlanFor fold profile literals ticket.plan → AgreeWith (known_to s) (entry_of ticket) → reply ≡ Published ticket.number → new ≡ record s { told = s.told ++ ticket ∷ [] } → IsEvent s (Publish fold profile literals) (reply ∷ []) new
+published_entry s fold profile literals ticket reply new none planned agreed told after =
     let outcome : Outcome Bound = record { replies = reply ∷ []; met = Some (entry_of ticket); after = parts_of new } in
     let parts : parts_of new ≡ (published (parts_of s) (entry_of ticket)).after =
     ap parts_of after ∙ ap (λ entries. record { told = entries; streams = s.streams }) (map-append entry_of s.told (ticket ∷ [])) in
@@ -89,7 +77,7 @@ published_entry s fold literals ticket reply new raw planned agreed told after =
     λ i. record { replies = told i ∷ []; met = Some (entry_of ticket); after = parts i } in
     record {
       met = Some (entry_of ticket);
-      step = step_accepted by_tails (parts_of s) (Publish fold literals) outcome none
+      step = step_accepted by_tails (parts_of s) (Publish fold profile literals) outcome (told_count s literals ∙ sym none)
           record { entry = entry_of ticket; plan = planned.planned; sound = planned.sound; agreed = agreed_known s ticket agreed; is = is };
       store = ap (λ (n : Serving). n.store) after;
     }
@@ -98,7 +86,7 @@ published_entry s fold literals ticket reply new raw planned agreed told after =
 pub no_stream : (s : Serving) (stream : ℕ) (refusal : Bound → Option Refusal) → lookup (nat_eq stream) s.streams ≡ None → stream_refusal (stream_at stream (parts_of s)) refusal ≡ Some NoSuchStream
 no_stream s stream refusal none = ap (λ o. stream_refusal o refusal) none
 
--- and of one that is
+-- and of an open stream
 pub a_stream : (s : Serving) (stream place : ℕ) (refusal : Bound → Option Refusal) (at : StandsAt stream s.streams place) → stream_refusal (stream_at stream (parts_of s)) refusal ≡ refusal at.state
 a_stream s stream place refusal at = ap (λ o. stream_refusal o refusal) (lookup_at stream s.streams place at)
 
@@ -165,14 +153,14 @@ pub opened_twice : (s : Serving) (stream number place : ℕ) → StandsAt stream
 opened_twice s stream number place at =
     ap (λ o. if is_some o then Some StreamInUse else if nat_le MAX_STREAMS (length s.streams) then Some StreamQuota else None) (lookup_at stream s.streams place at)
 
--- an Open beside too many streams
+-- an Open with too many streams open
 pub opened_many : (s : Serving) (stream number : ℕ) → lookup (nat_eq stream) s.streams ≡ None → MAX_STREAMS ≤ length s.streams → refusal_of by_tails (parts_of s) (Open stream number) ≡ Some StreamQuota
 opened_many s stream number none many =
     let full : nat_le MAX_STREAMS (length s.streams) ≡ true = grind (arith, nat_tests) in
     ap (λ o. if is_some o then Some StreamInUse else if nat_le MAX_STREAMS (length s.streams) then Some StreamQuota else None) none
     ∙ ap (λ b. if b then Some StreamQuota else None) full
 
--- an Open that meets no refusal by itself
+-- an Open that meets no refusal, whatever its number
 pub opened_free : (s : Serving) (stream number : ℕ) → lookup (nat_eq stream) s.streams ≡ None → length s.streams < MAX_STREAMS → refusal_of by_tails (parts_of s) (Open stream number) ≡ None
 opened_free s stream number none few =
     let room : nat_le MAX_STREAMS (length s.streams) ≡ false = grind (arith, nat_tests) in
@@ -193,7 +181,7 @@ opened_stream s stream number ticket reply new none sound agreed asked told afte
       store = ap (λ (n : Serving). n.store) after;
     }
 
--- the numbers of the entries are those of the tickets
+-- the numbers of the entries are the numbers of the tickets
 numbers_told : (tickets : List Told) → map (λ (entry : Entry). entry.number) (map entry_of tickets) ≡ map (λ (ticket : Told). ticket.number) tickets
 numbers_told [] = refl
 numbers_told (ticket ∷ tickets) = ap (λ ns. ticket.number ∷ ns) (numbers_told tickets)

@@ -1,4 +1,4 @@
--- What stands first among the streams is what is looked up, set and removed.
+-- The stream that stands first is the one looked up, set and removed.
 use Rattle.std.proofs.Common.{◌≡◌, ◌≢◌, ℕ, zero, suc, ◌<◌, ◌==◌, true, false, cond, List, [], ◌∷◌, length, Some, None, refl, sym, ap, ◌∙◌, arith}
 use Rattle.std.specs.Prelude.{nat_eq}
 use Rattle.std.specs.List.{remove, slice_get}

@@ -1,4 +1,4 @@
--- Streams by their numbers, of which no two are equal: what is looked up behind an opening, a move and a closing.
+-- Streams by their numbers, no two equal: the stream found after an opening, a move and a closing.
 use Rattle.std.proofs.Common.{◌≡◌, ◌≢◌, ℕ, Bool, true, false, cond, List, [], ◌∷◌, ◌++◌, Some, None, inl, inr, refl, sym, ap, ◌∙◌, subst}
 use Rattle.std.specs.Prelude.{nat_eq}
 use Rattle.std.specs.Map.{lookup, remove_entry, set_value}
@@ -18,14 +18,14 @@ when_so b x y is = ap (λ t. cond t x y) is
 pub when_not : {X : Type 0} (b : Bool) (x y : X) → b ≡ false → cond b x y ≡ y
 when_not b x y is = ap (λ t. cond t x y) is
 
--- the first stream is found by its number, and else what stands behind it
+-- the first stream is found by its number, and else what stands after it
 found_head : {S : Type 0} (m : ℕ) (s : ℕ × S) (ss : List (ℕ × S)) → nat_eq m s.0 ≡ true → lookup (nat_eq m) (s ∷ ss) ≡ Some s.1
 found_head m s ss is = when_so (nat_eq m s.0) (Some s.1) (lookup (nat_eq m) ss) is
 
 found_rest : {S : Type 0} (m : ℕ) (s : ℕ × S) (ss : List (ℕ × S)) → nat_eq m s.0 ≡ false → lookup (nat_eq m) (s ∷ ss) ≡ lookup (nat_eq m) ss
 found_rest m s ss not = when_not (nat_eq m s.0) (Some s.1) (lookup (nat_eq m) ss) not
 
--- where a number is not found, the first stream has another, and it is not found behind it
+-- where a number is not found, the first stream has another, and it is not found after it
 none_here : {S : Type 0} (m : ℕ) (s : ℕ × S) (ss : List (ℕ × S)) → lookup (nat_eq m) (s ∷ ss) ≡ None → (nat_eq m s.0 ≡ false) × (lookup (nat_eq m) ss ≡ None)
 none_here m s ss none = elim (eqb_tells m s.0) [
   | inl t ↦ absurd (none-some s.1 (sym none ∙ found_head m s ss t.0))
@@ -50,7 +50,7 @@ set_rest n s ss w not = when_not (nat_eq n s.0) ((s.0, w) ∷ ss) (s ∷ set_val
 through : {S : Type 0} (m : ℕ) (s : ℕ × S) (ss ts : List (ℕ × S)) → lookup (nat_eq m) ss ≡ lookup (nat_eq m) ts → lookup (nat_eq m) (s ∷ ss) ≡ lookup (nat_eq m) (s ∷ ts)
 through m s ss ts rest = ap (λ o. cond (nat_eq m s.0) (Some s.1) o) rest
 
--- behind a closing the others are found as before
+-- after a closing the others are found as before
 pub lookup_removed_other : {S : Type 0} (m n : ℕ) (ss : List (ℕ × S)) → m ≢ n → lookup (nat_eq m) (remove_entry (nat_eq n) ss) ≡ lookup (nat_eq m) ss
 lookup_removed_other m n [] other = refl
 lookup_removed_other m n (s ∷ ss) other = elim (eqb_tells n s.0) [
@@ -58,7 +58,7 @@ lookup_removed_other m n (s ∷ ss) other = elim (eqb_tells n s.0) [
   | inr f ↦ ap (lookup (nat_eq m)) (removed_rest n s ss f.0) ∙ through m s (remove_entry (nat_eq n) ss) ss (lookup_removed_other m n ss other)
 ]
 
--- what was not found before is not found then
+-- a number that was not found before is not found then
 none_removed : {S : Type 0} (m n : ℕ) (ss : List (ℕ × S)) → lookup (nat_eq m) ss ≡ None → lookup (nat_eq m) (remove_entry (nat_eq n) ss) ≡ None
 none_removed m n [] none = refl
 none_removed m n (s ∷ ss) none = let h = none_here m s ss none in elim (eqb_tells n s.0) [
@@ -81,7 +81,7 @@ apart_removed n (s ∷ ss) apart = elim (eqb_tells n s.0) [
   | inr f ↦ subst Apart (sym (removed_rest n s ss f.0)) (none_removed s.0 n ss apart.0, apart_removed n ss apart.1)
 ]
 
--- behind a move the others are found as before
+-- after a move the others are found as before
 pub lookup_set_other : {S : Type 0} (m n : ℕ) (ss : List (ℕ × S)) (w : S) → m ≢ n → lookup (nat_eq m) (set_value (nat_eq n) ss w) ≡ lookup (nat_eq m) ss
 lookup_set_other m n [] w other = refl
 lookup_set_other m n (s ∷ ss) w other = elim (eqb_tells n s.0) [
@@ -91,7 +91,7 @@ lookup_set_other m n (s ∷ ss) w other = elim (eqb_tells n s.0) [
   | inr f ↦ ap (lookup (nat_eq m)) (set_rest n s ss w f.0) ∙ through m s (set_value (nat_eq n) ss w) ss (lookup_set_other m n ss w other)
 ]
 
--- and the one that moved has its new state
+-- and the stream that moved is in its new state
 pub lookup_set : {S : Type 0} (n : ℕ) (ss : List (ℕ × S)) (v w : S) → lookup (nat_eq n) ss ≡ Some v → lookup (nat_eq n) (set_value (nat_eq n) ss w) ≡ Some w
 lookup_set n [] v w at = absurd (none-some v at)
 lookup_set n (s ∷ ss) v w at = elim (eqb_tells n s.0) [
@@ -113,7 +113,7 @@ apart_set n (s ∷ ss) w apart = elim (eqb_tells n s.0) [
   | inr f ↦ subst Apart (sym (set_rest n s ss w f.0)) (none_set s.0 n ss w apart.0, apart_set n ss w apart.1)
 ]
 
--- behind an opening the others are found as before
+-- after an opening the others are found as before
 pub lookup_pushed_other : {S : Type 0} (m n : ℕ) (ss : List (ℕ × S)) (w : S) → m ≢ n → lookup (nat_eq m) (ss ++ (n, w) ∷ []) ≡ lookup (nat_eq m) ss
 lookup_pushed_other m n [] w other = found_rest m (n, w) [] (ne_eqb m n other)
 lookup_pushed_other m n (s ∷ ss) w other = through m s (ss ++ (n, w) ∷ []) ss (lookup_pushed_other m n ss w other)

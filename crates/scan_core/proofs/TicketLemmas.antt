@@ -14,11 +14,11 @@ none_at (t ∷ tickets) n zero none within at = none 0 t (omega arith) refl at
 none_at (t ∷ tickets) n (suc k) none within at =
     none_at tickets n k (λ i other inside stands. none (suc i) other (omega (arith, inside)) stands) (omega (arith, within)) at
 
--- where no ticket has a number, it is not among those told
+-- where no ticket has a number, it is not among the numbers of the entries
 pub number_stranger : (tickets : List Told) (n : ℕ) → ((i : ℕ) (other : Told) → i < length tickets → slice_get tickets i ≡ Some other → other.number ≢ n) → Contains (map (λ (t : Told). t.number) tickets) n → ⊥
 number_stranger tickets n none told = none_at tickets n told.0 none told.1 told.2
 
--- an entry is that of one of the tickets
+-- an entry belongs to one of the tickets
 pub record IsShown (tickets : List Told) (entry : Entry) : Type 0 where
   pub place : ℕ
   pub ticket : Told
@@ -29,7 +29,7 @@ shown_at : (tickets : List Told) (entry : Entry) (k : ℕ) (o : Option Told) →
 shown_at tickets entry k None at shows = absurd (none-some entry shows)
 shown_at tickets entry k (Some ticket) at shows = record { place = k; ticket = ticket; at = at; is = same_Some (entry_of ticket) entry shows }
 
--- an entry among those of tickets is that of one of them
+-- an entry among the entries of tickets belongs to one of them
 pub shown_of : (tickets : List Told) (entry : Entry) → Contains (map entry_of tickets) entry → IsShown tickets entry
 shown_of tickets entry known =
     shown_at tickets entry known.0 (slice_get tickets known.0) refl

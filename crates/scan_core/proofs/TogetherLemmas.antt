@@ -12,7 +12,7 @@ use Rattle.scan_core.specs.Together.{AgreeAll, Meet, ShowSound, TogetherLaw, kno
 use Rattle.scan_core.specs.Worlds.{Event, Happens, HasOnePlan, IsFirst, MeetsEntries, Runs, Streamed, World, is_publish}
 use Rattle.scan_core.proofs.TicketLemmas.{IsShown, shown_of}
 
--- a ticket that the session was told
+-- a ticket of a plan that the session published
 pub told_at : (s : Serving) (place : ℕ) (t : Told) → place < length s.told → place < length (tickets_of s) → t ≡ get_or s.told place t → slice_get (tickets_of s) place ≡ Some t
 told_at s place t within inside here =
     slice_get_read (tickets_of s) (length (tickets_of s)) place t refl inside
@@ -60,13 +60,13 @@ fit s t ss st tt sound_s sound_t = record {
   sessions = λ name. refl;
 }
 
--- the entries behind an event
+-- the entries after an event
 abbrev grown : Bool → Option Entry → List Entry → List Entry
 grown publishes None entries = entries
 grown true (Some entry) entries = entry ∷ entries
 grown false (Some entry) entries = entries
 
--- what stands first, or behind it
+-- what stands first, or after it
 head_or_rest : (x e : Entry) (es : List Entry) (k : ℕ) → k < length (x ∷ es) → get_or (x ∷ es) k e ≡ e → (x ≡ e) ⊎ Contains es e
 head_or_rest x e es zero within at = inl at
 head_or_rest x e es (suc k) within at = inr (k, omega (arith, within), at)

@@ -35,7 +35,7 @@ cases_at : (x e : Entry) (es : List Entry) (k : ℕ) → k < length (x ∷ es) �
 cases_at x e es zero within at = inl at
 cases_at x e es (suc k) within at = inr (k, omega (arith, within), at)
 
--- an entry is the first one, or stands behind it
+-- an entry is the first one, or stands after it
 contains_cases : (x e : Entry) (es : List Entry) → Contains (x ∷ es) e → (x ≡ e) ⊎ Contains es e
 contains_cases x e es h = cases_at x e es h.0 h.1 h.2
 
@@ -46,12 +46,12 @@ entries_stay false None old new e meets there = subst (λ es. Contains es e) (sy
 entries_stay true (Some x) old new e meets there = subst (λ es. Contains es e) (sym meets.1) (contains_more x e old there)
 entries_stay false (Some x) old new e meets there = subst (λ es. Contains es e) (sym meets.1) there
 
--- what an event met is an entry behind it
+-- what an event met is an entry after it
 met_stands : (publishes : Bool) (x : Entry) (old new : List Entry) → MeetsEntries publishes (Some x) old new → Contains new x
 met_stands true x old new meets = subst (λ es. Contains es x) (sym meets.1) (contains_head x old)
 met_stands false x old new meets = subst (λ es. Contains es x) (sym meets.1) meets.0
 
--- with one more entry that agrees with those of its number, each number has one plan
+-- with one more entry that agrees with all entries of its number, each number has one plan
 one_plan_grown : (x : Entry) (old : List Entry) → HasOnePlan old → ((other : Entry) → Contains old other → other.number ≡ x.number → other.plan ≡ x.plan) → HasOnePlan (x ∷ old)
 one_plan_grown x old one agrees a b in_a in_b same = elim (contains_cases x a old in_a) [
   | inl xa ↦ elim (contains_cases x b old in_b) [
@@ -72,7 +72,7 @@ one_plan_kept false (Some x) old new one meets = subst HasOnePlan (sym meets.1) 
 
 -- Streams
 
--- what is known of a stream: the entry that it was opened by, and the pieces since
+-- the past of a stream: the entry that it was opened by, and the pieces since
 record Known (past : Option Past) (entries : List Entry) (state : Streamed) : Type 0 where
   entry : Entry
   pieces : List (List ℕ)
@@ -85,7 +85,7 @@ record Known (past : Option Past) (entries : List Entry) (state : Streamed) : Ty
 abbrev AllKnown : (ℕ → Option Past) → List Entry → List (ℕ × Streamed) → Type 0
 AllKnown past entries streams = (n : ℕ) (state : Streamed) → lookup (nat_eq n) streams ≡ Some state → Known (past n) entries state
 
--- what is known of a stream behind a request
+-- the past of a stream after a request
 abbrev next_past : RequestParts → List ReplyParts → (ℕ → Option Past) → ℕ → Option Past
 next_past request replies past n = cond (is_accepted replies) (past_after n request (past n)) (past n)
 
@@ -109,7 +109,7 @@ accepted_fed : (stream : ℕ) (blocks : List (List (ℕ × ℕ))) (place : ℕ) 
 accepted_fed stream [] place = refl
 accepted_fed stream (block ∷ blocks) place = refl
 
--- an Open that is not refused by itself is of a stream that is not open
+-- an Open that meets no refusal, whatever its number, is of a stream that is not open
 not_open : (o : Option Streamed) (full : Bool) → (if is_some o then Some StreamInUse else if full then Some StreamQuota else None) ≡ None → o ≡ None
 not_open None full none = refl
 not_open (Some state) full none = absurd (none-some StreamInUse (sym none))
@@ -184,7 +184,7 @@ module _ (past : ℕ → Option Past) (es more : List Entry) (stay : (e : Entry)
 
   -- an accepted request, whatever it is
   keeps_accepted : (request : RequestParts) (outcome : Outcome Streamed) → refusal_of by_bytes before request ≡ None → ((e : Entry) → outcome.met ≡ Some e → Contains more e) → IsAccepted by_bytes before request outcome → Keeps past more request outcome
-  keeps_accepted (Publish folding literals) outcome none met a = subst (Keeps past more (Publish folding literals)) (sym a.is) (keeps_same, apart)
+  keeps_accepted (Publish folding profile literals) outcome none met a = subst (Keeps past more (Publish folding profile literals)) (sym a.is) (keeps_same, apart)
   keeps_accepted (Open stream number) outcome none met a = elim a [
     | inl o ↦ subst (Keeps past more (Open stream number)) (sym o.is)
         (keeps_opened stream number o.entry o.state (not_open (lookup (nat_eq stream) before.streams) (nat_le MAX_STREAMS (length before.streams)) none) o.asked o.begins (met o.entry (ap (λ (out : Outcome Streamed). out.met) o.is)))
@@ -202,7 +202,7 @@ module _ (past : ℕ → Option Past) (es more : List Entry) (stay : (e : Entry)
 
 -- Runs
 
--- what is known of a world behind events
+-- a world after events: one plan a number, and the past of each stream
 record IsBehind (events : List Event) (world : World) : Type 0 where
   one : HasOnePlan world.entries
   known : (who : ℕ) → AllKnown (λ n. past_of who n events) world.entries (world.sessions who).streams

@@ -1,4 +1,4 @@
--- Replies that tell the hits of a piece.
+-- Replies with the hits of a piece.
 use Rattle.std.specs.Prelude.{◌≡◌, ℕ, List, map, ◌++◌}
 use Rattle.scan_wire.specs.Messages.{Hits}
 use Rattle.scan_wire.specs.declared.message.Reply.{Reply}

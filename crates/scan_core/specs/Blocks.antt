@@ -1,4 +1,4 @@
--- Long lists told in blocks.
+-- Long lists in blocks.
 use Rattle.std.specs.Prelude.{◌≡◌, ◌≢◌, ℕ, List, [], ◌∷◌, ◌++◌, length, take, drop}
 
 -- the blocks of a list: each has as many elements as a block may have, but the last, and none is empty

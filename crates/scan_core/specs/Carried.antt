@@ -1,4 +1,4 @@
--- A session seen by what its scanners keep, beside the same session seen by all bytes that its streams were fed.
+-- A session seen by the state of its scanners, and the same session seen by all bytes that its streams were fed.
 use Rattle.std.specs.Prelude.{◌≡◌, ℕ, List, [], ◌∷◌, length}
 use Rattle.flow_scan.specs.Tails.{HasBounds, carry_of, last_bytes}
 use Rattle.scan_wire.specs.Messages.{RequestParts}
@@ -26,7 +26,7 @@ pub record IsSeen (tails : SessionParts Bound) (bytes : SessionParts Streamed) :
   pub told : bytes.told ≡ tails.told
   pub streams : AreCarried tails.streams bytes.streams
 
--- the session behind a request, seen by bytes, and that the request is a step to it
+-- the session after a request, seen by bytes, and that the request is a step to it
 pub record IsEventOf (tails : Outcome Bound) (bytes : SessionParts Streamed) (request : RequestParts) : Type 0 where
   pub after : SessionParts Streamed
   pub seen : IsSeen tails.after after

@@ -1,4 +1,4 @@
--- The elements of a list of optional ones.
+-- The elements of a list of optional elements.
 use Rattle.std.specs.Prelude.{List, [], ◌∷◌, Option, Some, None}
 
 abbrev pub somes : {T : Type 0} → List (Option T) → List T

@@ -1,4 +1,4 @@
--- A Feed that is answered front by front.
+-- A Feed that is answered prefix by prefix.
 use Rattle.std.specs.Prelude.{◌≡◌, ℕ, ◌+◌, ◌^◌, ◌<◌, ◌≤◌, List, length, take, Some}
 use Rattle.std.specs.Prelude.{nat_eq}
 use Rattle.std.specs.Map.{set_value}
@@ -12,7 +12,7 @@ pub record IsKept (scan : Scanning) : Type 0 where
   pub bounds : HasBounds scan.plan.literals
   pub short : length scan.tail ≤ carry_of scan.plan.literals
 
--- a stream is open, and behind a piece its place is so far, and fits
+-- a stream is open, and after a piece its place is so far, and fits
 pub record MayFeed (s : Serving) (stream : ℕ) (piece : List ℕ) (place : ℕ) : Type 0 where
   pub state : Bound
   pub here : stream_at stream (parts_of s) ≡ Some state
@@ -20,7 +20,7 @@ pub record MayFeed (s : Serving) (stream : ℕ) (piece : List ℕ) (place : ℕ)
   pub reached : place ≡ state.scan.place + length piece
   pub fits : place < 2 ^ 64
 
--- a stream behind a front of a piece that stops once so many hits were gained
+-- a stream after a prefix of a piece, up to where `most` hits were gained
 pub record MovesUpTo (old : ℕ × Bound) (piece : List ℕ) (most count : ℕ) (before after : List (ℕ × ℕ)) (new : ℕ × Bound) : Type 0 where
   pub state : new ≡ (old.0, record old.1 { scan = fed old.1.scan (take count piece) })
   pub stops : StopsIn old.1.scan.plan.literals old.1.scan.tail piece old.1.scan.place most count before after
@@ -29,7 +29,7 @@ pub record MovesUpTo (old : ℕ × Bound) (piece : List ℕ) (most count : ℕ) 
 abbrev pub fed_by : Serving → ℕ → Bound → List ℕ → Serving
 fed_by s stream state bytes = record s { streams = set_value (nat_eq stream) s.streams (record state { scan = fed state.scan bytes }) }
 
--- a session was fed a front of a piece, and a list has gained its hits
+-- a session was fed a prefix of a piece, and a list has gained its hits
 pub record FeedsFront (before : Serving) (stream : ℕ) (piece : List ℕ) (most count : ℕ) (old new : List (ℕ × ℕ)) (after : Serving) : Type 0 where
   pub state : Bound
   pub here : stream_at stream (parts_of before) ≡ Some state

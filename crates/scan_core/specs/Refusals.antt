@@ -1,19 +1,16 @@
 -- Why a session refuses a request, and which refusal comes first.
 use Rattle.std.specs.Prelude.{ℕ, ◌+◌, ◌==◌, nat_le, nat_lt, List, [], ◌∷◌, length, Option, Some, None, if◌then◌else◌}
-use Rattle.lit_base.specs.declared.fold.Fold.{Fold}
-use Rattle.lit_base.specs.declared.limits.TheConstants.{MAX_LITERALS, MAX_LITERAL_LEN, MAX_PATTERNS}
-use Rattle.lit_base.specs.NormalForm.{normal_form}
+use Rattle.lit_base.specs.declared.limits.TheConstants.{MAX_LITERAL_LEN, MAX_PATTERNS}
 use Rattle.scan_core.specs.declared.limits.TheConstants.{MAX_PLANS}
 use Rattle.scan_core.specs.declared.refusal.Refusal.{Refusal}
-use Rattle.scan_core.specs.declared.refusal.Refusal.TheVariants.{PlanQuota, NoLiterals, TooManyPatterns, EmptyLiteral, LiteralTooLong, TooManyLiterals, StreamInUse, StreamQuota, NoSuchPlan, NoSuchStream, StreamTooLong}
+use Rattle.scan_core.specs.declared.refusal.Refusal.TheVariants.{PlanQuota, NoLiterals, TooManyPatterns, EmptyLiteral, LiteralTooLong, StreamInUse, StreamQuota, NoSuchPlan, NoSuchStream, StreamTooLong}
 
--- the code that the reply tells
+-- the code in the reply
 abbrev pub code_of : Refusal → ℕ
 code_of TooManyPatterns = 2
 code_of (LiteralTooLong place) = 3
 code_of (EmptyLiteral place) = 4
 code_of NoLiterals = 5
-code_of TooManyLiterals = 6
 code_of StreamInUse = 12
 code_of NoSuchStream = 13
 code_of NoSuchPlan = 14
@@ -21,13 +18,12 @@ code_of PlanQuota = 15
 code_of StreamQuota = 16
 code_of StreamTooLong = 20
 
--- the detail that it tells: the place of a literal that is refused by itself
+-- the detail in the reply: the place of a refused literal
 abbrev pub detail_of : Refusal → ℕ
 detail_of TooManyPatterns = 0
 detail_of (LiteralTooLong place) = place
 detail_of (EmptyLiteral place) = place
 detail_of NoLiterals = 0
-detail_of TooManyLiterals = 0
 detail_of StreamInUse = 0
 detail_of NoSuchStream = 0
 detail_of NoSuchPlan = 0
@@ -40,7 +36,7 @@ abbrev pub earlier : Option Refusal → Option Refusal → Option Refusal
 earlier None second = second
 earlier (Some refusal) second = Some refusal
 
--- of a literal at a place, by itself
+-- of a literal at a place
 abbrev pub literal_refusal : ℕ → List ℕ → Option Refusal
 literal_refusal place literal =
     if length literal == 0 then Some (EmptyLiteral place)
@@ -52,18 +48,10 @@ abbrev pub first_refusal : ℕ → List (List ℕ) → Option Refusal
 first_refusal place [] = None
 first_refusal place (literal ∷ literals) = earlier (literal_refusal place literal) (first_refusal (place + 1) literals)
 
--- of literals in a session that was told so many plans, before their normal form is made
-abbrev pub raw_refusal : ℕ → List (List ℕ) → Option Refusal
-raw_refusal told literals =
+-- of a Publish of literals, in a session that published `told` plans
+abbrev pub publish_refusal : ℕ → List (List ℕ) → Option Refusal
+publish_refusal told literals =
     if nat_le MAX_PLANS told then Some PlanQuota
     else if length literals == 0 then Some NoLiterals
     else if nat_lt MAX_PATTERNS (length literals) then Some TooManyPatterns
     else first_refusal 0 literals
-
--- of a normal form
-abbrev pub crowd_refusal : List (List ℕ) → Option Refusal
-crowd_refusal texts = if nat_lt MAX_LITERALS (length texts) then Some TooManyLiterals else None
-
--- of a Publish
-abbrev pub publish_refusal : ℕ → Fold → List (List ℕ) → Option Refusal
-publish_refusal told fold literals = earlier (raw_refusal told literals) (crowd_refusal (normal_form fold literals))

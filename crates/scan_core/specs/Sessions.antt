@@ -1,4 +1,5 @@
--- What a contract sees of a `Session`: its store, the tickets that it was told, and its open streams as their tickets and what their scanners keep.
+-- What a contract sees of a `Session`: its store, the tickets of the plans that it published, and its open streams as
+-- their tickets and the state of their scanners.
 use Rattle.std.specs.Prelude.{◌≡◌, ℕ, List, [], ◌++◌, All, map, Option, IfSome}
 use Rattle.boxcar.specs.Table.{Shelves}
 use Rattle.plan_store.specs.Tickets.{IsOf, Told}
@@ -18,7 +19,7 @@ pub record Serving : Type 0 where
   pub told : List Told
   pub streams : List (ℕ × Bound)
 
--- a session of a store that was told nothing and has no open stream
+-- a session of a store that has published nothing and has no open stream
 abbrev pub fresh : Shelves → Serving
 fresh store = record { store = store; told = []; streams = [] }
 
@@ -30,7 +31,7 @@ entry_of ticket = record { number = ticket.number; plan = ticket.plan }
 abbrev pub parts_of : Serving → SessionParts Bound
 parts_of s = record { told = map entry_of s.told; streams = s.streams }
 
--- a stream as its scanner keeps it: it begins at place 0 by the plan of its ticket, and a piece adds hits behind its tail
+-- a stream as its scanner keeps it: it begins at place 0 by the plan of its ticket, and a piece adds hits after its tail
 abbrev pub by_tails : Reading Bound
 by_tails = record {
   opened_by = λ state. entry_of state.ticket;
@@ -51,7 +52,7 @@ pub record IsServing (s : Serving) : Type 0 where
   pub told : All (IsOf s.store) s.told
   pub streams : All (λ stream. IsBound s.store stream.1) s.streams
 
--- and the search that it learns by, if it has one, is by the plan of a ticket of its store
+-- and its finder, if it has one, is by the plan of a ticket of its store
 pub record IsSession (s : Serving) (learner : Option Told) : Type 0 where
   pub serving : IsServing s
   pub own : IfSome learner (IsOf s.store)
@@ -66,7 +67,7 @@ pub record IsEvent (before : Serving) (request : RequestParts) (replies : List R
 abbrev pub replies_of : List Reply → List ReplyParts
 replies_of replies = map reply_parts replies
 
--- a list of replies has gained those of an event, at its end
+-- a list of replies has gained the replies of an event, at its end
 pub record GainsEvent (before : Serving) (request : RequestParts) (old new : List Reply) (after : Serving) : Type 0 where
   pub replies : List ReplyParts
   pub grown : replies_of new ≡ replies_of old ++ replies

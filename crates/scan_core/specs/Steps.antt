@@ -1,7 +1,9 @@
--- One event of a session: a request and its replies. How a stream is seen is left open here: by what its scanner keeps, or by all bytes that it was fed.
+-- One event of a session: a request and its replies. A stream may be seen in two ways here: by the state of its
+-- scanner, or by all bytes that it was fed.
 use Rattle.std.specs.Prelude.{◌≡◌, ℕ, ◌+◌, ◌^◌, nat_eq, nat_le, List, [], ◌∷◌, ◌++◌, length, map, Contains, Option, Some, None, MatchOption, ◌⊎◌, is_some, if◌then◌else◌}
 use Rattle.std.specs.Map.{lookup, remove_entry, set_value}
 use Rattle.lit_base.specs.declared.fold.Fold.{Fold}
+use Rattle.lit_base.specs.declared.profile.Profile.{Profile}
 use Rattle.lit_base.specs.Literals.{IsNormal}
 use Rattle.lit_base.specs.NormalForm.{normal_form}
 use Rattle.lit_cert.specs.Certified.{IsCertified}
@@ -23,12 +25,12 @@ pub record Entry : Type 0 where
 -- a plan that holds: literals in normal form, and a certificate of them
 pub record IsSound (plan : plans.Plan) : Type 0 where
   pub normal : IsNormal plan.literals
-  pub certified : IsCertified 8 plan.literals plan.certificate
+  pub certified : IsCertified plan.literals plan.certificate
 
--- the plan of literals: their normal form, planned
-pub record IsPlanOf (fold : Fold) (literals : List (List ℕ)) (plan : plans.Plan) : Type 0 where
+-- the plan of literals by a profile: their normal form, planned
+pub record IsPlanOf (fold : Fold) (profile : Profile) (literals : List (List ℕ)) (plan : plans.Plan) : Type 0 where
   pub list : plan.literals ≡ record { folding = fold; texts = normal_form fold literals }
-  pub planned : IsPlanned plan.literals plan.certificate
+  pub planned : IsPlanned plan.literals profile plan.certificate
 
 -- how the state of a stream is seen: the entry that it was opened by, its plan and its place, how it begins by an entry, and with which hits a piece moves it on
 pub record Reading (S : Type 0) : Type 1 where
@@ -38,20 +40,20 @@ pub record Reading (S : Type 0) : Type 1 where
   pub Begins : Entry → S → Type 0
   pub Moves : S → List ℕ → List (ℕ × ℕ) → S → Type 0
 
--- a session: the entries that it was told, and its open streams by their numbers, in order of opening
+-- a session: the entries that it published, and its open streams by their numbers, in order of opening
 pub record SessionParts (S : Type 0) : Type 0 where
   pub told : List Entry
   pub streams : List (ℕ × S)
 
--- a session that was told nothing and has no open stream
+-- a session that has published nothing and has no open stream
 abbrev pub new_session : {S : Type 0} → SessionParts S
 new_session {S} = record { told = []; streams = [] }
 
--- the entries that a session knows: those that it was told, and those that its open streams were opened by
+-- the entries that a session knows: the entries that it published, and the entries that its open streams were opened by
 abbrev pub known_entries : {S : Type 0} → Reading S → SessionParts S → List Entry
 known_entries {S} reading s = s.told ++ map (λ (stream : ℕ × S). reading.opened_by stream.1) s.streams
 
--- what a request comes to: the replies, the entry that it met, if it met one, and the session behind it
+-- the outcome of a request: the replies, the entry that it met, if it met one, and the session after it
 pub record Outcome (S : Type 0) : Type 0 where
   pub replies : List ReplyParts
   pub met : Option Entry
@@ -63,29 +65,29 @@ stream_at number s = lookup (nat_eq number) s.streams
 
 -- the stream a request names: 0 in a Publish
 abbrev pub stream_of : RequestParts → ℕ
-stream_of (Publish fold literals) = 0
+stream_of (Publish fold profile literals) = 0
 stream_of (Open stream number) = stream
 stream_of (Feed stream piece) = stream
 stream_of (Close stream) = stream
 stream_of (ShowPlan stream) = stream
 
--- the reply that tells a refusal
+-- the reply of a refusal
 abbrev pub refused_reply : ℕ → Refusal → ReplyParts
 refused_reply stream refusal = Refused stream (code_of refusal) (detail_of refusal)
 
 -- the reply that shows the plan of a stream
 abbrev pub plan_reply : ℕ → plans.Plan → ReplyParts
-plan_reply stream plan = Plan stream plan.literals.folding (length plan.literals.texts) plan.certificate.cost plan.certificate.ends
+plan_reply stream plan = Plan stream plan.literals.folding plan.certificate.profile (length plan.literals.texts) plan.certificate.cost plan.certificate.ends
 
--- the replies that tell hits in blocks, and the place reached
+-- the replies with hits in blocks, and the place reached
 abbrev pub fed_replies : ℕ → List (List (ℕ × ℕ)) → ℕ → List ReplyParts
 fed_replies stream blocks place = map (Hits stream) blocks ++ Fed stream place ∷ []
 
--- a refusal is told, and changes nothing
+-- a request is refused, and changes nothing
 abbrev pub refused : {S : Type 0} → SessionParts S → RequestParts → Refusal → Outcome S
 refused before request refusal = record { replies = refused_reply (stream_of request) refusal ∷ []; met = None; after = before }
 
--- an entry is published, and the session is told its number
+-- an entry is published, and the session gets its number
 abbrev pub published : {S : Type 0} → SessionParts S → Entry → Outcome S
 published before entry = record {
   replies = Published entry.number ∷ [];
@@ -121,14 +123,14 @@ closed before stream = record {
 abbrev pub shown : {S : Type 0} → SessionParts S → ℕ → plans.Plan → Outcome S
 shown before stream plan = record { replies = plan_reply stream plan ∷ []; met = None; after = before }
 
--- each of these entries that has the number of another one has its plan
+-- each of the entries with the number of one entry has the same plan
 abbrev pub AgreeWith : List Entry → Entry → Type 0
 AgreeWith entries entry = (other : Entry) → Contains entries other → other.number ≡ entry.number → other.plan ≡ entry.plan
 
--- a Publish that is not refused: an entry of the plan of its literals, with which those agree that the session knows
-pub record Publishes {S : Type 0} (reading : Reading S) (fold : Fold) (literals : List (List ℕ)) (before : SessionParts S) (outcome : Outcome S) : Type 0 where
+-- a Publish that is not refused: an entry of the plan of its literals by its profile, with which those agree that the session knows
+pub record Publishes {S : Type 0} (reading : Reading S) (fold : Fold) (profile : Profile) (literals : List (List ℕ)) (before : SessionParts S) (outcome : Outcome S) : Type 0 where
   pub entry : Entry
-  pub plan : IsPlanOf fold literals entry.plan
+  pub plan : IsPlanOf fold profile literals entry.plan
   pub sound : IsSound entry.plan
   pub agreed : AgreeWith (known_entries reading before) entry
   pub is : outcome ≡ published before entry
@@ -143,7 +145,7 @@ pub record Opens {S : Type 0} (reading : Reading S) (stream number : ℕ) (befor
   pub begins : reading.Begins entry state
   pub is : outcome ≡ opened before stream entry state
 
--- an Open that finds none: the session was not told the number, and has no stream open by it
+-- an Open that finds none: the session did not publish the number, and has no stream open by it
 pub record FindsNone {S : Type 0} (reading : Reading S) (stream number : ℕ) (before : SessionParts S) (outcome : Outcome S) : Type 0 where
   pub stranger : ¬ Contains (map (λ entry. entry.number) (known_entries reading before)) number
   pub is : outcome ≡ refused before (Open stream number) NoSuchPlan
@@ -162,9 +164,9 @@ abbrev pub stream_refusal : {S : Type 0} → Option S → (S → Option Refusal)
 stream_refusal None refusal = Some NoSuchStream
 stream_refusal (Some state) refusal = refusal state
 
--- the first refusal that a request meets, but for the number that an Open asks for
+-- the first refusal that a request meets, apart from the number that an Open asks for
 abbrev pub refusal_of : {S : Type 0} → Reading S → SessionParts S → RequestParts → Option Refusal
-refusal_of reading s (Publish fold literals) = publish_refusal (length s.told) fold literals
+refusal_of reading s (Publish fold profile literals) = publish_refusal (length s.told) literals
 refusal_of reading s (Open stream number) =
     if is_some (stream_at stream s) then Some StreamInUse
     else if nat_le MAX_STREAMS (length s.streams) then Some StreamQuota
@@ -174,15 +176,15 @@ refusal_of reading s (Feed stream piece) =
 refusal_of reading s (Close stream) = stream_refusal (stream_at stream s) (λ state. None)
 refusal_of reading s (ShowPlan stream) = stream_refusal (stream_at stream s) (λ state. None)
 
--- what a request comes to that meets no refusal
+-- the outcome of a request that meets no refusal
 abbrev pub IsAccepted : {S : Type 0} → Reading S → SessionParts S → RequestParts → Outcome S → Type 0
-IsAccepted reading before (Publish fold literals) outcome = Publishes reading fold literals before outcome
+IsAccepted reading before (Publish fold profile literals) outcome = Publishes reading fold profile literals before outcome
 IsAccepted reading before (Open stream number) outcome = Opens reading stream number before outcome ⊎ FindsNone reading stream number before outcome
 IsAccepted {S} reading before (Feed stream piece) outcome = (state : S) × (stream_at stream before ≡ Some state) × Feeds reading stream piece state before outcome
 IsAccepted reading before (Close stream) outcome = outcome ≡ closed before stream
 IsAccepted {S} reading before (ShowPlan stream) outcome = (state : S) × (stream_at stream before ≡ Some state) × (outcome ≡ shown before stream (reading.plan_of state))
 
--- what a request comes to: its first refusal, if it meets one
+-- the outcome of a request: its first refusal, if it meets one
 abbrev pub IsStep : {S : Type 0} → Reading S → SessionParts S → RequestParts → Outcome S → Type 0
 IsStep reading before request outcome =
     MatchOption (refusal_of reading before request)

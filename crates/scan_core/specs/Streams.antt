@@ -1,4 +1,4 @@
--- Where the stream of a number stands among the open ones, and how a piece moves it on.
+-- Where the stream of a number stands among the open streams, and how a piece moves it on.
 use Rattle.std.specs.Prelude.{◌≡◌, ◌≢◌, ℕ, ◌+◌, ◌<◌, ◌^◌, List, length, Some}
 use Rattle.std.specs.List.{slice_get}
 use Rattle.flow_scan.specs.Scanners.{fed}
@@ -11,7 +11,7 @@ pub record StandsAt {S : Type 0} (number : ℕ) (streams : List (ℕ × S)) (pla
   pub here : slice_get streams place ≡ Some (number, state)
   pub first : (earlier : ℕ) (other : ℕ × S) → earlier < place → slice_get streams earlier ≡ Some other → other.0 ≢ number
 
--- a stream behind one more piece, whose hits a list has gained
+-- a stream after one more piece, whose hits a list has gained
 pub record MovesTo (old : ℕ × Bound) (piece : List ℕ) (before after : List (ℕ × ℕ)) (new : ℕ × Bound) : Type 0 where
   pub fits : old.1.scan.place + length piece < 2 ^ 64
   pub state : new ≡ (old.0, record old.1 { scan = fed old.1.scan piece })

@@ -6,7 +6,7 @@ use Rattle.scan_core.specs.Sessions.{Bound, Serving, entry_of}
 use Rattle.scan_core.specs.Steps.{Entry, IsSound, IsStep, SessionParts}
 use Rattle.scan_core.specs.Worlds.{Event, HasOnePlan, Runs, Streamed, World, by_bytes}
 
--- the tickets of a session: those that it was told, and those of its open streams
+-- the tickets of a session: of the plans that it published, and of its open streams
 abbrev pub tickets_of : Serving → List Told
 tickets_of s = s.told ++ map (λ (stream : ℕ × Bound). stream.1.ticket) s.streams
 
@@ -30,7 +30,7 @@ AgreeAll one other = (place : ℕ) (ticket : Told) → slice_get (tickets_of one
 abbrev pub ShowSound : Serving → Type 0
 ShowSound s = (place : ℕ) (ticket : Told) → slice_get (tickets_of s) place ≡ Some ticket → IsSound ticket.plan
 
--- a world before any event, of these entries
+-- a world before any event, with the given entries
 abbrev pub world_of : List Entry → World
 world_of entries = record { entries = entries; sessions = λ name. record { told = []; streams = [] } }
 

@@ -47,7 +47,8 @@ pub record Event : Type 0 where
 abbrev pub HasOnePlan : List Entry → Type 0
 HasOnePlan entries = (first second : Entry) → Contains entries first → Contains entries second → first.number ≡ second.number → first.plan ≡ second.plan
 
--- a world before any event: entries, one plan a number, and sessions that were told nothing and have no open stream
+-- a world before any event: entries, one plan a number, and sessions that have published nothing and have no open
+-- stream
 pub record IsFirst (world : World) : Type 0 where
   pub sound : (entry : Entry) → Contains world.entries entry → IsSound entry.plan
   pub one_plan : HasOnePlan world.entries
@@ -55,13 +56,13 @@ pub record IsFirst (world : World) : Type 0 where
 
 -- whether a request is a Publish
 abbrev pub is_publish : RequestParts → Bool
-is_publish (Publish folding literals) = true
+is_publish (Publish folding profile literals) = true
 is_publish (Open stream number) = false
 is_publish (Feed stream piece) = false
 is_publish (Close stream) = false
 is_publish (ShowPlan stream) = false
 
--- the entries behind an event: what a Publish met is added, and has this plan wherever the number stands; what another request met is there
+-- the entries after an event: what a Publish met is added, and has this plan wherever the number stands; what another request met is there
 abbrev pub MeetsEntries : Bool → Option Entry → List Entry → List Entry → Type 0
 MeetsEntries publishes None old new = new ≡ old
 MeetsEntries true (Some entry) old new = AgreeWith old entry × (new ≡ entry ∷ old)
@@ -87,7 +88,7 @@ is_accepted (Opened stream ∷ replies) = true
 is_accepted (Hits stream hits ∷ replies) = true
 is_accepted (Fed stream place ∷ replies) = true
 is_accepted (Closed stream ∷ replies) = true
-is_accepted (Plan stream fold count cost ends ∷ replies) = true
+is_accepted (Plan stream fold profile count cost ends ∷ replies) = true
 is_accepted (Refused stream code detail ∷ replies) = false
 
 -- the number that a stream was last opened with, and the pieces that it was fed since
@@ -97,7 +98,7 @@ pub record Past : Type 0 where
 
 -- one accepted request of the stream further
 abbrev pub past_after : ℕ → RequestParts → Option Past → Option Past
-past_after stream (Publish folding literals) past = past
+past_after stream (Publish folding profile literals) past = past
 past_after stream (Open other number) past = if other == stream then Some record { number = number; pieces = [] } else past
 past_after stream (Feed other piece) past =
     if other == stream then option_map {T = Past} (λ p. record p { pieces = p.pieces ++ piece ∷ [] }) past else past
@@ -113,7 +114,7 @@ past_event who stream past event =
 abbrev pub past_of : ℕ → ℕ → List Event → Option Past
 past_of who stream events = fold (past_event who stream) None events
 
--- the answer to a piece behind a text: the hits that it adds, in blocks, and the place reached
+-- the answer to a piece after a text: the hits that it adds, in blocks, and the place reached
 pub record FedAnswer : Type 0 where
   pub blocks : List (List (ℕ × ℕ))
   pub place : ℕ
@@ -142,5 +143,5 @@ pub record WorldLaw : Type 0 where
   pub stays : (old new : World) (events : List Event) (entry : Entry) → Runs old events new → Contains old.entries entry → Contains new.entries entry
   -- the replies to an accepted Feed
   pub answers : (first old new : World) (events : List Event) (who stream : ℕ) (piece : List ℕ) (replies : List ReplyParts) → IsFirst first → Runs first events old → Happens record { who = who; request = Feed stream piece; replies = replies } old new → IsTrue (is_accepted replies) → AnswersByPast events old.entries who stream piece replies
-  -- they are a function of the plan and the pieces alone, but for the stream's number
+  -- apart from the stream's number they are a function of the plan and the pieces alone
   pub one_answer : (plan : plans.Plan) (pieces : List (List ℕ)) (piece : List ℕ) (one other : FedAnswer) → IsAnswer plan pieces piece one → IsAnswer plan pieces piece other → one ≡ other

@@ -1,4 +1,4 @@
-//! Telling hits in replies.
+//! Adding the hits of a piece to the replies.
 ghost use Rattle.std.specs.Prelude.{◌≡◌, ◌++◌, OnErr, OnOk};
 ghost use Rattle.scan_core.specs.Answers.{Extends, TellsBlocks, TellsHits};
 
@@ -7,8 +7,8 @@ use flow_scan::Hit;
 use scan_wire::{MAX_HITS, Reply};
 use std::alloc::AllocError;
 
-/// Tells the hits of a piece of a stream, in blocks that are full but for the last, and the place
-/// reached. Where memory is refused, the replies are as they were.
+/// Adds the hits of a piece of a stream, in blocks that are all full except the last, and the place reached. If memory
+/// is refused, the replies are as they were.
 pub(crate) fn push_answer(
     stream: u32,
     hits: &[Hit],
@@ -26,7 +26,7 @@ pub(crate) fn push_answer(
     Ok(())
 }
 
-/// Tells the hits and the place. Where memory is refused, some replies were added.
+/// Adds the hits and the place. If memory is refused, some replies were added.
 fn push_all(stream: u32, hits: &[Hit], place: u64, out: &mut Vec<Reply>) -> Result<(), AllocError>
     ensures ok { OnOk result (TellsHits stream hits.now place out.old.items out.new.items) }
     ensures kept { Extends out.old.items out.new.items }
@@ -36,7 +36,7 @@ fn push_all(stream: u32, hits: &[Hit], place: u64, out: &mut Vec<Reply>) -> Resu
     Ok(())
 }
 
-/// Tells the hits. Where memory is refused, some replies were added.
+/// Adds the hits. If memory is refused, some replies were added.
 fn push_blocks(stream: u32, hits: &[Hit], out: &mut Vec<Reply>) -> Result<(), AllocError>
     ensures ok { OnOk result (TellsBlocks stream hits.now out.old.items out.new.items) }
     ensures kept { Extends out.old.items out.new.items }

@@ -1,4 +1,4 @@
-//! What a session learns from the bytes that its streams are fed.
+//! The finder of a session, which tunes itself to the bytes of its streams.
 ghost use Rattle.std.specs.Prelude.{◌≡◌, ◌+◌, ◌^◌, ◌<◌, IfOk, IfSome, IsOkUnless, IsTrue, None, OnErr, length, take};
 ghost use Rattle.plan_store.specs.Tickets.{IsOf};
 ghost use Rattle.flow_scan.specs.Scanners.{fed};
@@ -11,15 +11,15 @@ use plan_store::{PlanStore, Ticket};
 use std::alloc::Global;
 use std::marker::Model;
 
-/// A stream is searched by what learns once so many bytes of it were fed: as many as are scanned, at two nanoseconds a byte, in
-/// the time that it takes to make such a search and to learn.
+/// A stream is searched by a finder once this many bytes of it were fed. At two nanoseconds a byte, they are scanned in
+/// the time that it takes to make a finder and to tune it.
 const LEAST_LEARNED: u64 = 262_144;
 
-/// Once streams of other plans were fed so many bytes, and none of its own plan since, the search is made anew for one of them:
-/// where two plans take turns, the first keeps it.
+/// Once streams of other plans were fed this many bytes, and no stream of its own plan since, the finder is made anew
+/// for one of them. Where two plans take turns, the first keeps it.
 const MOST_STRANGE: usize = 1 << 20;
 
-/// A search that learns, by the plan of a ticket.
+/// A finder by the plan of a ticket.
 #[derive(Drop)]
 struct Learned<'s> {
     ticket: Ticket,
@@ -39,7 +39,7 @@ impl<'s> Model for Learned<'s> {
 }
 
 impl<'s> Learned<'s> {
-    /// Such a search before any text, if the plan has literals enough for it and there is memory.
+    /// A finder before any text, if the plan has literals enough for it and there is memory.
     fn by_plan_of(alloc: Global, store: &'s PlanStore, ticket: &Ticket) -> Option<Learned<'s>>
         requires { IsOf store.now ticket.now }
         ensures { IfSome result (λ learned. learned ≡ ticket.now) }
@@ -63,7 +63,7 @@ impl<'s> Learned<'s> {
         store.number(&self.ticket) == store.number(ticket)
     }
 
-    /// Feeds a front of a piece to a scan by the plan of a ticket, by what was learned if it is by the same plan.
+    /// Feeds a prefix of a piece to a scan by the plan of a ticket, with the finder if it is by the same plan.
     fn feed(
         &mut self,
         store: &PlanStore,
@@ -93,7 +93,7 @@ impl<'s> Learned<'s> {
     }
 }
 
-/// At most one search that learns, for all streams of a session that are scanned by its plan.
+/// At most one finder, for all streams of a session that are scanned by its plan.
 #[derive(Drop)]
 pub(crate) struct Learner<'s> {
     learned: Option<Learned<'s>>,
@@ -112,7 +112,7 @@ impl<'s> Model for Learner<'s> {
 }
 
 impl<'s> Learner<'s> {
-    /// No such search. It takes no memory.
+    /// No finder. It takes no memory.
     pub(crate) fn new() -> Learner<'s>
         ensures { result ≡ None }
     {
@@ -122,9 +122,9 @@ impl<'s> Learner<'s> {
         }
     }
 
-    /// Makes ready for a feed of so many bytes to a stream by the plan of a ticket, which has come to a place: where that is far
-    /// enough to learn from it, there is a search by the plan, unless that of another plan is in use. Where there is no
-    /// memory for it, the stream is scanned without.
+    /// Prepares for a feed of `count` bytes to a stream by the plan of a ticket, which has come to a place. If that is
+    /// far enough to tune a finder, there is one by the plan then, unless a finder of another plan is in use. Without
+    /// memory for it the stream is scanned without.
     pub(crate) fn prepare(
         &mut self,
         alloc: Global,
@@ -145,7 +145,7 @@ impl<'s> Learner<'s> {
         }
     }
 
-    /// Makes a search by the plan of a ticket where there is none, or that of another plan is out of use.
+    /// Makes a finder by the plan of a ticket where there is none, or the finder of another plan is out of use.
     fn make_if_due(&mut self, alloc: Global, store: &'s PlanStore, ticket: &Ticket)
         requires own { IfSome self.old (IsOf store.now) }
         requires ticket { IsOf store.now ticket.now }
@@ -168,8 +168,8 @@ impl<'s> Learner<'s> {
         }
     }
 
-    /// Feeds a front of a piece to a scan by the plan of a ticket, as `feed_until` of the scan does: by what was learned, if that is
-    /// by the same plan.
+    /// Feeds a prefix of a piece to a scan by the plan of a ticket, as `feed_until` of the scan does, with the finder
+    /// if it is by the same plan.
     pub(crate) fn feed(
         &mut self,
         store: &PlanStore,
@@ -198,7 +198,7 @@ impl<'s> Learner<'s> {
     }
 }
 
-/// Feeds a scan without what was learned.
+/// Feeds a scan without a finder.
 fn feed_plainly(
     scanner: &mut Scanner<'_>,
     piece: &[u8],

@@ -1,14 +1,14 @@
 //! Why a request is refused.
 ghost use Rattle.std.specs.Prelude.{◌≡◌, ◌<◌, ◌^◌, length};
 ghost use Rattle.scan_wire.specs.Messages.{reply_parts, texts_of};
-ghost use Rattle.scan_core.specs.Refusals.{code_of, detail_of, first_refusal, literal_refusal, raw_refusal};
+ghost use Rattle.scan_core.specs.Refusals.{code_of, detail_of, first_refusal, literal_refusal, publish_refusal};
 ghost use Rattle.scan_core.specs.Steps.{refused_reply};
 
 use crate::limits::MAX_PLANS;
 use lit_base::{MAX_LITERAL_LEN, MAX_PATTERNS};
 use scan_wire::Reply;
 
-/// Why a request is refused. The reply tells the code and the detail, and nothing changes.
+/// Why a request is refused. The reply has the code and the detail, and nothing changes.
 #[derive(Clone, Copy, Debug, PartialEq, Eq)]
 pub enum Refusal {
     /// A Publish of more literals than `MAX_PATTERNS`.
@@ -19,17 +19,15 @@ pub enum Refusal {
     EmptyLiteral { place: u16 },
     /// A Publish of no literal.
     NoLiterals,
-    /// More literals in the normal form than a plan may have.
-    TooManyLiterals,
     /// An Open of an open stream.
     StreamInUse,
     /// A request of a stream that is not open.
     NoSuchStream,
     /// An Open of a number under which no plan was found.
     NoSuchPlan,
-    /// A Publish behind `MAX_PLANS` of this session.
+    /// A Publish after `MAX_PLANS` of this session.
     PlanQuota,
-    /// An Open beside `MAX_STREAMS` streams of this session.
+    /// An Open with `MAX_STREAMS` streams of this session open.
     StreamQuota,
     /// A Feed by which the stream's place would pass 2^64 - 1.
     StreamTooLong,
@@ -45,7 +43,6 @@ impl Refusal {
             Refusal::LiteralTooLong { .. } => 3,
             Refusal::EmptyLiteral { .. } => 4,
             Refusal::NoLiterals => 5,
-            Refusal::TooManyLiterals => 6,
             Refusal::StreamInUse => 12,
             Refusal::NoSuchStream => 13,
             Refusal::NoSuchPlan => 14,
@@ -55,7 +52,7 @@ impl Refusal {
         }
     }
 
-    /// The place of the literal that is refused by itself, and else 0.
+    /// The place of the literal that is refused, or 0 for other refusals.
     pub fn detail(self) -> u16
         ensures { result ≡ detail_of self }
     {
@@ -77,10 +74,10 @@ impl Refusal {
     }
 }
 
-/// Why literals are refused before their normal form is made, in a session that was told so many
-/// plans.
+/// Why a Publish of literals is refused, in a session that published `told` plans. No refusal is for a normal form with
+/// too many literals: it has no more than there were patterns.
 pub(crate) fn refusal_of_literals(told: usize, literals: &[Vec<u8>]) -> Option<Refusal>
-    ensures { result ≡ raw_refusal told (texts_of literals.now) }
+    ensures { result ≡ publish_refusal told (texts_of literals.now) }
 {
     if told >= MAX_PLANS {
         return Some(Refusal::PlanQuota);
@@ -94,7 +91,7 @@ pub(crate) fn refusal_of_literals(told: usize, literals: &[Vec<u8>]) -> Option<R
     first_refused(literals)
 }
 
-/// Why the first literal is refused that is refused by itself.
+/// Why the first refused literal is refused.
 fn first_refused(literals: &[Vec<u8>]) -> Option<Refusal>
     requires { length literals.now < 2 ^ 16 }
     ensures { result ≡ first_refusal 0 (texts_of literals.now) }
@@ -110,7 +107,7 @@ fn first_refused(literals: &[Vec<u8>]) -> Option<Refusal>
     None
 }
 
-/// Why a literal at a place is refused by itself.
+/// Why a literal at a place is refused.
 fn refusal_of_literal(place: u16, literal: &[u8]) -> Option<Refusal>
     ensures { result ≡ literal_refusal place literal.now }
 {

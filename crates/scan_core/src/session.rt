@@ -1,10 +1,10 @@
 //! A session: what one client has published and opened, and how it is answered.
 ghost use Rattle.std.specs.Prelude.{◌≡◌, ◌∷◌, ◌<◌, [], IfErr, IfNone, IfOk, IfSome, None, Some, IsOkUnless, OnErr, OnOk, Contains, length, map};
 ghost use Rattle.std.specs.List.{slice_get};
-ghost use Rattle.plan_store.specs.Tickets.{IsOf, Told};
+ghost use Rattle.plan_store.specs.Tickets.{IsOf};
 ghost use Rattle.scan_wire.specs.Messages.{Close, Feed, Open, Publish, ShowPlan, reply_parts, request_parts, texts_of};
 ghost use Rattle.scan_core.specs.Fronts.{FeedsFront, MayFeed};
-ghost use Rattle.scan_core.specs.Refusals.{raw_refusal};
+ghost use Rattle.scan_core.specs.Refusals.{publish_refusal};
 ghost use Rattle.scan_core.specs.Sessions.{GainsEvent, IsEvent, by_tails, fresh, parts_of};
 ghost use Rattle.scan_core.specs.Steps.{refusal_of};
 ghost use Rattle.scan_core.specs.Together.{tickets_of};
@@ -20,7 +20,7 @@ use crate::refusal::{Refusal, refusal_of_literals};
 use crate::stream::{Stream, find_stream};
 use crate::tickets::{agrees_with, known_ticket};
 use flow_scan::Hit;
-use lit_base::Fold;
+use lit_base::{Fold, Profile};
 use plan_store::{PlanStore, Ticket};
 use scan_wire::{Reply, Request};
 use std::alloc::Global;
@@ -36,7 +36,7 @@ pub struct Session<'s> {
     learner: Learner<'s>,
 }
 
-/// A contract sees the store, the tickets told and the open streams. What was learned changes no answer.
+/// A contract sees the store, the tickets of the published plans and the open streams. The finder changes no answer.
 impl<'s> Model for Session<'s> {
     ghost use Rattle.scan_core.specs.Sessions.{IsSession, Serving};
 
@@ -48,7 +48,7 @@ impl<'s> Model for Session<'s> {
 }
 
 impl<'s> Session<'s> {
-    /// A session that was told nothing and has no open stream. It takes no memory.
+    /// A session that has published nothing and has no open stream. It takes no memory.
     pub fn new(store: &'s PlanStore) -> Session<'s>
         ensures { result ≡ fresh store.entry.now }
     {
@@ -67,14 +67,14 @@ impl<'s> Session<'s> {
         self.store
     }
 
-    /// How many tickets it has: those that it was told, and those of its open streams.
+    /// How many tickets it has: of the plans that it published, and of its open streams.
     pub(crate) fn ticket_count(&self) -> usize
         ensures { result ≡ length (tickets_of self.now) }
     {
         self.told.len() + self.streams.len()
     }
 
-    /// The ticket at a place: first come those that it was told.
+    /// The ticket at a place: first come the tickets of the plans that it published.
     pub(crate) fn ticket_at(&self, place: usize) -> &Ticket
         requires { place < length (tickets_of self.now) }
         ensures at { slice_get (tickets_of self.now) place ≡ Some result.now }
@@ -87,14 +87,14 @@ impl<'s> Session<'s> {
         }
     }
 
-    /// Answers one request: `out` gains its replies. A Publish stores the plan of its literals, an Open
-    /// binds a stream to the plan of a number, a Feed tells the hits of a piece in blocks that are full
-    /// but for the last, and the place, a Close forgets a stream, and a ShowPlan tells its plan. What is
-    /// refused gets one Refused reply, and changes nothing.
+    /// Answers one request: `out` gains its replies. A Publish stores the plan of its literals. An Open binds a stream
+    /// to the plan of a number. A Feed returns the hits of a piece, in blocks that are all full except the last, and
+    /// the place. A Close forgets a stream, and a ShowPlan shows its plan. A refused request gets one Refused reply,
+    /// and changes nothing.
     ///
     /// Only a Publish may wait for another thread. The only fault is `OutOfMemory`: session and `out` are
     /// then as they were, and the request is given up. It comes also where the literals of a Publish have
-    /// more bytes together than a list may have, as those of no frame have.
+    /// more than 1,048,576 bytes together, which a list may not have: no frame has room for as many.
     pub fn handle(
         &mut self,
         rt: &impl Wait,
@@ -108,15 +108,21 @@ impl<'s> Session<'s> {
         ensures fault { IsOkUnless result OutOfMemory }
     {
         match request {
-            Request::Publish { fold, literals } => {
+            Request::Publish {
+                fold,
+                profile,
+                literals,
+            } => {
                 out.reserve(1)?;
-                let reply = self.publish(rt, alloc, fold, &literals)?;
+                let reply = self.publish(rt, alloc, fold, profile, &literals)?;
                 out.push_reserved(reply);
                 Ok(())
             }
             Request::Open { stream, number } => {
                 out.reserve(1)?;
-                let reply = self.open(alloc, stream, number)?;
+                let Ok(reply) = self.open(alloc, stream, number) else {
+                    return Err(Fault::OutOfMemory);
+                };
                 out.push_reserved(reply);
                 Ok(())
             }
@@ -134,27 +140,26 @@ impl<'s> Session<'s> {
         }
     }
 
-    /// The reply to a Publish, whose plan is stored. Behind the one step that shows it to all sessions
-    /// nothing can fail. It may wait for another thread. The only fault is `OutOfMemory`: what is refused
-    /// before the normal form is made takes no memory.
+    /// The reply to a Publish, whose plan by the profile is stored. After the one step that shows it to
+    /// all sessions nothing can fail. It may wait for another thread. The only fault is `OutOfMemory`: a
+    /// refusal takes no memory.
     pub fn publish(
         &mut self,
         rt: &impl Wait,
         alloc: Global,
         fold: Fold,
+        profile: Profile,
         literals: &[Vec<u8>],
     ) -> Result<Reply, Fault>
-        ensures ok { IfOk result (λ reply. IsEvent self.old (Publish fold (texts_of literals.now)) (reply_parts reply ∷ []) self.new) }
+        ensures ok { IfOk result (λ reply. IsEvent self.old (Publish fold profile (texts_of literals.now)) (reply_parts reply ∷ []) self.new) }
         ensures same { OnErr result (self.new ≡ self.old) }
         ensures fault { IsOkUnless result OutOfMemory }
-        ensures accepted { OnErr result (raw_refusal (length self.old.told) (texts_of literals.now) ≡ None) }
+        ensures accepted { OnErr result (publish_refusal (length self.old.told) (texts_of literals.now) ≡ None) }
     {
         if let Some(refusal) = refusal_of_literals(self.told.len(), literals) {
             return Ok(refusal.reply(0));
         }
-        let Some(plan) = planned(alloc, fold, literals)? else {
-            return Ok(Refusal::TooManyLiterals.reply(0));
-        };
+        let plan = planned(alloc, fold, profile, literals)?;
         let Ok(ticket) = self.store.publish(rt, plan) else {
             return Err(Fault::OutOfMemory);
         };
@@ -164,15 +169,21 @@ impl<'s> Session<'s> {
         Ok(Reply::Published { number })
     }
 
-    /// The reply to an Open, which binds the stream to the plan of the number. A number that this session
-    /// was told, or has a stream open by, is found. The only fault is `OutOfMemory`, where the number
-    /// was found and nothing is refused.
-    pub fn open(&mut self, alloc: Global, stream: u32, number: u64) -> Result<Reply, Fault>
+    /// The reply to an Open, which binds the stream to the plan of the number. It finds each number of a plan that this
+    /// session published, or has a stream open by. The only fault is `OutOfMemory`, where the number was found and
+    /// nothing is refused: it comes with a ticket of the number.
+    pub fn open(
+        &mut self,
+        alloc: Global,
+        stream: u32,
+        number: u64,
+    ) -> Result<Reply, (Fault, Ticket)>
         ensures ok { IfOk result (λ reply. IsEvent self.old (Open stream number) (reply_parts reply ∷ []) self.new) }
         ensures same { OnErr result (self.new ≡ self.old) }
-        ensures fault { IsOkUnless result OutOfMemory }
+        ensures fault { IfErr result (λ refusal. refusal.0 ≡ OutOfMemory) }
         ensures accepted { OnErr result (refusal_of by_tails (parts_of self.old) (Open stream number) ≡ None) }
-        ensures found { OnErr result ((ticket : Told) × IsOf self.old.store ticket × (ticket.number ≡ number)) }
+        ensures found { IfErr result (λ refusal. IsOf self.old.store refusal.1) }
+        ensures number { IfErr result (λ refusal. refusal.1.number ≡ number) }
     {
         if find_stream(&self.streams, stream).is_some() {
             return Ok(Refusal::StreamInUse.reply(stream));
@@ -184,8 +195,10 @@ impl<'s> Session<'s> {
             return Ok(Refusal::NoSuchPlan.reply(stream));
         };
         agrees_with(&ticket, self);
-        self.streams
-            .push(Stream::open(alloc, self.store, stream, ticket)?);
+        let Ok(opened) = Stream::open(alloc, self.store, stream, ticket.again()) else {
+            return Err((Fault::OutOfMemory, ticket));
+        };
+        self.streams.push(opened);
         Ok(Reply::Opened { stream })
     }
 
@@ -229,7 +242,7 @@ impl<'s> Session<'s> {
         Ok(())
     }
 
-    /// The place of a stream behind a piece, or why a Feed of it is refused. It takes no memory.
+    /// The place of a stream after a piece, or why a Feed of it is refused. It takes no memory.
     pub fn place_behind(&self, stream: u32, piece: &[u8]) -> Result<u64, Refusal>
         ensures ok { IfOk result (λ place. MayFeed self.now stream piece.now place) }
         ensures refused { IfErr result (λ refusal. refusal_of by_tails (parts_of self.now) (Feed stream piece.now) ≡ Some refusal) }
@@ -243,13 +256,12 @@ impl<'s> Session<'s> {
             .ok_or(Refusal::StreamTooLong)
     }
 
-    /// Feeds a front of a piece to its stream, so that who answers a Feed need not hold all of its
-    /// hits: up to the first end by which `out` gained at least `most` of them, or the whole piece. The
-    /// answer is how many bytes were fed. The only fault is `OutOfMemory`: session and `out` are then as
-    /// they were.
+    /// Feeds a prefix of a piece to its stream: up to the first end by which `out` gained at least `most` hits, or the
+    /// whole piece. So the caller of a Feed need not hold all of its hits. Returns how many bytes were fed. The only fault is
+    /// `OutOfMemory`: session and `out` are then as they were.
     ///
-    /// Of long streams it learns which bytes of the literals are rare in them, and searches by these: for one plan at a
-    /// time, whose streams share what was learned. Where there is no memory for that it searches without.
+    /// A finder tunes itself to long streams: for one plan at a time, whose streams share it. Without memory for a
+    /// finder the stream is searched without.
     pub fn feed_front(
         &mut self,
         alloc: Global,

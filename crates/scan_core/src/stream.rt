@@ -50,7 +50,7 @@ impl<'s> Stream<'s> {
         &self.ticket
     }
 
-    /// A stream of which nothing was fed yet, by the plan of a ticket.
+    /// A stream by the plan of a ticket, before any bytes.
     pub(crate) fn open(
         alloc: Global,
         store: &'s PlanStore,
@@ -75,7 +75,7 @@ impl<'s> Stream<'s> {
         })
     }
 
-    /// The stream behind one more piece, whose hits `out` gains; none where its place would pass
+    /// The stream after one more piece, whose hits `out` gains; none where its place would pass
     /// 2^64 - 1.
     pub(crate) fn fed(&self, piece: &[u8], out: &mut Vec<Hit>) -> Result<Option<Stream<'s>>, Fault>
         ensures ok { IfOk result (λ next. MatchOption next
@@ -99,9 +99,9 @@ impl<'s> Stream<'s> {
         }))
     }
 
-    /// The stream behind a front of a piece, and how many bytes that has: the piece is fed up to the
-    /// first end by which `out` gained at least `most` hits, or whole, by what was learned if that is by the stream's
-    /// plan. Where memory is refused, `out` is as it was.
+    /// The stream after a prefix of a piece, and how many bytes that has. The piece is fed up to the first end by which
+    /// `out` gained at least `most` hits, or whole, with the finder if that is by the stream's plan. If memory is
+    /// refused, `out` is as it was.
     pub(crate) fn fed_front(
         &self,
         store: &PlanStore,
@@ -131,7 +131,7 @@ impl<'s> Stream<'s> {
         Ok((next, count))
     }
 
-    /// The place behind a piece; none where it would pass 2^64 - 1.
+    /// The place after a piece; none where it would pass 2^64 - 1.
     pub(crate) fn place_behind(&self, piece: &[u8]) -> Option<u64>
         ensures place { MatchOption result
             (2 ^ 64 ≤ self.now.1.scan.place + length piece.now)
@@ -160,6 +160,7 @@ impl<'s> Stream<'s> {
         Ok(Reply::Plan {
             stream: self.number,
             fold: list.fold(),
+            profile: certificate.profile,
             count: list.len() as u16,
             cost: certificate.cost,
             ends: certificate.ends.clone()?,

@@ -1,4 +1,4 @@
-//! The tickets of a session: those that it was told, and those of its open streams.
+//! The tickets of a session: of the plans that it published, and of its open streams.
 ghost use Rattle.std.specs.Prelude.{◌≡◌, Contains, IfNone, IfSome, map};
 ghost use Rattle.plan_store.specs.Tickets.{IsOf};
 ghost use Rattle.scan_core.specs.Together.{AgreesWith, tickets_of};
@@ -6,7 +6,7 @@ ghost use Rattle.scan_core.specs.Together.{AgreesWith, tickets_of};
 use crate::session::Session;
 use plan_store::Ticket;
 
-/// A ticket of a number among those of a session.
+/// A ticket of a number among the tickets of a session.
 pub(crate) fn known_ticket(session: &Session<'_>, number: u64) -> Option<Ticket>
     ensures here { IfSome result (λ ticket. IsOf session.now.store ticket) }
     ensures number { IfSome result (λ ticket. ticket.number ≡ number) }

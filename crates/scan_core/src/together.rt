@@ -17,16 +17,15 @@ use std::alloc::Global;
 use std::sync::Wait;
 use std::thread::{Threads, join};
 
-/// A session behind a request, and the replies.
+/// A session after a request, and the replies.
 #[derive(Drop)]
 pub struct Answered<'s> {
     pub session: Session<'s>,
     pub replies: Vec<Reply>,
 }
 
-/// The law of two sessions of one store in two threads: each answers a request, both at once. Each has one
-/// event of its own, and behind them the entries that the two know are those of one world. The only
-/// refusal is `OutOfMemory`.
+/// The law of two sessions of one store in two threads: each answers a request, both at once. Each has one event of its
+/// own, and after them the entries that the two know are entries of one world. The only refusal is `OutOfMemory`.
 pub fn answered_at_once<'s, R: Threads + Wait + Sync>(
     rt: &R,
     alloc: Global,
@@ -53,7 +52,7 @@ pub fn answered_at_once<'s, R: Threads + Wait + Sync>(
     Ok((first, second))
 }
 
-/// A session behind a request that it answers.
+/// A session after a request that it answers.
 fn answer_of<'s, R: Wait>(
     rt: &R,
     alloc: Global,
@@ -68,9 +67,9 @@ fn answer_of<'s, R: Wait>(
     Ok(Answered { session, replies })
 }
 
-/// The law that two sessions of one store live in one world, in whatever threads they are: the entries
-/// that they know, by the numbers that they were told and by the streams that they have open, are
-/// those of a world before any event, so that a number has one plan in both. It takes no memory.
+/// The law that two sessions of one store live in one world, in whatever threads they are. The entries that they know,
+/// by the plans that they published and by their open streams, are the entries of a world before any event. So a number
+/// has one plan in both. It takes no memory.
 pub fn fit_law<'s>(one: &Session<'s>, other: &Session<'s>)
     requires { one.now.store ≡ other.now.store }
     ensures { IsFirst (world_of (known_to one.now ++ known_to other.now)) }
@@ -82,7 +81,7 @@ pub fn fit_law<'s>(one: &Session<'s>, other: &Session<'s>)
     show_sound(other);
 }
 
-/// The law that each ticket of a session agrees with each of another one of the store.
+/// The law that each ticket of a session agrees with each ticket of another session of the store.
 fn agree_all<'s>(one: &Session<'s>, other: &Session<'s>)
     requires { one.now.store ≡ other.now.store }
     ensures { AgreeAll one.now other.now }

@@ -8,10 +8,10 @@ pub fn event_law()
     ensures { EventLaw }
 {}
 
-/// The law of all runs of any number of sessions over one set of entries: a number has one plan
-/// throughout, an entry stays, and the replies to an accepted Feed are, but for the stream's number
-/// that they carry, a function of two things alone: the plan under the number in the last accepted
-/// Open of that session and stream, and the pieces of its accepted Feeds since.
+/// The law of all runs of any number of sessions over one set of entries. A number has one plan throughout, and an
+/// entry stays. The replies to an accepted Feed, apart from the stream's number in them, are a function of two things
+/// alone. One is the plan under the number in the last accepted Open of that session and stream. The other is the
+/// pieces of its accepted Feeds since.
 pub fn world_law()
     ensures { WorldLaw }
 {}

@@ -63,7 +63,7 @@ fed_none s stream piece place hits v b may none = subst (λ hs. HasFed s stream 
   sent = sends_none v b;
 }
 
--- full blocks, others, and what is left
+-- full blocks, others, and the rest
 both_cut : (blocks more : List (List (ℕ × ℕ))) (gained left : List (ℕ × ℕ)) → gained ≡ joined more ++ left → joined blocks ++ gained ≡ joined (blocks ++ more) ++ left
 both_cut blocks more gained left cut =
     ap (λ hs. joined blocks ++ hs) cut
@@ -116,7 +116,7 @@ stopped_last s t stream piece rest place hits v w x a b may none so sent = recor
       (sends_then_front v w x a b (replies_text (map (Hits stream) so.blocks)) (replies_text (fed_replies stream (last_block hits) place)) so.sent sent);
 }
 
--- it stops once some full replies were told: whatever is left, there is an answer that they begin
+-- it stops once some full replies were sent: for any rest there is an answer that they begin
 stopped_within : (s t : Serving) (stream : ℕ) (piece bytes rest : List ℕ) (place : ℕ) (full : List (List (ℕ × ℕ))) (left : List (ℕ × ℕ)) (v w : Option (List ℕ)) (a : List ℕ) → MayFeed s stream piece place → piece ≡ bytes ++ rest → AreFull MAX_HITS full → IsFeeding s stream bytes (joined full ++ left) t → SendsFront v w a (replies_text (map (Hits stream) full)) → Stopped IsEvent s (Feed stream piece) v w a
 stopped_within s t stream piece bytes rest place full left v w a may is are feeding sent =
     let done = feeding_completes s t stream bytes rest (joined full ++ left) feeding in
@@ -149,7 +149,7 @@ stopped_feeding s t stream piece rest place hits v w x a b may so (inr (count, g
 pub replied : {T E : Type 0} (now told : Result T E) (x : T) (P : T → Type 0) → now ≡ told → now ≡ Ok x → IfOk told P → P x
 replied now told x P same is ok = subst (λ (r : _). IfOk r P) (sym same ∙ is) ok
 
--- of the one reply to what was asked a front is written
+-- a prefix of the one reply to the request is written
 pub stopped_reply : {T E : Type 0} (s now t : Serving) (request asked : RequestParts) (reply : ReplyParts) (r : Result T E) (v w : Option (List ℕ)) (a : List ℕ) → s ≡ now → request ≡ asked → IsEvent s request (reply ∷ []) t → OnErr r (SendsFront v w a (reply_text reply)) → OnErr r (Stopped IsEvent now asked v w a)
 stopped_reply s now t request asked reply r v w a same is event sent =
     err_weaker r (λ front. subst (λ n. Stopped IsEvent n asked v w a) same

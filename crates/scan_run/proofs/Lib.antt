@@ -1,4 +1,5 @@
 pub mod FeedLemmas
+pub mod FilesLemmas
 pub mod LoadLemmas
 pub mod SeenLemmas
 pub mod StatusLemmas

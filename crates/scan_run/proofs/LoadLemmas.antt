@@ -19,9 +19,9 @@ use Rattle.plan_file.specs.declared.fault.Fault.{Fault}
 use Rattle.plan_file.specs.declared.fault.Fault.TheVariants.{OutOfMemory, BadPlanFile, ReadFault, WriteFault}
 use Rattle.plan_file.specs.Faults.{IsReadersFault}
 use Rattle.plan_file.specs.FirstFaults.{IsFirstFault}
-use Rattle.plan_file.specs.Spelling.{ArePlans, spelling}
+use Rattle.plan_file.specs.Spelling.{IsFile}
 use Rattle.plan_store.specs.Tickets.{Told, IsOf}
-use Rattle.scan_run.specs.Loading.{AppendsUpTo, Cut, EndsInLine, InLine, InMessage, IsMessage, IsUnread, Judges, Loads, LoadsFile, MayLeave, PublishesFront, IsSaid, IsUnopened, LoadsNamed, SaysLines, Whole, Written, message_on, plan_line, plan_lines, plans_of}
+use Rattle.scan_run.specs.Loading.{AppendsUpTo, Cut, EndsInLine, InLine, InMessage, IsMessage, IsUnread, Judges, Loads, LoadsFile, MayLeave, PublishesFront, IsSaid, IsShownFault, IsUnopened, LoadsNamed, SaysLines, Whole, Written, message_on, plan_line, plan_lines, plans_of}
 
 -- a front of a text, and not all of it, is one of a longer one
 pub prefix-longer : {old new : Option (List ℕ)} {text : List ℕ} (more : List ℕ) → AppendsPrefix old new text → AppendsPrefix old new (text ++ more)
@@ -31,7 +31,7 @@ prefix-longer {old} {new} {text} more p = record {
   text = subst (Appends old new) (sym (take-append-le p.count text more (omega (arith, p.fewer)))) p.text;
 }
 
--- and one of a text behind another, which was written whole
+-- and one of a text after another, which was written whole
 pub prefix-behind : (a b c : Option (List ℕ)) (done text : List ℕ) → Appends a b done → AppendsPrefix b c text → AppendsPrefix a c (done ++ text)
 prefix-behind a b c done text whole p = record {
   count = length done + p.count;
@@ -44,7 +44,7 @@ pub OnErr-then : {T E P Q : Type 0} (r : Result T E) → OnErr r P → (P → Q)
 OnErr-then (Ok x) p then = tt
 OnErr-then (Err e) p then = then p
 
--- a text and a front of one behind it, behind a text that was written whole
+-- a text and a front of one after it, after a text that was written whole
 up-to-behind : (a b c : Option (List ℕ)) (done text behind : List ℕ) → Appends a b done → AppendsUpTo b c text behind → AppendsUpTo a c (done ++ text) behind
 up-to-behind a b c done text behind whole part = record {
   count = part.count;
@@ -52,14 +52,14 @@ up-to-behind a b c done text behind whole part = record {
   grown = subst (Appends a c) (sym (append_assoc done text (take part.count behind))) (Appends-trans a b c done (text ++ take part.count behind) whole part.grown);
 }
 
--- the lines of plans behind others
+-- the lines of plans after others
 lines_of-append : (xs ys : List Told) → plan_lines (xs ++ ys) ≡ plan_lines xs ++ plan_lines ys
 lines_of-append xs ys = flat_map-append (λ ticket. plan_line ticket.number) xs ys
 
 lines-behind : (a b c : Option (List ℕ)) (xs ys : List Told) → Appends a b (plan_lines xs) → Appends b c (plan_lines ys) → Appends a c (plan_lines (xs ++ ys))
 lines-behind a b c xs ys whole said = subst (Appends a c) (sym (lines_of-append xs ys)) (Appends-trans a b c (plan_lines xs) (plan_lines ys) whole said)
 
--- lines behind lines that were written whole
+-- lines after lines that were written whole
 says-behind : (a b c : Option (List ℕ)) (xs ys : List Told) (r : Result (Unit {0}) Fault) → Appends a b (plan_lines xs) → SaysLines ys r b c → SaysLines (xs ++ ys) r a c
 says-behind a b c xs ys (Ok _) whole said = lines-behind a b c xs ys whole said
 says-behind a b c xs ys (Err OutOfMemory) whole said = lines-behind a b c xs ys whole said
@@ -127,7 +127,7 @@ published-untold store ticket plan tickets a b here shows said = record {
   said = record { before = []; last = ticket; all = refl; said = record { count = said.count; fewer = said.fewer; grown = said.text } };
 }
 
--- plans behind others that were all published
+-- plans after others that were all published
 pub published-then : (store : Shelves) (xs ys : List Plan) (ts us vs : List Told) (a b c : Option (List ℕ)) (r : Result (Unit {0}) Fault)
     → PublishesFront store xs ts us a b (Ok tt) → PublishesFront store ys us vs b c r → PublishesFront store (xs ++ ys) ts vs a c r
 published-then store xs ys ts us vs a b c r p q =
@@ -149,7 +149,7 @@ left-more xs ys (BadPlanFile place cause) left = left
 left-more xs ys ReadFault left = left
 left-more xs ys WriteFault left = tt
 
--- where publishing stopped, the plans behind are left too
+-- where publishing stopped, the later plans remain too
 pub published-front : (store : Shelves) (xs ys : List Plan) (ts us : List Told) (a b : Option (List ℕ)) (fault : Fault)
     → PublishesFront store xs ts us a b (Err fault) → PublishesFront store (xs ++ ys) ts us a b (Err fault)
 published-front store xs ys ts us a b fault p = record {
@@ -162,13 +162,13 @@ published-front store xs ys ts us a b fault p = record {
   said = p.said;
 }
 
--- ---- what is said
+-- ---- the messages
 
 -- what loading answers
 abbrev stopped : Fault → Result (Unit {0}) Fault
 stopped fault = Err fault
 
--- a message behind lines
+-- a message after lines
 message-behind : (a b c : Option (List ℕ)) (name : List ℕ) (published : List Told) (fault result : Fault) → Appends a b (plan_lines published) → fault ≢ WriteFault
     → IsMessage (message_on name fault) fault result b c → IsSaid name published (Err fault) (Err result) a c
 message-behind a b c name published fault result lines other (Written is all) =
@@ -180,7 +180,7 @@ message-behind a b c name published fault result lines other (Cut is part) =
       grown = Appends-trans a b c (plan_lines published) (take part.count (message_on name fault)) lines part.text;
     }
 
--- behind a line that could not be written nothing more is said
+-- after a line that could not be written nothing more is said
 line-still : (a b c : Option (List ℕ)) (published : List Told) → EndsInLine published a b → Appends b c [] → EndsInLine published a c
 line-still a b c published ends still = record {
   before = ends.before;
@@ -233,37 +233,44 @@ unread fault = Err fault
 abbrev as_read : Vec Compiled → Result (Vec Compiled) Fault
 as_read plans = Ok plans
 
--- the first fault of a file, where one is told
+-- the first fault of a file, where one is reported
 first-fault : (x : Option Coming) (fault : Fault) (place : ℕ) (cause : Cause) → fault ≡ BadPlanFile place cause
-    → IfSome x (λ c. (p : ℕ) (q : Cause) → unread fault ≡ unread (BadPlanFile p q) → IsFirstFault 8 1024 c.text p q) → IfSome x (λ c. IsFirstFault 8 1024 c.text place cause)
-first-fault None fault place cause is wrong = tt
-first-fault (Some c) fault place cause is wrong = wrong place cause (ap unread is)
+    → IfSome x (λ c. (p : ℕ) (q : Cause) → unread fault ≡ unread (BadPlanFile p q) → IsFirstFault c.text p q)
+    → IfSome x (λ c. c.ending ≡ Faulty → (p : ℕ) (q : Cause) → unread fault ≡ unread (BadPlanFile p q) → (more : List ℕ) → IsFirstFault (c.text ++ more) p q)
+    → IfSome x (λ c. IsShownFault c place cause)
+first-fault None fault place cause is wrong shown = tt
+first-fault (Some c) fault place cause is wrong shown = record {
+  first = wrong place cause (ap unread is);
+  whatever = λ faulty more. shown faulty place cause (ap unread is) more;
+}
 
 -- no plan of a file that was not read is published
 pub loads-unread : (store : Shelves) (x y : Option Coming) (ts : List Told) (err : Option (List ℕ)) (fault : Fault) → IsReadersFault fault
-    → IfSome x (λ c. (p : ℕ) (q : Cause) → unread fault ≡ unread (BadPlanFile p q) → IsFirstFault 8 1024 c.text p q) → LoadsFile store x y ts ts err err (stopped fault)
-loads-unread store x y ts err OutOfMemory readers wrong = record {
+    → IfSome x (λ c. (p : ℕ) (q : Cause) → unread fault ≡ unread (BadPlanFile p q) → IsFirstFault c.text p q)
+    → IfSome x (λ c. c.ending ≡ Faulty → (p : ℕ) (q : Cause) → unread fault ≡ unread (BadPlanFile p q) → (more : List ℕ) → IsFirstFault (c.text ++ more) p q)
+    → LoadsFile store x y ts ts err err (stopped fault)
+loads-unread store x y ts err OutOfMemory readers wrong shown = record {
   published = [];
   grown = sym (append-nil ts);
   here = All-nil (IsOf store);
   plans = inl refl;
   said = Appends-nil err;
 }
-loads-unread store x y ts err (BadPlanFile place cause) readers wrong = record {
+loads-unread store x y ts err (BadPlanFile place cause) readers wrong shown = record {
   published = [];
   grown = sym (append-nil ts);
   here = All-nil (IsOf store);
-  plans = (refl, first-fault x (BadPlanFile place cause) place cause refl wrong);
+  plans = (refl, first-fault x (BadPlanFile place cause) place cause refl wrong shown);
   said = Appends-nil err;
 }
-loads-unread store x y ts err ReadFault readers wrong = record {
+loads-unread store x y ts err ReadFault readers wrong shown = record {
   published = [];
   grown = sym (append-nil ts);
   here = All-nil (IsOf store);
   plans = refl;
   said = Appends-nil err;
 }
-loads-unread store x y ts err WriteFault readers wrong = absurd readers
+loads-unread store x y ts err WriteFault readers wrong shown = absurd readers
 
 -- one fault is another of either answer
 as-unread : (a b : Fault) → stopped a ≡ stopped b → unread a ≡ unread b
@@ -274,14 +281,14 @@ as-stopped a b e = let same : a ≡ b = cc in ap stopped same
 
 -- a file that was not read is judged so
 pub judges-unread : (x : Option Coming) (fault : Fault)
-    → IfSome x (λ c. c.ending ≡ Clean → (plans : List Plan) → ArePlans 8 1024 plans → c.text ≡ spelling plans → unread fault ≢ unread OutOfMemory → IsOkAnd (unread fault) (λ v. v.items ≡ plans))
-    → IfSome x (λ c. c.ending ≡ Clean → length c.text < 2 ^ 40 → (place : ℕ) (cause : Cause) → IsFirstFault 8 1024 c.text place cause → unread fault ≢ unread OutOfMemory → unread fault ≡ unread (BadPlanFile place cause))
+    → IfSome x (λ c. c.ending ≡ Clean → (plans : List Plan) → IsFile c.text plans → unread fault ≢ unread OutOfMemory → IsOkAnd (unread fault) (λ v. v.items ≡ plans))
+    → IfSome x (λ c. c.ending ≡ Clean → length c.text < 2 ^ 40 → (place : ℕ) (cause : Cause) → IsFirstFault c.text place cause → unread fault ≢ unread OutOfMemory → unread fault ≡ unread (BadPlanFile place cause))
     → IfSome x (λ c. c.ending ≡ Clean → length c.text < 2 ^ 40 → unread fault ≢ unread ReadFault) → IfSome x (λ c. Judges c (stopped fault))
 judges-unread None fault only exact ends = tt
 judges-unread (Some c) fault only exact ends = (
   λ loaded. absurd (cc),
   λ clean short memory write. record {
-    loaded = λ plans are text. absurd (only clean plans are text (λ e. memory (as-stopped fault OutOfMemory e)));
+    loaded = λ plans file. absurd (only clean plans file (λ e. memory (as-stopped fault OutOfMemory e)));
     refused = λ place cause first. as-stopped fault (BadPlanFile place cause) (exact clean short place cause first (λ e. memory (as-stopped fault OutOfMemory e)));
     read = λ e. ends clean short (as-unread fault ReadFault e);
   },
@@ -304,13 +311,13 @@ was-read more (Err WriteFault) left = λ e. cc
 
 -- a file that was read is judged so
 pub judges-read : (x : Option Coming) (v : Vec Compiled) (more : List Plan) (r : Result (Unit {0}) Fault)
-    → IfSome x (λ c. c.ending ≡ Clean → length c.text < 2 ^ 40 → (place : ℕ) (cause : Cause) → IsFirstFault 8 1024 c.text place cause → as_read v ≢ unread OutOfMemory → as_read v ≡ unread (BadPlanFile place cause))
+    → IfSome x (λ c. c.ending ≡ Clean → length c.text < 2 ^ 40 → (place : ℕ) (cause : Cause) → IsFirstFault c.text place cause → as_read v ≢ unread OutOfMemory → as_read v ≡ unread (BadPlanFile place cause))
     → IfSome x (λ c. c.ending ≢ Faulty) → MayLeave more r → IfSome x (λ c. Judges c r)
 judges-read None v more r exact whole left = tt
 judges-read (Some c) v more r exact whole left = (
   λ loaded. whole,
   λ clean short memory write. record {
-    loaded = λ plans are text. is-loaded more r left memory write;
+    loaded = λ plans file. is-loaded more r left memory write;
     refused = λ place cause first. let wrong : as_read v ≡ unread (BadPlanFile place cause) = exact clean short place cause first (λ e. cc) in absurd (cc);
     read = was-read more r left;
   },
@@ -349,7 +356,7 @@ named-missing : {I : Type 0} (coming : I → Option Coming) (sources : Option So
 named-missing coming None name e Missed r opens missed = tt
 named-missing coming (Some s) name e Missed r opens missed = source-missing coming (source_of name s.named) e Missed r opens missed
 
--- it was told, or could not be
+-- it was reported, or could not be
 unread-said : (name : List ℕ) (a b : Option (List ℕ)) (result : Fault) → IsMessage (message_on name ReadFault) ReadFault result a b → IsUnread (stopped result)
 unread-said name a b result (Written is all) = inl (ap stopped is)
 unread-said name a b result (Cut is part) = inr (ap stopped is)

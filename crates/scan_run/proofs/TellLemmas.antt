@@ -1,4 +1,4 @@
--- Hits told in full replies, and the rest of them.
+-- Hits in full replies, and the remaining hits.
 use Rattle.std.proofs.Common.{◌≡◌, ℕ, ◌<◌, ◌≤◌, List, [], ◌∷◌, ◌++◌, length, map, take, drop, Option, Result, Ok, Err, OnErr, OnOk, refl, sym, ap, ◌∙◌, append_assoc, arith}
 use Rattle.std.proofs.lemmas.List.{append-nil, drop_all, length-take, map-append, take-append-drop, take_all}
 use Rattle.scan_wire.specs.Frames.{replies_text, reply_text}
@@ -22,18 +22,18 @@ pub ok_weaker : {T E P Q : Type 0} (r : Result T E) → (P → Q) → OnOk r P �
 ok_weaker (Ok x) f p = f p
 ok_weaker (Err e) f p = tt
 
--- the text of a reply is that of a list of it alone
+-- the text of a reply is the text of a list of it alone
 pub one_text : (reply : ReplyParts) → reply_text reply ≡ replies_text (reply ∷ [])
 one_text reply = sym (append-nil (reply_text reply))
 
--- a block told behind others
+-- a block after others
 told_more : (stream : ℕ) (blocks : List (List (ℕ × ℕ))) (block : List (ℕ × ℕ)) → replies_text (map (Hits stream) blocks) ++ reply_text (Hits stream block) ≡ replies_text (map (Hits stream) (blocks ++ block ∷ []))
 told_more stream blocks block =
     ap (λ t. replies_text (map (Hits stream) blocks) ++ t) (one_text (Hits stream block))
     ∙ sym (replies_text-append (map (Hits stream) blocks) (Hits stream block ∷ []))
     ∙ ap replies_text (sym (map-append (Hits stream) blocks (block ∷ [])))
 
--- blocks told behind others
+-- blocks after others
 pub told_both : (stream : ℕ) (blocks more : List (List (ℕ × ℕ))) → replies_text (map (Hits stream) blocks) ++ replies_text (map (Hits stream) more) ≡ replies_text (map (Hits stream) (blocks ++ more))
 told_both stream blocks more =
     sym (replies_text-append (map (Hits stream) blocks) (map (Hits stream) more))
@@ -45,7 +45,7 @@ cut_more blocks block rest =
     sym (append_assoc (joined blocks) block rest)
     ∙ ap (λ hs. hs ++ rest) (ap (λ hs. joined blocks ++ hs) (sym (append-nil block)) ∙ sym (joined-append blocks (block ∷ [])))
 
--- of hits that were found none was told yet
+-- none of the hits found was sent yet
 pub tells_none : (stream : ℕ) (hits : List (ℕ × ℕ)) (v : Option (List ℕ)) (b : List ℕ) → TellsFull stream hits hits v v b b
 tells_none stream hits v b = record { blocks = []; full = tt; cut = refl; sent = sends_none v b }
 
@@ -61,7 +61,7 @@ tells_more stream old now block new u v w a b c many front behind told sent =
       sent = sends_is u w a c _ _ (told_more stream told.blocks block) (sends_then u v w a b c (replies_text (map (Hits stream) told.blocks)) (reply_text (Hits stream block)) told.sent sent);
     }
 
--- one full reply more, of which a front is written
+-- one more full reply, with a prefix of it written
 pub tells_front : (stream : ℕ) (old now block : List (ℕ × ℕ)) (u v w : Option (List ℕ)) (a b : List ℕ) → MAX_HITS ≤ length now → block ≡ take MAX_HITS now → TellsFull stream old now u v a b → SendsFront v w b (reply_text (Hits stream block)) → TellsFullFront stream old u w a
 tells_front stream old now block u v w a b many front told sent =
     let rest : List (ℕ × ℕ) = drop MAX_HITS now in
@@ -75,19 +75,19 @@ tells_front stream old now block u v w a b many front told sent =
       sent = front_is u w a _ _ (told_more stream told.blocks block) (sends_then_front u v w a b (replies_text (map (Hits stream) told.blocks)) (reply_text (Hits stream block)) told.sent sent);
     }
 
--- the hits that are left are the last block
+-- the remaining hits are the last block
 pub last_is : (most : ℕ) (hits : List (ℕ × ℕ)) → length hits < most → AreBlocks most hits (last_block hits)
 last_is most [] few = refl
 last_is most (hit ∷ hits) few =
     ((λ e. absurd (omega (arith, ap length e))), sym (take_all most (hit ∷ hits) (omega (arith, few))), drop_all most (hit ∷ hits) (omega (arith, few)))
 
--- blocks told, and then the place
+-- blocks, and then the place
 pub told_place : (stream : ℕ) (blocks : List (List (ℕ × ℕ))) (place : ℕ) → replies_text (map (Hits stream) blocks) ++ reply_text (Fed stream place) ≡ replies_text (fed_replies stream blocks place)
 told_place stream blocks place =
     ap (λ t. replies_text (map (Hits stream) blocks) ++ t) (one_text (Fed stream place))
     ∙ sym (replies_text-append (map (Hits stream) blocks) (Fed stream place ∷ []))
 
--- blocks told, and then others with the place
+-- blocks, and then others with the place
 pub told_last : (stream : ℕ) (blocks more : List (List (ℕ × ℕ))) (place : ℕ) → replies_text (map (Hits stream) blocks) ++ replies_text (fed_replies stream more place) ≡ replies_text (fed_replies stream (blocks ++ more) place)
 told_last stream blocks more place =
     sym (replies_text-append (map (Hits stream) blocks) (fed_replies stream more place))

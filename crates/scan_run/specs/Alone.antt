@@ -8,7 +8,7 @@ use Rattle.scan_core.specs.Sessions.{IsEvent, Serving, fresh}
 use Rattle.scan_run.specs.declared.status.Status.{Status}
 use Rattle.scan_run.specs.Statuses.{status_of}
 
--- a stream was served as a session of the store, and the status tells how it ended
+-- a stream was served as a session of the store, and the status says how it ended
 pub record EndsAlone (store : Shelves) (status : Status) (coming_old coming_new : Option Coming) (out_old out_new : Option (List ℕ)) : Type 0 where
   pub after : Serving
   pub ended : Ended

@@ -8,19 +8,19 @@ use Rattle.scan_core.specs.Blocks.{AreFull, joined}
 use Rattle.scan_core.specs.Fronts.{FeedsFront, IsFeeding}
 use Rattle.scan_core.specs.Sessions.{Serving}
 
--- the block of the hits that are left, if any are
+-- the block of the remaining hits, if there are any
 abbrev pub last_block : List (ℕ × ℕ) → List (List (ℕ × ℕ))
 last_block [] = []
 last_block (hit ∷ hits) = (hit ∷ hits) ∷ []
 
--- of a list of hits the first were told in full replies
+-- the first hits of a list were sent in full replies
 pub record TellsFull (stream : ℕ) (old new : List (ℕ × ℕ)) (written_old written_new : Option (List ℕ)) (before after : List ℕ) : Type 0 where
   pub blocks : List (List (ℕ × ℕ))
   pub full : AreFull MAX_HITS blocks
   pub cut : old ≡ joined blocks ++ new
   pub sent : Sends written_old written_new before after (replies_text (map (Hits stream) blocks))
 
--- of a list of hits the first are told in full replies, of which a front is written
+-- the first hits of a list are sent in full replies, and a prefix of the replies is written
 pub record TellsFullFront (stream : ℕ) (old : List (ℕ × ℕ)) (written_old written_new : Option (List ℕ)) (before : List ℕ) : Type 0 where
   pub blocks : List (List (ℕ × ℕ))
   pub left : List (ℕ × ℕ)
@@ -28,8 +28,8 @@ pub record TellsFullFront (stream : ℕ) (old : List (ℕ × ℕ)) (written_old 
   pub cut : old ≡ joined blocks ++ left
   pub sent : SendsFront written_old written_new before (replies_text (map (Hits stream) blocks))
 
--- A front of a piece was fed, no longer than it takes to gain a full reply's hits with those before it, so that no more
--- than these and one a literal are held. Of them the first were told in full replies.
+-- A prefix of a piece was fed, no longer than it takes to gain a full reply's hits with the earlier hits; so no more
+-- than these and one a literal are held. The first of them were sent in full replies.
 pub record FeedsOn (before : Serving) (stream : ℕ) (piece : List ℕ) (count : ℕ) (old new : List (ℕ × ℕ)) (after : Serving) (written_old written_new : Option (List ℕ)) (waits_old waits_new : List ℕ) : Type 0 where
   pub gained : List (ℕ × ℕ)
   pub fed : FeedsFront before stream piece (MAX_HITS - length old) count old gained after
@@ -37,14 +37,15 @@ pub record FeedsOn (before : Serving) (stream : ℕ) (piece : List ℕ) (count :
   pub few : length new < MAX_HITS
   pub told : TellsFull stream gained new written_old written_new waits_old waits_new
 
--- feeding a front of a piece stopped: none was fed, or of the hits gained with those before it the first are told in full replies, of which a front is written
+-- feeding a prefix of a piece stopped: none was fed, or the first of the hits gained with the earlier ones are sent in
+-- full replies, and a prefix of the replies is written
 abbrev pub StopsFeeding : Serving → ℕ → List ℕ → List (ℕ × ℕ) → Option (List ℕ) → Option (List ℕ) → List ℕ → Type 0
 StopsFeeding before stream piece old written_old written_new waits =
     SendsFront written_old written_new waits []
     ⊎ ((count : ℕ) × (gained : List (ℕ × ℕ)) × (after : Serving) × FeedsFront before stream piece (MAX_HITS - length old) count old gained after
     × TellsFullFront stream gained written_old written_new waits)
 
--- a piece was fed up to a rest: its hits so far were told in full replies, but for those that are left
+-- a piece was fed up to a rest: its hits so far were sent in full replies, except the remaining hits
 pub record HasFed (before : Serving) (stream : ℕ) (piece rest : List ℕ) (hits : List (ℕ × ℕ)) (after : Serving) (written_old written_new : Option (List ℕ)) (waits_old waits_new : List ℕ) : Type 0 where
   pub bytes : List ℕ
   pub blocks : List (List (ℕ × ℕ))

@@ -5,4 +5,5 @@ pub mod Statuses
 pub mod Alone
 pub mod Reports
 pub mod Loading
+pub mod LoadingFiles
 pub mod Seen

@@ -1,4 +1,4 @@
--- Plans published from a plan file before anything is served, and what is said of it.
+-- Plans published from a plan file before anything is served, and the messages about it.
 use Rattle.std.specs.Prelude.{◌≡◌, ◌≢◌, ℕ, ◌^◌, ◌<◌, Bool, true, false, List, [], ◌∷◌, ◌++◌, ◌⊎◌, All, IfSome, MatchOption, Option, Some, Result, Ok, Err, IsOk, ⊤, codes, decimal, flat_map, length, map, take}
 use Rattle.std.specs.Io.KnownBytes.{Appends}
 use Rattle.boxcar.specs.Table.{Shelves}
@@ -10,10 +10,10 @@ use Rattle.plan_file.specs.declared.fault.Cause.{Cause}
 use Rattle.plan_file.specs.declared.fault.Fault.{Fault}
 use Rattle.plan_file.specs.declared.fault.Fault.TheVariants.{OutOfMemory, BadPlanFile, ReadFault, WriteFault}
 use Rattle.plan_file.specs.FirstFaults.{IsFirstFault}
-use Rattle.plan_file.specs.Spelling.{ArePlans, spelling}
+use Rattle.plan_file.specs.Spelling.{IsFile}
 use Rattle.plan_store.specs.Tickets as tickets
 
--- ---- what is said
+-- ---- the messages
 
 -- the line of a plan that was published
 abbrev pub plan_line : ℕ → List ℕ
@@ -42,7 +42,7 @@ abbrev pub said_of : List ℕ → List tickets.Told → Result (Unit {0}) Fault 
 said_of name published (Ok _) = plan_lines published
 said_of name published (Err fault) = plan_lines published ++ message_on name fault
 
--- a text was written, and of one behind it a front that is not all of it
+-- a text was written, and of one after it a front that is not all of it
 pub record AppendsUpTo (old new : Option (List ℕ)) (text behind : List ℕ) : Type 0 where
   pub count : ℕ
   pub fewer : count < length behind
@@ -55,7 +55,7 @@ pub record EndsInLine (published : List tickets.Told) (old new : Option (List �
   pub all : published ≡ before ++ last ∷ []
   pub said : AppendsUpTo old new (plan_lines before) (plan_line last.number)
 
--- All of it was said. Or a write failed: in the message behind all lines, or in the line of the plan published last, at
+-- All of it was said. Or a write failed: in the message after all lines, or in the line of the plan published last, at
 -- which loading then stops.
 pub data IsSaid (name : List ℕ) (published : List tickets.Told) (answer result : Result (Unit {0}) Fault) (err_old err_new : Option (List ℕ)) : Type 0 where
   Whole : result ≡ answer → answer ≢ Err WriteFault → Appends err_old err_new (said_of name published answer) → IsSaid name published answer result err_old err_new
@@ -63,44 +63,49 @@ pub data IsSaid (name : List ℕ) (published : List tickets.Told) (answer result
       → IsSaid name published answer result err_old err_new
   InLine : answer ≡ Err WriteFault → result ≡ Err WriteFault → EndsInLine published err_old err_new → IsSaid name published answer result err_old err_new
 
--- ---- what is published
+-- ---- the published plans
 
 -- the plans that tickets show
 abbrev pub plans_of : List tickets.Told → List Plan
 plans_of published = map (λ ticket. ticket.plan) published
 
--- what a reader gave, to its end, is the file of these plans
+-- the bytes of a reader, to its end, are a file of the plans, in one of its versions
 abbrev pub IsFileOf : Option Coming → Option Coming → List Plan → Type 0
-IsFileOf old new plans = Told old new (λ x y. ArePlans 8 1024 plans × (x.text ≡ spelling plans) × EndsHere y)
+IsFileOf old new plans = Told old new (λ x y. IsFile x.text plans × EndsHere y)
 
--- and of these and more
+-- and of the plans and more
 abbrev pub IsFileOfMore : Option Coming → Option Coming → List Plan → Type 0
 IsFileOfMore old new plans = (more : List Plan) × IsFileOf old new (plans ++ more)
 
--- Which plans were published where loading comes to this answer: all of the file, in order; none; or, where memory ran
--- out or a line could not be written, the first ones.
+-- A text has this first fault; and where a read fault comes after the text, whatever might have followed has it too.
+pub record IsShownFault (coming : Coming) (place : ℕ) (cause : Cause) : Type 0 where
+  pub first : IsFirstFault coming.text place cause
+  pub whatever : coming.ending ≡ Faulty → (more : List ℕ) → IsFirstFault (coming.text ++ more) place cause
+
+-- Which plans were published for each answer of loading: all of the file, in order; none; or, where memory ran out or a
+-- line could not be written, the first.
 abbrev pub Publishes : Option Coming → Option Coming → List Plan → Result (Unit {0}) Fault → Type 0
 Publishes old new plans (Ok _) = IsFileOf old new plans
 Publishes old new plans (Err OutOfMemory) = (plans ≡ []) ⊎ IsFileOfMore old new plans
-Publishes old new plans (Err (BadPlanFile place cause)) = (plans ≡ []) × IfSome old (λ x. IsFirstFault 8 1024 x.text place cause)
+Publishes old new plans (Err (BadPlanFile place cause)) = (plans ≡ []) × IfSome old (λ x. IsShownFault x place cause)
 Publishes old new plans (Err ReadFault) = plans ≡ []
 Publishes old new plans (Err WriteFault) = IsFileOfMore old new plans
 
 -- A file of this text that ends cleanly is judged by it: it is loaded where it is the file of some plans, and else refused
 -- with its first fault.
 pub record IsJudged (text : List ℕ) (result : Result (Unit {0}) Fault) : Type 0 where
-  pub loaded : (plans : List Plan) → ArePlans 8 1024 plans → text ≡ spelling plans → IsOk result
-  pub refused : (place : ℕ) (cause : Cause) → IsFirstFault 8 1024 text place cause → result ≡ Err (BadPlanFile place cause)
+  pub loaded : (plans : List Plan) → IsFile text plans → IsOk result
+  pub refused : (place : ℕ) (cause : Cause) → IsFirstFault text place cause → result ≡ Err (BadPlanFile place cause)
   pub read : result ≢ Err ReadFault
 
--- so it is unless memory runs out or a write fails; and no file is loaded behind whose bytes a read fault comes
+-- so it is unless memory runs out or a write fails; and no file is loaded after whose bytes a read fault comes
 abbrev pub Judges : Coming → Result (Unit {0}) Fault → Type 0
 Judges x result =
     (IsOk result → x.ending ≢ Faulty)
     × (x.ending ≡ Clean → length x.text < 2 ^ 40 → result ≢ Err OutOfMemory → result ≢ Err WriteFault → IsJudged x.text result)
 
 -- Tickets of the store were gained, which show the plans that were published. Where a write failed, the answer is the
--- one that loading had come to.
+-- answer that loading had before it.
 pub record Loads (store : Shelves) (name : List ℕ) (coming_old coming_new : Option Coming) (tickets_old tickets_new : List tickets.Told) (err_old err_new : Option (List ℕ)) (result : Result (Unit {0}) Fault) : Type 0 where
   pub published : List tickets.Told
   pub answer : Result (Unit {0}) Fault
@@ -109,17 +114,22 @@ pub record Loads (store : Shelves) (name : List ℕ) (coming_old coming_new : Op
   pub plans : Publishes coming_old coming_new (plans_of published) answer
   pub said : IsSaid name published answer result err_old err_new
 
+-- So it is where nobody keeps the tickets.
+abbrev pub LoadsAll : Shelves → List ℕ → Option Coming → Option Coming → Option (List ℕ) → Option (List ℕ) → Result (Unit {0}) Fault → Type 0
+LoadsAll store name coming_old coming_new err_old err_new result =
+    (gained : List tickets.Told) × Loads store name coming_old coming_new [] gained err_old err_new result
+
 -- the answer where a file cannot be read: that, or that it could not be said
 abbrev pub IsUnread : Result (Unit {0}) Fault → Type 0
 IsUnread result = (result ≡ Err ReadFault) ⊎ (result ≡ Err WriteFault)
 
--- a file that cannot be opened is told as one that cannot be read, and no ticket is gained, whether or not that could be said
+-- a file that cannot be opened counts as unreadable, and no ticket is gained, whether or not that could be written
 pub record IsUnopened (tickets_old tickets_new : List tickets.Told) (answer result : Result (Unit {0}) Fault) : Type 0 where
   pub told : answer ≡ Err ReadFault
   pub unread : IsUnread result
   pub none : tickets_new ≡ tickets_old
 
--- What an opener gives under a name was loaded: where it tells what that is, it is judged by it.
+-- The file that an opener gives under a name was loaded; where its content is known, it is judged by that.
 pub record LoadsNamed (store : Shelves) (name : List ℕ) (sources : Option Sources) (tickets_old tickets_new : List tickets.Told) (err_old err_new : Option (List ℕ)) (result : Result (Unit {0}) Fault) : Type 0 where
   pub coming_old : Option Coming
   pub coming_new : Option Coming
@@ -128,7 +138,7 @@ pub record LoadsNamed (store : Shelves) (name : List ℕ) (sources : Option Sour
 
 -- ---- inside the crate: lines before a message
 
--- the lines of plans were written, or, where a write failed, all before that of the last one and a front of it
+-- the lines of plans were written; or, where a write failed, all before the last line and a prefix of it
 abbrev pub SaysLines : List tickets.Told → Result (Unit {0}) Fault → Option (List ℕ) → Option (List ℕ) → Type 0
 SaysLines published (Ok _) old new = Appends old new (plan_lines published)
 SaysLines published (Err OutOfMemory) old new = Appends old new (plan_lines published)

@@ -1,4 +1,4 @@
--- What is told of connections that have ended.
+-- The reports on connections that have ended.
 use Rattle.std.specs.Prelude.{◌≡◌, ℕ, ◌+◌, ◌≤◌, ◌⊎◌, Bool, true, false, All, List, [], ◌∷◌, ◌++◌, Option, Some, None, codes, decimal, length}
 use Rattle.std.specs.Io.KnownBytes.{Appends}
 use Rattle.byte_io.specs.Transfers.{AppendsFront, Says}
@@ -32,8 +32,8 @@ abbrev pub IsStatusOf : List (Option Ended) → Status → Type 0
 IsStatusOf endings status =
     ((status ≡ Clean) × All (λ e. e ≡ Some ended.Clean) endings) ⊎ ((status ≡ Unclean) × ¬ All (λ e. e ≡ Some ended.Clean) endings)
 
--- All lines are told, and then a fault of accepting, where there was one. Or a write of the lines failed; or there was no
--- memory for them.
+-- All lines are written, and then a fault of accepting, where there was one. Or a write of the lines failed; or there
+-- was no memory for them.
 pub data Reports (endings : List (Option Ended)) (faulty : Bool) (status : Status) (out_failed err_failed : Bool) (out_old out_new err_old err_new : Option (List ℕ)) : Type 0 where
   Told : faulty ≡ false → IsStatusOf endings status → Appends out_old out_new (lines_from 1 endings) → Appends err_old err_new []
       → Reports endings faulty status out_failed err_failed out_old out_new err_old err_new
@@ -44,7 +44,7 @@ pub data Reports (endings : List (Option Ended)) (faulty : Bool) (status : Statu
   Starved : status ≡ Trouble → Appends out_old out_new [] → Says err_failed err_old err_new out_of_memory
       → Reports endings faulty status out_failed err_failed out_old out_new err_old err_new
 
--- Connections were served and told of: so many, or fewer where accepting failed.
+-- Connections were served and reported: all of them, or fewer where accepting failed.
 pub record ReportsSome (connections : ℕ) (status : Status) (out_failed err_failed : Bool) (out_old out_new err_old err_new : Option (List ℕ)) : Type 0 where
   pub endings : List (Option Ended)
   pub faulty : Bool

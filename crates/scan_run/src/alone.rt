@@ -9,7 +9,7 @@ use plan_store::PlanStore;
 use std::alloc::Global;
 use std::sync::Wait;
 
-/// Serves one stream of frames to its end, as a session of the store. The status tells how it ended.
+/// Serves one stream of frames to its end, as a session of the store. The status says how it ended.
 pub fn serve_alone<R: Wait, I: ByteIn, O: ByteOut>(
     rt: &R,
     alloc: Global,

@@ -9,7 +9,7 @@ use std::net::{Shutdown, TcpStream};
 use std::sync::Wait;
 use std::time::Duration;
 
-/// Seconds that each read of what is not served any more waits for the client, at most.
+/// Seconds that each read of a connection that is no longer served waits for the client, at most.
 const DRAIN_SECONDS: u64 = 1;
 
 /// Such reads, at most.
@@ -35,9 +35,9 @@ pub(crate) fn serve_connection<R: Wait>(
     ended
 }
 
-/// Sends what was written, and reads what the client still sends, as far as a bound on reads and waits
-/// lets it: a connection that is closed before it was read is reset, and the client may then lose
-/// replies that it has not read.
+/// Sends the bytes that were written, and reads what the client still sends, as far as a bound on reads and waits lets
+/// it. A connection that is closed before it was read is reset, and the client may then lose replies that it has not
+/// read.
 fn drain(stream: &TcpStream) {
     let mut piece = [0; 4096];
     if stream.shutdown(Shutdown::Write).is_err()

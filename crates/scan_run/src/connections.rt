@@ -18,7 +18,7 @@ pub struct Connections {
 }
 
 impl Connections {
-    /// So many connections, if there may be so many.
+    /// `count` connections, if there may be as many.
     pub fn new(count: usize) -> Option<Connections>
         ensures { MatchOption result (¬ AreConnections count) (λ connections. connections.count ≡ count) }
     {

@@ -16,8 +16,8 @@ use scan_serve::{Outbox, Stop};
 use scan_wire::MAX_HITS;
 use std::alloc::Global;
 
-/// Feeds a front of a piece, and tells in full replies the hits gained by then, of which fewer than
-/// a reply takes are left. The answer is how many bytes were fed.
+/// Feeds a prefix of a piece, and writes the hits gained by then in full replies; fewer hits than a reply takes remain.
+/// Returns how many bytes were fed.
 fn feed_on<W: ByteOut>(
     alloc: Global,
     session: &mut Session<'_>,
@@ -73,8 +73,8 @@ fn feed_whole<W: ByteOut>(
     tell_last(stream, hits, place, outbox, out)
 }
 
-/// Answers a Feed: the hits of the piece in replies that are full but for the last, written as they
-/// are found, and the place.
+/// Answers a Feed: the hits of the piece in replies that are all full except the last, written as they are found, and
+/// the place.
 pub(crate) fn answer_feed<W: ByteOut>(
     alloc: Global,
     session: &mut Session<'_>,

@@ -16,9 +16,9 @@ use std::net::{TcpListener, TcpStream};
 use std::sync::Wait;
 use std::thread::{self, JoinHandle, Scope, Threads};
 
-/// Accepts so many connections, and serves each in a thread of its own, as a session of the store.
-/// When all have ended, it tells on `out` how, a line for each in order of acceptance. Once the last
-/// one is accepted, or accepting failed, the listener is closed, so that a late client is refused.
+/// Accepts the given number of connections, and serves each in a thread of its own, as a session of the store. When all
+/// have ended, it reports on `out` how, a line for each in order of acceptance. Once the last one is accepted, or
+/// accepting failed, the listener is closed, so that a late client is refused.
 ///
 /// It waits for clients, and for as long as they keep their connections.
 pub fn listen<R: Threads + Wait + Sync, O: ByteOut, E: ByteOut>(
@@ -33,7 +33,7 @@ pub fn listen<R: Threads + Wait + Sync, O: ByteOut, E: ByteOut>(
     ensures told { ReportsSome connections.count result (O.has_failed out.new) (E.has_failed err.new)
         (O.written out.old) (O.written out.new) (E.written err.old) (E.written err.new) }
 
-    // A write that failed is told.
+    // A write that failed shows in the status.
     ensures fault { result ≢ Status.Trouble
         → (O.has_failed out.new || E.has_failed err.new) ≡ (O.has_failed out.old || E.has_failed err.old) }
 {
@@ -80,8 +80,7 @@ fn serve_all<R: Threads + Wait + Sync>(
     )
 }
 
-/// Accepts the connections, starts a thread for each, and closes the listener. It tells whether
-/// accepting failed.
+/// Accepts the connections, starts a thread for each, and closes the listener. Returns whether accepting failed.
 fn accept_all<'s, E, R: Threads + Wait + Sync>(
     scope: &'s Scope<'s, E>,
     rt: &'s R,
@@ -105,7 +104,7 @@ fn accept_all<'s, E, R: Threads + Wait + Sync>(
     (threads, false)
 }
 
-/// Waits for the threads, and tells how each connection ended.
+/// Waits for the threads, and returns how each connection ended.
 fn join_all<R: Threads + Wait>(rt: &R, threads: Serving) -> ArrayVec<Option<Ended>, MAX_CONNECTIONS>
     ensures { length result.items ≡ length threads.items }
 {

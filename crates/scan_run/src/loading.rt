@@ -4,7 +4,7 @@ ghost use Rattle.std.specs.Io.KnownBytes.{Appends};
 ghost use Rattle.byte_io.specs.Devices.{Told};
 ghost use Rattle.byte_io.specs.Sources.{Named, after};
 ghost use Rattle.byte_io.specs.Transfers.{AppendsPrefix};
-ghost use Rattle.scan_run.specs.Loading.{Judges, Loads, LoadsFile, LoadsNamed, PublishesFront, IsMessage, is_write_fault, message_on, plan_line};
+ghost use Rattle.scan_run.specs.Loading.{Judges, Loads, LoadsAll, LoadsFile, LoadsNamed, PublishesFront, IsMessage, is_write_fault, message_on, plan_line};
 
 use byte_io::{ByteIn, ByteOut, Failed, Missing, Opener, write_all};
 use flow_scan::Compiled;
@@ -14,17 +14,16 @@ use plan_store::{PlanStore, Ticket};
 use std::alloc::Global;
 use std::sync::Wait;
 
-/// Publishes the plans of a file in order, and tells the number of each on `err`, a line for each. The
-/// file is read whole first. `tickets` gains those of the plans, in order. It may wait as the store's
-/// `publish` does.
+/// Publishes the plans of a file in order, and writes the number of each to `err`, a line for each. The file is read
+/// whole first. `tickets` gains the tickets of the plans, in order. It may wait as the store's `publish` does.
 ///
 /// # Errors
 /// - `ReadFault`, where a read failed, and `BadPlanFile`, where the file is none: no ticket is gained.
 /// - `OutOfMemory`, where a growth was refused: the plans published so far stay.
-/// - `WriteFault`, where a line or a message could not be written: what was published stays, and behind
-///   the plan of such a line no other is.
+/// - `WriteFault`, where a line or a message could not be written: the plans published so far stay, and no plan follows
+/// the one of that line.
 ///
-/// All but the last are told on `err`, by the name of the file.
+/// All but the last are reported on `err`, by the name of the file.
 pub fn load_tickets<R: Wait, I: ByteIn, E: ByteOut>(
     rt: &R,
     alloc: Global,
@@ -38,7 +37,7 @@ pub fn load_tickets<R: Wait, I: ByteIn, E: ByteOut>(
         tickets.old.items tickets.new.items (E.written err.old) (E.written err.new) result }
     ensures judged { IfSome (I.coming input.old) (λ x. Judges x result) }
 
-    // A fault is told only where a read or a write failed; where none is told, none failed.
+    // A fault is returned only if a read or a write failed; if none is returned, none failed.
     ensures fault { result ≡ Err Fault.ReadFault → IsTrue (I.has_failed input.new) }
     ensures unread { result ≢ Err Fault.ReadFault → result ≢ Err Fault.WriteFault
         → I.has_failed input.new ≡ I.has_failed input.old }
@@ -51,12 +50,36 @@ pub fn load_tickets<R: Wait, I: ByteIn, E: ByteOut>(
     }
 }
 
-/// Opens the file of a name, whatever the name is, and publishes its plans: `-` is a file too. A file
-/// that cannot be opened is answered and told as one that cannot be read. `tickets` gains those of the
-/// plans, in order.
+/// `load_tickets` without the tickets: the plans stay under the numbers that were written.
 ///
 /// # Errors
-/// Those of `load_tickets`.
+/// The errors of `load_tickets`.
+pub fn load_plans<R: Wait, I: ByteIn, E: ByteOut>(
+    rt: &R,
+    alloc: Global,
+    store: &PlanStore,
+    input: &mut I,
+    name: &str,
+    err: &mut E,
+) -> Result<(), Fault>
+    ensures loads { LoadsAll store.now name.now (I.coming input.old) (I.coming input.new)
+        (E.written err.old) (E.written err.new) result }
+    ensures judged { IfSome (I.coming input.old) (λ x. Judges x result) }
+    ensures fault { result ≡ Err Fault.ReadFault → IsTrue (I.has_failed input.new) }
+    ensures unread { result ≢ Err Fault.ReadFault → result ≢ Err Fault.WriteFault
+        → I.has_failed input.new ≡ I.has_failed input.old }
+    ensures broken { result ≡ Err Fault.WriteFault → IsTrue (E.has_failed err.new) }
+    ensures flag { result ≢ Err Fault.WriteFault → E.has_failed err.new ≡ E.has_failed err.old }
+{
+    let mut tickets = Vec::new(alloc);
+    load_tickets(rt, alloc, store, input, name, &mut tickets, err)
+}
+
+/// Opens the file of a name, whatever the name is, and publishes its plans: `-` is a file too. A file that cannot be
+/// opened is treated like a file that cannot be read. `tickets` gains the tickets of the plans, in order.
+///
+/// # Errors
+/// The errors of `load_tickets`.
 pub fn load_named<R: Wait, F: Opener, E: ByteOut>(
     rt: &R,
     alloc: Global,
@@ -173,7 +196,12 @@ fn say_number<E: ByteOut>(number: u64, err: &mut E) -> Result<(), Failed>
 }
 
 /// Writes a line that stands in three parts, for which it needs no memory.
-fn say<E: ByteOut>(front: &[u8], middle: &[u8], end: &[u8], err: &mut E) -> Result<(), Failed>
+pub(crate) fn say<E: ByteOut>(
+    front: &[u8],
+    middle: &[u8],
+    end: &[u8],
+    err: &mut E,
+) -> Result<(), Failed>
     ensures ok { OnOk result (Appends (E.written err.old) (E.written err.new) (front.now ++ (middle.now ++ end.now))) }
     ensures err { OnErr result (AppendsPrefix (E.written err.old) (E.written err.new) (front.now ++ (middle.now ++ end.now))) }
     ensures flag { E.has_failed err.new ≡ (E.has_failed err.old || is_err result) }

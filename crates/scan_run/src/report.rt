@@ -1,4 +1,4 @@
-//! Telling how connections ended.
+//! Reporting how connections ended.
 ghost use Rattle.std.specs.Prelude.{◌≡◌, ◌≢◌, ◌++◌, ◌||◌, IfOk, OnOk, length, string_bytes};
 ghost use Rattle.scan_run.specs.Reports.{IsStatusOf, Reports, line_text, lines_from, word_of};
 
@@ -8,8 +8,7 @@ use scan_serve::Ended;
 use std::alloc::{AllocError, Global};
 use std::fmt::Write;
 
-/// Tells on `out` how connections ended, a line for each in order, and on `err` where accepting
-/// failed.
+/// Reports on `out` how connections ended, a line for each in order, and on `err` where accepting failed.
 pub(crate) fn report<O: ByteOut, E: ByteOut>(
     alloc: Global,
     endings: &[Option<Ended>],
@@ -20,7 +19,7 @@ pub(crate) fn report<O: ByteOut, E: ByteOut>(
     ensures told { Reports endings.now faulty result (O.has_failed out.new) (E.has_failed err.new)
         (O.written out.old) (O.written out.new) (E.written err.old) (E.written err.new) }
 
-    // A write that failed is told.
+    // A write that failed shows in the status.
     ensures fault { result ≢ Status.Trouble
         → (O.has_failed out.new || E.has_failed err.new) ≡ (O.has_failed out.old || E.has_failed err.old) }
 {

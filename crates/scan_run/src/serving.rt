@@ -1,6 +1,6 @@
 //! Serving a session of a store over a stream of frames.
-ghost use Rattle.std.specs.Prelude.{◌≡◌, ◌≢◌, ◌+◌, ◌^◌, ◌≤◌, ◌⊎◌, [], IsTrue, OnErr, OnOk};
-ghost use Rattle.scan_wire.specs.Messages.{lent_parts};
+ghost use Rattle.std.specs.Prelude.{◌≡◌, ◌≢◌, ◌+◌, ◌^◌, ◌≤◌, ◌⊎◌, ◌∷◌, [], IfOk, IsTrue, OnErr, OnOk};
+ghost use Rattle.scan_wire.specs.Messages.{Open, lent_parts, reply_parts};
 ghost use Rattle.scan_serve.specs.Answering.{Answered, Stopped};
 ghost use Rattle.scan_serve.specs.Serving.{EndsAs};
 ghost use Rattle.scan_core.specs.Sessions.{IsEvent, Serving, fresh};
@@ -12,20 +12,20 @@ use crate::feeding::answer_feed;
 use byte_io::{ByteIn, ByteOut};
 use flow_scan::Hit;
 use plan_store::PlanStore;
-use scan_core::Session;
+use scan_core::{Fault, Session};
 use scan_serve::{Answer, Ended, Outbox, Stop};
-use scan_wire::Lent;
+use scan_wire::{Lent, Reply};
 use std::alloc::Global;
 use std::marker::Model;
 use std::sync::Wait;
 
-/// A session, with what it needs to answer over a stream.
+/// A session, with the parts that it needs to answer over a stream.
 #[derive(Drop)]
 struct Served<'r, 's, R: Wait> {
     rt: &'r R,
     alloc: Global,
     session: Session<'s>,
-    /// Hits that are not yet told: fewer than two replies take.
+    /// Hits that are not yet sent: fewer than two replies take.
     hits: Vec<Hit>,
 }
 
@@ -61,10 +61,14 @@ impl<'r, 's, R: Wait> Answer for Served<'r, 's, R> {
                     out,
                 );
             }
-            Lent::Publish { fold, literals } => {
-                self.session.publish(self.rt, self.alloc, fold, &literals)
-            }
-            Lent::Open { stream, number } => self.session.open(self.alloc, stream, number),
+            Lent::Publish {
+                fold,
+                profile,
+                literals,
+            } => self
+                .session
+                .publish(self.rt, self.alloc, fold, profile, &literals),
+            Lent::Open { stream, number } => opened(&mut self.session, self.alloc, stream, number),
             Lent::Close { stream } => Ok(self.session.close(stream)),
             Lent::ShowPlan { stream } => self.session.show_plan(stream),
         };
@@ -75,16 +79,30 @@ impl<'r, 's, R: Wait> Answer for Served<'r, 's, R> {
     }
 }
 
-/// Serves a session over a stream of frames to its end, and hands it back: requests are read from
-/// `input`, and answered in order on `out`. The replies to all frames that are whole are written before
-/// the next read.
+/// The reply to an Open. Where memory ran out nobody needs the ticket that comes with the fault.
+fn opened(
+    session: &mut Session<'_>,
+    alloc: Global,
+    stream: u32,
+    number: u64,
+) -> Result<Reply, Fault>
+    ensures ok { IfOk result (λ reply. IsEvent session.old (Open stream number) (reply_parts reply ∷ []) session.new) }
+{
+    match session.open(alloc, stream, number) {
+        Ok(reply) => Ok(reply),
+        Err((fault, _ticket)) => Err(fault),
+    }
+}
+
+/// Serves a session over a stream of frames to its end, and returns it. Requests are read from `input`, and answered in
+/// order on `out`. The replies to all frames that are whole are written before the next read.
 ///
-/// The session goes on from what it was told and has open, and what it has behind that are tickets of
-/// its store. Behind `WriteFault` and `OutOfMemory` it is of no use any more.
+/// The session continues with its published plans and its open streams; all its tickets afterwards are of its store.
+/// After `WriteFault` and `OutOfMemory` it is of no use any more.
 ///
-/// Whatever is asked, it holds at most 262,180 bytes of what was read, at most 106,506 bytes of replies,
-/// which are written once they are 65,536, a few thousand hits, and what it learned of long streams, up to 3.1 MiB,
-/// beside the plans that it publishes and the tails of its streams. Only a Publish may wait for another thread.
+/// Whatever the requests, it holds at most 262,180 bytes of input and 106,506 bytes of replies, which are written once
+/// they are 65,536. It also holds a few thousand hits, a finder for long streams, up to 9.4 MiB, the plans that it
+/// publishes, and the tails of its streams. Only a Publish may wait for another thread.
 pub fn serve_session<'s, R: Wait, I: ByteIn, O: ByteOut>(
     rt: &R,
     alloc: Global,
@@ -122,7 +140,7 @@ pub fn serve_session<'s, R: Wait, I: ByteIn, O: ByteOut>(
 /// and answered in order on `out`. The replies to all frames that are whole are written before the
 /// next read.
 ///
-/// It is `serve_session` of a session that was told nothing, which it drops, and holds no more.
+/// It is `serve_session` of a session that has published nothing. It drops the session, and holds no more.
 pub fn serve<R: Wait, I: ByteIn, O: ByteOut>(
     rt: &R,
     alloc: Global,

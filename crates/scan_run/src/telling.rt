@@ -1,4 +1,4 @@
-//! Telling hits in frames, as they are found.
+//! Hits in frames, as they are found.
 ghost use Rattle.std.specs.Prelude.{◌≡◌, ◌≢◌, ◌<◌, ◌≤◌, drop, length, map, IsTrue, OnErr, OnOk};
 ghost use Rattle.scan_wire.specs.Frames.{replies_text};
 ghost use Rattle.scan_wire.specs.Messages.{Hits};
@@ -12,7 +12,7 @@ use flow_scan::Hit;
 use scan_serve::{Outbox, Stop};
 use scan_wire::{MAX_HITS, Reply};
 
-/// Takes so many hits off the front.
+/// Removes `count` hits from the front.
 fn drop_front(hits: &mut Vec<Hit>, count: usize)
     requires { count ≤ length hits.old.items }
     ensures { hits.new.items ≡ drop count hits.old.items }
@@ -22,9 +22,9 @@ fn drop_front(hits: &mut Vec<Hit>, count: usize)
     hits.truncate(len - count);
 }
 
-/// Tells hits in full replies, as long as there are enough, and keeps those that are left.
+/// Adds full replies with hits, as long as there are enough, and keeps the remaining hits.
 ///
-/// After an `Err` a front of what waited and of these replies was written.
+/// After an `Err` a prefix of the waiting bytes and of the new replies was written.
 pub(crate) fn tell_full<W: ByteOut>(
     stream: u32,
     hits: &mut Vec<Hit>,
@@ -47,7 +47,7 @@ pub(crate) fn tell_full<W: ByteOut>(
     Ok(())
 }
 
-/// Tells the hits that are left, if there are any.
+/// Adds a reply with the remaining hits, if there are any.
 fn tell_rest<W: ByteOut>(
     stream: u32,
     hits: &[Hit],
@@ -68,9 +68,9 @@ fn tell_rest<W: ByteOut>(
     outbox.push_hits(out, stream, hits)
 }
 
-/// Tells the hits that are left, and the place reached.
+/// Adds the remaining hits, and the place reached.
 ///
-/// After an `Err` a front of what waited and of these replies was written.
+/// After an `Err` a prefix of the waiting bytes and of the new replies was written.
 pub(crate) fn tell_last<W: ByteOut>(
     stream: u32,
     hits: &[Hit],

@@ -100,7 +100,7 @@ stops_in {S} step s text place len r v w b st p = stops_by p.replies p.may p.sen
       sent = sent;
     }
 
--- behind requests that were answered, one is not answered in full
+-- after requests that were answered, one is not answered in full
 pub answers_then_front : {S : Type 0} (step : Step S) (s t : S) (text : List ℕ) (i j : ℕ) (x y z : Option (List ℕ)) (a b : List ℕ) → AnswersAll step s t text i j x y a b → AnswersFront step t text j y z b → AnswersFront step s text i x z a
 answers_then_front step s t text i j x y z a b p q = record {
   requests = p.requests ++ q.requests;
@@ -120,7 +120,7 @@ pub halts_first : {S : Type 0} (step : Step S) (s : S) (text rest : List ℕ) (p
 halts_first step s text rest place v b (halt.Bad cause) le is h = (subst (λ (x : List ℕ). HasCause cause x) is h, answers_none step s text place v b le)
 halts_first step s text rest place v b (halt.Stopped stop) le is h = stops_at_once step s text place v b
 
--- what halts behind requests that were answered
+-- what halts after requests that were answered
 pub halts_behind : {S : Type 0} (step : Step S) (s t u : S) (text : List ℕ) (i j : ℕ) (x y z : Option (List ℕ)) (a b c : List ℕ) (h : Halt) → AnswersAll step s t text i j x y a b
     → OnHalt (λ cause. HasCause cause (drop j text) × AnswersAll step t u text j j y z b c) (AnswersFront step t text j y z b) h
     → OnHalt (λ cause. HasCause cause (drop j text) × AnswersAll step s u text i j x z a c) (AnswersFront step s text i x z a) h

@@ -50,7 +50,7 @@ gives_then bs cs x y z p q = record { text = p.text ∙ ap (λ (l : List ℕ). b
 told_gives : (a b c : Option Coming) (bs cs : List ℕ) → Told a b (λ x y. Gives x y bs) → Told b c (λ x y. Gives x y cs) → Told a c (λ x y. Gives x y (bs ++ cs))
 told_gives a b c bs cs p q = Told-then a b c (λ x y. Gives x y bs) (λ x y. Gives x y cs) (λ x y. Gives x y (bs ++ cs)) p q (gives_then bs cs)
 
--- requests and a rest, and behind them other requests and a rest
+-- requests and a rest, and after them other requests and a rest
 texts_then : (held b1 mid b2 rest rt1 rt2 : List ℕ) → held ++ b1 ≡ rt1 ++ mid → mid ++ b2 ≡ rt2 ++ rest → held ++ (b1 ++ b2) ≡ (rt1 ++ rt2) ++ rest
 texts_then held b1 mid b2 rest rt1 rt2 p q =
     sym (append_assoc held b1 b2) ∙ ap (λ (x : List ℕ). x ++ b2) p ∙ append_assoc rt1 mid b2 ∙ ap (λ (x : List ℕ). rt1 ++ x) q ∙ sym (append_assoc rt1 rt2 rest)
@@ -74,7 +74,7 @@ served_then step s t u a b c x y z held mid rest last p q = record {
     joined : (xs ys zs : List ReplyParts) → replies_text (xs ++ []) ++ replies_text (ys ++ zs) ≡ replies_text ((xs ++ ys) ++ zs)
     joined xs ys zs = ap (λ (l : List ReplyParts). replies_text l ++ replies_text (ys ++ zs)) (append-nil xs) ∙ sym (replies_text-append xs (ys ++ zs)) ∙ ap (λ (l : List ReplyParts). replies_text l) (sym (append_assoc xs ys zs))
 
--- turns, and then one that stops
+-- turns, and then a turn that stops
 pub served_then_front : {S : Type 0} (step : Step S) (s t : S) (a b c : Option Coming) (x y z : Option (List ℕ)) (held mid : List ℕ) → IsServed step s t a b x y held mid [] → IsServedFront step t b c y z mid → IsServedFront step s a c x z held
 served_then_front step s t a b c x y z held mid p q = record {
   bytes = p.bytes ++ q.bytes;
@@ -105,7 +105,7 @@ served_then_front step s t a b c x y z held mid p q = record {
       text_is = sym e ∙ ap (λ (l : List ℕ). one ++ l) f.text_is ∙ sym (append_assoc one f.done f.lost);
     }
 
--- at the end told behind what was told
+-- a clean end after known bytes
 at_end_then : (a b c : Option Coming) (bs : List ℕ) → Told a b (λ x y. Gives x y bs) → AtEnd b c → AtEnd a c
 at_end_then a b c bs p q = Told-then a b c (λ x y. Gives x y bs) (λ _ y. EndsHere y) (λ _ y. EndsHere y) p q (λ x y z g e. e)
 
@@ -123,7 +123,7 @@ pub stops_as : {S : Type 0} (step : Step S) (s t : S) (c d : Option Coming) (v w
 stops_as step s t c d v w held stop.WriteFault p = p
 stops_as step s t c d v w held stop.OutOfMemory p = p
 
--- what was read is all that is held, where a read gave nothing
+-- the held bytes stay the same where a read gave nothing
 reads_none : (c d : Option Coming) (old new : List ℕ) → ReadsInto c d old new → length new ≡ length old → new ≡ old
 reads_none c d old new r len = r.text ∙ ap (λ (x : List ℕ). old ++ x) (nil_from_length r.bytes (omega (arith, ap length r.text, length-append old r.bytes))) ∙ append-nil old
 

@@ -10,15 +10,15 @@ use Rattle.scan_serve.specs.Sending.{Sends, SendsFront}
 use Rattle.scan_serve.proofs.RunLemmas.{replies_text-append}
 use Rattle.scan_serve.proofs.SendLemmas.{front_is, sends_all, sends_is, sends_then, sends_then_front}
 
--- no reply behind the others
+-- no reply after the others
 no_last : (replies : List ReplyParts) → replies_text replies ≡ replies_text (replies ++ [])
 no_last replies = ap (λ (x : List ReplyParts). replies_text x) (sym (append-nil replies))
 
--- one reply behind the others
+-- one reply after the others
 one_last : (replies : List ReplyParts) (last : ReplyParts) → replies_text replies ++ reply_text last ≡ replies_text (replies ++ last ∷ [])
 one_last replies last = ap (λ (x : List ℕ). replies_text replies ++ x) (sym (append-nil (reply_text last))) ∙ sym (replies_text-append replies (last ∷ []))
 
--- all that waits is written, and nothing is behind the replies
+-- all that waits is written, and nothing is after the replies
 pub goes_on : {S : Type 0} (step : Step S) (s t : S) (text rest : List ℕ) (place : ℕ) (u v w : Option (List ℕ)) (b c : List ℕ) → AnswersAll step s t text 0 place u v [] b → Waits (drop place text) → length (drop place text) < 65545 → Sends v w b c [] → c ≡ [] → rest ≡ drop place text → GoesOn step s t u w text rest
 goes_on step s t text rest place u v w b c a waits short sent none is = record {
   waits = subst (λ (x : List ℕ). Waits x) (sym is) waits;
@@ -33,7 +33,7 @@ goes_on step s t text rest place u v w b c a waits short sent none is = record {
   };
 }
 
--- the refusal of a bad frame is behind the replies, and all is written
+-- the refusal of a bad frame is after the replies, and all is written
 pub meets_bad : {S : Type 0} (step : Step S) (s t : S) (text rest : List ℕ) (place : ℕ) (cause : Cause) (u v w : Option (List ℕ)) (b c : List ℕ) → AnswersAll step s t text 0 place u v [] b → HasCause cause (drop place text) → Sends v w b c (reply_text (bad_frame cause)) → c ≡ [] → rest ≡ drop place text → MeetsBad step s t u w text rest cause
 meets_bad step s t text rest place cause u v w b c a has refused none is = record {
   has_cause = subst (λ (y : List ℕ). HasCause cause y) (sym is) has;

@@ -25,7 +25,7 @@ pub record Answered {S : Type 0} (step : Step S) (old new : S) (r : RequestParts
   pub is_step : step old r replies new
   pub sent : Sends written_old written_new before after (replies_text replies)
 
--- answering stopped: a front of the bytes that waited and of the request's replies, or of none, is written
+-- answering stopped: a prefix of the bytes that waited and of the request's replies, or of none, is written
 pub record Stopped {S : Type 0} (step : Step S) (old : S) (r : RequestParts) (written_old written_new : Option (List ℕ)) (before : List ℕ) : Type 0 where
   pub replies : List ReplyParts
   pub may : (replies ≡ []) ⊎ ((new : S) × step old r replies new)
@@ -41,7 +41,7 @@ pub record AnswersAll {S : Type 0} (step : Step S) (old new : S) (text : List �
   pub run : Run step old requests replies new
   pub sent : Sends written_old written_new before after (replies_text replies)
 
--- of requests that stand from a place on a front of the replies is written
+-- some requests stand from a place on, and a prefix of their replies is written
 pub record AnswersFront {S : Type 0} (step : Step S) (old : S) (text : List ℕ) (from : ℕ) (written_old written_new : Option (List ℕ)) (before : List ℕ) : Type 0 where
   pub requests : List RequestParts
   pub replies : List ReplyParts
@@ -56,7 +56,7 @@ pub record AnswersFront {S : Type 0} (step : Step S) (old : S) (text : List ℕ)
 abbrev pub bad_frame : Cause → ReplyParts
 bad_frame cause = Refused 0 11 (cause_number cause)
 
--- a text is requests and a rest, the requests were answered, and their replies are written, and the last ones
+-- a text is requests and a rest; the requests were answered; their replies are written, then the last replies
 pub record AnswersText {S : Type 0} (step : Step S) (old new : S) (written_old written_new : Option (List ℕ)) (text rest : List ℕ) (last : List ReplyParts) : Type 0 where
   pub requests : List RequestParts
   pub replies : List ReplyParts
@@ -69,7 +69,7 @@ pub record AnswersText {S : Type 0} (step : Step S) (old new : S) (written_old w
 abbrev pub IsLast : List ReplyParts → List ℕ → Type 0
 IsLast last rest = (last ≡ []) ⊎ ((cause : Cause) × HasCause cause rest × (last ≡ bad_frame cause ∷ []))
 
--- A text is requests and a rest, and a front of the requests' replies is written, behind which the refusal of a bad
+-- A text is requests and a rest, and a prefix of the requests' replies is written, after which the refusal of a bad
 -- frame counts as one.
 pub record AnswersTextFront {S : Type 0} (step : Step S) (old : S) (written_old written_new : Option (List ℕ)) (text : List ℕ) : Type 0 where
   pub requests : List RequestParts

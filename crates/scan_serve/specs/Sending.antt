@@ -1,14 +1,14 @@
--- Bytes that wait to be written behind those that were.
+-- Bytes that wait to be written after those that were.
 use Rattle.std.specs.Prelude.{◌≡◌, ℕ, ◌++◌, List, Option}
 use Rattle.std.specs.Io.KnownBytes.{Appends}
 
--- a text was added behind the bytes that waited, and a front of all was written: the new bytes wait
+-- a text was added after the bytes that waited, and a prefix of all was written: the new bytes wait
 pub record Sends (written_old written_new : Option (List ℕ)) (old new text : List ℕ) : Type 0 where
   pub done : List ℕ
   pub written : Appends written_old written_new done
   pub text_is : old ++ text ≡ done ++ new
 
--- a front of the bytes that waited and of a text behind them was written, and no more
+-- a prefix of the bytes that waited and of a text after them was written, and no more
 pub record SendsFront (written_old written_new : Option (List ℕ)) (old text : List ℕ) : Type 0 where
   pub done : List ℕ
   pub lost : List ℕ

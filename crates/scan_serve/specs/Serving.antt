@@ -8,25 +8,25 @@ use Rattle.scan_serve.specs.declared.ended.Ended.{Ended}
 use Rattle.scan_serve.specs.declared.ended.Ended.TheVariants.{Clean, Truncated, Bad, ReadFault, WriteFault, OutOfMemory}
 use Rattle.scan_serve.specs.Answering.{AnswersText, AnswersTextFront, Step, bad_frame}
 
--- The bytes that were held and those that were read are requests and a rest. The requests were answered, and all their
--- replies are written, and the last ones.
+-- The held bytes and the bytes that were read are requests and a rest. The requests were answered. All their replies
+-- are written, then the last replies.
 pub record IsServed {S : Type 0} (step : Step S) (old new : S) (coming_old coming_new : Option Coming) (written_old written_new : Option (List ℕ)) (held rest : List ℕ) (last : List ReplyParts) : Type 0 where
   pub bytes : List ℕ
   pub read : Told coming_old coming_new (λ x y. Gives x y bytes)
   pub answers : AnswersText step old new written_old written_new (held ++ bytes) rest last
 
--- The bytes that were held and those that were read are requests and a rest, and a front of the replies is written.
+-- The bytes that were held and those that were read are requests and a rest, and a prefix of the replies is written.
 pub record IsServedFront {S : Type 0} (step : Step S) (old : S) (coming_old coming_new : Option Coming) (written_old written_new : Option (List ℕ)) (held : List ℕ) : Type 0 where
   pub bytes : List ℕ
   pub read : Told coming_old coming_new (λ x y. Gives x y bytes)
   pub answers : AnswersTextFront step old written_old written_new (held ++ bytes)
 
--- a clean end is told
+-- the end is known to be clean
 abbrev pub AtEnd : Option Coming → Option Coming → Type 0
 AtEnd c d = Told c d (λ _ y. EndsHere y)
 
--- What each ending says. Clean: nothing is left at the end. Truncated: what is left waits for more, at the end. Bad:
--- what is left has a cause, whose refusal is the last reply. Read fault: what is left waits for more.
+-- What each ending says. Clean: nothing remains at the end. Truncated: the rest waits for more, at the end. Bad: the
+-- rest has a cause, whose refusal is the last reply. Read fault: the rest waits for more.
 abbrev pub EndsAs : {S : Type 0} → Step S → S → S → Option Coming → Option Coming → Option (List ℕ) → Option (List ℕ) → List ℕ → Ended → Type 0
 EndsAs step old new c d v w held Clean = IsServed step old new c d v w held [] [] × AtEnd c d
 EndsAs step old new c d v w held Truncated =
@@ -37,7 +37,7 @@ EndsAs step old new c d v w held ReadFault = (rest : List ℕ) × Waits rest × 
 EndsAs step old new c d v w held WriteFault = IsServedFront step old c d v w held
 EndsAs step old new c d v w held OutOfMemory = IsServedFront step old c d v w held
 
--- the stream goes on: all is written, and what is left waits for more
+-- the stream goes on: all is written, and the rest waits for more
 pub record GoesOnServing {S : Type 0} (step : Step S) (old new : S) (coming_old coming_new : Option Coming) (written_old written_new : Option (List ℕ)) (held rest : List ℕ) : Type 0 where
   pub waits : Waits rest
   pub short : length rest < 65545

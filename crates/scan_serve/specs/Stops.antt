@@ -7,7 +7,7 @@ use Rattle.scan_serve.specs.declared.stop.Stop.TheVariants.{WriteFault, OutOfMem
 use Rattle.scan_serve.specs.declared.stop.Halt.{Halt}
 use Rattle.scan_serve.specs.declared.stop.Halt.TheVariants.{Bad, Stopped}
 
--- a bad frame for such a cause, or a stop of this kind
+-- a bad frame whose cause has P, or a stop with Q
 abbrev pub OnHalt : (Cause → Type 0) → Type 0 → Halt → Type 0
 OnHalt P Q (Bad cause) = P cause
 OnHalt P Q (Stopped stop) = Q

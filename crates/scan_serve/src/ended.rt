@@ -11,8 +11,8 @@ pub enum Ended {
     Bad,
     /// A read failed. All whole frames were answered.
     ReadFault,
-    /// A write failed. A front of the replies was written.
+    /// A write failed. A prefix of the replies was written.
     WriteFault,
-    /// A growth was refused. A front of the replies was written.
+    /// A growth was refused. A prefix of the replies was written.
     OutOfMemory,
 }

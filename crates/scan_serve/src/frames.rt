@@ -28,7 +28,7 @@ fn request_at(alloc: Global, bytes: &[u8]) -> Result<Option<(Lent<'_>, usize)>, 
     }
 }
 
-/// Answers the request at the place, where its frame is whole, and tells how many bytes that has.
+/// Answers the request at the place, where its frame is whole, and returns how many bytes the frame has.
 fn answer_one<S: Answer, W: ByteOut>(
     alloc: Global,
     session: &mut S,
@@ -61,8 +61,8 @@ fn answer_one<S: Answer, W: ByteOut>(
     Ok(Some(len))
 }
 
-/// Answers the requests from the place on, as far as their frames are whole, and moves the place
-/// behind them.
+/// Answers the requests from the place on, as far as their frames are whole, and moves the place after them. `Err` says
+/// that the next frame is bad, or why the replies cannot be written.
 pub fn answer_all<S: Answer, W: ByteOut>(
     alloc: Global,
     session: &mut S,

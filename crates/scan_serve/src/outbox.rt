@@ -12,7 +12,7 @@ use scan_wire::{Reply, append_hits, append_reply};
 use std::alloc::Global;
 use std::marker::Model;
 
-/// So many bytes wait at most before they are written.
+/// The number of waiting bytes at which they are written.
 const FULL: usize = 65_536;
 
 /// The texts of replies that are not yet written. One buffer is used for all of them.
@@ -41,7 +41,7 @@ impl Outbox {
 
     /// Adds a reply, and writes all that waits once that is much.
     ///
-    /// After an `Err` a front of all was written, and the outbox is of no use any more.
+    /// After an `Err` a prefix of all was written, and the outbox is of no use any more.
     pub fn push<W: ByteOut>(&mut self, out: &mut W, reply: &Reply) -> Result<(), Stop>
         requires { FitsReply (reply_parts reply.now) }
         ensures ok { OnOk result (Sends (W.written out.old) (W.written out.new)
@@ -58,9 +58,9 @@ impl Outbox {
         self.flush_full(out)
     }
 
-    /// Adds a reply that tells these hits, and writes all that waits once that is much.
+    /// Adds a reply with these hits, and writes all that waits once that is much.
     ///
-    /// After an `Err` a front of all was written, and the outbox is of no use any more.
+    /// After an `Err` a prefix of all was written, and the outbox is of no use any more.
     pub fn push_hits<W: ByteOut>(
         &mut self,
         out: &mut W,
@@ -98,7 +98,7 @@ impl Outbox {
 
     /// Writes all that waits.
     ///
-    /// After an `Err` a front of it was written, and the outbox is of no use any more.
+    /// After an `Err` a prefix of it was written, and the outbox is of no use any more.
     pub fn flush<W: ByteOut>(&mut self, out: &mut W) -> Result<(), Stop>
         ensures empty { OnOk result (self.new ≡ []) }
         ensures ok { OnOk result (Sends (W.written out.old) (W.written out.new) self.old self.new []) }

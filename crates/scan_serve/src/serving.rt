@@ -94,7 +94,7 @@ fn turns<S: Answer, R: ByteIn, W: ByteOut>(
 /// Serves a stream to its end: reads requests, and answers each in order. The replies to all frames
 /// that are whole are written before the next read.
 ///
-/// It needs one buffer of 262,180 bytes for what is read and one for replies, whatever is asked.
+/// It needs one buffer of 262,180 bytes for input and one for replies, whatever the requests are.
 /// After `MAX_TURNS` reads it ends as if a read had failed.
 pub fn serve<S: Answer, R: ByteIn, W: ByteOut>(
     alloc: Global,
@@ -106,12 +106,12 @@ pub fn serve<S: Answer, R: ByteIn, W: ByteOut>(
         (R.coming input.old) (R.coming input.new)
         (W.written out.old) (W.written out.new) [] result }
 
-    // A fault is told only where the device's flag is set, or the turns ran out.
+    // A fault is reported only where the device's flag is set, or the turns ran out.
     ensures read_fault { result ≡ ReadFault
         → IsTrue (R.has_failed input.new) ⊎ (R.given input.old + 2 ^ 40 ≤ R.given input.new) }
     ensures write_fault { result ≡ WriteFault → IsTrue (W.has_failed out.new) }
 
-    // Where no read fault is told, no read failed, and so of writes.
+    // Where no read fault is reported, no read failed. The same holds of writes.
     ensures unread { result ≢ ReadFault → R.has_failed input.new ≡ R.has_failed input.old }
     ensures unwritten { result ≢ WriteFault → W.has_failed out.new ≡ W.has_failed out.old }
 {

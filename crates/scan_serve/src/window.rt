@@ -1,4 +1,4 @@
-//! What was read and not yet answered.
+//! The bytes that were read and not yet answered.
 ghost use Rattle.std.specs.Prelude.{◌≡◌, ◌<◌, ◌≤◌, ◌+◌, ◌*◌, ◌||◌, [], drop, length, min, take, vec_capacity, IfOk, IsTrue, OnErr, OnOk, is_err};
 ghost use Rattle.byte_io.specs.Devices.{EndsHere, Told, count_of};
 ghost use Rattle.byte_io.specs.Transfers.{ReadsInto};
@@ -61,7 +61,7 @@ impl Window {
         Ok(Window { buffer, len: 0 })
     }
 
-    /// What was read and not yet answered.
+    /// The bytes that were read and not yet answered.
     pub fn bytes(&self) -> &[u8]
         ensures value { result.now ≡ self.now }
         ensures few { length result.now ≤ 262180 }
@@ -69,7 +69,7 @@ impl Window {
         &self.buffer[..self.len]
     }
 
-    /// Takes so many bytes off the front.
+    /// Removes `count` bytes from the front.
     pub fn skip(&mut self, count: usize)
         requires { count ≤ length self.old }
         ensures { self.new ≡ drop count self.old }
@@ -78,7 +78,8 @@ impl Window {
         self.len -= count;
     }
 
-    /// Reads once behind the bytes that are held, and takes no memory. 0 is the end.
+    /// Reads once after the held bytes, and takes no memory. Returns how many bytes were read, 0 at the end; `Err` if
+    /// the read failed.
     pub fn read_from<R: ByteIn>(&mut self, input: &mut R) -> Result<usize, Failed>
         requires { length self.old < 65545 }
         ensures bytes { ReadsInto (R.coming input.old) (R.coming input.new) self.old self.new }

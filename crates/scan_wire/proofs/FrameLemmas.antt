@@ -14,7 +14,7 @@ use Rattle.scan_wire.specs.Reading.{NoList, StartsWith, StartsWithFrame, parts_o
 use Rattle.scan_wire.specs.declared.frames.Frame.{Frame}
 use Rattle.scan_wire.proofs.NumberLemmas.{SameFirst, length-u32_text, u32_same}
 
--- what stands behind the length of a frame
+-- what stands after the length of a frame
 abbrev pub body_of : FrameParts → List ℕ
 body_of f = f.kind ∷ (u32_text f.stream ++ f.payload)
 
@@ -24,7 +24,7 @@ length-body_of f = omega (arith, length-append (u32_text f.stream) f.payload, le
 pub length-frame_text : (f : FrameParts) → length (frame_text f) ≡ 9 + length f.payload
 length-frame_text f = omega (arith, length-append (u32_text (5 + length f.payload)) (body_of f), length-body_of f, length-u32_text (5 + length f.payload))
 
--- the length that a text begins with is that of the frame that it begins with
+-- a text begins with the length of the frame that it begins with
 begins_same : (text : List ℕ) (n : ℕ) (rest : List ℕ) (f : FrameParts) (after : List ℕ) → n < 2 ^ 32 → text ≡ u32_text n ++ rest → IsFrame f → text ≡ frame_text f ++ after → SameFirst n (5 + length f.payload) rest (body_of f ++ after)
 begins_same text n rest f after ln is frame e =
     u32_same n (5 + length f.payload) rest (body_of f ++ after) ln (omega (arith, frame.payload)) (sym is ∙ e ∙ append_assoc (u32_text (5 + length f.payload)) (body_of f) after)
@@ -37,7 +37,7 @@ NoFrame text = (f : FrameParts) (after : List ℕ) → IsFrame f → text ≢ fr
 none_short : (text : List ℕ) → length text < 4 → NoFrame text
 none_short text short f after frame e = omega (arith, ap length e, length-append (frame_text f) after, length-frame_text f)
 
--- no frame is whole of which bytes are missing
+-- a frame with bytes missing is not whole
 none_cut : (text : List ℕ) (n : ℕ) (rest : List ℕ) → n < 2 ^ 32 → text ≡ u32_text n ++ rest → length rest < n → NoFrame text
 none_cut text n rest ln is few f after frame e =
     let same = begins_same text n rest f after ln is frame e in
@@ -60,7 +60,7 @@ waits_from text none good = record {
 pub waits_short : (text : List ℕ) → length text < 4 → Waits text
 waits_short text short = waits_from text (none_short text short) (λ bad. omega (arith, ap length bad.text_is, length-append (u32_text bad.len) bad.rest, length-u32_text bad.len))
 
--- a length in its range with too few bytes behind it waits
+-- a length in its range with too few bytes after it waits
 pub waits_cut : (text : List ℕ) (n : ℕ) (rest : List ℕ) → n < 2 ^ 32 → text ≡ u32_text n ++ rest → 5 ≤ n → n ≤ 65541 → length rest < n → Waits text
 waits_cut text n rest ln is least most few = waits_from text (none_cut text n rest ln is few) good
   where
@@ -69,7 +69,7 @@ waits_cut text n rest ln is least most few = waits_from text (none_cut text n re
         let same = u32_same n bad.len rest bad.rest ln bad.four_bytes (sym is ∙ bad.text_is) in
         bad.out_of_range (record { least = omega (arith, same.number); most = omega (arith, same.number) })
 
--- as many bytes behind the length as it tells are a frame
+-- a length and as many bytes after it are a frame
 pub starts_with : (text : List ℕ) (n : ℕ) (rest front : List ℕ) (f : FrameParts) → f.kind < 2 ^ 8 → f.stream < 2 ^ 32 → text ≡ u32_text n ++ rest → n ≤ 65541 → n ≤ length rest → front ≡ take n rest → front ≡ body_of f → StartsWithFrame text f
 starts_with text n rest front f kind stream is most long front_is body =
     let len : n ≡ 5 + length f.payload = omega (arith, ap length front_is, ap length body, length-take n rest, length-body_of f) in
@@ -91,7 +91,7 @@ found_request text f r len s h is = record {
   text_is = s.text_is ∙ ap (λ (g : FrameParts). frame_text g ++ drop (9 + length f.payload) text) (sym h.1) ∙ ap (λ (k : ℕ). request_text r ++ drop k text) (sym is);
 }
 
--- what is wrong with the frame at the front is wrong with the text
+-- a fault of the frame at the front is a fault of the text
 pub wrong_frame : (text : List ℕ) (f : FrameParts) (e : Fault) → StartsWithFrame text f → IfBadFrame (λ cause. IsWrong cause f) e → IfBadFrame (λ cause. HasCause cause text) e
 wrong_frame text f OutOfMemory s w = w
 wrong_frame text f (BadFrame Length) s w = absurd w
@@ -99,7 +99,7 @@ wrong_frame text f (BadFrame Kind) s w = record { frame = f; rest = drop (9 + le
 wrong_frame text f (BadFrame Stream) s w = record { frame = f; rest = drop (9 + length f.payload) text; is_frame = s.is_frame; text_is = s.text_is; wrong = w }
 wrong_frame text f (BadFrame Payload) s w = record { frame = f; rest = drop (9 + length f.payload) text; is_frame = s.is_frame; text_is = s.text_is; wrong = w }
 
--- what is read of the bytes behind a length in its range is the frame at the front
+-- a frame read from the bytes after a length in its range is the frame at the front
 pub starts_or_waits : (text : List ℕ) (n : ℕ) (rest front : List ℕ) (o : Option Frame) → text ≡ u32_text n ++ rest → 5 ≤ n → n ≤ 65541 → n ≤ length rest → front ≡ take n rest → IfSome o (λ f. (f.kind < 2 ^ 8) × (f.stream < 2 ^ 32) × (front ≡ f.kind ∷ (u32_text f.stream ++ f.payload.now))) → IfNone o (length front < 5) → MatchOption o (Waits text) (λ f. StartsWithFrame text (parts_of f))
 starts_or_waits text n rest front None is least most long front_is some none = absurd (omega (arith, none, ap length front_is, length-take n rest))
 starts_or_waits text n rest front (Some f) is least most long front_is some none = starts_with text n rest front (parts_of f) some.0 some.1 is most long front_is some.2
@@ -109,13 +109,13 @@ kinds_apart n k some same one = omega arith
 
 -- a frame of the kind of Publish that is no list is no request's
 no_publish : (f : FrameParts) → f.kind ≡ 1 → NoList f.payload → (r : RequestParts) → IsRequest r → request_frame r ≢ f
-no_publish f kind none (Publish fold literals) is e = none fold literals is.fields (sym (ap (λ (g : FrameParts). g.payload) e))
+no_publish f kind none (Publish fold profile literals) is e = none fold profile literals is.fields (sym (ap (λ (g : FrameParts). g.payload) e))
 no_publish f kind none (Open stream number) is e = absurd (kinds_apart 2 f.kind (omega arith) (ap (λ (g : FrameParts). g.kind) e) kind)
 no_publish f kind none (Feed stream bytes) is e = absurd (kinds_apart 3 f.kind (omega arith) (ap (λ (g : FrameParts). g.kind) e) kind)
 no_publish f kind none (Close stream) is e = absurd (kinds_apart 4 f.kind (omega arith) (ap (λ (g : FrameParts). g.kind) e) kind)
 no_publish f kind none (ShowPlan stream) is e = absurd (kinds_apart 5 f.kind (omega arith) (ap (λ (g : FrameParts). g.kind) e) kind)
 
--- what is wrong with the payload of a Publish is wrong with its frame
+-- a fault of the payload of a Publish is a fault of its frame
 pub publish_wrong : (f : FrameParts) (e : Fault) → f.kind ≡ 1 → f.stream ≡ 0 → IfBadFrame (λ cause. (cause ≡ Payload) × NoList f.payload) e → IfBadFrame (λ cause. IsWrong cause f) e
 publish_wrong f OutOfMemory kind stream h = tt
 publish_wrong f (BadFrame cause) kind stream h =

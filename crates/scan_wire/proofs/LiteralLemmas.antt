@@ -1,19 +1,20 @@
--- Literals one after the other: a text is one list of them, and of what is none it is known so.
+-- Literals one after the other: a text is one list of them, or is known to be none.
 use Rattle.std.proofs.Common.{◌≡◌, ◌≢◌, ℕ, ◌+◌, ◌^◌, ◌<◌, ◌≤◌, List, [], ◌∷◌, ◌++◌, length, drop, All, refl, sym, ap, subst, ◌∙◌, append_assoc, arith}
 use Rattle.std.specs.List.{flat_map}
 use Rattle.std.proofs.lemmas.List.{append-nil, length-append, drop_at}
 use Rattle.std.proofs.lemmas.List.Elements.{All-head, All-push, All-tail}
 use Rattle.lit_base.specs.declared.fold.Fold.{Fold}
+use Rattle.lit_base.specs.declared.profile.Profile.{Profile}
 use Rattle.scan_wire.specs.declared.fault.Cause.TheVariants.{Payload}
 use Rattle.scan_wire.specs.declared.fault.Fault.{Fault}
 use Rattle.scan_wire.specs.declared.fault.Fault.TheVariants.{OutOfMemory, BadFrame}
 use Rattle.scan_wire.specs.Causes.{IfBadFrame}
-use Rattle.scan_wire.specs.Frames.{flag_of, literal_text}
+use Rattle.scan_wire.specs.Frames.{flags_of, literal_text}
 use Rattle.scan_wire.specs.Numbers.{u16_text}
 use Rattle.scan_wire.specs.Reading.{AreRead, NoList, NoLiteral, NoLiterals}
 use Rattle.scan_wire.proofs.NumberLemmas.{length-u16_text, u16_same}
 
--- a literal's length is told by two bytes
+-- a literal's length fits two bytes
 abbrev pub IsShort : List ℕ → Type 0
 IsShort literal = length literal < 2 ^ 16
 
@@ -22,7 +23,7 @@ pub none_short : (bytes : List ℕ) → length bytes < 2 → NoLiteral bytes
 none_short bytes short literal rest lt e =
     omega (arith, ap length e, length-append (u16_text (length literal) ++ literal) rest, length-append (u16_text (length literal)) literal, length-u16_text (length literal))
 
--- fewer bytes than the length tells are no literal
+-- fewer bytes than the length says are no literal
 pub none_cut : (bytes : List ℕ) (n : ℕ) (cut : List ℕ) → n < 2 ^ 16 → bytes ≡ u16_text n ++ cut → length cut < n → NoLiteral bytes
 none_cut bytes n cut ln is few literal rest lt e =
     let same = u16_same n (length literal) cut (literal ++ rest) ln lt (sym is ∙ e ∙ append_assoc (u16_text (length literal)) literal rest) in
@@ -34,7 +35,7 @@ rest_same x y s t sx sy e =
     let same = u16_same (length x) (length y) (x ++ s) (y ++ t) sx sy (sym (append_assoc (u16_text (length x)) x s) ∙ e ∙ append_assoc (u16_text (length y)) y t) in
     sym (drop_at x s (length y) same.number) ∙ ap (λ (w : List ℕ). drop (length y) w) same.rest ∙ drop_at y t (length y) refl
 
--- what stands behind the first literals of a text that is a list of literals
+-- what stands after the first literals of a text that is a list of literals
 pub record Behind (xs ys : List (List ℕ)) (rest : List ℕ) : Type 0 where
   pub others : List (List ℕ)
   pub count : length others + length xs ≡ length ys
@@ -78,7 +79,7 @@ one_more bytes xs x rest after e n =
     pushed [] = append-nil (literal_text x)
     pushed (z ∷ zs) = ap (λ (w : List ℕ). literal_text z ++ w) (pushed zs) ∙ sym (append_assoc (literal_text z) (flat_map literal_text zs) (literal_text x))
 
--- the literals that were read, so many, and the bytes behind them
+-- the `count` literals that were read, and the bytes after them
 pub record SoFar (count : ℕ) (bytes : List ℕ) (xs : List (List ℕ)) (rest : List ℕ) : Type 0 where
   pub count_is : length xs ≡ count
   pub short : All IsShort xs
@@ -100,18 +101,18 @@ all_read count i bytes xs rest small done s none = record {
   text_is = s.text_is ∙ ap (λ (w : List ℕ). flat_map literal_text xs ++ w) none ∙ append-nil (flat_map literal_text xs);
 }
 
--- where the literals behind its head are none, a payload is no list
-no_list : (payload : List ℕ) (fold : Fold) (count : ℕ) (rest : List ℕ) → count < 2 ^ 16 → payload ≡ flag_of fold ∷ (u16_text count ++ rest) → NoLiterals count rest → NoList payload
-no_list payload fold count rest small is none other literals are e =
+-- where the literals after its head are none, a payload is no list
+no_list : (payload : List ℕ) (fold : Fold) (profile : Profile) (count : ℕ) (rest : List ℕ) → count < 2 ^ 16 → payload ≡ flags_of fold profile ∷ (u16_text count ++ rest) → NoLiterals count rest → NoList payload
+no_list payload fold profile count rest small is none other_fold other_profile literals are e =
     let same = u16_same count (length literals) rest (flat_map literal_text literals) small are.count (ap (λ (x : List ℕ). drop 1 x) (sym is ∙ e)) in
     none literals (record { are_literals = are; count_is = sym same.number; text_is = same.rest })
 
--- the same of the fault that tells it
-pub list_wrong : (payload : List ℕ) (fold : Fold) (count : ℕ) (rest : List ℕ) (e : Fault) → count < 2 ^ 16 → payload ≡ flag_of fold ∷ (u16_text count ++ rest) → IfBadFrame (λ cause. (cause ≡ Payload) × NoLiterals count rest) e → IfBadFrame (λ cause. (cause ≡ Payload) × NoList payload) e
-list_wrong payload fold count rest OutOfMemory small is h = tt
-list_wrong payload fold count rest (BadFrame cause) small is h = (h.0, no_list payload fold count rest small is h.1)
+-- the same of the fault for it
+pub list_wrong : (payload : List ℕ) (fold : Fold) (profile : Profile) (count : ℕ) (rest : List ℕ) (e : Fault) → count < 2 ^ 16 → payload ≡ flags_of fold profile ∷ (u16_text count ++ rest) → IfBadFrame (λ cause. (cause ≡ Payload) × NoLiterals count rest) e → IfBadFrame (λ cause. (cause ≡ Payload) × NoList payload) e
+list_wrong payload fold profile count rest OutOfMemory small is h = tt
+list_wrong payload fold profile count rest (BadFrame cause) small is h = (h.0, no_list payload fold profile count rest small is h.1)
 
--- fewer than two bytes behind the flag are no list
+-- fewer than two bytes after the flags are no list
 pub no_head : (payload : List ℕ) (flag : ℕ) (rest : List ℕ) → payload ≡ flag ∷ rest → length rest < 2 → NoList payload
-no_head payload flag rest is short fold literals are e =
+no_head payload flag rest is short fold profile literals are e =
     omega (arith, ap length is, ap length e, length-append (u16_text (length literals)) (flat_map literal_text literals), length-u16_text (length literals))

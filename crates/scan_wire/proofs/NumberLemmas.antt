@@ -1,4 +1,4 @@
--- Numbers as bytes: one number has one text, and what is read of a text is spelled so.
+-- Numbers as bytes: one number has one text, and a number that is read has the text that was read.
 use Rattle.std.proofs.Common.{◌≡◌, ℕ, ◌^◌, ◌<◌, ◌≤◌, List, ◌++◌, length, get_or, take, drop, refl, sym, ap, ◌∙◌, inl, inr, arith}
 use Rattle.std.specs.Int.{w16, w32, w64, from_be_bytes, to_be_bytes}
 use Rattle.std.proofs.lemmas.Bool.{cases_lt}

@@ -16,7 +16,7 @@ pub length-ends : (ends : List ℕ) → length (flat_map u16_text ends) ≡ 2 * 
 length-ends [] = refl
 length-ends (e ∷ es) = omega (arith, length-append (u16_text e) (flat_map u16_text es), length-u16_text e, length-ends es)
 
--- the head of a frame and a payload of the length that it tells are the frame
+-- the head of a frame and a payload of its length are the frame
 pub frame_done : (out payload : List ℕ) (kind stream len : ℕ) → length payload ≡ len → (out ++ (u32_text (5 + len) ++ (kind ∷ u32_text stream))) ++ payload ≡ out ++ frame_text (record { kind = kind; stream = stream; payload = payload })
 frame_done out payload kind stream len is =
     append_assoc out (u32_text (5 + len) ++ (kind ∷ u32_text stream)) payload

@@ -29,7 +29,7 @@ gains_one text place len p r before after le s is list = record {
       ∙ ap (λ (x : List ℕ). requests_text (map request_parts (r ∷ [])) ++ x) (drop-drop len place text);
 }
 
--- more requests are read behind those
+-- more requests are read after those
 pub gains_then : (text : List ℕ) (a b c : ℕ) (x y z : List Request) → GainsRequests text a b x y → GainsRequests text b c y z → GainsRequests text a c x z
 gains_then text a b c x y z p q = record {
   gained = p.gained ++ q.gained;
@@ -42,7 +42,7 @@ gains_then text a b c x y z p q = record {
       ∙ ap (λ (w : List RequestParts). requests_text w ++ drop c text) (sym (map-append request_parts p.gained q.gained));
 }
 
--- what was read of the bytes held and the piece is what the piece gives
+-- the requests read from the held bytes and the piece are the requests that the piece gives
 pub decodes_from : (old piece new : List ℕ) (place : ℕ) (before after : List Request) → GainsRequests (old ++ piece) 0 place before after → new ≡ drop place (old ++ piece) → Decodes old new piece before after
 decodes_from old piece new place before after g is = record {
   gained = g.gained;

@@ -8,7 +8,7 @@ use Rattle.scan_wire.specs.Frames.{FrameParts, frame_text, IsFrame, IsRequest, r
 use Rattle.scan_wire.specs.Messages.{RequestParts}
 use Rattle.scan_wire.specs.Numbers.{u32_text}
 
--- a length that a frame may tell: kind and stream, and a payload of at most 65,536 bytes
+-- a length that a frame may have: kind and stream, and a payload of at most 65,536 bytes
 pub record IsFrameLen (n : ℕ) : Type 0 where
   pub least : 5 ≤ n
   pub most : n ≤ 65541
@@ -18,7 +18,7 @@ pub record IsRequestKind (kind : ℕ) : Type 0 where
   pub least : 0x01 ≤ kind
   pub most : kind ≤ 0x05
 
--- a frame begins with a length that none may tell
+-- a frame begins with a length that no frame may have
 pub record HasBadLength (text : List ℕ) : Type 0 where
   pub len : ℕ
   pub rest : List ℕ
@@ -26,7 +26,7 @@ pub record HasBadLength (text : List ℕ) : Type 0 where
   pub text_is : text ≡ u32_text len ++ rest
   pub out_of_range : IsFrameLen len → ⊥
 
--- what is wrong with a whole frame: its kind; else a stream in a Publish; else no request has it
+-- the fault of a whole frame: its kind; else a stream in a Publish; else no request has it
 abbrev pub IsWrong : Cause → FrameParts → Type 0
 IsWrong Length f = ⊥
 IsWrong Kind f = IsRequestKind f.kind → ⊥
@@ -43,7 +43,7 @@ pub record HasWrongFrame (cause : Cause) (text : List ℕ) : Type 0 where
   pub text_is : text ≡ frame_text frame ++ rest
   pub wrong : IsWrong cause frame
 
--- The cause for which a text begins with a bad frame. The length is told once its four bytes are there, the others
+-- The cause for which a text begins with a bad frame. The length is judged once its four bytes are there, the others
 -- once the frame is whole.
 abbrev pub HasCause : Cause → List ℕ → Type 0
 HasCause Length text = HasBadLength text
@@ -63,7 +63,7 @@ pub record Waits (text : List ℕ) : Type 0 where
   pub no_request : BeginsWithRequest text → ⊥
   pub no_cause : (cause : Cause) → HasCause cause text → ⊥
 
--- want of memory, or a bad frame whose cause is such
+-- want of memory, or a bad frame whose cause has P
 abbrev pub IfBadFrame : (Cause → Type 0) → Fault → Type 0
 IfBadFrame P OutOfMemory = ⊤
 IfBadFrame P (BadFrame cause) = P cause

@@ -3,6 +3,8 @@ use Rattle.std.specs.Prelude.{ℕ, ◌+◌, ◌^◌, ◌<◌, ◌≤◌, List, [
 use Rattle.std.specs.List.{flat_map}
 use Rattle.lit_base.specs.declared.fold.Fold.{Fold}
 use Rattle.lit_base.specs.declared.fold.Fold.TheVariants.{No, Ascii}
+use Rattle.lit_base.specs.declared.profile.Profile.{Profile}
+use Rattle.lit_base.specs.declared.profile.Profile.TheVariants.{Eight, Sixteen}
 use Rattle.scan_wire.specs.Messages.{RequestParts, Publish, Open, Feed, Close, ShowPlan, ReplyParts, Published, Opened, Hits, Fed, Closed, Plan, Refused}
 use Rattle.scan_wire.specs.Numbers.{u16_text, u32_text, u64_text}
 
@@ -22,35 +24,37 @@ pub record IsFrame (f : FrameParts) : Type 0 where
   pub stream : f.stream < 2 ^ 32
   pub payload : length f.payload ≤ 65536
 
--- the byte that tells a fold
-abbrev pub flag_of : Fold → ℕ
-flag_of No = 0
-flag_of Ascii = 1
+-- the byte with a fold in bit 0, and a profile in bit 1
+abbrev pub flags_of : Fold → Profile → ℕ
+flags_of No Eight = 0
+flags_of Ascii Eight = 1
+flags_of No Sixteen = 2
+flags_of Ascii Sixteen = 3
 
 -- a literal: its length in two bytes, and its bytes
 abbrev pub literal_text : List ℕ → List ℕ
 literal_text literal = u16_text (length literal) ++ literal
 
--- the payload of a Publish: fold, number of literals, and the literals
-abbrev pub list_text : Fold → List (List ℕ) → List ℕ
-list_text fold literals = flag_of fold ∷ (u16_text (length literals) ++ flat_map literal_text literals)
+-- the payload of a Publish: fold and profile, number of literals, and the literals
+abbrev pub list_text : Fold → Profile → List (List ℕ) → List ℕ
+list_text fold profile literals = flags_of fold profile ∷ (u16_text (length literals) ++ flat_map literal_text literals)
 
 -- the frame of a request
 abbrev pub request_frame : RequestParts → FrameParts
-request_frame (Publish fold literals) = record { kind = 0x01; stream = 0; payload = list_text fold literals }
+request_frame (Publish fold profile literals) = record { kind = 0x01; stream = 0; payload = list_text fold profile literals }
 request_frame (Open stream number) = record { kind = 0x02; stream = stream; payload = u64_text number }
 request_frame (Feed stream bytes) = record { kind = 0x03; stream = stream; payload = bytes }
 request_frame (Close stream) = record { kind = 0x04; stream = stream; payload = [] }
 request_frame (ShowPlan stream) = record { kind = 0x05; stream = stream; payload = [] }
 
--- a list of literals whose number and lengths two bytes tell
+-- a list of literals whose number and lengths fit two bytes
 pub record AreLiterals (literals : List (List ℕ)) : Type 0 where
   pub count : length literals < 2 ^ 16
   pub lengths : All (λ literal. length literal < 2 ^ 16) literals
 
 -- the numbers of a request's payload are within their fields
 abbrev pub HasFields : RequestParts → Type 0
-HasFields (Publish fold literals) = AreLiterals literals
+HasFields (Publish fold profile literals) = AreLiterals literals
 HasFields (Open stream number) = number < 2 ^ 64
 HasFields (Feed stream bytes) = ⊤
 HasFields (Close stream) = ⊤
@@ -80,10 +84,10 @@ reply_frame (Opened stream) = record { kind = 0x12; stream = stream; payload = [
 reply_frame (Hits stream hits) = record { kind = 0x13; stream = stream; payload = u16_text (length hits) ++ flat_map hit_text hits }
 reply_frame (Fed stream place) = record { kind = 0x14; stream = stream; payload = u64_text place }
 reply_frame (Closed stream) = record { kind = 0x15; stream = stream; payload = [] }
-reply_frame (Plan stream fold count cost ends) = record {
+reply_frame (Plan stream fold profile count cost ends) = record {
   kind = 0x16;
   stream = stream;
-  payload = flag_of fold ∷ (u16_text count ++ (u64_text cost ++ (length ends ∷ flat_map u16_text ends)));
+  payload = flags_of fold profile ∷ (u16_text count ++ (u64_text cost ++ (length ends ∷ flat_map u16_text ends)));
 }
 reply_frame (Refused stream code detail) = record { kind = 0x17; stream = stream; payload = code ∷ u16_text detail }
 
@@ -95,7 +99,7 @@ reply_text r = frame_text (reply_frame r)
 abbrev pub replies_text : List ReplyParts → List ℕ
 replies_text rs = flat_map reply_text rs
 
--- a number of hits that one reply tells: 1 to 4,096
+-- a number of hits in one reply: 1 to 4,096
 pub record IsBlock (count : ℕ) : Type 0 where
   pub some : 1 ≤ count
   pub few : count ≤ 4096
@@ -107,5 +111,5 @@ FitsReply (Opened stream) = ⊤
 FitsReply (Hits stream hits) = IsBlock (length hits)
 FitsReply (Fed stream place) = ⊤
 FitsReply (Closed stream) = ⊤
-FitsReply (Plan stream fold count cost ends) = ⊤
+FitsReply (Plan stream fold profile count cost ends) = ⊤
 FitsReply (Refused stream code detail) = ⊤

@@ -2,6 +2,7 @@
 use Rattle.std.specs.Prelude.{ℕ, List, map}
 use Rattle.std.specs.Global.{Vec}
 use Rattle.lit_base.specs.declared.fold.Fold.{Fold}
+use Rattle.lit_base.specs.declared.profile.Profile.{Profile}
 use Rattle.scan_wire.specs.declared.message.Request.{Request}
 use Rattle.scan_wire.specs.declared.message.Request.TheVariants as request
 use Rattle.scan_wire.specs.declared.message.Reply.{Reply}
@@ -11,7 +12,7 @@ use Rattle.scan_wire.specs.declared.message.Lent.TheVariants as lent
 
 -- what a client asks
 pub data RequestParts : Type 0 where
-  Publish : Fold → List (List ℕ) → RequestParts
+  Publish : Fold → Profile → List (List ℕ) → RequestParts
   Open : ℕ → ℕ → RequestParts
   Feed : ℕ → List ℕ → RequestParts
   Close : ℕ → RequestParts
@@ -24,7 +25,7 @@ pub data ReplyParts : Type 0 where
   Hits : ℕ → List (ℕ × ℕ) → ReplyParts
   Fed : ℕ → ℕ → ReplyParts
   Closed : ℕ → ReplyParts
-  Plan : ℕ → Fold → ℕ → ℕ → List ℕ → ReplyParts
+  Plan : ℕ → Fold → Profile → ℕ → ℕ → List ℕ → ReplyParts
   Refused : ℕ → ℕ → ℕ → ReplyParts
 
 -- the bytes of each literal
@@ -33,7 +34,7 @@ texts_of literals = map (λ literal. literal.items) literals
 
 -- a request that owns its bytes
 abbrev pub request_parts : Request → RequestParts
-request_parts (request.Publish fold literals) = Publish fold (texts_of literals.items)
+request_parts (request.Publish fold profile literals) = Publish fold profile (texts_of literals.items)
 request_parts (request.Open stream number) = Open stream number
 request_parts (request.Feed stream bytes) = Feed stream bytes.items
 request_parts (request.Close stream) = Close stream
@@ -41,7 +42,7 @@ request_parts (request.ShowPlan stream) = ShowPlan stream
 
 -- a request whose piece lies where it was read
 abbrev pub lent_parts : Lent → RequestParts
-lent_parts (lent.Publish fold literals) = Publish fold (texts_of literals.items)
+lent_parts (lent.Publish fold profile literals) = Publish fold profile (texts_of literals.items)
 lent_parts (lent.Open stream number) = Open stream number
 lent_parts (lent.Feed stream bytes) = Feed stream bytes.now
 lent_parts (lent.Close stream) = Close stream
@@ -54,5 +55,5 @@ reply_parts (reply.Opened stream) = Opened stream
 reply_parts (reply.Hits stream hits) = Hits stream hits.items
 reply_parts (reply.Fed stream place) = Fed stream place
 reply_parts (reply.Closed stream) = Closed stream
-reply_parts (reply.Plan stream fold count cost ends) = Plan stream fold count cost ends.items
+reply_parts (reply.Plan stream fold profile count cost ends) = Plan stream fold profile count cost ends.items
 reply_parts (reply.Refused stream code detail) = Refused stream code detail

@@ -17,7 +17,7 @@ use std::marker::Model;
 const FIRST_ROOM: usize = 512;
 
 /// Reads requests from a stream that comes in pieces, cut anywhere. Between pieces it keeps the
-/// bytes behind the last whole frame.
+/// bytes after the last whole frame.
 #[derive(Drop)]
 pub struct Decoder {
     alloc: Global,
@@ -50,7 +50,7 @@ impl Decoder {
     /// Takes the next piece of the stream, and adds each request whose frame is whole now to `out`.
     ///
     /// # Errors
-    /// - `BadFrame` with its first cause, where a bad frame comes behind the requests. Those before
+    /// - `BadFrame` with its first cause, where a bad frame comes after the requests. Those before
     ///   it are added, and from then on each call answers this fault and does nothing else.
     /// - `OutOfMemory`, where a growth was refused. Decoder and `out` are then as before.
     pub fn feed(&mut self, piece: &[u8], out: &mut Vec<Request>) -> Result<(), Fault>
@@ -59,7 +59,7 @@ impl Decoder {
         ensures bad { IfErr result (IfBadFrame (λ cause. self.old.cause ≡ None
             → MeetsBadFrame self.old self.new cause piece.now out.old.items out.new.items)) }
 
-        // A bad frame is told for good.
+        // A bad frame is reported by each later call.
         ensures again { IfSome self.old.cause (λ cause. result ≡ Err (BadFrame cause)) }
         ensures same_again { IfSome self.old.cause (λ _.
             (self.new ≡ self.old) × (out.new.items ≡ out.old.items)) }
@@ -73,7 +73,7 @@ impl Decoder {
         self.feed_good(piece, out)
     }
 
-    /// The piece, where no bad frame was met.
+    /// Takes the piece, where no bad frame was found before.
     fn feed_good(&mut self, piece: &[u8], out: &mut Vec<Request>) -> Result<(), Fault>
         requires { self.old.cause ≡ None }
         ensures ok { OnOk result
@@ -114,7 +114,7 @@ impl Decoder {
     }
 }
 
-/// Takes so many bytes off the front.
+/// Removes `count` bytes from the front.
 fn drop_front(bytes: &mut Vec<u8>, count: usize)
     requires { count ≤ length bytes.old.items }
     ensures { bytes.new.items ≡ drop count bytes.old.items }
@@ -124,8 +124,8 @@ fn drop_front(bytes: &mut Vec<u8>, count: usize)
     bytes.truncate(len - count);
 }
 
-/// Reads the request at the place, where its frame is whole, and adds it to `out`. Answers how many
-/// bytes its frame has.
+/// Reads the request at the place, where its frame is whole, and adds it to `out`. Returns how many bytes its frame
+/// has.
 fn read_request(
     alloc: Global,
     bytes: &[u8],
@@ -148,7 +148,7 @@ fn read_request(
 }
 
 /// Reads the requests from the place on, as far as their frames are whole, and moves the place
-/// behind them.
+/// after them.
 fn read_requests(
     alloc: Global,
     bytes: &[u8],

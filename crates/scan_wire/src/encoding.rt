@@ -2,7 +2,7 @@
 ghost use Rattle.std.specs.Prelude.{◌≡◌, ◌+◌, [], ◌∷◌, ◌++◌, ◌≤◌, length, IfOk, IsOkUnless, OnErr, OnOk};
 ghost use Rattle.std.specs.List.{flat_map};
 ghost use Rattle.scan_wire.specs.declared.fault.Fault.TheVariants.{OutOfMemory};
-ghost use Rattle.scan_wire.specs.Frames.{FitsReply, IsBlock, flag_of, frame_text, hit_text, reply_text};
+ghost use Rattle.scan_wire.specs.Frames.{FitsReply, IsBlock, flags_of, frame_text, hit_text, reply_text};
 ghost use Rattle.scan_wire.specs.Growth.{Extends};
 ghost use Rattle.scan_wire.specs.Messages.{Hits, Plan, Refused, reply_parts};
 ghost use Rattle.scan_wire.specs.Numbers.{u16_text, u32_text, u64_text};
@@ -11,10 +11,10 @@ use crate::fault::Fault;
 use crate::message::Reply;
 use crate::numbers::{push_u16, push_u32, push_u64};
 use flow_scan::Hit;
-use lit_base::{Ends, Fold};
+use lit_base::{Ends, Fold, Profile};
 use std::alloc::{AllocError, Global};
 
-/// Appends what stands before a payload of so many bytes.
+/// Appends the head of a frame, before a payload of `len` bytes.
 fn push_head(out: &mut Vec<u8>, kind: u8, stream: u32, len: u32) -> Result<(), AllocError>
     requires { len ≤ 65536 }
     ensures ok { OnOk result
@@ -86,31 +86,34 @@ fn push_plan(
     out: &mut Vec<u8>,
     stream: u32,
     fold: Fold,
+    profile: Profile,
     count: u16,
     cost: u64,
     ends: &[u16],
 ) -> Result<(), AllocError>
-    requires { length ends.now ≤ 8 }
+    requires { length ends.now ≤ 16 }
     ensures ok { OnOk result
-        (out.new.items ≡ out.old.items ++ reply_text (Plan stream fold count cost ends.now)) }
+        (out.new.items ≡ out.old.items ++ reply_text (Plan stream fold profile count cost ends.now)) }
     ensures kept { Extends out.old.items out.new.items }
 {
     let ends_count = ends.len() as u8;
     push_head(out, 0x16, stream, 12 + 2 * u32::from(ends_count))?;
-    out.push(flag(fold))?;
+    out.push(flags(fold, profile))?;
     push_u16(out, count)?;
     push_u64(out, cost)?;
     out.push(ends_count)?;
     push_ends(out, ends)
 }
 
-/// The byte that tells a fold.
-fn flag(fold: Fold) -> u8
-    ensures { result ≡ flag_of fold }
+/// The byte of flags for a fold and a profile.
+fn flags(fold: Fold, profile: Profile) -> u8
+    ensures { result ≡ flags_of fold profile }
 {
-    match fold {
-        Fold::No => 0,
-        Fold::Ascii => 1,
+    match (fold, profile) {
+        (Fold::No, Profile::Eight) => 0,
+        (Fold::Ascii, Profile::Eight) => 1,
+        (Fold::No, Profile::Sixteen) => 2,
+        (Fold::Ascii, Profile::Sixteen) => 3,
     }
 }
 
@@ -140,10 +143,19 @@ fn push_reply(out: &mut Vec<u8>, reply: &Reply) -> Result<(), AllocError>
         Reply::Plan {
             stream,
             fold,
+            profile,
             count,
             cost,
             ends,
-        } => push_plan(out, *stream, *fold, *count, *cost, ends.as_slice()),
+        } => push_plan(
+            out,
+            *stream,
+            *fold,
+            *profile,
+            *count,
+            *cost,
+            ends.as_slice(),
+        ),
         Reply::Refused {
             stream,
             code,

@@ -1,11 +1,11 @@
-//! What is wrong with a frame, and when a growth was refused.
+//! Faults of a frame, and refused growths.
 ghost use Rattle.std.specs.Prelude.{◌≡◌};
 ghost use Rattle.scan_wire.specs.Faults.{cause_number, number_of};
 
 use std::alloc::{AllocError, AllocFailed};
 use thiserror::Error;
 
-/// What is wrong with a frame: the first of these, in this order.
+/// The fault of a frame: the first that holds, in this order.
 #[derive(Clone, Copy, Debug, PartialEq, Eq, Error)]
 pub enum Cause {
     /// The length is below 5 or above 65,541.
@@ -23,7 +23,7 @@ pub enum Cause {
 }
 
 impl Cause {
-    /// The number that a Refused reply tells for it.
+    /// The number that a Refused reply gives for it.
     pub fn number(&self) -> u8
         ensures { result ≡ cause_number self.now }
     {

@@ -1,4 +1,4 @@
-//! A frame at the front of what was read, and the request that it is.
+//! A frame at the front of a text, and the request that it is.
 ghost use Rattle.std.specs.Prelude.{◌≡◌, ◌^◌, ◌<◌, ◌∷◌, ◌++◌, length, IfErr, IfNone, IfOk, IfSome, MatchOption};
 ghost use Rattle.scan_wire.specs.Causes.{HasCause, IfBadFrame, IsWrong, Waits};
 ghost use Rattle.scan_wire.specs.Frames.{HasFields, request_frame};
@@ -12,10 +12,10 @@ use crate::numbers::first_u32;
 use crate::reading::{BAD_PAYLOAD, list_of, number_of};
 use std::alloc::Global;
 
-/// The least length that a frame tells: that of its kind and its stream.
+/// The least length in a frame: of its kind and its stream.
 const LEAST_LEN: u32 = 5;
 
-/// The greatest length that a frame tells.
+/// The greatest length in a frame.
 const GREATEST_LEN: u32 = 65_541;
 
 /// How many bytes of a frame are not its payload.
@@ -29,7 +29,7 @@ struct Frame<'a> {
     payload: &'a [u8],
 }
 
-/// The frame whose bytes behind its length these are, where they are enough.
+/// The frame whose bytes after its length these are, where they are enough.
 fn frame_of(bytes: &[u8]) -> Option<Frame<'_>>
     ensures found { IfSome result (λ frame. (frame.kind < 2 ^ 8) × (frame.stream < 2 ^ 32)
         × (bytes.now ≡ frame.kind ∷ (u32_text frame.stream ++ frame.payload.now))) }
@@ -77,8 +77,12 @@ fn publish_of(alloc: Global, frame: Frame<'_>) -> Result<Lent<'_>, Fault>
             cause: Cause::Stream,
         });
     }
-    let (fold, literals) = list_of(alloc, frame.payload)?;
-    Ok(Lent::Publish { fold, literals })
+    let (fold, profile, literals) = list_of(alloc, frame.payload)?;
+    Ok(Lent::Publish {
+        fold,
+        profile,
+        literals,
+    })
 }
 
 /// The Open that the frame is.
@@ -153,8 +157,8 @@ fn request_of(alloc: Global, frame: Frame<'_>) -> Result<Lent<'_>, Fault>
 /// bytes are all there.
 ///
 /// # Errors
-/// - `BadFrame` with its first cause, where a bad frame stands at the front. A length out of range
-///   is told once its four bytes are there, the other causes once the frame is whole.
+/// - `BadFrame` with its first cause, where a bad frame stands at the front. A length out of range is reported once its
+/// four bytes are there, the other causes once the frame is whole.
 /// - `OutOfMemory`, where a growth was refused.
 pub fn next(alloc: Global, bytes: &[u8]) -> Result<Option<(Lent<'_>, usize)>, Fault>
     ensures found { IfOk result (λ request. MatchOption request (Waits bytes.now)

@@ -1,5 +1,5 @@
-//! The frames in which a scan server is asked and answers: what is asked, read from a stream in
-//! whatever pieces it comes, and the one text of each reply.
+//! The frames of the scan server: the requests, read from a stream in whatever pieces it comes, and the one text of
+//! each reply.
 #![tactic(auto)]
 
 mod decoder;

@@ -5,28 +5,42 @@ ghost use Rattle.scan_wire.specs.Messages.{lent_parts, request_parts};
 
 use crate::fault::Fault;
 use flow_scan::Hit;
-use lit_base::{Ends, Fold};
+use lit_base::{Ends, Fold, Profile};
 use std::alloc::Global;
 
 /// Bytes of a payload, at most.
 pub const MAX_PAYLOAD: usize = 65_536;
 
-/// Hits that one reply tells, at most.
+/// Hits in one reply, at most.
 pub const MAX_HITS: usize = 4096;
 
 /// What a client asks.
 #[derive(Debug, Drop)]
 pub enum Request {
-    /// To plan a list of literals and show the plan to all sessions.
-    Publish { fold: Fold, literals: Vec<Vec<u8>> },
+    /// To plan a list of literals by a profile, and show the plan to all sessions.
+    Publish {
+        fold: Fold,
+        profile: Profile,
+        literals: Vec<Vec<u8>>,
+    },
     /// To scan a new stream by the plan of that number.
-    Open { stream: u32, number: u64 },
+    Open {
+        stream: u32,
+        number: u64,
+    },
     /// To scan the next piece of a stream.
-    Feed { stream: u32, bytes: Vec<u8> },
+    Feed {
+        stream: u32,
+        bytes: Vec<u8>,
+    },
     /// To forget a stream.
-    Close { stream: u32 },
-    /// To tell the plan that a stream is scanned by.
-    ShowPlan { stream: u32 },
+    Close {
+        stream: u32,
+    },
+    /// To show the plan by which a stream is scanned.
+    ShowPlan {
+        stream: u32,
+    },
 }
 
 /// What the server answers.
@@ -45,7 +59,7 @@ pub enum Reply {
         stream: u32,
         hits: Vec<Hit>,
     },
-    /// All hits of the piece are told. The stream has so many bytes now.
+    /// All hits of the piece were sent. The stream has `place` bytes now.
     Fed {
         stream: u32,
         place: u64,
@@ -54,16 +68,16 @@ pub enum Reply {
     Closed {
         stream: u32,
     },
-    /// The plan of a stream: how many literals it has, and how it groups them at which price.
+    /// The plan of a stream: its profile, how many literals it has, and how it groups them at which price.
     Plan {
         stream: u32,
         fold: Fold,
+        profile: Profile,
         count: u16,
         cost: u64,
         ends: Ends,
     },
-    /// What was asked is refused with this code. The detail says where, for some codes, and is 0 for
-    /// the others.
+    /// The request is refused with this code. For some codes the detail says where; for the others it is 0.
     Refused {
         stream: u32,
         code: u8,
@@ -74,16 +88,30 @@ pub enum Reply {
 /// What a client asks, with the piece of a Feed where it was read.
 #[derive(Debug, Drop)]
 pub enum Lent<'a> {
-    /// To plan a list of literals and show the plan to all sessions.
-    Publish { fold: Fold, literals: Vec<Vec<u8>> },
+    /// To plan a list of literals by a profile, and show the plan to all sessions.
+    Publish {
+        fold: Fold,
+        profile: Profile,
+        literals: Vec<Vec<u8>>,
+    },
     /// To scan a new stream by the plan of that number.
-    Open { stream: u32, number: u64 },
+    Open {
+        stream: u32,
+        number: u64,
+    },
     /// To scan the next piece of a stream.
-    Feed { stream: u32, bytes: &'a [u8] },
+    Feed {
+        stream: u32,
+        bytes: &'a [u8],
+    },
     /// To forget a stream.
-    Close { stream: u32 },
-    /// To tell the plan that a stream is scanned by.
-    ShowPlan { stream: u32 },
+    Close {
+        stream: u32,
+    },
+    /// To show the plan by which a stream is scanned.
+    ShowPlan {
+        stream: u32,
+    },
 }
 
 impl Lent<'_> {
@@ -93,7 +121,15 @@ impl Lent<'_> {
         ensures refused { IsOkUnless result OutOfMemory }
     {
         Ok(match self {
-            Lent::Publish { fold, literals } => Request::Publish { fold, literals },
+            Lent::Publish {
+                fold,
+                profile,
+                literals,
+            } => Request::Publish {
+                fold,
+                profile,
+                literals,
+            },
             Lent::Open { stream, number } => Request::Open { stream, number },
             Lent::Feed { stream, bytes } => {
                 let bytes = Vec::from_slice(alloc, bytes)?;

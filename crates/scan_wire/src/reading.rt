@@ -2,15 +2,16 @@
 ghost use Rattle.std.specs.Prelude.{◌≡◌, ◌≢◌, ℕ, ◌^◌, ◌<◌, ◌∷◌, ◌++◌, length, IfErr, IfNone, IfOk, IfSome};
 ghost use Rattle.scan_wire.specs.declared.fault.Cause.TheVariants.{Payload};
 ghost use Rattle.lit_base.specs.declared.fold.Fold.{Fold};
+ghost use Rattle.lit_base.specs.declared.profile.Profile.{Profile};
 ghost use Rattle.scan_wire.specs.Causes.{IfBadFrame};
-ghost use Rattle.scan_wire.specs.Frames.{AreLiterals, flag_of, list_text, literal_text};
+ghost use Rattle.scan_wire.specs.Frames.{AreLiterals, flags_of, list_text, literal_text};
 ghost use Rattle.scan_wire.specs.Messages.{texts_of};
 ghost use Rattle.scan_wire.specs.Numbers.{u16_text, u64_text};
 ghost use Rattle.scan_wire.specs.Reading.{AreRead, NoList, NoLiteral, NoLiterals};
 
 use crate::fault::{Cause, Fault};
 use crate::numbers::{first_u16, first_u64};
-use lit_base::Fold;
+use lit_base::{Fold, Profile};
 use std::alloc::Global;
 
 /// The refusal of a payload.
@@ -32,7 +33,7 @@ fn first_literal(bytes: &[u8]) -> Option<(&[u8], &[u8])>
     Some(rest.split_at(len))
 }
 
-/// So many literals, which are all of the bytes.
+/// `count` literals, which are all of the bytes.
 fn literals_of(alloc: Global, count: u16, bytes: &[u8]) -> Result<Vec<Vec<u8>>, Fault>
     ensures found { IfOk result (λ literals. AreRead count bytes.now (texts_of literals.items)) }
     ensures wrong { IfErr result
@@ -54,44 +55,47 @@ fn literals_of(alloc: Global, count: u16, bytes: &[u8]) -> Result<Vec<Vec<u8>>, 
     }
 }
 
-/// The fold that a flag tells.
-fn fold_of(flag: u8) -> Option<Fold>
-    ensures found { IfSome result (λ fold. flag_of fold ≡ flag) }
-    ensures none { IfNone result ((fold : Fold) → flag_of fold ≢ flag) }
+/// The fold and the profile in a byte of flags.
+fn fold_and_profile(flags: u8) -> Option<(Fold, Profile)>
+    ensures found { IfSome result (λ x. flags_of x.0 x.1 ≡ flags) }
+    ensures none { IfNone result ((fold : Fold) (profile : Profile) → flags_of fold profile ≢ flags) }
 {
-    match flag {
-        0 => Some(Fold::No),
-        1 => Some(Fold::Ascii),
+    match flags {
+        0 => Some((Fold::No, Profile::Eight)),
+        1 => Some((Fold::Ascii, Profile::Eight)),
+        2 => Some((Fold::No, Profile::Sixteen)),
+        3 => Some((Fold::Ascii, Profile::Sixteen)),
         _ => None,
     }
 }
 
-/// The fold and the number of literals that a Publish tells, and the bytes behind them.
-fn list_head(payload: &[u8]) -> Option<(Fold, u16, &[u8])>
-    ensures found { IfSome result (λ x. (x.1 < 2 ^ 16)
-        × (payload.now ≡ flag_of x.0 ∷ (u16_text x.1 ++ x.2.now))) }
+/// The fold, the profile and the number of literals of a Publish, and the bytes after them.
+fn list_head(payload: &[u8]) -> Option<(Fold, Profile, u16, &[u8])>
+    ensures found { IfSome result (λ x. (x.2 < 2 ^ 16)
+        × (payload.now ≡ flags_of x.0 x.1 ∷ (u16_text x.2 ++ x.3.now))) }
     ensures none { IfNone result (NoList payload.now) }
 {
-    let (flag, rest) = payload.split_first()?;
-    let fold = fold_of(*flag)?;
+    let (flags, rest) = payload.split_first()?;
+    let (fold, profile) = fold_and_profile(*flags)?;
     let (count, rest) = first_u16(rest)?;
-    Some((fold, count, rest))
+    Some((fold, profile, count, rest))
 }
 
-/// The list of literals of a Publish.
-pub fn list_of(alloc: Global, payload: &[u8]) -> Result<(Fold, Vec<Vec<u8>>), Fault>
-    ensures found { IfOk result (λ x. AreLiterals (texts_of x.1.items)
-        × (payload.now ≡ list_text x.0 (texts_of x.1.items))) }
+/// The list of literals of a Publish, with the fold and the profile that it asks for. `Err` is `BAD_PAYLOAD` if the
+/// payload is none, or `OutOfMemory`.
+pub fn list_of(alloc: Global, payload: &[u8]) -> Result<(Fold, Profile, Vec<Vec<u8>>), Fault>
+    ensures found { IfOk result (λ x. AreLiterals (texts_of x.2.items)
+        × (payload.now ≡ list_text x.0 x.1 (texts_of x.2.items))) }
     ensures wrong { IfErr result (IfBadFrame (λ cause. (cause ≡ Payload) × NoList payload.now)) }
 {
-    let Some((fold, count, rest)) = list_head(payload) else {
+    let Some((fold, profile, count, rest)) = list_head(payload) else {
         return Err(BAD_PAYLOAD);
     };
     let literals = literals_of(alloc, count, rest)?;
-    Ok((fold, literals))
+    Ok((fold, profile, literals))
 }
 
-/// The number that is the whole payload of an Open.
+/// The number that is the whole payload of an Open, or `None` if the payload has not eight bytes.
 pub fn number_of(payload: &[u8]) -> Option<u64>
     ensures found { IfSome result (λ number. (number < 2 ^ 64) × (payload.now ≡ u64_text number)) }
     ensures none { IfNone result ((number : ℕ) → payload.now ≢ u64_text number) }

@@ -1,4 +1,4 @@
--- The end of a command, from what was said.
+-- The end of a command, from its messages.
 use Rattle.std.proofs.Common.{◌≡◌, ℕ, Bool, Global, List, Option, Result, Ok, Err, IfOk, MatchResult, inl, inr, ap, subst, ◌∙◌, string_bytes}
 use Rattle.std.proofs.KnownBytes.{Appends-nil}
 use Rattle.std.specs.declared.string.String.{String}

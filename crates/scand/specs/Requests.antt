@@ -1,26 +1,30 @@
--- The request that clap's matches tell.
-use Rattle.std.specs.Prelude.{◌≡◌, ℕ, List, Option, codes, false, string_bytes, true}
-use Rattle.std.specs.Global.{Global}
-use Rattle.std.specs.Option.{option_map}
-use Rattle.std.specs.declared.string.String.{String}
-use Rattle.clap.specs.Words.{first_value, found_of}
+-- The request in clap's matches.
+use Rattle.std.specs.Prelude.{◌≡◌, ℕ, List, [], codes, false, map, true}
+use Rattle.std.specs.Borrow.{Bor}
+use Rattle.std.specs.Option.{option_map_or}
+use Rattle.clap.specs.Words.{found_of, matched_of, raw_values}
 use Rattle.clap.specs.declared.parser.matches.ArgMatches.{ArgMatches}
 use Rattle.program_words.specs.Matches.{IsNumber, is_used}
+use Rattle.scan_run.specs.LoadingFiles.{names_of}
 use Rattle.scand.specs.declared.words.Request.{Request}
 use Rattle.scand.specs.declared.words.Service.{Service}
 use Rattle.scand.specs.declared.words.Service.TheVariants.{Alone, Listen}
 
--- the name of the file of plans that is told, if one is
-abbrev pub named : Option (String Global) → Option (List ℕ)
-named plans = option_map (λ name. string_bytes name) plans
+-- the texts behind references
+abbrev pub texts : List (Bor (List ℕ)) → List (List ℕ)
+texts = map (λ text. text.now)
 
--- one client is served where --stdio was used, and else so many connections to a port
+-- the texts given for an argument, none where it was not used
+abbrev pub texts_of : ArgMatches → List ℕ → List (List ℕ)
+texts_of m id = option_map_or raw_values (matched_of (found_of m) id) []
+
+-- one client is served where --stdio was used, and otherwise a number of connections to a port
 abbrev pub IsServiceOf : ArgMatches → Service → Type 0
 IsServiceOf m Alone = is_used m (codes "stdio") ≡ true
 IsServiceOf m (Listen port connections) =
     (is_used m (codes "stdio") ≡ false) × IsNumber m (codes "port") port × IsNumber m (codes "connections") connections.count
 
--- the request that the matches tell, each argument under its name as id
+-- the request in the matches, each argument under its name as id
 pub record IsRequestOf (m : ArgMatches) (request : Request) : Type 0 where
-  pub plans : named request.plans ≡ first_value (found_of m) (codes "plans")
+  pub plans : names_of request.plans.items ≡ texts_of m (codes "plans")
   pub service : IsServiceOf m request.service

@@ -6,17 +6,17 @@ ghost use Rattle.scan_run.specs.Messages.{out_of_memory};
 ghost use Rattle.scand.specs.Commands.{EndsSomehow, Runs, Serves, ServesPort, cannot_listen};
 
 use crate::words::{Request, Service, requested};
-use byte_io::{ByteIn, ByteOut, Opener, say_text};
+use byte_io::{ByteIn, ByteOut, Failed, Opener, say_text};
 use plan_store::PlanStore;
 use program_words::{Fault, words};
-use scan_run::{Connections, Status, listen, load_named, serve_alone};
+use scan_run::{Connections, Status, listen, load_files, say_port, serve_alone};
 use std::alloc::{AllocError, Global};
 use std::net::{Ipv4Addr, Net, TcpListener, TcpStream};
 use std::rt::Env;
 use std::sync::Wait;
 use std::thread::Threads;
 
-/// Serves the words of the command line. A file of plans that they name is one of `files`.
+/// Serves the words of the command line. The files of plans that they name are among `files`.
 pub fn serve<R, F: Opener, I: ByteIn, O: ByteOut, E: ByteOut>(
     rt: &R,
     files: &mut F,
@@ -45,8 +45,8 @@ fn asked<R: Env + AllocGlobal>(rt: &R) -> Result<Request, Fault> {
     requested(rt.alloc(), &words(rt, "scand")?)
 }
 
-/// Serves a request over a new store. If it names a file, its plans are published first; where that
-/// fails, nothing is served.
+/// Serves a request over a new store. The plans of the files that it names are published first; where
+/// that fails, nothing is served.
 fn run<R, F: Opener, I: ByteIn, O: ByteOut, E: ByteOut>(
     rt: &R,
     alloc: Global,
@@ -67,11 +67,8 @@ where
     let Ok(store) = PlanStore::new(alloc) else {
         return refuse(&Fault::OutOfMemory, err);
     };
-    let Some(name) = &request.plans else {
-        return serve_over(rt, alloc, &store, request.service, input, out, err);
-    };
     let mut tickets = Vec::new(alloc);
-    match load_named(rt, alloc, &store, files, name.as_str(), &mut tickets, err) {
+    match load_files(rt, alloc, &store, files, &request.plans, &mut tickets, err) {
         Ok(()) => serve_over(rt, alloc, &store, request.service, input, out, err),
         Err(_) => Status::Trouble,
     }
@@ -103,7 +100,7 @@ where
     }
 }
 
-/// Serves connections to a port of this machine.
+/// Serves connections to a port of this machine. The system chooses it where it is 0.
 fn serve_port<R, O: ByteOut, E: ByteOut>(
     rt: &R,
     alloc: Global,
@@ -123,17 +120,48 @@ where
     let Ok(listener) = TcpListener::bind(rt, (Ipv4Addr::LOCALHOST, port)) else {
         return refuse(&Fault::usage(cannot_listen(alloc, port)), err);
     };
-    listen(rt, alloc, store, listener, connections, out, err)
+    if port == 0 {
+        serve_chosen(rt, alloc, store, listener, connections, out, err)
+    } else {
+        listen(rt, alloc, store, listener, connections, out, err)
+    }
 }
 
-/// What is said where a port cannot be listened on.
+/// Serves connections to a port that the system chose. The port is told first; where it cannot be told,
+/// nothing is served.
+fn serve_chosen<R, O: ByteOut, E: ByteOut>(
+    rt: &R,
+    alloc: Global,
+    store: &PlanStore,
+    listener: TcpListener,
+    connections: Connections,
+    out: &mut O,
+    err: &mut E,
+) -> Status
+where
+    R: Threads + Wait + Sync + Net<Listener = TcpListener, Stream = TcpStream>,
+    ensures serves { ServesPort 0 connections.count result (O.has_failed out.new) (E.has_failed err.new)
+        (O.written out.old) (O.written out.new) (E.written err.old) (E.written err.new) }
+    ensures fault { result ≡ Status.Clean
+        → (O.has_failed out.new || E.has_failed err.new) ≡ (O.has_failed out.old || E.has_failed err.old) }
+{
+    let Ok(chosen) = listener.local_addr() else {
+        return refuse(&Fault::usage(cannot_listen(alloc, 0)), err);
+    };
+    match say_port(chosen.port(), err) {
+        Ok(()) => listen(rt, alloc, store, listener, connections, out, err),
+        Err(Failed) => Status::Trouble,
+    }
+}
+
+/// The message where a port cannot be listened on.
 fn cannot_listen(alloc: Global, port: u16) -> Result<String, AllocError>
     ensures { IfOk result (λ text. string_bytes text ≡ cannot_listen port) }
 {
     format!(in alloc; "scand: cannot listen on port {port}\n")
 }
 
-/// Says what is wrong with the words. Where that cannot be written, the status alone tells it.
+/// Writes the message on words that are refused. Where that cannot be written, only the status shows it.
 fn refuse<E: ByteOut>(fault: &Fault, err: &mut E) -> Status
     ensures trouble { result ≡ Status.Trouble }
     ensures said { Says (E.has_failed err.new) (E.written err.old) (E.written err.new) (message_on out_of_memory fault.now) }

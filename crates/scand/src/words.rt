@@ -1,8 +1,8 @@
 //! The words of the command line, read with clap.
 ghost use Rattle.std.specs.Prelude.{◌≡◌, IfOk, IfSome, Some, codes, true};
-ghost use Rattle.clap.specs.Words.{first_value, found_of};
 ghost use Rattle.program_words.specs.Matches.{IsNumber, is_used};
-ghost use Rattle.scand.specs.Requests.{IsRequestOf, IsServiceOf, named};
+ghost use Rattle.scan_run.specs.LoadingFiles.{names_of};
+ghost use Rattle.scand.specs.Requests.{IsRequestOf, IsServiceOf, texts, texts_of};
 
 use crate::help::{HELP, USAGE};
 use clap::{Arg, ArgAction, ArgMatches, Command, value_parser};
@@ -13,8 +13,8 @@ use std::alloc::{AllocError, Global};
 /// What the words ask for.
 #[derive(Debug, Drop)]
 pub struct Request {
-    /// The name of a file whose plans are published before anything is served.
-    pub plans: Option<String>,
+    /// The names of files whose plans are published, in order, before anything is served.
+    pub plans: Vec<String>,
     pub service: Service,
 }
 
@@ -23,7 +23,7 @@ pub struct Request {
 pub enum Service {
     /// One client over standard input and output.
     Alone,
-    /// So many connections to a port of this machine.
+    /// So many connections to a port of this machine. The system chooses it where it is 0.
     Listen { port: u16, connections: Connections },
 }
 
@@ -38,7 +38,7 @@ pub fn requested(alloc: Global, words: &[String]) -> Result<Request, Fault> {
     request_of(alloc, &matches)
 }
 
-/// The request that clap's matches tell, each argument under its name as id.
+/// The request in clap's matches, each argument under its name as id.
 ///
 /// # Errors
 /// - `Usage` where --stdio was not used, and a port or connections are missing.
@@ -56,8 +56,7 @@ pub fn request_of(alloc: Global, matches: &ArgMatches<'_>) -> Result<Request, Fa
     Ok(Request { plans, service })
 }
 
-/// Whom clap's matches tell to serve, if no option is missing. Clap lets no other number of
-/// connections through.
+/// The clients to serve by clap's matches, if no option is missing. Clap lets no other number of connections through.
 fn service_of(matches: &ArgMatches<'_>) -> Option<Service>
     ensures told { IfSome result (IsServiceOf matches.now) }
     ensures alone { is_used matches.now (codes "stdio") ≡ true → result ≡ Some Service.Alone }
@@ -70,28 +69,37 @@ fn service_of(matches: &ArgMatches<'_>) -> Option<Service>
     Some(Service::Listen { port, connections })
 }
 
-/// The port that clap's matches tell, if one is given.
+/// The port in clap's matches, if one is given.
 fn port_of(matches: &ArgMatches<'_>) -> Option<u16>
     ensures { IfSome result (IsNumber matches.now (codes "port")) }
 {
     matches.get_one::<u16>("port")
 }
 
-/// The number of connections that clap's matches tell, if one is given and there may be so many.
+/// The number of connections in clap's matches, if one is given and there may be as many.
 fn connections_of(matches: &ArgMatches<'_>) -> Option<Connections>
     ensures { IfSome result (λ connections. IsNumber matches.now (codes "connections") connections.count) }
 {
     Connections::new(matches.get_one::<usize>("connections")?)
 }
 
-/// The file of plans that clap's matches tell, if one is given.
-fn plans_of(alloc: Global, matches: &ArgMatches<'_>) -> Result<Option<String>, AllocError>
-    ensures { IfOk result (λ plans. named plans ≡ first_value (found_of matches.now) (codes "plans")) }
+/// The files of plans that clap's matches tell, of all uses of the option.
+fn plans_of(alloc: Global, matches: &ArgMatches<'_>) -> Result<Vec<String>, AllocError>
+    ensures { IfOk result (λ plans. names_of plans.items ≡ texts_of matches.now (codes "plans")) }
 {
-    match matches.get_str("plans") {
-        Some(name) => Ok(Some(String::from_str(alloc, name)?)),
-        None => Ok(None),
+    let names = values(matches, "plans");
+    let mut plans = Vec::with_capacity(alloc, names.len())?;
+    for name in names {
+        plans.push(String::from_str(alloc, name)?)?;
     }
+    Ok(plans)
+}
+
+/// The texts given for an argument, of all its uses.
+fn values<'m, 'a>(matches: &'m ArgMatches<'a>, id: &str) -> &'m [&'a str]
+    ensures { texts result.now ≡ texts_of matches.now id.now }
+{
+    matches.get_strs(id).unwrap_or_default()
 }
 
 /// What scand takes.
@@ -103,7 +111,7 @@ fn scand<'a>(alloc: Global) -> Result<Command<'a>, AllocError> {
         .long("port")
         .value_name("P")
         .action(ArgAction::Set)
-        .value_parser(value_parser!(u16).range(1..));
+        .value_parser(value_parser!(u16));
     let connections = Arg::new(alloc, "connections")
         .long("connections")
         .value_name("N")
@@ -112,7 +120,7 @@ fn scand<'a>(alloc: Global) -> Result<Command<'a>, AllocError> {
     let plans = Arg::new(alloc, "plans")
         .long("plans")
         .value_name("FILE")
-        .action(ArgAction::Set);
+        .action(ArgAction::Append);
     Command::new(alloc, "scand")
         .version(VERSION)
         .no_binary_name(true)

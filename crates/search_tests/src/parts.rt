@@ -1,25 +1,27 @@
 //! What no clause says: that there are hits where there is memory, that workers run at the same time,
-//! and that each passes the gate.
+//! and that each finds the hits of its part between its calls of the gate.
 mod meeting;
+mod staying;
 
 use self::meeting::{Meeting, Seen, bit_of};
+use self::staying::Watch;
 use flow_scan::{Compiled, Hit};
 use list_plan::compile;
-use lit_base::{Fold, LitList, RawList};
+use lit_base::{Fold, LitList, Profile, RawList};
 use par_scan::{Gate, MAX_WORKERS, NoGate, scan_parts};
 use std::alloc::{AllocError, Global};
 use std::test::Fail;
 use std::thread::Threads;
 use std::time::Clock;
 
-/// The plan of these literals.
+/// The plan of the literals.
 fn plan_of(alloc: Global, literals: &[&[u8]]) -> Result<Compiled, Fail> {
     let mut raw = RawList::new(alloc);
     for literal in literals {
         raw.push(literal)?;
     }
     let (list, _) = LitList::normal(alloc, &raw, Fold::No)?;
-    Ok(compile(alloc, list)?)
+    Ok(compile(alloc, list, Profile::Eight)?)
 }
 
 /// Whether these are the hits, each a literal and an end.
@@ -29,7 +31,7 @@ fn are(hits: &[Hit], wanted: &[(u16, u64)]) -> bool {
             && hit.end_at == *end_at)
 }
 
-/// Whether so many workers find these hits in a text.
+/// Whether `workers` workers find these hits in a text.
 fn find<R: Threads + Sync + AllocGlobal>(
     rt: &R,
     compiled: &Compiled,
@@ -92,7 +94,7 @@ fn text_with_end(alloc: Global, end: usize) -> Result<Vec<u8>, AllocError> {
     Ok(text)
 }
 
-/// The first workers who do not find the end in such a text, or find another.
+/// The first number of workers who do not find the end in the text, or find another.
 fn first_wrong_at<R: Threads + Sync + AllocGlobal>(
     rt: &R,
     end: usize,
@@ -109,8 +111,7 @@ fn finds_an_end_wherever_parts_meet(rt: HostRuntime) -> Result<(), Fail> {
     Ok(())
 }
 
-/// What a gate has seen that held some workers until others had entered, and whether the hits are
-/// those of the pronouns.
+/// The counts of a gate that held some workers until others had entered, and whether the hits are the pronouns' hits.
 fn seen_at<R: Threads + Clock + Sync + AllocGlobal>(
     rt: &R,
     workers: usize,
@@ -130,7 +131,7 @@ fn seen_at<R: Threads + Clock + Sync + AllocGlobal>(
     Ok((gate.seen(), are(&hits, &[(0, 4), (2, 4), (3, 6)])))
 }
 
-/// What is seen where these workers all came in time, and left.
+/// The counts where all workers came in time, and left.
 fn all_came(workers: u64) -> (Seen, bool) {
     let seen = Seen {
         entered: workers,
@@ -153,6 +154,41 @@ fn runs_two_workers_at_once(rt: HostRuntime) -> Result<(), Fail> {
 fn runs_sixteen_workers_at_once(rt: HostRuntime) -> Result<(), Fail> {
     let all = 0x1_fffe;
     assert_eq!(rt; seen_at(&rt, 16, all, all)?, all_came(all));
+    Ok(())
+}
+
+/// The hits in the part of each worker. They fill 1.6 megabytes.
+const HITS_OF_EACH: usize = 100_000;
+
+/// Any worker needs more nanoseconds for that: no memory takes 80 bytes in one.
+const LEAST_STAY: u64 = 20_000;
+
+/// Whether `workers` workers find all hits of a text, and this one stays inside the gate while it finds the hits of its
+/// part.
+fn finds_inside<R: Threads + Clock + Sync + AllocGlobal>(
+    rt: &R,
+    workers: usize,
+    worker: usize,
+) -> Result<bool, Fail> {
+    let alloc = rt.alloc();
+    let workers = workers.clamp(1, MAX_WORKERS);
+    let text = vec![in alloc; b'a'; workers * HITS_OF_EACH]?;
+    let compiled = plan_of(alloc, &[b"a"])?;
+    let gate = Watch::new(rt, worker);
+    let hits = scan_parts(rt, alloc, &gate, &compiled, &text, workers)?;
+    Ok(hits.len() == text.len() && gate.stay() > LEAST_STAY)
+}
+
+#[test]
+fn scans_each_part_between_the_calls_of_the_gate(rt: HostRuntime) -> Result<(), Fail> {
+    for workers in 1..4 {
+        for worker in 1..=workers {
+            assert!(rt;
+                finds_inside(&rt, workers, worker)?,
+                "{worker} of {workers}"
+            );
+        }
+    }
     Ok(())
 }
 
@@ -185,7 +221,7 @@ fn random_plan(alloc: Global, state: &mut u64) -> Result<Compiled, Fail> {
         raw.push(&random_text(alloc, state, 8)?)?;
     }
     let (list, _) = LitList::normal(alloc, &raw, Fold::No)?;
-    Ok(compile(alloc, list)?)
+    Ok(compile(alloc, list, Profile::Eight)?)
 }
 
 /// The hits by a loop over all slices.
@@ -269,7 +305,7 @@ const PHRASES: [&[u8]; 6] = [
     b"necessary",
 ];
 
-/// At least so many bytes of words drawn by chance.
+/// At least `len` bytes of words drawn by chance.
 fn long_text(alloc: Global, len: usize) -> Result<Vec<u8>, AllocError> {
     let mut text = Vec::new(alloc);
     let mut state = 9;
@@ -284,7 +320,7 @@ fn long_text(alloc: Global, len: usize) -> Result<Vec<u8>, AllocError> {
     Ok(text)
 }
 
-/// Whether so many workers find all of many hits in a long text, whose parts are long enough to learn from.
+/// Whether `workers` workers find all of many hits in a long text, whose parts are long enough for tuning.
 fn find_all_of_many<R: Threads + Sync + AllocGlobal>(rt: &R, workers: usize) -> Result<bool, Fail> {
     let alloc = rt.alloc();
     let text = long_text(alloc, 540_000)?;

@@ -7,7 +7,7 @@ mod whole_lines;
 use flow_scan::{Compiled, EndFinder};
 use line_pick::{Fault, LineRule, Next, Picker, Sink, is_in_lines, standing_law};
 use list_plan::compile;
-use lit_base::{Fold, LitList, RawList};
+use lit_base::{Fold, LitList, Profile, RawList};
 use std::alloc::{AllocError, Global};
 use std::test::Fail;
 
@@ -29,7 +29,7 @@ enum Mood {
     FailsAt(u64, Fault),
 }
 
-/// A sink that keeps each line behind its number.
+/// A sink that keeps each line after its number.
 #[derive(Drop)]
 struct Kept {
     alloc: Global,
@@ -69,7 +69,7 @@ impl Sink for Kept {
     }
 }
 
-/// The plan of one literal, of which case counts.
+/// The plan of one literal, case-sensitive.
 fn plan_of_one(alloc: Global, literal: &[u8]) -> Option<Compiled> {
     plan_under(alloc, literal, Fold::No)
 }
@@ -79,7 +79,7 @@ fn plan_under(alloc: Global, literal: &[u8], fold: Fold) -> Option<Compiled> {
     let mut raw = RawList::new(alloc);
     raw.push(literal).ok()?;
     let (list, _) = LitList::normal(alloc, &raw, fold).ok()?;
-    compile(alloc, list).ok()
+    compile(alloc, list, Profile::Eight).ok()
 }
 
 /// A call of a picker, with a piece or at the end, and its answer with what the sink has kept then.
@@ -127,7 +127,7 @@ fn first_wrong_by(
     first_wrong(&mut picker, &mut sink, turns)
 }
 
-/// That of a picker for this literal.
+/// The same of a picker for this literal.
 fn first_wrong_of(
     alloc: Global,
     literal: &[u8],
@@ -141,7 +141,7 @@ fn first_wrong_of(
     }
 }
 
-/// Turns of which the sink gets the second line alone.
+/// Turns at which the sink gets the second line alone.
 static IN_PIECES: [Turn; 6] = [
     (Some(b"conc"), Ok(Next::More), b""),
     (Some(b"at\nca"), Ok(Next::More), b""),
@@ -158,7 +158,7 @@ fn compares_a_line_in_pieces_as_a_whole(rt: HostRuntime) -> Result<(), Fail> {
     Ok(())
 }
 
-/// Turns of which the sink gets the empty line alone.
+/// Turns at which the sink gets the empty line alone.
 static EMPTY_LINE: [Turn; 2] = [
     (Some(b"\na\n"), Ok(Next::More), b"1:\n"),
     (None, Ok(Next::More), b"1:\n"),
@@ -172,7 +172,7 @@ fn takes_the_null_pattern_as_the_empty_line(rt: HostRuntime) -> Result<(), Fail>
     Ok(())
 }
 
-/// Turns that go on behind a stop.
+/// Turns that go on after a stop.
 static STOPPED: [Turn; 3] = [
     (Some(b"a\nb\na\na\n"), Ok(Next::Stop), b"1:a\n3:a\n"),
     (Some(b"a\n"), Ok(Next::Stop), b"1:a\n3:a\n"),
@@ -186,7 +186,7 @@ fn lends_nothing_after_a_stop(rt: HostRuntime) -> Result<(), Fail> {
     Ok(())
 }
 
-/// Turns that go on behind a line that cannot be written.
+/// Turns that go on after a line that cannot be written.
 static UNWRITTEN: [Turn; 4] = [
     (Some(b"a"), Ok(Next::More), b""),
     (Some(b"\naa\na\n"), Err(Fault::WriteFault), b"1:a\n2:aa\n"),
@@ -194,7 +194,7 @@ static UNWRITTEN: [Turn; 4] = [
     (None, Err(Fault::WriteFault), b"1:a\n2:aa\n"),
 ];
 
-/// Turns that go on behind a line for which there is no memory.
+/// Turns that go on after a line for which there is no memory.
 static UNKEPT: [Turn; 4] = [
     (Some(b"a"), Ok(Next::More), b""),
     (Some(b"\naa\na\n"), Err(Fault::OutOfMemory), b"1:a\n2:aa\n"),

@@ -1,16 +1,17 @@
 //! Worked scans, and what no clause says.
 mod extending;
+mod profiles;
 mod single;
 mod spoilt;
 
 use flow_scan::{Compiled, Fault, Hit, Scanner, least_law, pieces_law, scan_all, scan_pieces};
-use lit_base::{Fold, LitList, MAX_LITERAL_LEN, RawList};
+use lit_base::{Fold, LitList, MAX_LITERAL_LEN, Profile, RawList};
 use lit_cert::{Certificate, Reason};
 use nib_mask::{Masks, plain_byte};
 use run_planner::plan;
 use std::alloc::Global;
 
-/// The list of these literals.
+/// The list of the literals.
 fn list_of(alloc: Global, fold: Fold, literals: &[&[u8]]) -> Option<LitList> {
     let mut raw = RawList::new(alloc);
     for literal in literals {
@@ -20,10 +21,15 @@ fn list_of(alloc: Global, fold: Fold, literals: &[&[u8]]) -> Option<LitList> {
     Some(list)
 }
 
-/// The plan of these literals.
+/// The plan of the literals.
 fn plan_of(alloc: Global, fold: Fold, literals: &[&[u8]]) -> Option<Compiled> {
+    plan_under(alloc, Profile::Eight, fold, literals)
+}
+
+/// Their plan of this profile.
+fn plan_under(alloc: Global, profile: Profile, fold: Fold, literals: &[&[u8]]) -> Option<Compiled> {
     let list = list_of(alloc, fold, literals)?;
-    let certificate = plan(alloc, &list).ok()?;
+    let certificate = plan(alloc, &list, profile).ok()?;
     Compiled::new(list, certificate).ok()
 }
 
@@ -144,7 +150,7 @@ fn text_with_end(end: usize) -> [u8; 100] {
     text
 }
 
-/// Whether the end in such a text is found, and no other.
+/// Whether the end in the text is found, and no other.
 fn is_found_at(alloc: Global, end: usize) -> Option<bool> {
     finds_in(alloc, &[b"xyz"], &text_with_end(end), &[hit(0, end as u64)])
 }
@@ -156,8 +162,8 @@ fn finds_an_end_at_each_edge_of_a_vector(rt: HostRuntime) {
     }
 }
 
-/// What the plan of these literals costs, and its filter byte where these three bytes end.
-fn cost_and_mark(alloc: Global, literals: &[&[u8]], bytes: [u8; 3]) -> Option<(u64, u8)> {
+/// The cost of the plan of the literals, and its filter number where the three bytes end.
+fn cost_and_mark(alloc: Global, literals: &[&[u8]], bytes: [u8; 3]) -> Option<(u64, u16)> {
     let compiled = plan_of(alloc, Fold::No, literals)?;
     let certificate = compiled.certificate();
     let masks = Masks::of(compiled.list(), &certificate.ends);
@@ -173,7 +179,7 @@ fn verifies_what_the_filter_lets_through(rt: HostRuntime) {
     assert_eq!(rt; finds_in(alloc, &literals, b"abcdefgy", &[]), Some(true));
 }
 
-/// Where a scan ends something of so many letters `a`, fed one by one.
+/// The hits of a scan of `count` letters `a`, fed one by one.
 fn ends_of_letters(alloc: Global, compiled: &Compiled, count: u32) -> Option<Vec<Hit>> {
     let mut hits = Vec::new(alloc);
     let mut scanner = Scanner::new(alloc, compiled).ok()?;
@@ -183,7 +189,7 @@ fn ends_of_letters(alloc: Global, compiled: &Compiled, count: u32) -> Option<Vec
     Some(hits)
 }
 
-/// How many hits of a literal these are, if each stands one place behind the one before, and the first
+/// How many hits of a literal these are, if each stands one place after the one before, and the first
 /// at a place.
 fn count_from(hits: &[Hit], first: u64) -> Option<usize> {
     let are_in_order = hits.iter().enumerate().all(|(place, found)| found.lit == 0
@@ -191,8 +197,7 @@ fn count_from(hits: &[Hit], first: u64) -> Option<usize> {
     if are_in_order { Some(hits.len()) } else { None }
 }
 
-/// How many hits a literal of so many letters `a` has in letters fed one by one: one at each of their
-/// last places.
+/// How many hits a literal of letters `a` has in `count` letters fed one by one: one at each of their last positions.
 fn count_in_letters(alloc: Global, literal: &[u8], count: u32) -> Option<usize> {
     let compiled = plan_of(alloc, Fold::No, &[literal])?;
     let hits = ends_of_letters(alloc, &compiled, count)?;
@@ -265,7 +270,7 @@ fn is_handed_back(list: LitList, certificate: Certificate, cost: u64) -> bool {
 /// That for a letter, with a cost of one more.
 fn hands_back(alloc: Global) -> Option<bool> {
     let list = list_of(alloc, Fold::No, &[b"a"])?;
-    let mut certificate = plan(alloc, &list).ok()?;
+    let mut certificate = plan(alloc, &list, Profile::Eight).ok()?;
     certificate.cost = 4297;
     Some(is_handed_back(list, certificate, 4297))
 }

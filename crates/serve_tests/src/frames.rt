@@ -4,7 +4,7 @@ ghost use Rattle.scan_wire.specs.Frames.{FitsReply};
 ghost use Rattle.scan_wire.specs.Messages.{reply_parts};
 
 use flow_scan::Hit;
-use lit_base::{Ends, Fold};
+use lit_base::{Ends, Fold, Profile};
 use scan_wire::{
     Cause, Decoder, Fault, Lent, Reply, Request, append_hits, append_reply, encode_reply, next,
 };
@@ -90,7 +90,7 @@ fn byte_by_byte(alloc: Global, text: &[u8]) -> Result<Outcome, Fail> {
     })
 }
 
-/// The Publish of so many empty literals: the frame's bytes.
+/// The Publish of `count` empty literals: the frame's bytes.
 fn empty_literals(alloc: Global, count: u16) -> Result<Vec<u8>, AllocError> {
     let mut frame = Vec::new(alloc);
     frame.extend_from_slice(&(8 + 2 * u32::from(count)).to_be_bytes())?;
@@ -100,14 +100,31 @@ fn empty_literals(alloc: Global, count: u16) -> Result<Vec<u8>, AllocError> {
     Ok(frame)
 }
 
-/// Whether the front of the bytes is the Publish of `cat`.
-fn publishes_cat(alloc: Global, bytes: &[u8]) -> Result<bool, Fault> {
+/// The fold and the profile of the Publish of `cat` at the front of the bytes, if it is one.
+fn publishes_cat(alloc: Global, bytes: &[u8]) -> Result<Option<(Fold, Profile)>, Fault> {
     match next(alloc, bytes)? {
-        Some((Lent::Publish { fold, literals }, 17)) => Ok(
-            fold == Fold::No && literals.len() == 1 && literals[0].as_slice() == b"cat".as_slice(),
-        ),
-        _ => Ok(false),
+        Some(
+            (
+                Lent::Publish {
+                    fold,
+                    profile,
+                    literals,
+                },
+                17,
+            ),
+        ) if literals.len() == 1 && literals[0].as_slice() == b"cat".as_slice() => {
+            Ok(Some((fold, profile)))
+        }
+        _ => Ok(None),
     }
+}
+
+/// The fold and the profile in the Publish of `cat` with these flags.
+fn told_by_flags(alloc: Global, flags: u8) -> Result<Option<(Fold, Profile)>, Fault> {
+    let frame = [
+        0, 0, 0, 13, 1, 0, 0, 0, 0, flags, 0, 1, 0, 3, b'c', b'a', b't',
+    ];
+    publishes_cat(alloc, &frame)
 }
 
 /// The piece of the Feed of stream 7 at the front, if it is one.
@@ -138,7 +155,7 @@ fn fields_of(request: &Lent<'_>) -> (u8, u32, u64) {
     }
 }
 
-/// Those of the request at the front, if it is whole, and how many bytes its frame has.
+/// The kind, the stream and the number of the request at the front, if it is whole, and how many bytes its frame has.
 fn read(alloc: Global, bytes: &[u8]) -> Result<Option<((u8, u32, u64), usize)>, Fault> {
     match next(alloc, bytes)? {
         Some((request, len)) => Ok(Some((fields_of(&request), len))),
@@ -149,8 +166,30 @@ fn read(alloc: Global, bytes: &[u8]) -> Result<Option<((u8, u32, u64), usize)>, 
 #[test]
 fn reads_a_publish_and_a_feed(rt: HostRuntime) -> Result<(), Fail> {
     let alloc = rt.alloc();
-    assert!(rt; publishes_cat(alloc, &FRAMES)?);
+    assert_eq!(rt;
+        publishes_cat(alloc, &FRAMES)?,
+        Some((Fold::No, Profile::Eight))
+    );
     assert_eq!(rt; fed(alloc, &FEED)?, Some(b"concat".as_slice()));
+    Ok(())
+}
+
+#[test]
+fn reads_fold_and_profile(rt: HostRuntime) -> Result<(), Fail> {
+    let alloc = rt.alloc();
+    assert_eq!(rt; told_by_flags(alloc, 0)?, Some((Fold::No, Profile::Eight)));
+    assert_eq!(rt;
+        told_by_flags(alloc, 1)?,
+        Some((Fold::Ascii, Profile::Eight))
+    );
+    assert_eq!(rt;
+        told_by_flags(alloc, 2)?,
+        Some((Fold::No, Profile::Sixteen))
+    );
+    assert_eq!(rt;
+        told_by_flags(alloc, 3)?,
+        Some((Fold::Ascii, Profile::Sixteen))
+    );
     Ok(())
 }
 
@@ -187,7 +226,7 @@ fn tells_other_causes_of_whole_frames(rt: HostRuntime) -> Result<(), Fail> {
         Some(Cause::Kind)
     );
     assert!(rt; waits(alloc, &[0, 0, 0, 5, 6, 0, 0, 0])?);
-    // The stream is told before the payload, which is wrong here too.
+    // The cause is the stream, before the payload, which is wrong here too.
     assert_eq!(rt;
         cause_of(alloc, &[0, 0, 0, 6, 1, 0, 0, 0, 1, 2])?,
         Some(Cause::Stream)
@@ -204,7 +243,7 @@ fn tells_wrong_payloads_of_a_publish(rt: HostRuntime) -> Result<(), Fail> {
         Some(Cause::Payload)
     );
     assert_eq!(rt;
-        cause_of(alloc, &[0, 0, 0, 8, 1, 0, 0, 0, 0, 2, 0, 0])?,
+        cause_of(alloc, &[0, 0, 0, 8, 1, 0, 0, 0, 0, 4, 0, 0])?,
         Some(Cause::Payload)
     );
     assert_eq!(rt;
@@ -289,7 +328,7 @@ fn tells_a_bad_frame_for_good(rt: HostRuntime) -> Result<(), Fail> {
     Ok(())
 }
 
-/// How many literals are read of the Publish of so many empty ones, if it is whole.
+/// How many literals are read of the Publish of `count` empty literals, if it is whole.
 fn count_read(alloc: Global, count: u16) -> Result<Option<u64>, Fail> {
     let frame = empty_literals(alloc, count)?;
     match read(alloc, &frame)? {
@@ -358,25 +397,50 @@ fn writes_hits(rt: HostRuntime) -> Result<(), Fail> {
     Ok(())
 }
 
-#[test]
-fn writes_a_plan(rt: HostRuntime) -> Result<(), Fail> {
+/// The Plan reply of `cat` by a profile.
+fn plan_of_cat(fold: Fold, profile: Profile) -> Reply
+    ensures { FitsReply (reply_parts result) }
+{
     let mut ends = Ends::new();
     let _ = ends.try_push(1);
-    let reply = Reply::Plan {
+    Reply::Plan {
         stream: 7,
-        fold: Fold::No,
+        fold,
+        profile,
         count: 1,
         cost: 351,
         ends,
-    };
-    let text = [
-        0, 0, 0, 19, 0x16, 0, 0, 0, 7, 0, 0, 1, 0, 0, 0, 0, 0, 0, 1, 0x5f, 1, 0, 1,
-    ];
-    assert!(rt; is_written(rt.alloc(), &reply, &text)?);
+    }
+}
+
+/// Its text with these flags.
+fn plan_text(flags: u8) -> [u8; 23] {
+    [
+        0, 0, 0, 19, 0x16, 0, 0, 0, 7, flags, 0, 1, 0, 0, 0, 0, 0, 0, 1, 0x5f, 1, 0, 1,
+    ]
+}
+
+#[test]
+fn writes_a_plan(rt: HostRuntime) -> Result<(), Fail> {
+    let alloc = rt.alloc();
+    let plain = plan_of_cat(Fold::No, Profile::Eight);
+    assert!(rt; is_written(alloc, &plain, &plan_text(0))?);
+    let folded = plan_of_cat(Fold::Ascii, Profile::Eight);
+    assert!(rt; is_written(alloc, &folded, &plan_text(1))?);
     Ok(())
 }
 
-/// The Hits of one hit and a Closed, behind a byte.
+#[test]
+fn writes_a_plan_of_sixteen_buckets(rt: HostRuntime) -> Result<(), Fail> {
+    let alloc = rt.alloc();
+    let plain = plan_of_cat(Fold::No, Profile::Sixteen);
+    assert!(rt; is_written(alloc, &plain, &plan_text(2))?);
+    let folded = plan_of_cat(Fold::Ascii, Profile::Sixteen);
+    assert!(rt; is_written(alloc, &folded, &plan_text(3))?);
+    Ok(())
+}
+
+/// The Hits of one hit and a Closed, after a byte.
 fn replies_behind_a_byte(alloc: Global) -> Result<Vec<u8>, Fault> {
     let mut out = vec![in alloc; 9u8]?;
     append_hits(&mut out, 7, &[Hit { lit: 0, end_at: 6 }])?;

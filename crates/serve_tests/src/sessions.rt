@@ -1,9 +1,9 @@
-//! What no clause says: that a request is answered where there is memory, that numbers begin at 0, and
-//! that a number of another session is found, in another thread too. Where memory runs out a test tells it, once the
-//! replies are seen to be none. Worked sessions and the limits are rows of `tests/cases/session_cases.py`, for `scand`.
+//! Facts that no clause states: a request is answered where there is memory; numbers begin at 0; a number of another
+//! session is found, in another thread too. Where memory runs out a test says so, once it has seen that there are no
+//! replies. Worked sessions and the limits are rows of `tests/cases/session_cases.py`, for `scand`.
 ghost use Rattle.std.specs.Prelude.{◌≡◌, IfSome};
 
-use lit_base::Fold;
+use lit_base::{Fold, Profile};
 use plan_store::PlanStore;
 use scan_core::{Answered, Session, answered_at_once};
 use scan_wire::{Reply, Request};
@@ -15,14 +15,15 @@ use std::thread::Threads;
 /// What a client asks.
 #[derive(Clone, Copy)]
 enum Ask<'a> {
-    Publish(Fold, &'a [&'a [u8]]),
+    Publish(Fold, Profile, &'a [&'a [u8]]),
     Open(u32, u64),
     Feed(u32, &'a [u8]),
     Close(u32),
     ShowPlan(u32),
 }
 
-/// What a reply says: of hits how many, and the last place; of a plan its fold, count, cost, runs; or that memory ran out.
+/// What a reply says: of hits how many, and the last place; of a plan its fold, profile, count, cost, runs; or that memory
+/// ran out.
 #[derive(Clone, Copy, Debug, PartialEq, Eq)]
 enum Told {
     Published(u64),
@@ -30,7 +31,7 @@ enum Told {
     Hits(u32, usize, u64),
     Fed(u32, u64),
     Closed(u32),
-    Plan(u32, Fold, u16, u64, usize),
+    Plan(u32, Fold, Profile, u16, u64, usize),
     Refused(u32, u8, u16),
     OutOfMemory,
 }
@@ -69,10 +70,11 @@ fn said(reply: &Reply) -> Told {
         Reply::Plan {
             stream,
             fold,
+            profile,
             count,
             cost,
             ends,
-        } => Told::Plan(*stream, *fold, *count, *cost, ends.len()),
+        } => Told::Plan(*stream, *fold, *profile, *count, *cost, ends.len()),
         Reply::Refused {
             stream,
             code,
@@ -100,11 +102,12 @@ fn copied(alloc: Global, literals: &[&[u8]]) -> Option<Vec<Vec<u8>>> {
     Some(all)
 }
 
-/// The request of what is asked.
+/// The request of an ask.
 fn request_of(alloc: Global, ask: Ask<'_>) -> Option<Request> {
     Some(match ask {
-        Ask::Publish(fold, literals) => Request::Publish {
+        Ask::Publish(fold, profile, literals) => Request::Publish {
             fold,
+            profile,
             literals: copied(alloc, literals)?,
         },
         Ask::Open(stream, number) => Request::Open { stream, number },
@@ -132,7 +135,7 @@ fn answered<R: Wait>(
     }
 }
 
-/// What a session answers to what is asked.
+/// The answer of a session to an ask.
 fn asked<R: Wait>(rt: &R, alloc: Global, session: &mut Session<'_>, ask: Ask<'_>) -> Replies {
     match request_of(alloc, ask) {
         Some(request) => answered(rt, alloc, session, request),
@@ -140,7 +143,7 @@ fn asked<R: Wait>(rt: &R, alloc: Global, session: &mut Session<'_>, ask: Ask<'_>
     }
 }
 
-/// What a session answers to the last of what is asked, or to the first for which memory ran out.
+/// The answer of a session to the last ask, or to the first for which memory ran out.
 fn last_answer<R: Wait>(
     rt: &R,
     alloc: Global,
@@ -157,7 +160,7 @@ fn last_answer<R: Wait>(
     last
 }
 
-/// What a session of a new store answers to the last of what is asked.
+/// The answer of a session of a new store to the last ask.
 fn last_of<R: Wait>(rt: &R, alloc: Global, asks: &[Ask<'_>]) -> Replies {
     match PlanStore::new(alloc) {
         Ok(store) => last_answer(rt, alloc, &mut Session::new(&store), asks),
@@ -165,7 +168,7 @@ fn last_of<R: Wait>(rt: &R, alloc: Global, asks: &[Ask<'_>]) -> Replies {
     }
 }
 
-const CAT: Ask = Ask::Publish(Fold::No, &[b"cat"]);
+const CAT: Ask = Ask::Publish(Fold::No, Profile::Eight, &[b"cat"]);
 
 const CONCAT: Ask = Ask::Feed(7, b"concat");
 
@@ -174,14 +177,14 @@ const OPEN: Ask = Ask::Open(7, 0);
 /// The replies to `concat`, or to what completes it.
 const OF_CONCAT: Replies = [Some(Told::Hits(7, 1, 6)), Some(Told::Fed(7, 6)), None];
 
-/// Asserts that a session of a new store answers so to the last of what is asked.
+/// Asserts the answer of a session of a new store to the last ask.
 fn assert_last<R: Abort + AllocGlobal + Wait>(rt: &R, asks: &[Ask<'_>], wanted: Replies) {
     assert_eq!(*rt; last_of(rt, rt.alloc(), asks), wanted);
 }
 
 #[test]
 fn answers_each_kind_of_request(rt: HostRuntime) {
-    let plan = Told::Plan(7, Fold::No, 1, 351, 1);
+    let plan = Told::Plan(7, Fold::No, Profile::Eight, 1, 351, 1);
     assert_last(&rt, &[CAT], one(Told::Published(0)));
     assert_last(&rt, &[CAT, OPEN], one(Told::Opened(7)));
     assert_last(&rt, &[CAT, OPEN, CONCAT], OF_CONCAT);
@@ -190,7 +193,20 @@ fn answers_each_kind_of_request(rt: HostRuntime) {
     assert_last(&rt, &[CONCAT], one(Told::Refused(7, 13, 0)));
 }
 
-/// What a new session answers to the last of what is asked, none where memory ran out.
+/// Nine literals that sixteen buckets hold in a run each, and eight do not.
+const LETTERS: [&[u8]; 9] = [b"a", b"b", b"c", b"d", b"e", b"f", b"g", b"h", b"i"];
+
+#[test]
+fn plans_by_the_profile_asked_for(rt: HostRuntime) {
+    let by_eight = Ask::Publish(Fold::No, Profile::Eight, &LETTERS);
+    let eight = Told::Plan(7, Fold::No, Profile::Eight, 9, 46656, 8);
+    assert_last(&rt, &[by_eight, OPEN, Ask::ShowPlan(7)], one(eight));
+    let by_sixteen = Ask::Publish(Fold::No, Profile::Sixteen, &LETTERS);
+    let sixteen = Told::Plan(7, Fold::No, Profile::Sixteen, 9, 38664, 9);
+    assert_last(&rt, &[by_sixteen, OPEN, Ask::ShowPlan(7)], one(sixteen));
+}
+
+/// The answer of a new session to the last ask, none where memory ran out.
 fn answer_by<R: Wait>(
     rt: &R,
     alloc: Global,
@@ -200,10 +216,10 @@ fn answer_by<R: Wait>(
     unless_starved(last_answer(rt, alloc, &mut Session::new(store), asks))
 }
 
-/// That beside a session that published `dog` and then `cat`.
+/// The same with another session that published `dog` and then `cat`.
 fn answer_of_another<R: Wait>(rt: &R, alloc: Global, asks: &[Ask<'_>]) -> Option<Replies> {
     let store = PlanStore::new(alloc).ok()?;
-    let dog = Ask::Publish(Fold::No, &[b"dog"]);
+    let dog = Ask::Publish(Fold::No, Profile::Eight, &[b"dog"]);
     let _ = answer_by(rt, alloc, &store, &[dog, CAT])?;
     answer_by(rt, alloc, &store, asks)
 }
@@ -221,7 +237,7 @@ fn opens_what_another_session_published(rt: HostRuntime) {
     assert_another(&rt, &[Ask::Open(7, 2)], one(Told::Refused(7, 14, 0)));
 }
 
-/// The number that was told.
+/// The number in a Published reply.
 fn number_in(replies: &[Reply]) -> Option<u64> {
     match replies {
         [Reply::Published { number }] => Some(*number),
@@ -229,7 +245,7 @@ fn number_in(replies: &[Reply]) -> Option<u64> {
     }
 }
 
-/// Two sessions of a store, each behind what it is asked in a thread of its own.
+/// Two sessions of a store, each after its asks in a thread of its own.
 fn both_asked<'s, R: Threads + Wait + Sync>(
     rt: &R,
     alloc: Global,
@@ -249,7 +265,7 @@ fn both_asked<'s, R: Threads + Wait + Sync>(
     }
 }
 
-/// Two sessions of a store, each behind an Open of the number that the other was told.
+/// Two sessions of a store, each after an Open of the number that the other got.
 fn both_opened<'s, R: Threads + Wait + Sync>(
     rt: &R,
     alloc: Global,
@@ -270,7 +286,7 @@ fn answers_by<R: Threads + Wait + Sync>(
     alloc: Global,
     store: &PlanStore,
 ) -> Option<(Replies, Replies)> {
-    let con = Ask::Publish(Fold::No, &[b"con"]);
+    let con = Ask::Publish(Fold::No, Profile::Eight, &[b"con"]);
     let (one, other) = (Session::new(store), Session::new(store));
     let (one, other) = both_asked(rt, alloc, one, CAT, other, con)?;
     let (one, other) = both_opened(rt, alloc, one, other)?;
@@ -278,7 +294,7 @@ fn answers_by<R: Threads + Wait + Sync>(
     Some((all_said(&one.replies), all_said(&other.replies)))
 }
 
-/// That of a new store.
+/// The same of a new store.
 fn answers_of_two<R: Threads + Wait + Sync>(rt: &R, alloc: Global) -> Option<(Replies, Replies)> {
     let store = PlanStore::new(alloc).ok()?;
     answers_by(rt, alloc, &store)

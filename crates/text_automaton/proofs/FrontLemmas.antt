@@ -30,7 +30,7 @@ begins_whole [] (c ∷ r) p q = absurd (omega (arith, q))
 begins_whole (b ∷ w) [] p q = elim p [ ]
 begins_whole (b ∷ w) (c ∷ r) p q = ap (λ x. x ∷ w) p.0 ∙ ap (λ x. c ∷ x) (begins_whole w r p.1 (omega (arith, q)))
 
--- the longest path behind a byte more is found from the longest one before it
+-- the longest path after one more byte is found from the longest path before it
 pub leads_on : (t : Tables) (b : ℕ) (r s to : List ℕ) → Leads t r s → Leads t (b ∷ s) to → Leads t (b ∷ r) to
 leads_on t b r s to old new = record {
   path = new.path;
@@ -58,7 +58,7 @@ state_small t (b ∷ s) sized p =
     let before = state_small t s sized p.0 in
     sized.stepped (CLASSES * state_of t s + slice_index t.classes b) (omega (arith, before, p.1.class, sized.rows))
 
--- the first state is that of the empty path alone
+-- the first state belongs to the empty path alone
 pub state_zero : (t : Tables) (s : List ℕ) → IsPath t s → state_of t s ≡ 0 → s ≡ []
 state_zero t [] p none = refl
 state_zero t (b ∷ s) p none = absurd (omega (arith, p.2.1, none))
@@ -75,7 +75,7 @@ one_path t (b ∷ s) (c ∷ w) p q same =
 
 module _ (t : Tables) (sized : AreSized t) (steps : (state class : ℕ) → state < count_of t → class < CLASSES → IsStep t state class)
     (fails : (state : ℕ) → 0 < state → state < count_of t → IsFail t state) where
-  -- where a byte leads from a path: to the longest one behind it
+  -- where a byte leads from a path: to the longest path after it
   abbrev Goes : List ℕ → ℕ → Type 0
   Goes s b = (to : List ℕ) × (state_of t to ≡ step t (state_of t s) (slice_index t.classes b)) × Leads t (b ∷ s) to
 
@@ -83,7 +83,7 @@ module _ (t : Tables) (sized : AreSized t) (steps : (state class : ℕ) → stat
   abbrev Falls : List ℕ → Type 0
   Falls s = (f : List ℕ) × (state_of t f ≡ slice_index t.fails.items (state_of t s)) × IsNextShorter t s f
 
-  -- no longer path is behind the byte
+  -- no longer path follows the byte
   apart : (s : List ℕ) (b : ℕ) (c : ℕ) (w : List ℕ) → (IsChild t (state_of t s) (slice_index t.classes b) (step t (state_of t s) (slice_index t.classes b)) → ⊥)
       → IsPath t (c ∷ w) → c ≡ b → Begins w s → length s ≤ length w → ⊥
   apart s b c w not path same ends long =
@@ -159,7 +159,7 @@ module _ (t : Tables) (sized : AreSized t) (steps : (state class : ℕ) → stat
       further [] path ends short = tt
       further (c ∷ w) path ends short = leads.longest (c ∷ w) path (ends.0, falls.longest w path.0 ends.1 (omega (arith, short)))
 
-  -- the next shorter path, if that of the path before the last byte is known, and where the byte leads from it
+  -- the next shorter path, given the one for the path before the last byte, and where the byte leads from it
   falls : (x : ℕ) (s : List ℕ) → IsPath t (x ∷ s) → (0 < length s → (down : Falls s) × Goes down.0 x) → Falls (x ∷ s)
   falls x s path before =
       let child = path.2 in
@@ -185,7 +185,7 @@ module _ (t : Tables) (sized : AreSized t) (steps : (state class : ℕ) → stat
       empty [] none some = omega (arith, some)
       empty (b ∷ s) none some = omega (arith, none)
 
-  -- both, of paths of at most so many bytes
+  -- both, for paths of bounded length
   abbrev Known : ℕ → Type 0
   Known n = ((s : List ℕ) (b : ℕ) → length s ≤ n → IsPath t s → IsKnown t b → Goes s b) × ((s : List ℕ) → length s ≤ n → 0 < length s → IsPath t s → Falls s)
 

@@ -22,7 +22,7 @@ read_on t text longest place at next state to old here there led known = record 
   known = known;
 }
 
--- a state is that of a place, however the place is told
+-- a state belongs to a position, however the position is written
 pub read_there : (t : Tables) (text : List ℕ) (longest place other state : ℕ) → place ≡ other → IsRead t text longest place state → IsRead t text longest other state
 read_there t text longest place other state same old = subst (λ p. IsRead t text longest p state) same old
 
@@ -37,7 +37,7 @@ set_more P D xs at value room old new k which = elim (cases_eq k at) [
   ]
 ]
 
--- a place is one of the first so many of one of four lanes of so many places each
+-- a position lies in the finished part of one of four lanes of equal length
 abbrev pub AreDone : ℕ → ℕ → ℕ → Type 0
 AreDone lane count k = ((k < count) ⊎ ((lane ≤ k) × (k < lane + count))) ⊎ (((2 * lane ≤ k) × (k < 2 * lane + count)) ⊎ ((3 * lane ≤ k) × (k < 3 * lane + count)))
 

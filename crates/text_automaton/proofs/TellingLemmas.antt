@@ -1,15 +1,15 @@
--- What the states of right tables tell: the literals that end at a place of a text.
+-- The outputs of right tables: the literals that end at a position of a text.
 use Rattle.std.proofs.Common.{◌≡◌, ℕ, zero, suc, ◌+◌, ◌-◌, ◌<◌, ◌≤◌, ◌⊎◌, ◌++◌, List, [], ◌∷◌, Contains, Bool, true, All, inl, inr, length, get_or, slice_index, slice_range, drop, refl, sym, ap, ◌∙◌, subst, arith}
 use Rattle.std.proofs.lemmas.Bool.{cases_lt}
 use Rattle.std.proofs.lemmas.List.{ext_get_or, get_or-drop, get_or-map, get_or-take, length-drop, length-map, length-take}
-use Rattle.std.proofs.lemmas.List.Elements.{Contains-append_left, Contains-push, Contains-push_cases}
+use Rattle.std.proofs.lemmas.List.Elements.{Contains-append_left, Contains-get_or, Contains-push, Contains-push_cases}
 use Rattle.std.proofs.lemmas.Option.{get_or_from_slice_get, slice_get-get_or, slice_get_within}
 use Rattle.lit_base.specs.Chains.{literal_at}
 use Rattle.lit_base.specs.Folding.{folded, folded_text}
 use Rattle.lit_base.specs.Literals.{Literals}
 use Rattle.lit_base.specs.Occurrences.{HasEnd, Occurs}
 use Rattle.lit_base.specs.declared.fold.Fold.{Fold}
-use Rattle.text_automaton.specs.Automata.{AreEnding, IsReading, IsStateAt, Telling, place_of}
+use Rattle.text_automaton.specs.Automata.{AreEnding, IsReading, IsStateAt, Telling, place_of, told_by}
 use Rattle.text_automaton.specs.declared.reading.Reading.{Reading}
 use Rattle.text_automaton.specs.Fronts.{Begins, IsNextShorter, IsPath, IsRead, Leads, read_of, state_behind}
 use Rattle.text_automaton.specs.Stages.{is_made}
@@ -34,7 +34,7 @@ module _ (t : Tables) (l : Literals) (right : AreRight t l) where
         own = λ some. ap (slice_index t.bytes) (sym is.1) ∙ is.2 (subst (λ k. 0 < k) (sym is.1) some);
       }
 
-  -- what was read leads to the state of the longest front that ends there
+  -- the bytes read lead to the state of the longest front that ends there
   pub read_leads : (text : List ℕ) → ((i : ℕ) → slice_index text i < 256) → (from count : ℕ)
       → (s : List ℕ) × (state_of t s ≡ state_behind t text from count) × Leads t (read_of l.folding text from count) s
   read_leads text small from zero = ([], refl, leads_none t)
@@ -62,7 +62,7 @@ module _ (t : Tables) (l : Literals) (right : AreRight t l) where
   whole_path : (place : ℕ) → place < length l.texts → IsPath t (whole place)
   whole_path place within = literal_path place within (length (literal_at l place)) (omega arith)
 
-  -- what the state of a path tells, if that of the next shorter one is known: each way
+  -- the output of a path's state, given the output of the next shorter path: each direction
   abbrev Tells : List ℕ → Type 0
   Tells s = (place : ℕ) → (Contains (told_at t (state_of t s)) place → (place < length l.texts) × Begins (whole place) s)
       × (place < length l.texts → Begins (whole place) s → Contains (told_at t (state_of t s)) place)
@@ -119,7 +119,7 @@ module _ (t : Tables) (l : Literals) (right : AreRight t l) where
               )
         ]
 
-    -- each path of at most so many bytes tells the literals that end it
+    -- each path of bounded length has as output the literals that end it
     tells_all : (n : ℕ) (s : List ℕ) → length s ≤ n → IsPath t s → Tells s
     tells_all n [] short path = tells_none
     tells_all zero (b ∷ s) short path = absurd (omega (arith, short))
@@ -127,11 +127,11 @@ module _ (t : Tables) (l : Literals) (right : AreRight t l) where
         let down = falls_to t right.sized right.steps right.fails (b ∷ s) (omega arith) path in
         tells_more (b ∷ s) down.0 (omega arith) path down.1 down.2 path.2.1 (tells_all n down.0 (omega (arith, short, down.2.shorter)) down.2.path)
 
-    -- the state of a path tells the literals that end it
+    -- the output of a path's state is the literals that end it
     pub tells : (s : List ℕ) → IsPath t s → Tells s
     tells s path = tells_all (length s) s (omega arith) path
 
--- what some last bytes of what was read are
+-- the last bytes that were read, from a front that ends them
 bytes_of_begins : (fold : Fold) (literal text : List ℕ) (from : ℕ) (len count : ℕ) → Begins (front_of literal len) (read_of fold text from count)
     → (len ≤ count) × ((i : ℕ) → i < len → slice_index literal i ≡ folded fold (slice_index text (from + (count - len) + i)))
 bytes_of_begins fold literal text from zero count begins = (omega arith, λ i low. absurd (omega (arith, low)))
@@ -172,7 +172,7 @@ folded_at fold text low high i inside within =
 folded_length : (fold : Fold) (text : List ℕ) (low high : ℕ) → low ≤ high → high ≤ length text → length (folded_text fold (slice_range text low high)) ≡ high - low
 folded_length fold text low high ordered inside = omega (arith, ordered, inside, length-map (slice_range text low high) (folded fold), length-take (high - low) (drop low text), length-drop low text)
 
--- the literals that end what was read are those that end at the place, if it was read from far enough before it
+-- the literals that end the bytes read are those that end at the position, if reading began far enough before it
 ends_of_begins : (l : Literals) (text : List ℕ) (from count place end : ℕ) → from + count ≡ end → end ≤ length text → place < length l.texts
     → Begins (front_of (literal_at l place) (length (literal_at l place))) (read_of l.folding text from count) → Occurs l text place end
 ends_of_begins l text from count place end here inside within begins =
@@ -210,7 +210,7 @@ begins_of_ends l text from count place end here front o =
     sym (ap (λ xs. get_or xs i 0) whole) ∙ folded_at l.folding text (end - len) end i o.ends (omega (arith, low, o.begins, lens))
     ∙ ap (λ p. folded l.folding (slice_index text p)) same)
 
--- the state of a place tells the literals that end there
+-- the output of a position's state is the literals that end there
 pub telling_there : (t : Tables) (l : Literals) (text : List ℕ) (longest end to : ℕ) → AreRight t l → All (λ x. 0 < length x) l.texts → ((place : ℕ) → place < length l.texts → length (literal_at l place) ≤ longest)
     → ((i : ℕ) → slice_index text i < 256) → end ≤ length text → IsRead t text longest end to → AreEnding l text end (told_at t to)
 telling_there t l text longest end to right nonempty fits small inside is =
@@ -235,7 +235,7 @@ telling_there t l text longest end to right nonempty fits small inside is =
       );
     }
 
--- it is the state of the place for whoever sees of the tables what states tell
+-- it is the state of the position, where only the outputs of the tables are seen
 pub state_there : (t : Tables) (l : Literals) (text : List ℕ) (longest end to : ℕ) (made : Bool) → AreRight t l → All (λ x. 0 < length x) l.texts → ((place : ℕ) → place < length l.texts → length (literal_at l place) ≤ longest)
     → ((i : ℕ) → slice_index text i < 256) → end ≤ length text → IsRead t text longest end to
     → IsStateAt (record { literals = l; told = t.told.items; lows = t.lows.items; highs = t.highs.items; quiet = t.quiet; is_made = made }) text end to
@@ -271,3 +271,7 @@ none_further a text r from at reading within none quiet end after low = elim (ca
       (no_end a text (r.start + k + 1) (slice_index r.states k) (reading.states k (omega (arith, low, further, within))) (quiet k (omega (arith, further)) (omega (arith, low, further))))
   | inr not ↦ none end after not
 ]
+
+-- where a state tells some literals, one ends there
+pub ends_where_told : (a : Telling) (text : List ℕ) (end state : ℕ) → IsStateAt a text end state → 0 < length (told_by a state) → HasEnd a.literals text end
+ends_where_told a text end state is some = (slice_index (told_by a state) 0, (is.ending.members (slice_index (told_by a state) 0)).0 (Contains-get_or (told_by a state) 0 0 some))

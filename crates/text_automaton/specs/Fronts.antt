@@ -1,5 +1,5 @@
--- Fronts of literals, and which one a text leads to. Fronts and texts stand with their last byte first here, so that what ends a text
--- begins it.
+-- Prefixes ("fronts") of literals, and which one a text leads to. Here prefixes and texts stand with their last byte
+-- first, so the end of a text begins it.
 use Rattle.std.specs.Prelude.{◌≡◌, ℕ, zero, suc, ◌+◌, ◌<◌, ◌≤◌, ◌⊎◌, List, [], ◌∷◌, ⊤, length, slice_index}
 use Rattle.lit_base.specs.Folding.{folded}
 use Rattle.lit_base.specs.declared.fold.Fold.{Fold}
@@ -12,25 +12,25 @@ Begins [] r = ⊤
 Begins (b ∷ w) [] = ⊥
 Begins (b ∷ w) (c ∷ r) = (b ≡ c) × Begins w r
 
--- each byte leads to a longer front
+-- each byte leads to a longer prefix
 abbrev pub IsPath : Tables → List ℕ → Type 0
 IsPath t [] = ⊤
 IsPath t (b ∷ s) = IsPath t s × IsKnown t b × IsChild t (state_of t s) (slice_index t.classes b) (step t (state_of t s) (slice_index t.classes b))
 
--- of the paths that end what was read this is the longest one
+-- the longest of the paths that end the bytes read
 pub record Leads (t : Tables) (r s : List ℕ) : Type 0 where
   pub path : IsPath t s
   pub ends : Begins s r
   pub longest : (w : List ℕ) → IsPath t w → Begins w r → Begins w s
 
--- of the shorter paths that end a path this is the longest one
+-- the longest of the shorter paths that end a path
 pub record IsNextShorter (t : Tables) (s f : List ℕ) : Type 0 where
   pub path : IsPath t f
   pub ends : Begins f s
   pub shorter : length f < length s
   pub longest : (w : List ℕ) → IsPath t w → Begins w s → length w < length s → Begins w f
 
--- the bytes of a text behind a place, so many, folded
+-- the `count` bytes of a text after `from`, folded
 abbrev pub read_of : Fold → List ℕ → ℕ → ℕ → List ℕ
 read_of fold text from zero = []
 read_of fold text from (suc count) = folded fold (slice_index text (from + count)) ∷ read_of fold text from count
@@ -40,7 +40,8 @@ abbrev pub state_behind : Tables → List ℕ → ℕ → ℕ → ℕ
 state_behind t text from zero = 0
 state_behind t text from (suc count) = step t (state_behind t text from count) (slice_index t.classes (slice_index text (from + count)))
 
--- a state is that of a place: the bytes before it lead there, from the front of the text on or from so far before it that literals of so many bytes are read whole
+-- a state belongs to a position: the bytes before it lead there, read from the start of the text on, or from far enough
+-- before it that literals of `longest` bytes are read whole
 pub record IsRead (t : Tables) (text : List ℕ) (longest place to : ℕ) : Type 0 where
   pub from : ℕ
   pub count : ℕ

@@ -1,4 +1,4 @@
--- When the tables of an automaton are right: what is checked of them, state by state.
+-- When the tables of an automaton are right: the conditions that are checked, state by state.
 use Rattle.std.specs.Prelude.{◌≡◌, ℕ, zero, suc, ◌+◌, ◌*◌, ◌<◌, ◌≤◌, ◌⊎◌, List, [], ◌∷◌, ◌++◌, length, slice_index, slice_range}
 use Rattle.std.specs.List.Sorted.{IsStrictlyIncreasing}
 use Rattle.lit_base.specs.Chains.{literal_at}
@@ -16,11 +16,11 @@ count_of t = length t.parents.items
 abbrev pub step : Tables → ℕ → ℕ → ℕ
 step t state class = slice_index t.rows.items (CLASSES * state + class)
 
--- the literals that a state tells
+-- the output of a state
 abbrev pub told_at : Tables → ℕ → List ℕ
 told_at t state = slice_range t.told.items (slice_index t.lows.items state) (slice_index t.highs.items state)
 
--- each state has a row and all else, and what stands there is a state, or a range of what is told
+-- each state has a row and all other entries; each entry is a state, or a range of the outputs
 pub record AreSized (t : Tables) : Type 0 where
   pub some : 0 < count_of t
   pub few : count_of t ≤ MOST_STATES
@@ -34,7 +34,7 @@ pub record AreSized (t : Tables) : Type 0 where
   pub known : (state : ℕ) → state < count_of t → (slice_index t.parents.items state < count_of t) × (slice_index t.fails.items state < count_of t)
       × (slice_index t.lows.items state ≤ slice_index t.highs.items state) × (slice_index t.highs.items state ≤ length t.told.items)
 
--- a byte has the class of the byte that it is folded to, and each class but 0 is that of one folded byte
+-- a byte has the class of its folded byte, and each class but 0 belongs to one folded byte
 abbrev pub AreClasses : Fold → List ℕ → List ℕ → Type 0
 AreClasses fold classes bytes = (byte : ℕ) → byte < 256 → (slice_index classes byte < CLASSES) × (slice_index classes byte ≡ slice_index classes (folded fold byte))
     × (0 < slice_index classes byte → slice_index bytes (slice_index classes byte) ≡ folded fold byte)
@@ -43,22 +43,24 @@ AreClasses fold classes bytes = (byte : ℕ) → byte < 256 → (slice_index cla
 abbrev pub HaveClasses : Tables → Type 0
 HaveClasses t = (byte : ℕ) → byte < 256 → slice_index t.classes byte < CLASSES
 
--- one state stands for the front of another with a byte of a class behind it
+-- `to` stands for the prefix of `state` with a byte of a class added
 abbrev pub IsChild : Tables → ℕ → ℕ → ℕ → Type 0
 IsChild t state class to = (0 < class) × (0 < to) × (slice_index t.parents.items to ≡ state) × (slice_index t.lasts.items to ≡ class)
 
--- a byte leads to the state of the longer front, or, where no front is longer by it, to where it leads from the next shorter one that ends here
+-- a byte leads to the state of the longer prefix; if no prefix is longer by it, it leads where it does from the failure
+-- link
 abbrev pub IsStep : Tables → ℕ → ℕ → Type 0
 IsStep t state class = IsChild t state class (step t state class) ⊎ ((¬ IsChild t state class (step t state class))
     × (((state ≡ 0) × (step t state class ≡ 0)) ⊎ ((0 < state) × (step t state class ≡ step t (slice_index t.fails.items state) class))))
 
--- the next shorter front that ends where a state's does is that to which the last byte leads from the next shorter one of the front before it
+-- the failure link of a state is where its last byte leads from the failure link of its parent
 abbrev pub IsFail : Tables → ℕ → Type 0
 IsFail t state = ((slice_index t.parents.items state ≡ 0) × (slice_index t.fails.items state ≡ 0))
     ⊎ ((0 < slice_index t.parents.items state)
     × (slice_index t.fails.items state ≡ step t (slice_index t.fails.items (slice_index t.parents.items state)) (slice_index t.lasts.items state)))
 
--- a state tells what the next shorter front tells, and the literal that it is, in order; whether it tells any its number says
+-- the output of a state is the output of its failure link and the literal that it spells, in order; the state's number
+-- says whether it has any
 pub record IsTelling (t : Tables) (count state : ℕ) : Type 0 where
   pub own : slice_index t.owns.items state < count → slice_index t.ends.items (slice_index t.owns.items state) ≡ state
   pub first : state ≡ 0 → told_at t state ≡ []
@@ -73,7 +75,7 @@ abbrev pub state_of : Tables → List ℕ → ℕ
 state_of t [] = 0
 state_of t (byte ∷ before) = step t (state_of t before) (slice_index t.classes byte)
 
--- so many first bytes of a text, the last one first
+-- the first `count` bytes of a text, last byte first
 abbrev pub front_of : List ℕ → ℕ → List ℕ
 front_of text zero = []
 front_of text (suc count) = slice_index text count ∷ front_of text count
@@ -87,7 +89,7 @@ pub record IsKnown (t : Tables) (byte : ℕ) : Type 0 where
 abbrev pub IsLonger : Tables → List ℕ → ℕ → Type 0
 IsLonger t before byte = IsKnown t byte × IsChild t (state_of t before) (slice_index t.classes byte) (state_of t (byte ∷ before))
 
--- a literal's fronts lead each to the next, and the longest one is its state
+-- a literal's prefixes lead each to the next, and the longest is its state
 pub record IsSpelled (t : Tables) (l : Literals) (place : ℕ) : Type 0 where
   pub fronts : (at : ℕ) → at < length (literal_at l place) → IsLonger t (front_of (literal_at l place) at) (slice_index (literal_at l place) at)
   pub end : state_of t (front_of (literal_at l place) (length (literal_at l place))) ≡ slice_index t.ends.items place

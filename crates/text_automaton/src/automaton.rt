@@ -2,7 +2,8 @@
 ghost use Rattle.std.specs.Prelude.{◌≡◌, ℕ, ◌+◌, ◌<◌, ◌≤◌, IfOk, IfSome, MatchOption, false, length, true};
 ghost use Rattle.std.specs.Option.{IfNone};
 ghost use Rattle.lit_base.specs.Chains.{literal_at};
-ghost use Rattle.text_automaton.specs.Automata.{IsNextTold, IsReading, NoneBehind, place_of, room_of, told_by};
+ghost use Rattle.lit_base.specs.NextEnds.{NoEndAfter};
+ghost use Rattle.text_automaton.specs.Automata.{IsNextTold, IsReading, place_of, room_of, told_by};
 
 use crate::reading::Reading;
 use crate::tables::{MOST_STATES, Tables};
@@ -11,25 +12,26 @@ use lit_base::LitList;
 use std::alloc::{AllocError, Global};
 use std::marker::Model;
 
-/// How far an automaton has come.
+/// How far an automaton's tables have come.
 #[derive(Clone, Copy, Debug)]
 pub(crate) enum Stage {
-    /// Nobody asked for it yet.
+    /// The tables were not requested yet.
     Unmade,
-    /// Its tables were asked for, and none were right: the list has too many fronts or bytes for them, or its states tell too much.
+    /// The tables were requested, and refused: the list has too many prefixes, bytes or outputs for them.
     Refused,
     /// Its tables were made, and are right.
     Made,
 }
 
-/// The automaton of Aho and Corasick over a list: it goes from state to state by the bytes of a text, and the state of a place tells
-/// which literals end there. All memory is taken when it is new, but its tables are made when it first learns: a search that never
-/// needs it need not write them. They are made by whatever means, and checked: those that pass tell all ends, and no others.
+/// The Aho-Corasick automaton of a list. It steps from state to state by the bytes of a text; the output of the state
+/// at a position is the literals that end there. `new` takes all memory, but only `learn` builds the tables: a search
+/// that never needs them does not write them. Building is not proved; tables that pass the check give all ends, and no
+/// others.
 #[derive(Debug, Drop)]
 pub struct Automaton<'p> {
     list: &'p LitList,
     tables: Tables,
-    /// For how many states the tables have room.
+    /// The number of states that the tables have room for.
     room: usize,
     stage: Stage,
 }
@@ -56,7 +58,8 @@ impl<'p> Model for Automaton<'p> {
 }
 
 impl<'p> Automaton<'p> {
-    /// That of a list, by which nothing is read before it has learned.
+    /// The automaton of a list, with memory but without tables: it reads nothing before `learn`. `Err` if memory is
+    /// short.
     pub fn new(alloc: Global, list: &'p LitList) -> Result<Automaton<'p>, AllocError>
         ensures { IfOk result (λ made. made.literals ≡ list.now) }
     {
@@ -69,15 +72,15 @@ impl<'p> Automaton<'p> {
         })
     }
 
-    /// How many states it has room for: one for each byte of the literals and one more, unless these are too many.
+    /// The number of states that it has room for: one for each byte of the literals and one more, at most
+    /// `MOST_STATES`.
     pub fn room(&self) -> usize
         ensures { result ≡ room_of self.now.literals }
     {
         self.room
     }
 
-    /// Makes the tables, unless they are made or cannot be. The answer is whether texts can be read by them. Tables that could not be made
-    /// are not tried again.
+    /// Builds the tables, unless they were built or refused before. Returns whether texts can be read by them.
     pub fn learn(&mut self) -> bool
         ensures literals { self.new.literals ≡ self.old.literals }
         ensures made { result ≡ self.new.is_made }
@@ -99,7 +102,7 @@ impl<'p> Automaton<'p> {
         }
     }
 
-    /// A text that is read behind a place, if the tables are made: nothing of it is read yet.
+    /// A reading of the text after position `from`, with nothing read yet, or `None` if the tables are not made.
     pub fn reading_behind(&self, text: &[u8], from: usize) -> Option<Reading>
         requires { from ≤ length text.now }
         ensures some { IfSome result (λ reading. IsReading self.now text.now reading × (place_of reading ≡ from)) }
@@ -111,15 +114,16 @@ impl<'p> Automaton<'p> {
         }
     }
 
-    /// The first place behind what was read at which some literal ends, with the state there, if there is one: then it is read up to
-    /// that place. It takes no memory.
+    /// The next position at which some literal ends, with its state; the reading moves there. `None` if no literal ends
+    /// after the position of the reading. It takes no memory.
     #[inline]
     pub fn next_end(&self, text: &[u8], reading: &mut Reading) -> Option<(usize, usize)>
         requires { IsReading self.now text.now reading.old }
         ensures next { MatchOption result
-            (NoneBehind self.now.literals text.now (place_of reading.old))
+            (NoEndAfter self.now.literals text.now (place_of reading.old))
             (IsNextTold self.now text.now (place_of reading.old)) }
-        ensures reading { IfSome result (λ found. IsReading self.now text.now reading.new × (place_of reading.new ≡ found.0)) }
+        ensures reading { IsReading self.now text.now reading.new }
+        ensures place { IfSome result (λ found. place_of reading.new ≡ found.0) }
     {
         'reads: loop {
             let at = first_telling(
@@ -139,7 +143,7 @@ impl<'p> Automaton<'p> {
         }
     }
 
-    /// Reads the states of the places behind those that are known, which were all passed.
+    /// Reads the next states, after all known states are passed.
     #[inline(never)]
     fn read_on(&self, text: &[u8], reading: &mut Reading)
         requires reading { IsReading self.now text.now reading.old }
@@ -160,7 +164,7 @@ impl<'p> Automaton<'p> {
         reading.next = 0;
     }
 
-    /// The literals that a state of a place tells, in order.
+    /// The output of a state of a position: its literals, in order.
     #[inline(always)]
     pub fn told_by(&self, state: usize) -> &[u16]
         requires made { self.now.is_made ≡ true }
@@ -171,7 +175,7 @@ impl<'p> Automaton<'p> {
     }
 }
 
-/// For how many states there is to be room: one for each byte of the literals and one more, unless these are too many.
+/// The number of states to take room for: one for each byte of the literals and one more, at most `MOST_STATES`.
 fn room_for(list: &LitList) -> usize
     ensures { result ≡ room_of list.now }
 {
@@ -182,7 +186,7 @@ fn room_for(list: &LitList) -> usize
     room
 }
 
-/// The length of the longest literal, or none where there is none.
+/// The length of the longest literal, or 0 if there is none.
 fn longest_of(list: &LitList) -> usize
     ensures { (place : ℕ) → place < length list.now.texts → length (literal_at list.now place) ≤ result }
 {

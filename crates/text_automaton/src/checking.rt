@@ -1,4 +1,4 @@
-//! Whether tables are right. However they were made, those that pass tell all ends, and no others.
+//! Whether tables are right. However they were built, tables that pass give all ends, and no others.
 ghost use Rattle.std.specs.Prelude.{◌≡◌, ◌↔◌, ◌⊎◌, ◌++◌, ◌∷◌, [], ℕ, ◌*◌, ◌<◌, ◌≤◌, IsTrue, length, slice_index, slice_range, true};
 ghost use Rattle.std.specs.List.Sorted.{IsStrictlyIncreasing};
 ghost use Rattle.lit_base.specs.Chains.{literal_at};
@@ -9,7 +9,7 @@ use crate::tables::{CLASSES, MOST_STATES, Tables};
 use lit_base::{Fold, LitList, fold_byte};
 
 impl Tables {
-    /// Makes the tables of a list. The answer is whether they are right.
+    /// Builds the tables of a list. Returns whether they are right.
     pub fn make_right(&mut self, list: &LitList) -> bool
         ensures { IsTrue result → AreRight self.new list.now }
     {
@@ -19,7 +19,7 @@ impl Tables {
         self.are_right(list)
     }
 
-    /// Whether the tables are those of a list.
+    /// Whether the tables are right for a list.
     pub fn are_right(&self, list: &LitList) -> bool
         ensures { IsTrue result → AreRight self.now list.now }
     {
@@ -35,7 +35,7 @@ impl Tables {
         self.are_spelled(list)
     }
 
-    /// Whether each state has all that it is to have.
+    /// Whether each state has all its entries, and each entry is in range.
     fn are_sized(&self) -> bool
         ensures { IsTrue result → AreSized self.now }
     {
@@ -43,7 +43,7 @@ impl Tables {
         self.are_as_many(count) && self.are_stepped(count) && self.are_known(count)
     }
 
-    /// Whether there are as many of all.
+    /// Whether all vectors have entries for `count` states, a number in range.
     fn are_as_many(&self, count: usize) -> bool
         ensures some { IsTrue result → 0 < count }
         ensures few { IsTrue result → count ≤ MOST_STATES }
@@ -65,7 +65,7 @@ impl Tables {
             && self.highs.len() == count
     }
 
-    /// Whether each byte leads to one of so many states.
+    /// Whether each byte leads to one of `count` states.
     fn are_stepped(&self, count: usize) -> bool
         ensures { IsTrue result → (i : ℕ) → i < length self.now.rows.items → slice_index self.now.rows.items i < count }
     {
@@ -77,7 +77,7 @@ impl Tables {
         true
     }
 
-    /// Whether each of so many states has a parent and a shorter one among them, and a range of what is told.
+    /// Whether each of `count` states has a parent and a failure link among them, and a range of the outputs.
     fn are_known(&self, count: usize) -> bool
         requires count { count ≡ length self.now.parents.items }
         requires fails { length self.now.fails.items ≡ count }
@@ -99,7 +99,7 @@ impl Tables {
         true
     }
 
-    /// Whether each byte has the class of what it is folded to, and each class one folded byte.
+    /// Whether each byte has the class of its folded byte, and each class but 0 has one folded byte.
     fn are_classes(&self, fold: Fold) -> bool
         ensures { IsTrue result → AreClasses fold self.now.classes self.now.bytes }
     {
@@ -111,7 +111,7 @@ impl Tables {
         true
     }
 
-    /// Whether that is so of one byte.
+    /// The same for one byte.
     fn is_class(&self, fold: Fold, byte: usize) -> bool
         requires { byte < 256 }
         ensures small { IsTrue result → slice_index self.now.classes byte < CLASSES }
@@ -125,7 +125,7 @@ impl Tables {
             && (class == 0 || self.bytes[class] == folded)
     }
 
-    /// Whether a state stands for the front of another one with a byte of a class behind it.
+    /// Whether `to` stands for the prefix of a state with a byte of a class added.
     #[inline]
     fn is_child(&self, state: usize, class: usize, to: usize) -> bool
         requires sized { AreSized self.now }
@@ -138,7 +138,7 @@ impl Tables {
             && self.lasts[to] as usize == class
     }
 
-    /// Whether each byte leads from each state where it is to lead.
+    /// Whether each byte leads from each state where it should.
     fn are_steps(&self) -> bool
         requires { AreSized self.now }
         ensures { IsTrue result → (state class : ℕ) → state < length self.now.parents.items → class < CLASSES → IsStep self.now state class }
@@ -151,7 +151,7 @@ impl Tables {
         true
     }
 
-    /// Whether that is so of one state.
+    /// The same for one state.
     fn is_row(&self, state: usize) -> bool
         requires sized { AreSized self.now }
         requires state { state < length self.now.parents.items }
@@ -165,7 +165,7 @@ impl Tables {
         true
     }
 
-    /// Whether that is so of one state and one class of bytes.
+    /// The same for one state and one class of bytes.
     #[inline]
     fn is_step(&self, state: usize, class: usize) -> bool
         requires sized { AreSized self.now }
@@ -183,7 +183,7 @@ impl Tables {
         to == self.step(self.fail(state), class)
     }
 
-    /// The state of the longest other front with which that of a state ends.
+    /// The failure link of a state: the state of the longest other prefix with which its own prefix ends.
     #[inline]
     fn fail(&self, state: usize) -> usize
         requires sized { AreSized self.now }
@@ -194,7 +194,7 @@ impl Tables {
         self.fails[state] as usize
     }
 
-    /// Whether the shorter one of each state is right.
+    /// Whether the failure link of each state is right.
     fn are_fails(&self) -> bool
         requires { AreSized self.now }
         ensures { IsTrue result → (state : ℕ) → 0 < state → state < length self.now.parents.items → IsFail self.now state }
@@ -207,7 +207,7 @@ impl Tables {
         true
     }
 
-    /// Whether that of one state is.
+    /// The same for one state.
     fn is_fail(&self, state: usize) -> bool
         requires sized { AreSized self.now }
         requires state { state < length self.now.parents.items }
@@ -221,7 +221,7 @@ impl Tables {
         class < CLASSES && self.fail(state) == self.step(self.fail(parent), class)
     }
 
-    /// The state of the front but for its last byte.
+    /// The parent of a state: the state of its prefix without the last byte.
     #[inline]
     fn parent(&self, state: usize) -> usize
         requires sized { AreSized self.now }
@@ -232,7 +232,7 @@ impl Tables {
         self.parents[state] as usize
     }
 
-    /// The literals that a state tells.
+    /// The output of a state: its literals.
     #[inline(always)]
     pub fn told_at(&self, state: usize) -> &[u16]
         requires sized { AreSized self.now }
@@ -242,7 +242,7 @@ impl Tables {
         &self.told[self.lows[state] as usize..self.highs[state] as usize]
     }
 
-    /// Whether each state tells the literals that it is to tell, of so many.
+    /// Whether each state has the right output, for a list of `count` literals.
     fn are_telling(&self, count: usize) -> bool
         requires { AreSized self.now }
         ensures { IsTrue result → (state : ℕ) → state < length self.now.parents.items → IsTelling self.now count state }
@@ -255,7 +255,7 @@ impl Tables {
         true
     }
 
-    /// Whether one state does.
+    /// The same for one state.
     fn is_telling(&self, count: usize, state: usize) -> bool
         requires sized { AreSized self.now }
         requires state { state < length self.now.parents.items }
@@ -268,7 +268,7 @@ impl Tables {
             && (state < self.quiet) == told.is_empty()
     }
 
-    /// Whether the literal that a state is said to be, if it is one, has that state.
+    /// Whether the literal that a state spells, if there is one, has this state.
     fn is_own(&self, count: usize, state: usize) -> bool
         requires sized { AreSized self.now }
         requires state { state < length self.now.parents.items }
@@ -278,7 +278,7 @@ impl Tables {
         own >= count || own < self.ends.len() && self.ends[own] as usize == state
     }
 
-    /// The literal that a state is, or a number that stands for none.
+    /// The literal that a state spells, or a number that stands for none.
     fn own(&self, state: usize) -> usize
         requires sized { AreSized self.now }
         requires state { state < length self.now.parents.items }
@@ -287,7 +287,7 @@ impl Tables {
         self.owns[state] as usize
     }
 
-    /// Whether what a state tells is what the shorter one tells, and the literal that it is, if it is one.
+    /// Whether the output of a state is the output of its failure link and the literal that it spells, if there is one.
     fn adds_own(&self, count: usize, state: usize, told: &[u16]) -> bool
         requires sized { AreSized self.now }
         requires state { state < length self.now.parents.items }
@@ -322,7 +322,7 @@ impl Tables {
         true
     }
 
-    /// Whether one literal is.
+    /// The same for one literal.
     fn is_spelled(&self, list: &LitList, place: usize) -> bool
         requires sized { AreSized self.now }
         requires classes { AreClasses list.now.folding self.now.classes self.now.bytes }
@@ -346,7 +346,7 @@ impl Tables {
     }
 }
 
-/// Whether a list of literals is another one with one more at its end.
+/// Whether a list of literals is another list with one more at its end.
 fn is_with(told: &[u16], others: &[u16], own: usize) -> bool
     ensures { IsTrue result → told.now ≡ others.now ++ own ∷ [] }
 {

@@ -1,4 +1,4 @@
-//! An automaton over the literals of a list, as Aho and Corasick have it: it tells at each place of a text which literals end there.
+//! The Aho-Corasick automaton of a list: it gives, at each position of a text, the literals that end there.
 #![tactic(auto)]
 
 mod automaton;

@@ -5,7 +5,8 @@ use crate::tables::{CLASSES, MOST_STATES, MOST_TOLD, NONE, Tables};
 use lit_base::{LitList, MAX_LITERALS, fold_byte};
 
 impl Tables {
-    /// Makes the tables of a list, if it has no more than `MOST_STATES` fronts, `CLASSES - 1` bytes and `MOST_TOLD` literals told by all states.
+    /// Builds the tables of a list. `None` if it has more than `MOST_STATES` prefixes, `CLASSES - 1` bytes or
+    /// `MOST_TOLD` outputs over all states.
     pub fn make(&mut self, list: &LitList) -> Option<()> {
         self.begin(list);
         self.class_bytes(list)?;
@@ -15,7 +16,7 @@ impl Tables {
         Some(())
     }
 
-    /// Leaves the first state alone, which stands for the empty front.
+    /// Keeps only the first state, which stands for the empty prefix.
     fn begin(&mut self, list: &LitList) {
         self.rows.clear();
         self.parents.clear();
@@ -81,7 +82,7 @@ impl Tables {
         Some(state as u16)
     }
 
-    /// Adds the states of all fronts, the shorter ones first.
+    /// Adds the states of all prefixes, by increasing length.
     fn grow(&mut self, list: &LitList) -> Option<()> {
         let mut current = [0u16; MAX_LITERALS];
         let mut first = 0;
@@ -97,7 +98,7 @@ impl Tables {
         None
     }
 
-    /// Each byte leads from some states where it leads from the next shorter one, as long as no front is longer by it.
+    /// Each byte leads from these states where it leads from their failure links, until a longer prefix is added.
     fn take_over(&mut self, first: usize, last: usize) {
         for state in first.max(1)..last {
             let from = CLASSES * usize::from(self.fail_at(state));
@@ -108,7 +109,7 @@ impl Tables {
         }
     }
 
-    /// Adds the states of the fronts that are longer by a byte than so many, `last` being the first of them.
+    /// Adds the states of the prefixes with one byte more than `len`; `last` is the first of them.
     fn lengthen(
         &mut self,
         list: &LitList,
@@ -134,7 +135,7 @@ impl Tables {
         Some(())
     }
 
-    /// The state of a front with a byte behind it, which is added unless it is one from `last` on.
+    /// The state of a prefix with a byte added; a new state, unless there is one from `last` on.
     fn longer(&mut self, state: u16, byte: u8, last: usize) -> Option<u16> {
         let class = self.classes[usize::from(byte)];
         let slot = CLASSES * usize::from(state) + usize::from(class);
@@ -147,7 +148,7 @@ impl Tables {
         Some(longer)
     }
 
-    /// Lists what each state tells: what the next shorter one does, and the literal that it is.
+    /// Lists the output of each state: the output of its failure link, and the literal that it spells.
     fn tell(&mut self) -> Option<()> {
         self.lows.clear();
         self.highs.clear();
@@ -168,7 +169,7 @@ impl Tables {
         Some(())
     }
 
-    /// One literal more is told.
+    /// Adds a literal to the outputs.
     fn tell_one(&mut self, literal: u16) -> Option<()> {
         if self.told.len() >= MOST_TOLD {
             return None;
@@ -181,28 +182,28 @@ impl Tables {
         at(&self.rows, slot)
     }
 
-    /// The state of the next shorter front.
+    /// The failure link of a state.
     fn fail_at(&self, state: usize) -> u16 {
         at(&self.fails, state)
     }
 
-    /// The literal that a state is, or `NONE`.
+    /// The literal that a state spells, or `NONE`.
     fn own_at(&self, state: usize) -> u16 {
         at(&self.owns, state)
     }
 
-    /// The literal at a place among those told.
+    /// The literal at a place of the outputs.
     fn literal_at(&self, place: usize) -> u16 {
         at(&self.told, place)
     }
 
-    /// Where the literals that a state tells begin among those told, and where they end.
+    /// Where the output of a state begins in `told`, and where it ends.
     fn range_at(&self, state: usize) -> (usize, usize) {
         let (low, high) = (at(&self.lows, state), at(&self.highs, state));
         (usize::from(low), usize::from(high))
     }
 
-    /// Parts the states that tell no end from those that do, behind them.
+    /// Moves the states with output after the states without.
     fn part(&mut self) {
         let mut names = [0u16; MOST_STATES];
         for state in 0..MOST_STATES {
@@ -230,7 +231,7 @@ impl Tables {
         rename(&mut self.ends, &names);
     }
 
-    /// Whether a state tells no end.
+    /// Whether a state has no output.
     fn is_quiet(&self, state: usize) -> bool {
         let (low, high) = self.range_at(state);
         low == high

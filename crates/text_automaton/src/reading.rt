@@ -1,31 +1,31 @@
-//! Reading a text: the state of each place.
+//! Reading a text: the state at each position.
 ghost use Rattle.std.specs.Prelude.{◌≡◌, ℕ, ◌+◌, ◌-◌, ◌*◌, ◌<◌, ◌≤◌, length, min, slice_index};
 ghost use Rattle.text_automaton.specs.Fronts.{IsRead};
 ghost use Rattle.text_automaton.specs.Tables.{AreSized, HaveClasses, step};
 
 use crate::tables::Tables;
 
-/// Places are read in so many lanes, one behind the other: a byte leads on from the state before it, which has to be there first, and
-/// meanwhile the other lanes go on. In C, on four texts, one lane took 2.4 to 2.8 ns a byte, two took 1.6 and four 0.9.
+/// The number of lanes, one after the other in the text. A step has to wait for the state before it; meanwhile the
+/// other lanes advance. Measured in C: 2.4 to 2.8 ns a byte with one lane, 1.6 with two, 0.9 with four.
 const LANES: usize = 4;
 
-/// So many places are read at once, if the text has them.
+/// The number of positions read at once, if the text has as many.
 pub(crate) const BLOCK: usize = 4096;
 
-/// The states of some places of a text, and how far they were looked at.
+/// The states of some positions of a text, and how many of them are passed.
 #[derive(Debug, Drop)]
 pub struct Reading {
     pub(crate) states: [u16; BLOCK],
-    /// The place before the first of them.
+    /// The position before the first of them.
     pub(crate) start: usize,
     /// How many there are.
     pub(crate) count: usize,
-    /// How many of these were passed.
+    /// How many of them are passed.
     pub(crate) next: usize,
 }
 
 impl Reading {
-    /// A text of which nothing is read yet, to be read behind a place.
+    /// A reading of a text after a position, with nothing read yet.
     pub(crate) fn behind(from: usize) -> Reading
         ensures start { result.start ≡ from }
         ensures count { result.count ≡ 0 }
@@ -41,7 +41,7 @@ impl Reading {
 }
 
 impl Tables {
-    /// The state to which a byte leads from one.
+    /// The state to which a byte leads from a state.
     #[inline(always)]
     fn next_state(&self, state: usize, byte: u8) -> usize
         requires sized { AreSized self.now }
@@ -53,7 +53,7 @@ impl Tables {
         self.step(state, usize::from(self.classes[usize::from(byte)]))
     }
 
-    /// The state of a place, for literals of at most so many bytes.
+    /// The state of a position, for literals of at most `longest` bytes.
     #[inline]
     fn state_at(&self, text: &[u8], longest: usize, place: usize) -> usize
         requires sized { AreSized self.now }
@@ -69,7 +69,7 @@ impl Tables {
         state
     }
 
-    /// The states of the places behind one, as many as are read at once or the text has. The answer is how many these are.
+    /// The states of the positions after `start`, up to a block or the end of the text. Returns their number.
     pub fn read_behind(
         &self,
         text: &[u8],
@@ -85,7 +85,7 @@ impl Tables {
     {
         let count = (text.len() - start).min(BLOCK);
         let lane = count / LANES;
-        // Each lane goes over the bytes of a longest literal first.
+        // Each lane first reads as many bytes as the longest literal has.
         if lane <= longest {
             self.read_rest(text, longest, start, 0, count, states);
             return count;
@@ -95,7 +95,7 @@ impl Tables {
         count
     }
 
-    /// The states of the places behind one from a number on, where those before are known, one after the other.
+    /// The states of the positions after `start`, one after the other, where the first states are known.
     fn read_rest(
         &self,
         text: &[u8],
@@ -123,7 +123,7 @@ impl Tables {
         }
     }
 
-    /// The states of four lanes of so many places each, which follow each other.
+    /// The states of four lanes of `lane` positions each, which follow each other.
     fn read_lanes(
         &self,
         text: &[u8],

@@ -1,55 +1,57 @@
-//! What an automaton is made of.
+//! The tables of an automaton.
 //!
-//! A state stands for a front of literals. Which ones it is nobody keeps: it is what leads there from the first state, which stands for
-//! the empty front, and each other state tells from which state it comes, and by which byte.
+//! A state stands for a prefix of literals. The prefix itself is not stored: it is the bytes that lead there from the
+//! first state, which stands for the empty prefix. Each other state knows its parent state, and the class of its last
+//! byte.
 ghost use Rattle.std.specs.Prelude.{◌≡◌, ◌+◌, ◌*◌, ◌<◌, ◌≤◌, length, slice_index};
 ghost use Rattle.text_automaton.specs.Tables.{AreSized};
 
 use lit_base::MAX_LITERALS;
 use std::alloc::{AllocError, Global};
 
-/// So many classes of bytes are told apart at most, the class of all bytes that no literal has among them.
+/// The most classes of bytes, with the class of all bytes that no literal has.
 pub(crate) const CLASSES: usize = 128;
 
-/// A list whose literals have more fronts gets no automaton: its rows would take more than two megabytes.
-pub(crate) const MOST_STATES: usize = 8192;
+/// A list whose literals have more prefixes gets no automaton: its rows would take more than eight megabytes. The rows
+/// of 4,096 words of a text take five.
+pub(crate) const MOST_STATES: usize = 32768;
 
-/// Nor one whose states tell more ends than that, each state all literals that its front ends with.
-pub(crate) const MOST_TOLD: usize = 32768;
+/// A list with more outputs over all states gets none either; each state lists all literals that its prefix ends with.
+pub(crate) const MOST_TOLD: usize = 65535;
 
 /// Stands for no literal.
 pub(crate) const NONE: u16 = u16::MAX;
 
-/// The states of an automaton, numbered so that those which tell ends stand behind the others.
+/// The states of an automaton. The states without output have the lower numbers.
 #[derive(Debug, Drop)]
 pub(crate) struct Tables {
-    /// The class of each byte: 0 for one that no literal has.
+    /// The class of each byte: 0 for a byte that no literal has.
     pub classes: [u8; 256],
-    /// The byte of each class but that one, folded.
+    /// The folded byte of each class but 0.
     pub bytes: [u8; CLASSES],
-    /// A row for each state: to which one a byte of each class leads from it.
+    /// A row for each state: the next state, for each class of bytes.
     pub rows: Vec<u16>,
-    /// The state of the front but for its last byte, for each state.
+    /// The state of the prefix without its last byte, for each state.
     pub parents: Vec<u16>,
     /// The class of its last byte.
     pub lasts: Vec<u8>,
-    /// The state of the longest other front with which this one ends.
+    /// The failure link: the state of the longest other prefix with which this one ends.
     pub fails: Vec<u16>,
-    /// The literal that it is, or `NONE`.
+    /// The literal that it spells, or `NONE`.
     pub owns: Vec<u16>,
-    /// Where the literals that its front ends with begin among those told, and where they end.
+    /// Where the output of a state begins in `told`, and where it ends.
     pub lows: Vec<u16>,
     pub highs: Vec<u16>,
-    /// The literals that states tell, each range in the order of the list.
+    /// The outputs of all states, each in the order of the list.
     pub told: Vec<u16>,
     /// The state of each literal.
     pub ends: Vec<u16>,
-    /// So many states tell no end.
+    /// The number of states without output.
     pub quiet: usize,
 }
 
 impl Tables {
-    /// Room for so many states, of which there is none yet.
+    /// Room for `room` states, none of them there yet. `Err` if memory is short.
     pub fn new(alloc: Global, room: usize) -> Result<Tables, AllocError>
         requires { room ≤ MOST_STATES }
     {
@@ -77,7 +79,7 @@ impl Tables {
         self.parents.len()
     }
 
-    /// To which state a byte of a class leads from one.
+    /// The state to which a byte of a class leads from a state.
     #[inline(always)]
     pub fn step(&self, state: usize, class: usize) -> usize
         requires sized { AreSized self.now }

@@ -1,14 +1,14 @@
-//! Which of the states that were read tell an end.
+//! Finding the states with output among the states that were read.
 ghost use Rattle.std.specs.Prelude.{◌≡◌, ◌↔◌, ℕ, ◌+◌, ◌^◌, ◌<◌, ◌≤◌, length, slice_index};
 ghost use Rattle.std.specs.Int.{bit_at};
 ghost use Rattle.text_automaton.specs.declared.telling.TheConstants.{STATES};
 
 use std::simd::prelude::*;
 
-/// So many states are compared at once.
+/// The number of states compared at once.
 const STATES: usize = 32;
 
-/// The first of some states, from a place on, that tells an end: one from `quiet` on. The number of them, if there is none.
+/// The index of the first state from `from` on that has an output, so is `quiet` or above; `count` if there is none.
 #[inline(always)]
 pub(crate) fn first_telling(states: &[u16], from: usize, count: usize, quiet: usize) -> usize
     requires from { from ≤ count }
@@ -50,7 +50,7 @@ fn first_of_rest(states: &[u16], from: usize, count: usize, quiet: usize) -> usi
     count
 }
 
-/// Bit k is set where the state k places behind one tells no end.
+/// Bit k is set if the state k positions after `at` has no output.
 #[inline(always)]
 fn quiet_bits(states: &[u16], at: usize, quiet: u16) -> u64
     requires { at + STATES ≤ length states.now }

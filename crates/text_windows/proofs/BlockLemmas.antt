@@ -4,7 +4,7 @@ use Rattle.std.proofs.lemmas.Bool.{cases_lt}
 use Rattle.std.proofs.lemmas.Simd.{get_or-put_chunk_at, get_or-put_chunk_below}
 use Rattle.std.specs.Simd.Lanes.{put_chunk}
 use Rattle.text_windows.specs.Blocks.{AreNoted, IsBlock, IsNoted, IsNotedUnlessFull}
-use Rattle.text_windows.specs.NoEnds.{NoEndUpTo}
+use Rattle.lit_base.specs.NextEnds.{NoEndUpTo}
 use Rattle.text_windows.specs.ShiftOr.{Bucketing, RulesOut, RulesOutWords}
 use Rattle.text_windows.proofs.ShiftOrLemmas.{none_of_word, none_of_words}
 

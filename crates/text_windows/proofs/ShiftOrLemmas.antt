@@ -24,7 +24,7 @@ use Rattle.lit_base.specs.Occurrences.{HasEnd, IsFirstEnding, NoneEnds, Occurs}
 use Rattle.lit_base.specs.Suffixes.{case_bits, hash_of, last_bits, spelled, suffix_key}
 use Rattle.lit_base.proofs.SuffixLemmas.{AreBytes, drop-range, key-occurs, key-occurs_inside, masked, range_bytes, spelled-drop, spelled_fits, zeros_bytes}
 use Rattle.text_windows.specs.Looks.{AreLooks, IsVerified}
-use Rattle.text_windows.specs.NoEnds.{Finds, IsFirstFound, NoEndUpTo}
+use Rattle.lit_base.specs.NextEnds.{Finds, IsFirstFound, NoEndUpTo}
 use Rattle.text_windows.specs.ShiftOr.{AreConfirmsOf, AreEntriesOf, Bucketing, LetThrough, NoneOf, RulesOut, RulesOutWords, bucket_at, last_number_at, number_at, pair_case_bits}
 use Rattle.text_windows.specs.declared.confirming.Confirms.{Confirms}
 use Rattle.text_windows.specs.declared.confirming.TheConstants.{CONFIRM_BITS}

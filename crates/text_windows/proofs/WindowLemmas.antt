@@ -21,7 +21,7 @@ use Rattle.lit_base.proofs.SuffixLemmas.{AreBytes, drop-range, key-occurs_inside
 use Rattle.text_windows.specs.declared.shape.Shape.{Shape}
 use Rattle.text_windows.specs.declared.shape.TheConstants.{WIDTH}
 use Rattle.text_windows.specs.Shapes.{IsShapeOf, width_at}
-use Rattle.text_windows.specs.Windows.{AreMarksOf, AreSievedMarks, AreStridedMarks, AreWindowed, IsWindowed, Windowing, offset_at}
+use Rattle.text_windows.specs.Windows.{AreMarks, AreWindowed, IsWindowed, Windowing, offset_at}
 
 -- the literal that occurs is the one at its place
 pub literal_is : (l : Literals) (text : List ℕ) (place end : ℕ) (occurs : Occurs l text place end) → occurs.literal ≡ literal_at l place
@@ -70,34 +70,18 @@ marked_left a b back marked = omega (arith, bit_at_or a b back, marked, bit_at-l
 pub marked_right : (a b back : ℕ) → bit_at b back ≡ 1 → bit_at (bit_or a b) back ≡ 1
 marked_right a b back marked = omega (arith, bit_at_or a b back, marked, bit_at-lt a back)
 
--- marks of a place are those of some literals, if they hold what is marked for the bytes before it, by all widths from the least of these on
-marks_are : (w : Windowing) (low high least stride : ℕ) (marks text : List ℕ) (at result : ℕ)
-    → ((place : ℕ) → low ≤ place → place < high → place < length w.literals.texts → least ≤ width_at w.literals place)
-    → ((place : ℕ) → low ≤ place → place < high → place < length w.literals.texts → IsWindowed w.literals marks place (width_at w.literals place) (offset_at w place) stride) → AreBytes text
-    → ((width back : ℕ) → least ≤ width → width ≤ WIDTH → width ≤ at → IsMarked marks (hash_of HASH_BITS (suffix_key w.literals.folding text at width)) back → bit_at result back ≡ 1)
-    → AreMarksOf low high stride w text at result
-marks_are w low high least stride marks text at result wide are bytes told place back from before counted near occurs =
+-- marks of a place are those of the literals, if they hold what is marked for the bytes before it, by all widths from the least of these on
+pub marks_are : (w : Windowing) (shape : Shape) (marks text : List ℕ) (at result : ℕ) → IsShapeOf w.literals shape → AreWindowed w.literals w.stride w.offsets marks (length w.literals.texts) → AreBytes text
+    → ((width back : ℕ) → shape.least_width ≤ width → width ≤ WIDTH → width ≤ at → IsMarked marks (hash_of HASH_BITS (suffix_key w.literals.folding text at width)) back → bit_at result back ≡ 1)
+    → AreMarks w text at result
+marks_are w shape marks text at result fits are bytes told place back counted near occurs =
     let l = w.literals in
     let there = slice_get_within l.texts place occurs.literal occurs.stands in
-    let is = are place from before there in
+    let is = are.marked place there in
     let narrow : width_at l place ≤ WIDTH = omega arith in
-    told (width_at l place) back (wide place from before there) narrow
-    (window_begins l marks text place at back (width_at l place) (offset_at w place) stride is counted near occurs)
-    (window_marked l marks text place at back (width_at l place) (offset_at w place) stride is counted near occurs bytes (omega (arith, narrow)))
-
--- those of the strided literals
-pub strided_are : (w : Windowing) (shape : Shape) (others marks text : List ℕ) (at result : ℕ) → IsShapeOf w.literals w.split shape → AreWindowed w.literals w.split w.stride w.offsets others marks (length w.literals.texts) → AreBytes text
-    → ((width back : ℕ) → shape.least_width ≤ width → width ≤ WIDTH → width ≤ at → IsMarked marks (hash_of HASH_BITS (suffix_key w.literals.folding text at width)) back → bit_at result back ≡ 1)
-    → AreStridedMarks w text at result
-strided_are w shape others marks text at result fits are bytes told =
-    marks_are w w.split (length w.literals.texts) shape.least_width w.stride marks text at result (λ place behind before there. fits.least place behind there) (λ place behind before there. are.strided place there behind) bytes told
-
--- and of the sieved ones
-pub sieved_are : (w : Windowing) (shape : Shape) (marks others text : List ℕ) (at result : ℕ) → IsShapeOf w.literals 0 shape → AreWindowed w.literals w.split w.stride w.offsets marks others (length w.literals.texts) → AreBytes text
-    → ((width back : ℕ) → shape.least_width ≤ width → width ≤ WIDTH → width ≤ at → IsMarked marks (hash_of HASH_BITS (suffix_key w.literals.folding text at width)) back → bit_at result back ≡ 1)
-    → AreSievedMarks w text at result
-sieved_are w shape marks others text at result fits are bytes told =
-    marks_are w 0 w.split shape.least_width 1 marks text at result (λ place from before there. fits.least place from there) (λ place from before there. are.sieved place there before) bytes told
+    told (width_at l place) back (fits.least place there) narrow
+    (window_begins l marks text place at back (width_at l place) (offset_at w place) w.stride is counted near occurs)
+    (window_marked l marks text place at back (width_at l place) (offset_at w place) w.stride is counted near occurs bytes (omega (arith, narrow)))
 
 -- a mark that was looked at by a key is there
 pub read_mark : (marks : List ℕ) (key other found back : ℕ) → found ≡ slice_index marks (hash_of HASH_BITS key) → key ≡ other → IsMarked marks (hash_of HASH_BITS other) back → bit_at found back ≡ 1

@@ -1,6 +1,6 @@
 -- Blocks of a text: what looks rule out at their places, and which of them are noted.
 use Rattle.std.specs.Prelude.{◌≡◌, ℕ, ◌+◌, ◌-◌, ◌*◌, ◌<◌, ◌^◌, ◌⊎◌, List, slice_index}
-use Rattle.text_windows.specs.NoEnds.{NoEndUpTo}
+use Rattle.lit_base.specs.NextEnds.{NoEndUpTo}
 use Rattle.text_windows.specs.ShiftOr.{Bucketing, RulesOut}
 
 -- a number stands among the first so many

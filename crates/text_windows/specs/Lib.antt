@@ -1,6 +1,5 @@
 pub mod Blocks
 pub mod Looks
-pub mod NoEnds
 pub mod ShiftOr
 pub mod Shapes
 pub mod Windows

@@ -2,7 +2,7 @@
 use Rattle.std.specs.Prelude.{◌≡◌, ℕ, ◌+◌, ◌-◌, ◌*◌, ◌/◌, ◌<◌, ◌≤◌, List, length, max}
 use Rattle.std.specs.Int.{bit_at}
 use Rattle.lit_base.specs.Occurrences.{Occurs}
-use Rattle.text_windows.specs.NoEnds.{IsFirstFound, NoEndUpTo}
+use Rattle.lit_base.specs.NextEnds.{IsFirstFound, NoEndUpTo}
 use Rattle.text_windows.specs.ShiftOr.{Bucketing, RulesOut, bucket_at}
 use Rattle.text_windows.specs.declared.looks.Looks.{Looks}
 use Rattle.text_windows.specs.declared.looks.Verified.{Verified}

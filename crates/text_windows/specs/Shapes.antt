@@ -9,10 +9,10 @@ use Rattle.text_windows.specs.declared.shape.TheConstants.{WIDTH}
 abbrev pub width_at : Literals → ℕ → ℕ
 width_at l place = min WIDTH (length (literal_at l place))
 
--- of the literals from a place of the list on, no window has fewer bytes than the least, and each has room for one at each of the places that the longest stride asks for
-pub record IsShapeOf (l : Literals) (first : ℕ) (shape : Shape) : Type 0 where
+-- no window has fewer bytes than the least, and each literal has room for one at each of the places that the longest stride asks for
+pub record IsShapeOf (l : Literals) (shape : Shape) : Type 0 where
   pub some : 0 < shape.most_stride
   pub few : shape.most_stride ≤ 8
   pub wide : 0 < shape.least_width
-  pub least : (place : ℕ) → first ≤ place → place < length l.texts → shape.least_width ≤ width_at l place
-  pub room : (place : ℕ) → first ≤ place → place < length l.texts → width_at l place + shape.most_stride ≤ length (literal_at l place) + 1
+  pub least : (place : ℕ) → place < length l.texts → shape.least_width ≤ width_at l place
+  pub room : (place : ℕ) → place < length l.texts → width_at l place + shape.most_stride ≤ length (literal_at l place) + 1

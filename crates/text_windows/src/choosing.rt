@@ -7,7 +7,7 @@ use crate::grouping::group;
 use crate::rate::EndRate;
 use crate::shape::{Shape, WIDTH};
 use lit_base::{HASH_BITS, LitList};
-use nib_mask::{Masks, plain_byte};
+use nib_mask::ByteMasks;
 
 /// A look at the marks of a place takes so many tenths of a nanosecond.
 pub const LOOK_COST: usize = 8;
@@ -29,11 +29,6 @@ const BLOCK_COST: usize = 60;
 /// A block has so many places.
 const BLOCK: usize = 56;
 
-/// Where some literals are sieved and the others strided, both take half as long again: the one is left for the other wherever
-/// something is met. A hundred rare literals in log lines, and a thousand with short ones, took 1.5 times the sum of both. The
-/// number was not varied.
-const BOTH_SHARE: usize = 2;
-
 /// To begin anew behind an end takes so many: a block is looked at from there on, whose last looks are mostly in vain. With -c 100 to 1,000
 /// frequent literals of English text and source code took 0.6 to 0.85 of the time by shift-or, which begins with eight looks. The number
 /// was not varied.
@@ -50,20 +45,17 @@ const BIAS: usize = 2;
 /// So many literals at most are sieved: with more, most places pass.
 const MOST_SIEVED: usize = 128;
 
-/// Those are sieved that have fewer bytes than one of these, so that the others are left to longer strides.
-const SIEVED_LENS: [usize; 5] = [3, 4, 5, 7, usize::MAX];
-
 /// So many hashes may be marked.
 const HASHES: usize = 1 << HASH_BITS;
 
 /// One place of so many tells how many of a sample pass.
 const SPARSE: usize = 31;
 
-/// How many literals, the shortest of a list, are sieved, how far apart a search for the others looks, and what both
-/// take, in tenths of a nanosecond for 1,024 bytes: with what marks take of it, if nothing ends at any.
+/// Whether the literals of a list are sieved, how far apart a search for them looks where they are strided, and what it
+/// takes, in tenths of a nanosecond for 1,024 bytes: with what marks take of it, if nothing ends at any.
 #[derive(Clone, Copy, Debug)]
 pub(crate) struct Choice {
-    pub split: usize,
+    pub is_sieved: bool,
     pub stride: usize,
     pub cost: usize,
     pub marks: usize,
@@ -82,47 +74,44 @@ pub(crate) fn best_choice(
     requires threes { vec_len counts.now.threes ≡ 2 ^ HASH_BITS }
     requires offsets { vec_len offsets.old ≡ length list.now.texts }
     requires buckets { vec_len buckets.old ≡ length list.now.texts }
-    ensures split { result.split ≤ length list.now.texts }
     ensures offsets { vec_len offsets.new ≡ vec_len offsets.old }
     ensures buckets { vec_len buckets.new ≡ vec_len buckets.old }
 {
-    let mut best = best_stride(list, 0, counts);
-    let sieve_starts = rate.starts.saturating_mul(SIEVE_START_COST);
-    let mut last = 0;
-    for number in 0..SIEVED_LENS.len() {
-        let split = count_shorter(list, SIEVED_LENS[number]);
-        if split > last && split <= MOST_SIEVED {
-            let sieve = cost_of_sieve(list, split, counts, sample, offsets, buckets);
-            let rest = best_stride(list, split, counts);
-            let cost = cost_of_both(rest.cost, sieve).saturating_add(sieve_starts);
-            if cost < best.cost {
-                best = Choice { cost, ..rest };
-            }
-        }
-        last = split;
+    let strided = best_stride(list, counts);
+    if list.is_empty() || list.len() > MOST_SIEVED {
+        return with_ends(list, strided, rate);
     }
-    Choice {
-        cost: with_ends(list, best, rate),
-        ..best
+    let sieve = cost_of_sieve(list, counts, sample, offsets, buckets);
+    let starts = rate.starts.saturating_mul(SIEVE_START_COST);
+    let sieved = Choice {
+        is_sieved: true,
+        stride: 1,
+        cost: sieve.saturating_add(starts),
+        marks: 0,
+    };
+    if sieved.cost < strided.cost {
+        with_ends(list, sieved, rate)
+    } else {
+        with_ends(list, strided, rate)
     }
 }
 
-/// What a choice takes where literals end so often. It was made as if nothing ended at any mark, since each end has a mark by every choice.
-fn with_ends(list: &LitList, choice: Choice, rate: EndRate) -> usize
-    requires { choice.split ≤ length list.now.texts }
-{
+/// A choice with what it takes where literals end so often. It was made as if nothing ended at any mark, since each end has a mark by every
+/// choice.
+fn with_ends(list: &LitList, choice: Choice, rate: EndRate) -> Choice {
     let at_ends = rate.ends.saturating_mul(MARK_COST * BIAS);
-    let blocks = if choice.split == list.len() {
+    let blocks = if choice.is_sieved {
         0
     } else {
-        let widths = Shape::of(list, choice.split).widths();
+        let widths = Shape::of(list).widths();
         cost_of_blocks(rate.ends, 1024, choice.stride, widths)
     };
-    choice
+    let cost = choice
         .cost
         .saturating_sub(at_ends.min(choice.marks))
         .saturating_add(blocks)
-        .saturating_add(rate.starts.saturating_mul(START_COST))
+        .saturating_add(rate.starts.saturating_mul(START_COST));
+    Choice { cost, ..choice }
 }
 
 /// What looks take more in `count` bytes of a text in which so many literals end: a block with an end is looked at as a whole, at half as
@@ -132,32 +121,9 @@ pub fn cost_of_blocks(ends: usize, count: usize, stride: usize, widths: usize) -
     looks.saturating_mul(LOOK_COST / 2).saturating_mul(widths)
 }
 
-/// What it takes to stride over a text for some literals and to sieve it for others, where each alone takes so many.
-pub fn cost_of_both(strides: usize, sieve: usize) -> usize {
-    let both = strides.saturating_add(sieve);
-    if strides == 0 || sieve == 0 {
-        both
-    } else {
-        both.saturating_add(both / BOTH_SHARE)
-    }
-}
-
-/// How many literals have fewer bytes.
-fn count_shorter(list: &LitList, len: usize) -> usize
-    ensures { result ≤ length list.now.texts }
-{
-    for place in 0..list.len() {
-        if list.get(place).len() >= len {
-            return place;
-        }
-    }
-    list.len()
-}
-
-/// What it takes to sieve the first literals of a list, by the windows that suit them.
+/// What it takes to sieve the literals of a list, by the windows that suit them.
 fn cost_of_sieve(
     list: &LitList,
-    split: usize,
     counts: &Counts,
     sample: &[u8],
     offsets: &mut Vec<u8>,
@@ -165,18 +131,17 @@ fn cost_of_sieve(
 ) -> usize
     requires fours { vec_len counts.now.fours ≡ 2 ^ HASH_BITS }
     requires threes { vec_len counts.now.threes ≡ 2 ^ HASH_BITS }
-    requires split { split ≤ length list.now.texts }
     requires offsets { vec_len offsets.old ≡ length list.now.texts }
     requires buckets { vec_len buckets.old ≡ length list.now.texts }
     ensures offsets { vec_len offsets.new ≡ vec_len offsets.old }
     ensures buckets { vec_len buckets.new ≡ vec_len buckets.old }
 {
-    choose_sieved(list, split, counts, offsets);
-    group(list, split, offsets, buckets);
-    let masks = Masks::of_fronts(list, split, offsets, buckets);
+    choose_sieved(list, counts, offsets);
+    group(list, offsets, buckets);
+    let masks = ByteMasks::of_fronts(list, list.len(), offsets, buckets);
     let (passed, all) = count_passed(&masks, sample);
     let in_sample = passed.saturating_mul(1024) / all.max(1);
-    let passes = cost_of_passes(in_sample, 1024, Shape::of(list, 0).widths());
+    let passes = cost_of_passes(in_sample, 1024, Shape::of(list).widths());
     SIEVE_COST.saturating_add(passes)
 }
 
@@ -190,12 +155,12 @@ pub(crate) fn cost_of_passes(passed: usize, count: usize, widths: usize) -> usiz
 }
 
 /// How many of some places of a sample pass the masks, and how many these are.
-fn count_passed(masks: &Masks, sample: &[u8]) -> (usize, usize) {
+fn count_passed(masks: &ByteMasks, sample: &[u8]) -> (usize, usize) {
     let (mut passed, mut all) = (0usize, 0usize);
     for stretch in sample.chunks(SPARSE) {
         if let [third, second, last, ..] = stretch {
             all = all.saturating_add(1);
-            if plain_byte(masks, *third, *second, *last) != 0 {
+            if masks.plain(*third, *second, *last) != 0 {
                 passed = passed.saturating_add(1);
             }
         }
@@ -203,30 +168,20 @@ fn count_passed(masks: &Masks, sample: &[u8]) -> (usize, usize) {
     (passed, all)
 }
 
-/// The stride for which a search for the literals from a place of the list on is likely to cost least.
-fn best_stride(list: &LitList, first: usize, counts: &Counts) -> Choice
-    requires fours { vec_len counts.now.fours ≡ 2 ^ HASH_BITS }
-    requires first { first ≤ length list.now.texts }
-    ensures { result.split ≡ first }
+/// The stride for which a search for the literals of a list is likely to cost least.
+fn best_stride(list: &LitList, counts: &Counts) -> Choice
+    requires { vec_len counts.now.fours ≡ 2 ^ HASH_BITS }
 {
-    let shape = Shape::of(list, first);
-    if first == list.len() {
-        return Choice {
-            split: first,
-            stride: shape.most_stride,
-            cost: 0,
-            marks: 0,
-        };
-    }
-    let totals = totals(list, first, shape.most_stride, counts);
-    let rest = list.len() - first;
+    let shape = Shape::of(list);
+    let totals = totals(list, shape.most_stride, counts);
+    let len = list.len();
     let marked = cost_of_marks(totals[0], counts);
-    let mut best = strided(first, shape.most_stride, shape.widths(), marked, rest);
+    let mut best = strided(shape.most_stride, shape.widths(), marked, len);
     let mut stride = shape.most_stride;
     for step in 1..4usize {
         stride = (stride / 2).max(1);
         let marked = cost_of_marks(totals[step], counts);
-        let choice = strided(first, stride, shape.widths(), marked, rest);
+        let choice = strided(stride, shape.widths(), marked, len);
         if choice.cost < best.cost {
             best = choice;
         }
@@ -234,12 +189,12 @@ fn best_stride(list: &LitList, first: usize, counts: &Counts) -> Choice
     best
 }
 
-/// How often the best windows of the literals from a place on occurred: for the longest stride, and for the half of each.
-fn totals(list: &LitList, first: usize, most_stride: usize, counts: &Counts) -> [usize; 4]
+/// How often the best windows of the literals occurred: for the longest stride, and for the half of each.
+fn totals(list: &LitList, most_stride: usize, counts: &Counts) -> [usize; 4]
     requires { vec_len counts.now.fours ≡ 2 ^ HASH_BITS }
 {
     let mut totals = [0usize; 4];
-    for place in first..list.len() {
+    for place in 0..list.len() {
         if list.get(place).len() < WIDTH {
             // All of it is its window: none is to be chosen.
             continue;
@@ -262,16 +217,14 @@ fn cost_of_marks(marked: usize, counts: &Counts) -> usize {
 
 /// The choice to look at every `stride`-th place, by so many widths, where the marks of all places take so long, and others have the
 /// hash of a window of one of `count` literals.
-fn strided(split: usize, stride: usize, widths: usize, marked: usize, count: usize) -> Choice
-    ensures { result.split ≡ split }
-{
+fn strided(stride: usize, widths: usize, marked: usize, count: usize) -> Choice {
     let alike = MARK_COST.saturating_mul(count).saturating_mul(stride) / HASHES;
     let looks = LOOK_COST
         .saturating_add(alike)
         .saturating_mul(widths)
         .saturating_mul(1024);
     Choice {
-        split,
+        is_sieved: false,
         stride,
         cost: looks.saturating_add(marked) / stride.max(1),
         marks: marked / stride.max(1),
@@ -292,37 +245,47 @@ fn best_offset(windows: [u32; 8], stride: usize) -> (usize, usize)
     best
 }
 
-/// Chooses for each literal the windows that occurred least, for a stride from a place of the list on.
+/// Chooses for each literal the windows that occurred least: for the sieve, or for a stride.
 pub(crate) fn choose_offsets(
     list: &LitList,
-    split: usize,
     counts: &Counts,
+    is_sieved: bool,
     stride: usize,
     offsets: &mut Vec<u8>,
 )
     requires fours { vec_len counts.now.fours ≡ 2 ^ HASH_BITS }
     requires threes { vec_len counts.now.threes ≡ 2 ^ HASH_BITS }
-    requires split { split ≤ length list.now.texts }
     requires offsets { vec_len offsets.old ≡ length list.now.texts }
     ensures { vec_len offsets.new ≡ vec_len offsets.old }
 {
-    choose_sieved(list, split, counts, offsets);
-    for place in split..list.len() {
+    if is_sieved {
+        choose_sieved(list, counts, offsets);
+    } else {
+        choose_strided(list, counts, stride, offsets);
+    }
+}
+
+/// Chooses for each literal the windows that occurred least, as many as a stride has.
+fn choose_strided(list: &LitList, counts: &Counts, stride: usize, offsets: &mut Vec<u8>)
+    requires fours { vec_len counts.now.fours ≡ 2 ^ HASH_BITS }
+    requires offsets { vec_len offsets.old ≡ length list.now.texts }
+    ensures { vec_len offsets.new ≡ vec_len offsets.old }
+{
+    for place in 0..list.len() {
         let (offset, _) = best_offset(counts.of_literal(list, place), stride);
         offsets[place] = offset as u8;
     }
 }
 
-/// Chooses for each of the first literals the window whose last three bytes occurred least. Lists of ten of a text's own
+/// Chooses for each literal the window whose last three bytes occurred least. Lists of ten of a text's own
 /// words have up to sixty times fewer candidates so than by the windows that occurred least as a whole.
-fn choose_sieved(list: &LitList, split: usize, counts: &Counts, offsets: &mut Vec<u8>)
+fn choose_sieved(list: &LitList, counts: &Counts, offsets: &mut Vec<u8>)
     requires fours { vec_len counts.now.fours ≡ 2 ^ HASH_BITS }
     requires threes { vec_len counts.now.threes ≡ 2 ^ HASH_BITS }
-    requires split { split ≤ length list.now.texts }
     requires offsets { vec_len offsets.old ≡ length list.now.texts }
     ensures { vec_len offsets.new ≡ vec_len offsets.old }
 {
-    for place in 0..split {
+    for place in 0..list.len() {
         let (offset, _) = best_offset(counts.of_sieved(list, place), 1);
         offsets[place] = offset as u8;
     }

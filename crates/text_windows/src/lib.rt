@@ -17,7 +17,7 @@ mod shape;
 mod shift_or;
 mod windows;
 
-pub use choosing::{LOOK_COST, MARK_COST, SIEVE_COST, START_COST, cost_of_blocks, cost_of_both};
+pub use choosing::{LOOK_COST, MARK_COST, SIEVE_COST, START_COST, cost_of_blocks};
 pub use looks::Looks;
 pub use rate::EndRate;
 pub use runs::cut_runs;

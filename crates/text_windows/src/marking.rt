@@ -10,32 +10,19 @@ ghost use Rattle.text_windows.specs.declared.shape.TheConstants.{WIDTH};
 use crate::shape::width_of;
 use lit_base::{LitList, mark_literal};
 
-/// Marks each literal anew at its offset, or nearer to its end where there is no room for it: by one window before
-/// the split, and behind it by as many as the stride has places, in a table of their own.
-pub(crate) fn mark_all(
-    list: &LitList,
-    split: usize,
-    stride: usize,
-    offsets: &mut Vec<u8>,
-    sieved_marks: &mut Vec<u8>,
-    strided_marks: &mut Vec<u8>,
-)
+/// Marks each literal anew at its offset, or nearer to its end where there is no room for it, by as many windows as the stride has
+/// places.
+pub(crate) fn mark_all(list: &LitList, stride: usize, offsets: &mut Vec<u8>, marks: &mut Vec<u8>)
     requires some { 0 < stride }
     requires few { stride ≤ 8 }
-    requires split { split ≤ length list.now.texts }
-    requires room { (place : ℕ) → split ≤ place → place < length list.now.texts → width_at list.now place + stride ≤ length (literal_at list.now place) + 1 }
+    requires room { (place : ℕ) → place < length list.now.texts → width_at list.now place + stride ≤ length (literal_at list.now place) + 1 }
     requires offsets { vec_len offsets.old ≡ length list.now.texts }
-    requires sieved { vec_len sieved_marks.old ≡ 2 ^ HASH_BITS }
-    requires strided { vec_len strided_marks.old ≡ 2 ^ HASH_BITS }
-    ensures { AreWindowed list.now split stride offsets.new.items sieved_marks.new.items strided_marks.new.items (length list.now.texts) }
+    requires marks { vec_len marks.old ≡ 2 ^ HASH_BITS }
+    ensures { AreWindowed list.now stride offsets.new.items marks.new.items (length list.now.texts) }
 {
-    clear(sieved_marks);
-    clear(strided_marks);
-    for place in 0..split {
-        mark_one(list, place, 1, offsets, sieved_marks);
-    }
-    for place in split..list.len() {
-        mark_one(list, place, stride, offsets, strided_marks);
+    clear(marks);
+    for place in 0..list.len() {
+        mark_one(list, place, stride, offsets, marks);
     }
 }
 

@@ -21,19 +21,19 @@ pub(crate) struct Shape {
 }
 
 impl Shape {
-    /// The shape for the literals from a place of a list on.
-    pub fn of(list: &LitList, first: usize) -> Shape
-        ensures { IsShapeOf list.now first result }
+    /// The shape for the literals of a list.
+    pub fn of(list: &LitList) -> Shape
+        ensures { IsShapeOf list.now result }
     {
         list.normal_law();
         let count = list.len();
-        if first >= count {
+        if count == 0 {
             return Shape {
                 least_width: WIDTH,
                 most_stride: MOST_STRIDE,
             };
         }
-        let shortest = list.get(first).len();
+        let shortest = list.get(0).len();
         Shape {
             least_width: shortest.min(WIDTH),
             most_stride: shortest.saturating_sub(WIDTH - 1).clamp(1, MOST_STRIDE),

@@ -1,7 +1,7 @@
 //! Shift-or over buckets of literals, as Hyperscan's FDR has it: which ends are ruled out by the bytes before them.
 ghost use Rattle.std.specs.Prelude.{◌≡◌, ℕ, ◌+◌, ◌-◌, ◌*◌, ◌<◌, ◌≤◌, ◌⊎◌, IfOk, IfSome, MatchOption, length, max, slice_index, false};
 ghost use Rattle.text_windows.specs.Blocks.{AreNoted};
-ghost use Rattle.text_windows.specs.NoEnds.{Finds, IsFirstFound, NoEndUpTo};
+ghost use Rattle.lit_base.specs.NextEnds.{Finds, IsFirstFound, NoEndUpTo};
 ghost use Rattle.text_windows.specs.ShiftOr.{AreEntriesOf, NoneOf, RulesOut, RulesOutWords};
 ghost use Rattle.text_windows.specs.Looks.{AreLooks, AreLooksBehind, IsVerified};
 ghost use Rattle.text_windows.specs.declared.blocks.TheConstants.{GROUP, GROUPS};

@@ -1,4 +1,4 @@
-//! Literals that end in one another, all of them at each place, beside a search that compares each.
+//! Literals that end in one another, all of them at each position, compared with a search that compares each.
 use super::spoilt::stands_before;
 use super::{normal_of, raw_of};
 use lit_base::{Endings, Fold, LitList};
@@ -17,7 +17,7 @@ const LONG: [&[u8]; 5] = [
     b"aabcdefgha",
 ];
 
-/// The literals that are left, at most so many.
+/// The remaining literals, at most `most`.
 fn rest_of(alloc: Global, endings: &mut Endings, most: usize) -> Option<Vec<usize>> {
     let mut places = Vec::new(alloc);
     for _ in 0..most {
@@ -43,7 +43,7 @@ fn given(
     rest_of(alloc, &mut list.endings(text, end, from), list.len())
 }
 
-/// Those behind the first, if one ends there.
+/// Those after the first, if one ends there.
 fn given_behind(alloc: Global, list: &LitList, text: &[u8], end: usize) -> Option<Vec<usize>> {
     if end > text.len() {
         return None;

@@ -1,17 +1,17 @@
-//! Texts of literals with one byte spoilt, beside a search that compares each literal.
+//! Texts of near-misses: literals with one byte changed, compared with a search that compares each literal.
 use super::normal_of;
 use lit_base::{Fold, LitList, RawList, fold_byte};
 use std::alloc::Global;
 use std::process::Abort;
 
-/// What is done to a byte: nothing, another byte in its place, and its letter in the other case.
+/// The changes of a byte: none, another byte in its place, and its letter in the other case.
 const KEPT: u8 = 0;
 
 const CHANGED: u8 = 1;
 
 const TURNED: u8 = 0x20;
 
-/// A word of so many bytes, letters and backquotes.
+/// A word of `len` bytes, letters and backquotes.
 fn word_of(alloc: Global, len: u8) -> Option<Vec<u8>> {
     let mut word = Vec::new(alloc);
     for at in 0..len {
@@ -21,7 +21,7 @@ fn word_of(alloc: Global, len: u8) -> Option<Vec<u8>> {
     Some(word)
 }
 
-/// The list of the words of so many bytes and more, up to twenty.
+/// The list of the words of `shortest` bytes and more, up to twenty.
 fn words_from(alloc: Global, shortest: u8, fold: Fold) -> Option<LitList> {
     let mut raw = RawList::new(alloc);
     for len in shortest..21 {
@@ -30,7 +30,7 @@ fn words_from(alloc: Global, shortest: u8, fold: Fold) -> Option<LitList> {
     normal_of(alloc, &raw, fold)
 }
 
-/// The word of so many bytes, with the byte at a place spoilt so.
+/// The word of `len` bytes, with the byte at a place changed.
 fn spoilt_word(alloc: Global, len: u8, place: u8, spoilt: u8) -> Option<Vec<u8>> {
     let mut word = word_of(alloc, len)?;
     if let Some(byte) = word.get_mut(place as usize) {
@@ -39,7 +39,7 @@ fn spoilt_word(alloc: Global, len: u8, place: u8, spoilt: u8) -> Option<Vec<u8>>
     Some(word)
 }
 
-/// A text of these words, each once with the byte at each of its places spoilt so.
+/// A text of the words, each once with the byte at each of its places changed.
 fn spoilt_words(alloc: Global, shortest: u8, spoilt: u8) -> Option<Vec<u8>> {
     let mut text = Vec::new(alloc);
     for len in shortest..21 {
@@ -75,7 +75,7 @@ fn plain_first(list: &LitList, text: &[u8], end: usize) -> Option<usize> {
     None
 }
 
-/// At how many places of the text the list tells another literal.
+/// At how many positions of the text the list gives another literal.
 fn differences_in(list: &LitList, text: &[u8]) -> usize {
     let mut count = 0usize;
     for end in 0..text.len() {
@@ -86,14 +86,14 @@ fn differences_in(list: &LitList, text: &[u8]) -> usize {
     count
 }
 
-/// That for the words of so many bytes and more, spoilt so.
+/// The same for the words of `shortest` bytes and more, changed so.
 fn differences(alloc: Global, fold: Fold, shortest: u8, spoilt: u8) -> Option<usize> {
     let list = words_from(alloc, shortest, fold)?;
     let text = spoilt_words(alloc, shortest, spoilt)?;
     Some(differences_in(&list, text.as_slice()))
 }
 
-/// Asserts that there are none, for the words of one byte and more, or of more bytes, spoilt in each way.
+/// Asserts that there are none, for the words of one byte and more, or of more bytes, changed in each way.
 fn assert_none_differ<R: Abort + AllocGlobal>(rt: &R, fold: Fold) {
     for shortest in [1, 4, 7, 9] {
         for spoilt in [KEPT, CHANGED, TURNED] {

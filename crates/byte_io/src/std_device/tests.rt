@@ -8,9 +8,8 @@ use std::io;
 use std::io::Cursor;
 use std::process::Abort;
 
-/// A reader and writer that does at each call what the next letter of its script says: `i` is
-/// interrupted by a signal, `e` fails, and a digit moves so many bytes at most. Behind its script
-/// it moves none.
+/// A reader and writer that does at each call what the next letter of its script says: `i` is interrupted by a signal,
+/// `e` fails, and a digit moves at most that many bytes. After its script it moves none.
 #[derive(Drop)]
 struct Scripted {
     script: &'static [u8],
@@ -65,7 +64,7 @@ impl Write for Scripted {
 /// The answer to a reading or writing, how many bytes it moved, and whether the device has failed.
 type Moved<E> = (Result<(), E>, usize, bool);
 
-/// What is read by a script.
+/// Reads by a script.
 fn read_by(alloc: Global, script: &'static [u8]) -> Result<Moved<ReadError>, ReadError> {
     let mut input = FromRead::new(Scripted::new(script));
     let mut text = Vec::new(alloc);
@@ -75,7 +74,7 @@ fn read_by(alloc: Global, script: &'static [u8]) -> Result<Moved<ReadError>, Rea
     }
 }
 
-/// Asserts that so many bytes are read by a script before a fault, or to the end.
+/// Asserts that a script reads `len` bytes before a fault, or to the end.
 fn assert_read<R: Abort + AllocGlobal>(
     rt: &R,
     script: &'static [u8],
@@ -95,7 +94,7 @@ fn reads_again_after_a_signal_and_stops_at_a_fault(rt: HostRuntime) {
     assert_read(&rt, b"i2ie3", Err(ReadError::Failed), 2);
 }
 
-/// What is written of seven bytes by a script.
+/// Writes seven bytes by a script.
 fn written_by(script: &'static [u8]) -> Moved<Failed> {
     let mut out = ToWrite::new(Scripted::new(script));
     let answer = write_all(&mut out, b"abcdefg");
@@ -103,7 +102,7 @@ fn written_by(script: &'static [u8]) -> Moved<Failed> {
     (answer, out.into_inner().moved, has_failed)
 }
 
-/// Asserts that so many bytes are written by a script before a fault, or all.
+/// Asserts that a script writes `len` bytes before a fault, or all.
 fn assert_written<R: Abort>(rt: &R, script: &'static [u8], answer: Result<(), Failed>, len: usize) {
     let moved = (answer, len, answer.is_err());
     assert_eq!(*rt; written_by(script), moved, "{script:?}");
@@ -119,7 +118,7 @@ fn writes_again_after_a_signal_and_stops_where_nothing_is_taken(rt: HostRuntime)
     assert_written(&rt, b"2i2e9", Err(Failed), 4);
 }
 
-/// What is read of two readers in memory.
+/// The bytes of two readers in memory.
 fn read_in_memory(alloc: Global) -> Result<Vec<u8>, ReadError> {
     let mut text = Vec::new(alloc);
     read_to_end(&mut FromRead::new(b"abc".as_slice()), 9, &mut text)?;
@@ -128,7 +127,7 @@ fn read_in_memory(alloc: Global) -> Result<Vec<u8>, ReadError> {
     Ok(text)
 }
 
-/// What a writer in memory holds of the text, and of none behind it.
+/// What a writer in memory holds of the text, and of none after it.
 fn written_in_memory(alloc: Global, text: &[u8]) -> Result<Vec<u8>, ReadError> {
     let mut out = ToWrite::new(Vec::with_capacity(alloc, text.len())?);
     if write_all(&mut out, text).is_err() || write_all(&mut out, b"").is_err() {
@@ -137,7 +136,7 @@ fn written_in_memory(alloc: Global, text: &[u8]) -> Result<Vec<u8>, ReadError> {
     Ok(out.into_inner())
 }
 
-/// Whether what was read is written.
+/// Whether the bytes that are read are written.
 fn are_moved_in_memory(alloc: Global) -> Result<bool, ReadError> {
     let text = read_in_memory(alloc)?;
     Ok(written_in_memory(alloc, &text)?.as_slice() == b"abcdef".as_slice())
@@ -148,8 +147,7 @@ fn reads_and_writes_bytes_in_memory(rt: HostRuntime) {
     assert_eq!(rt; are_moved_in_memory(rt.alloc()), Ok(true));
 }
 
-/// The answers to reads of so many bytes, where three more can be counted, and whether the first one
-/// failed the device.
+/// The answers to reads where three more bytes can be counted, and whether the first one failed the device.
 fn answers_at_the_last_count() -> (Result<usize, Failed>, bool, [Result<usize, Failed>; 3]) {
     let mut input = FromRead::new(b"abcdef".as_slice());
     input.given = u64::MAX - 3;
@@ -171,7 +169,7 @@ fn fails_where_the_count_of_bytes_could_overflow(rt: HostRuntime) {
     assert_eq!(rt; answers_at_the_last_count(), wanted);
 }
 
-/// How many bytes are written of so many and read again, and the last of them.
+/// How many of `len` bytes are written and read again, and the last of them.
 fn moved_of(alloc: Global, len: usize) -> Result<(usize, usize, Option<u8>), ReadError> {
     let text = vec![in alloc; b'x'; len]?;
     let written = written_in_memory(alloc, &text)?;

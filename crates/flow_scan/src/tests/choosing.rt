@@ -4,14 +4,14 @@ ghost use Rattle.std.specs.Prelude.{◌≡◌};
 
 use crate::compiled::Compiled;
 use crate::end_finder::EndFinder;
-use crate::met::Met;
+use crate::ends::Ends;
 use crate::searching::next_end;
-use crate::shifted::next_end_by_shift_or;
+use crate::shifted::ShiftedEnds;
 use crate::tests::finding::{
     CAPITALS, Draws, FIGURES, Told, WORDS, pieces_of, plain_in, plan_of_pieces, text_of, with_end,
 };
 use crate::tests::owning::{How, agrees};
-use crate::windowed::next_end_by_windows;
+use crate::windowed::WindowedEnds;
 use lit_base::Fold;
 use std::alloc::Global;
 use text_automaton::Automaton;
@@ -69,20 +69,22 @@ fn by_windows(
 }
 
 /// Those that these windows find.
-fn ends_by_windows(
-    windows: &Windows<'_>,
-    compiled: &Compiled,
-    text: &[u8],
+fn ends_by_windows<'a>(
+    windows: &'a Windows<'_>,
+    compiled: &'a Compiled,
+    text: &'a [u8],
     progress: Progress,
     count: usize,
 ) -> Progress
     requires { windows.now.literals ≡ compiled.now.literals }
 {
     let (mut from, mut told) = progress;
-    let mut met = Met::nothing();
     for _ in 0..count {
-        let found = next_end_by_windows(windows, compiled.list(), text, from, &mut met);
-        let Some((end, _)) = found else {
+        if from > text.len() {
+            return (from, told);
+        }
+        let mut ends = WindowedEnds::behind(compiled, windows, text, from);
+        let Some((end, _)) = ends.next_end() else {
             return (text.len(), told);
         };
         told = with_end(told, end);
@@ -106,20 +108,19 @@ fn by_shift_or(
 }
 
 /// Those that this shift-or finds.
-fn ends_by_shift_or(
-    shift_or: &ShiftOr<'_>,
-    compiled: &Compiled,
-    text: &[u8],
+fn ends_by_shift_or<'a>(
+    shift_or: &'a ShiftOr<'_>,
+    compiled: &'a Compiled,
+    text: &'a [u8],
     progress: Progress,
     count: usize,
 ) -> Progress
     requires { shift_or.now.literals ≡ compiled.now.literals }
 {
     let (mut from, mut told) = progress;
-    let mut met = Met::nothing();
     for _ in 0..count {
-        let found = next_end_by_shift_or(shift_or, compiled.list(), text, from, &mut met);
-        let Some((end, _)) = found else {
+        let mut ends = ShiftedEnds::behind(compiled, shift_or, text, from);
+        let Some((end, _)) = ends.next_end() else {
             return (text.len(), told);
         };
         told = with_end(told, end);

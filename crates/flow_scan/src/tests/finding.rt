@@ -4,7 +4,7 @@ use crate::compiled::Compiled;
 use crate::end_finder::EndFinder;
 use crate::searching::next_end;
 use crate::tests::owning::{How, agrees};
-use lit_base::{Fold, LitList, RawList};
+use lit_base::{Fold, LitList, Profile, RawList};
 use run_planner::plan;
 use std::alloc::Global;
 
@@ -107,7 +107,7 @@ pub(super) fn pieces_of(
 /// The plan of these literals.
 pub(super) fn plan_of_pieces(alloc: Global, raw: &RawList, fold: Fold) -> Option<Compiled> {
     let (list, _) = LitList::normal(alloc, raw, fold).ok()?;
-    let certificate = plan(alloc, &list).ok()?;
+    let certificate = plan(alloc, &list, Profile::Eight).ok()?;
     Compiled::new(list, certificate).ok()
 }
 

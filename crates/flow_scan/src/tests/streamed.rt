@@ -5,9 +5,9 @@ use super::finding::{CAPITALS, Draws, FIGURES, WORDS, pieces_of, plan_of_pieces,
 use crate::compiled::Compiled;
 use crate::end_finder::EndFinder;
 use crate::hit::Hit;
-use crate::learning::Way;
 use crate::scanner::Scanner;
 use crate::scanning::scan_all;
+use crate::strategy::Engine;
 use crate::tests::owning::{How, agrees};
 use lit_base::Fold;
 use std::alloc::Global;
@@ -106,7 +106,7 @@ pub(super) fn learns_in_pieces(
     let wanted = scan_all(alloc, compiled, text).ok()?;
     let scanner = Scanner::new(alloc, compiled).ok()?;
     let are_fed = are_fed(scanner, finder, Vec::new(alloc), text, size, &wanted)?;
-    Some(are_fed && finder.way() != Way::Plan)
+    Some(are_fed && finder.engine() != Engine::Plan)
 }
 
 /// Whether it does for forty pieces of a text of words.

@@ -1,57 +1,64 @@
 //! In which way a search goes on that has learned some.
-use crate::learning::{Learning, Way, cost_by_automaton, cost_of_dense_ends, cost_of_plain_ends};
+use crate::prices::{cost_by_automaton, cost_by_plan, cost_of_dense_ends};
+use crate::strategy::{Engine, Strategy};
 use text_windows::EndRate;
 
 /// Bytes of a text in which a search may change its way.
 const BYTES: usize = 65536;
 
 /// A search that has learned, and was promised so much for 1,024 bytes by windows and by shift-or, where the plan took far more.
-fn promised(by_windows: usize, by_shift_or: usize) -> Learning {
+fn promised(by_windows: usize, by_shift_or: usize) -> Strategy {
     promised_three(by_windows, by_shift_or, usize::MAX)
 }
 
 /// The same that was promised so much by the automaton too.
-fn promised_three(by_windows: usize, by_shift_or: usize, by_automaton: usize) -> Learning {
-    let mut learning = Learning::new();
-    learning.note(BYTES, 1 << 30, EndRate::nothing());
-    learning.choose(by_windows, by_shift_or, by_automaton);
-    learning
+fn promised_three(by_windows: usize, by_shift_or: usize, by_automaton: usize) -> Strategy {
+    let mut strategy = Strategy::new();
+    strategy.note(BYTES, 1 << 30, EndRate::nothing());
+    strategy.choose(by_windows, by_shift_or, by_automaton);
+    strategy
 }
 
 /// Its ways behind the first bytes, which took so long each 1,024, and behind as many more.
-fn ways_behind(mut learning: Learning, first: usize, second: usize) -> [Way; 2] {
-    learning.note(
+fn ways_behind(mut strategy: Strategy, first: usize, second: usize) -> [Engine; 2] {
+    strategy.note(
         BYTES,
         first.saturating_mul(BYTES / 1024),
         EndRate::nothing(),
     );
-    let before = learning.way();
-    learning.note(
+    let before = strategy.engine();
+    strategy.note(
         BYTES,
         second.saturating_mul(BYTES / 1024),
         EndRate::nothing(),
     );
-    [before, learning.way()]
+    [before, strategy.engine()]
 }
 
 #[test]
 fn goes_by_what_promises_less(rt: HostRuntime) {
-    assert_eq!(rt; promised(8_000, 9_000).way(), Way::Windows);
-    assert_eq!(rt; promised(9_000, 8_000).way(), Way::ShiftOr);
-    assert_eq!(rt; promised(8_000, usize::MAX).way(), Way::Windows);
-    assert_eq!(rt; promised_three(8_000, 9_000, 7_000).way(), Way::Automaton);
-    assert_eq!(rt; promised_three(8_000, 9_000, 8_500).way(), Way::Windows);
+    assert_eq!(rt; promised(8_000, 9_000).engine(), Engine::Windows);
+    assert_eq!(rt; promised(9_000, 8_000).engine(), Engine::ShiftOr);
+    assert_eq!(rt; promised(8_000, usize::MAX).engine(), Engine::Windows);
+    assert_eq!(rt;
+        promised_three(8_000, 9_000, 7_000).engine(),
+        Engine::Automaton
+    );
+    assert_eq!(rt;
+        promised_three(8_000, 9_000, 8_500).engine(),
+        Engine::Windows
+    );
 }
 
 #[test]
 fn goes_over_to_what_promises_next_to_least(rt: HostRuntime) {
     assert_eq!(rt;
         ways_behind(promised_three(8_000, usize::MAX, 7_000), 20_000, 30_000),
-        [Way::Windows, Way::Automaton]
+        [Engine::Windows, Engine::Automaton]
     );
     assert_eq!(rt;
         ways_behind(promised_three(8_000, 12_000, 9_000), 20_000, 10_000),
-        [Way::Automaton, Way::Automaton]
+        [Engine::Automaton, Engine::Automaton]
     );
 }
 
@@ -59,7 +66,7 @@ fn goes_over_to_what_promises_next_to_least(rt: HostRuntime) {
 fn goes_on_while_the_promise_is_kept(rt: HostRuntime) {
     assert_eq!(rt;
         ways_behind(promised(8_000, 9_000), 10_000, 10_000),
-        [Way::Windows, Way::Windows]
+        [Engine::Windows, Engine::Windows]
     );
 }
 
@@ -67,7 +74,7 @@ fn goes_on_while_the_promise_is_kept(rt: HostRuntime) {
 fn goes_over_where_the_other_way_promises_less_than_was_taken(rt: HostRuntime) {
     assert_eq!(rt;
         ways_behind(promised(8_000, 9_000), 20_000, 10_000),
-        [Way::ShiftOr, Way::ShiftOr]
+        [Engine::ShiftOr, Engine::ShiftOr]
     );
 }
 
@@ -75,7 +82,7 @@ fn goes_over_where_the_other_way_promises_less_than_was_taken(rt: HostRuntime) {
 fn comes_back_where_the_other_way_takes_more(rt: HostRuntime) {
     assert_eq!(rt;
         ways_behind(promised(8_000, 9_000), 20_000, 30_000),
-        [Way::ShiftOr, Way::Windows]
+        [Engine::ShiftOr, Engine::Windows]
     );
 }
 
@@ -83,17 +90,18 @@ fn comes_back_where_the_other_way_takes_more(rt: HostRuntime) {
 fn takes_no_way_that_was_not_learned(rt: HostRuntime) {
     assert_eq!(rt;
         ways_behind(promised(8_000, usize::MAX), 1 << 30, 1 << 30),
-        [Way::Windows, Way::Windows]
+        [Engine::Windows, Engine::Windows]
     );
 }
 
 #[test]
 fn takes_ends_that_stand_close_together_for_as_much_by_windows(rt: HostRuntime) {
-    assert_eq!(rt; cost_of_plain_ends(100), 50_000);
+    assert_eq!(rt; cost_by_plan(0, 100), 50_000);
+    assert_eq!(rt; cost_by_plan(3, 1), 1_700);
     assert_eq!(rt; cost_of_dense_ends(EndRate::of_scan(340)), 0);
     assert_eq!(rt;
         cost_of_dense_ends(EndRate::of_scan(341)),
-        cost_of_plain_ends(341)
+        cost_by_plan(0, 341)
     );
     assert_eq!(rt; cost_of_dense_ends(EndRate::of_searches(341)), 0);
 }

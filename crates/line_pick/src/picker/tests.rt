@@ -3,7 +3,7 @@ use super::*;
 use std::alloc::AllocError;
 use std::test::Fail;
 
-/// A sink that keeps each line behind its number.
+/// A sink that keeps each line after its number.
 #[derive(Drop)]
 struct Kept {
     alloc: Global,
@@ -55,7 +55,7 @@ fn first_wrong(
     Ok(None)
 }
 
-/// Turns that go on behind the last place.
+/// Turns that go on past the last position.
 static TOO_LONG: [Turn; 4] = [
     (Some(b"a\nb"), Ok(Next::More), b"1:a\n"),
     (Some(b""), Ok(Next::More), b"1:a\n"),

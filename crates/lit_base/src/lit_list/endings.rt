@@ -1,4 +1,4 @@
-//! The literals that end at one place of a text, one after another.
+//! The literals that end at one position of a text, one after another.
 ghost use Rattle.std.specs.Prelude.{◌≡◌, ◌+◌, ◌<◌, ◌≤◌, IfSome, MatchOption, length};
 ghost use Rattle.std.specs.Option.{IfNone};
 ghost use Rattle.lit_base.specs.Occurrences.{IsFirstEnding, NoneEnds, Occurs};
@@ -7,17 +7,17 @@ use crate::lit_list::LitList;
 use crate::suffixes::widths_behind;
 use std::marker::Model;
 
-/// The literals that end at one place of a text, in order, from one of the list on. A contract sees the literals, the text,
-/// that place, and the place of the list from which on the next one is looked for.
+/// The literals that end at one position of a text, in order, from some place of the list on. A contract sees the
+/// literals, the text, that position, and the place of the list from which the search continues.
 ///
-/// What the text's last bytes tell there is looked up once for all of them.
+/// The last bytes of the text there are read once for all of them.
 #[derive(Drop)]
 pub struct Endings<'a> {
     list: &'a LitList,
     text: &'a [u8],
     end: usize,
     from: usize,
-    /// Bit `width - 1` is set where a literal from `from` on that is told by so many bytes may end there.
+    /// Bit `width - 1` is set if a literal from `from` on with a key of `width` bytes may end there.
     widths: u8,
 }
 
@@ -52,7 +52,7 @@ impl<'a> Endings<'a> {
         }
     }
 
-    /// The literals that end at `end` behind one that does.
+    /// The literals that end at `end` after the literal at `place`, which ends there.
     #[inline]
     pub(super) fn behind(list: &'a LitList, text: &'a [u8], end: usize, place: usize) -> Endings<'a>
         requires { Occurs list.now text.now place end }
@@ -71,7 +71,7 @@ impl<'a> Endings<'a> {
         }
     }
 
-    /// The next literal that ends there, if one is left.
+    /// The next literal that ends there, or `None` if no literal remains.
     #[inline]
     pub fn next(&mut self) -> Option<usize>
         ensures literals { self.new.literals ≡ self.old.literals }

@@ -1,4 +1,4 @@
-//! All literals, chained by the hash of their last bytes.
+//! All literals, chained by the hash of their keys.
 ghost use Rattle.std.specs.Prelude.{◌≡◌, ℕ, ◌^◌, ◌<◌, ◌≤◌, ◌↔◌, All, length, slice_index, slice_index_or, IfOk, IsTrue, MatchOption, []};
 ghost use Rattle.lit_base.specs.Chains.{AreChainsOf, IsChained, IsFirstTold, NoneToldEnds, hash_at, told_at};
 ghost use Rattle.lit_base.specs.Occurrences.{Occurs};
@@ -11,13 +11,12 @@ use crate::literal::Literal;
 use crate::suffixes::key::{hash_of, suffix_key, told_width};
 use std::alloc::{AllocError, Global};
 
-/// The literals, chained by the hash of the last bytes that each is told by. Each chain rises. The
-/// number of literals stands for none.
+/// The literals, chained by the hash of their keys. Each chain rises. The number of literals stands for none.
 #[derive(Debug, Drop)]
 pub(crate) struct SuffixChains {
     /// How many bits a hash has.
     pub bits: usize,
-    /// The key of each literal's last bytes.
+    /// The key of each literal.
     pub keys: Vec<u64>,
     /// For each hash the first literal that has it.
     pub heads: Vec<u16>,
@@ -43,8 +42,8 @@ impl SuffixChains {
         })
     }
 
-    /// The first of the literals from place `from` on that are told by `width` bytes and end at
-    /// `end` in the text, if there is one.
+    /// The first of the literals from place `from` on that have a key of `width` bytes and end at `end` in the text, if
+    /// there is one.
     #[inline]
     pub fn next_told(
         &self,
@@ -78,8 +77,8 @@ impl SuffixChains {
         None
     }
 
-    /// Whether a literal is told by `width` bytes and ends at `end`, before which the text has the key of so many bytes. Where
-    /// case counts, the key spells all bytes of a short literal, which are not compared again.
+    /// Whether a literal has a key of `width` bytes and ends at `end`, given the text's key of as many bytes before
+    /// `end`. If case counts, the key spells all bytes of a short literal, which are not compared again.
     fn ends_with_key(
         &self,
         literals: &FoldedList,
@@ -110,8 +109,8 @@ impl SuffixChains {
         literals.ends_at(place, text, end)
     }
 
-    /// The first literal from `from` on whose hash is the key's, and perhaps one before: it goes on from the literal before
-    /// `from`, if that one has the key, and else begins at the head of the chain.
+    /// The first literal from `from` on whose hash is the key's, or a literal of the same chain before it. It continues
+    /// from the literal before `from`, if that has the key, and otherwise begins at the head of the chain.
     #[inline]
     fn first_with(&self, key: u64, from: usize) -> usize
         requires hashed { (0 < self.now.bits) × (self.now.bits ≤ 32) }
@@ -130,7 +129,7 @@ impl SuffixChains {
     }
 }
 
-/// The keys that the literals are told by.
+/// The keys of the literals.
 fn keys_of(alloc: Global, fold: Fold, literals: &[Literal]) -> Result<Vec<u64>, AllocError>
     requires nonempty { All (λ t. 0 < length t) literals.now }
     ensures len { IfOk result (λ keys. length keys.items ≡ length literals.now) }
@@ -145,7 +144,7 @@ fn keys_of(alloc: Global, fold: Fold, literals: &[Literal]) -> Result<Vec<u64>, 
     Ok(keys)
 }
 
-/// The bits of a hash for so many literals: there are more than four times as many hashes.
+/// The number of bits of a hash for `count` literals: there are more than four times as many hashes.
 fn table_bits(count: usize) -> usize
     requires { count ≤ MAX_LITERALS }
     ensures some { 0 < result }

@@ -1,4 +1,4 @@
-//! Checks by the last of the bytes that literals are told by, for what the marks let pass.
+//! Checks by the last bytes of keys, for the positions that the hash bits pass.
 ghost use Rattle.std.specs.Prelude.{◌≡◌, ℕ, ◌-◌, ◌^◌, ◌<◌, ◌≤◌, All, length, map, min, slice_index, vec_len, IfOk};
 ghost use Rattle.std.specs.Int.{bit_at};
 ghost use Rattle.std.specs.Int.RustNames.{bit_and, bit_or};
@@ -17,28 +17,28 @@ use crate::suffixes::key::{case_bits, hash_of, last_bits, last_word, suffix_key,
 use crate::suffixes::marks::{mark, marked_len};
 use std::alloc::{AllocError, Global};
 
-/// How many bits a hash has here. There are eight times as many hashes as there may be literals, and
-/// a byte for each takes 8 KiB, which stay in a processor's first cache.
+/// The number of bits of a hash here. There are twice as many hashes as there may be literals. A byte for each takes 8
+/// KiB, which stay in a processor's first cache.
 pub(crate) const CHECK_BITS: usize = 13;
 
-/// Literals of so many bytes up to seven are checked by one look, and longer ones by another. To check each by all the bytes that it
-/// is told by took a look for each width from the least to eight, 18 of 100 instructions for a thousand frequent literals in log lines;
-/// what these looks let through besides is told by the chains. With one look for all, a thousand rare literals in English text took
-/// 1.1 times as long.
+/// Keys of this many bytes up to seven are checked by one probe, and keys of eight by another. Measured: a probe for each
+/// width from the least to eight takes 18 of 100 instructions for a thousand frequent literals in log lines. The chains
+/// reject what the two probes pass wrongly. With one probe for all keys, a thousand rare literals in English text take 1.1
+/// times as long.
 const LEAST_CHECKED: usize = 4;
 
-/// A byte for each hash. Bit `width - 1` is set where some literal that is told by `width` bytes has that hash by the bytes that it is
-/// checked by: by eight if it has so many, and else by as many of its last bytes as the shortest literal has, but by four at least,
-/// or by all where it has fewer. So chains are walked for those widths alone.
+/// A byte for each hash. Bit `width - 1` is set if some literal with a key of `width` bytes has that hash by its
+/// checked bytes. A key of eight bytes is checked whole; a shorter one by as many of its last bytes as the shortest
+/// literal has, but at least four, or whole if it has fewer. So chains are walked for those widths alone.
 #[derive(Debug, Drop)]
 pub(crate) struct SuffixChecks {
-    /// Each literal has so many bytes at least; at most eight.
+    /// The length of the shortest literal, at most eight.
     pub least: usize,
-    /// Each that is told by fewer than eight is checked by so many at most.
+    /// Keys of fewer than eight bytes are checked by at most this many.
     pub most: usize,
-    /// The bits of case that are left out.
+    /// The bits of letter case, which hashes ignore.
     pub case_bits: u64,
-    /// The widths of each hash.
+    /// The key widths of each hash.
     pub widths: Vec<u8>,
 }
 
@@ -63,9 +63,9 @@ impl SuffixChecks {
         })
     }
 
-    /// The widths of the literals that may end at `end`, told by the hashes of the last bytes before it: bit `width - 1`
-    /// for those that are told by so many bytes. It looks at every width that literals are checked by: a jump for each would
-    /// often be foreseen wrongly.
+    /// The key widths of the literals that may end at `end`, by the hashes of the last bytes before it: bit `width - 1`
+    /// stands for keys of `width` bytes. It probes every width by which keys are checked: a branch for each would often
+    /// be mispredicted.
     #[inline(always)]
     pub fn widths_at(&self, text: &[u8], end: usize) -> u8
         requires some { 0 < self.now.least }
@@ -87,7 +87,7 @@ impl SuffixChecks {
         widths
     }
 
-    /// The widths of the literals that have the hash of the last `width` of the eight bytes that a word spells.
+    /// The key widths of the literals with the hash of the last `width` of the eight bytes that a word spells.
     #[inline(always)]
     fn widths_of(&self, word: u64, width: usize) -> u8
         requires some { 0 < width }
@@ -99,7 +99,7 @@ impl SuffixChecks {
     }
 }
 
-/// By how many bytes a literal is checked that is told by so many, where shorter ones are by so many at most.
+/// The number of bytes by which a key of `told` bytes is checked: keys shorter than eight by at most `most`.
 fn checked_width(told: usize, most: usize) -> usize
     requires some { 0 < told }
     requires checked { 0 < most }
@@ -111,7 +111,7 @@ fn checked_width(told: usize, most: usize) -> usize
     if told < 8 { told.min(most) } else { told }
 }
 
-/// Sets the bit of a literal, where those that are told by fewer than eight bytes are checked by so many at most.
+/// Sets the bit of a literal; keys shorter than eight bytes are checked by at most `most`.
 fn check_literal(widths: &mut Vec<u8>, fold: Fold, literal: &[u8], most: usize)
     requires some { 0 < length literal.now }
     requires checked { 0 < most }

@@ -4,7 +4,7 @@ ghost use Rattle.lit_base.specs.Suffixes.{case_bits, hash_of, last_bits, spelled
 
 use crate::fold::Fold;
 
-/// By how many of its last bytes a literal of so many is told: by all of them, up to eight.
+/// The key width of a literal of `len` bytes: all of them, up to eight.
 #[inline]
 pub(crate) fn told_width(len: usize) -> usize
     ensures { result ≡ told_width len }
@@ -12,7 +12,7 @@ pub(crate) fn told_width(len: usize) -> usize
     len.min(8)
 }
 
-/// The key of the `width` bytes before `end`. Texts that fold alike have like keys.
+/// The key of the `width` bytes before `end`. Texts that fold alike have equal keys.
 #[inline]
 pub fn suffix_key(fold: Fold, text: &[u8], end: usize, width: usize) -> u64
     requires some { 0 < width }
@@ -59,7 +59,7 @@ pub fn last_word(text: &[u8], end: usize) -> u64
     ])
 }
 
-/// What at most eight bytes spell behind zeros.
+/// What at most eight bytes spell after zeros.
 fn padded_word(bytes: &[u8]) -> u64
     requires { length bytes.now ≤ 8 }
     ensures { result ≡ spelled (replicate (8 - length bytes.now) 0 ++ bytes.now) }
@@ -69,7 +69,7 @@ fn padded_word(bytes: &[u8]) -> u64
     u64::from_le_bytes(word)
 }
 
-/// The bits that letters differ in by case, one in each of eight bytes, where case does not count.
+/// The bit of letter case in each of eight bytes, or no bit if case counts.
 #[inline]
 pub fn case_bits(fold: Fold) -> u64
     ensures { result ≡ case_bits fold }

@@ -1,5 +1,5 @@
-//! Marks for the hashes of the bytes shortly before each literal's end.
-ghost use Rattle.std.specs.Prelude.{◌≡◌, ◌≢◌, ℕ, ◌+◌, ◌^◌, ◌<◌, ◌≤◌, ◌↔◌, All, length, map, vec_len, slice_index, slice_index_or, slice_range, ◌-◌, max, min, IfOk, IsTrue, []};
+//! Hash bits for the bytes shortly before each literal's end.
+ghost use Rattle.std.specs.Prelude.{◌≡◌, ◌≢◌, ℕ, ◌+◌, ◌^◌, ◌<◌, ◌≤◌, ◌↔◌, All, length, map, vec_len, slice_index, slice_index_or, slice_range, ◌-◌, IfOk, IsTrue, []};
 ghost use Rattle.std.specs.List.Sorted.{IsNonDecreasing};
 ghost use Rattle.lit_base.specs.Marks.{AreMarksOf, IsMarked, IsMarkedFor};
 ghost use Rattle.lit_base.specs.Suffixes.{hash_of, spelled, suffix_key};
@@ -12,57 +12,44 @@ use crate::literal::Literal;
 use crate::suffixes::key::{case_bits, hash_of, last_bits, last_word, suffix_key};
 use std::alloc::{AllocError, Global};
 
-/// How many bits a hash has here: 64 times as many hashes as there may be literals, so that few
-/// other bytes have one that is marked. With 1,000 literals, 15 bits take 1.3 times as long.
+/// The number of bits of a hash here: 16 times as many hashes as there may be literals, so that few other bytes have a
+/// hash with a bit. With 1,000 literals, 15 bits take 1.3 times as long.
 pub const HASH_BITS: usize = 16;
 
-/// A byte of marks for each hash of `width` bytes. Bit `back` says that some literal has bytes of
-/// this hash `back` places before its end. As each literal has a mark for each of the last `stride`
-/// places, whoever looks at every `stride`-th place of a text misses no end.
+/// A byte of marks for each hash of `width` bytes. Bit 0 says that some literal ends with bytes of this hash.
 #[derive(Debug, Drop)]
 pub(crate) struct SuffixMarks {
     pub width: usize,
-    pub stride: usize,
     /// The bits of the last `width` bytes of eight.
     pub mask: u64,
-    /// The bits of case that are left out.
+    /// The bits of letter case, which hashes ignore.
     pub case_bits: u64,
     pub marks: Vec<u8>,
 }
 
 impl SuffixMarks {
-    /// The marks of literals in order of length.
+    /// The hash bits of literals in order of length.
     pub fn new(alloc: Global, fold: Fold, literals: &[Literal]) -> Result<SuffixMarks, AllocError>
         requires nonempty { All (λ t. 0 < length t) literals.now }
         requires rising { IsNonDecreasing (map length literals.now) }
         ensures { IfOk result (AreMarksOf (record { folding = fold; texts = literals.now })) }
     {
-        let len = marked_len(literals);
-        let stride = stride_for(len);
-        let width = (len + 1 - stride).min(8);
+        let width = marked_len(literals);
         let mut marks = Vec::from_elem(alloc, 0, 1 << HASH_BITS)?;
         for place in 0..literals.len() {
-            mark_literal(
-                &mut marks,
-                fold,
-                literals[place].as_slice(),
-                width,
-                0,
-                stride,
-            );
+            mark_literal(&mut marks, fold, literals[place].as_slice(), width, 0, 1);
         }
         Ok(SuffixMarks {
             width,
-            stride,
             mask: last_bits(width),
             case_bits: case_bits(fold),
             marks,
         })
     }
 
-    /// The marks of the bytes before `end`, of which there are at least eight.
+    /// The hash bits of the bytes before `end`, at least eight.
     #[inline(always)]
-    pub fn marks_before(&self, text: &[u8], end: usize) -> u8
+    fn marks_before(&self, text: &[u8], end: usize) -> u8
         requires room { length self.now.marks.items ≡ 2 ^ HASH_BITS }
         requires eight { 8 ≤ end }
         requires inside { end ≤ length text.now }
@@ -74,8 +61,8 @@ impl SuffixMarks {
         )]
     }
 
-    /// Whether the bytes before `end` have a hash that is not marked for an end. It does not look
-    /// at fewer than eight bytes.
+    /// Whether the hash of the bytes before `end` has no bit for an end. With fewer than eight bytes before `end` it
+    /// returns false.
     #[inline]
     pub fn rules_out(&self, text: &[u8], end: usize) -> bool
         requires room { length self.now.marks.items ≡ 2 ^ HASH_BITS }
@@ -86,33 +73,22 @@ impl SuffixMarks {
     }
 }
 
-/// How far apart the places are at which the marks of all places stand, where the literals have so
-/// many bytes: the longest stride of up to eight that leaves four bytes to tell places by.
-fn stride_for(len: usize) -> usize
-    ensures value { result ≡ max 1 (min 8 (len - 3)) }
-    ensures within { 0 < len → result ≤ len }
-{
-    len.saturating_sub(3).clamp(1, 8)
-}
-
-/// How many of its last bytes each literal is marked by: as many as the shortest has, at most
-/// fifteen.
+/// How many of its last bytes each literal is marked by: as many as the shortest has, at most eight.
 pub(crate) fn marked_len(literals: &[Literal]) -> usize
     requires nonempty { All (λ t. 0 < length t) literals.now }
     requires rising { IsNonDecreasing (map length literals.now) }
     ensures some { 0 < result }
-    ensures small { result ≤ 15 }
+    ensures small { result ≤ 8 }
     ensures shared { (place : ℕ) → place < length literals.now → result ≤ length (slice_index_or literals.now place []) }
-    ensures stride { max 1 (min 8 (result - 3)) ≡ max 1 (min 8 (length (slice_index_or literals.now 0 []) - 3)) }
 {
     if literals.is_empty() {
         return 1;
     }
-    literals[0].as_slice().len().min(15)
+    literals[0].as_slice().len().min(8)
 }
 
-/// Marks so many places of a literal, `offset` places before its end and further back: for each of them the
-/// hash of the `width` bytes before it.
+/// Sets the hash bits of `stride` positions of a literal, from `offset` before its end backwards, each by the hash of
+/// the `width` bytes before the position.
 pub fn mark_literal(
     marks: &mut Vec<u8>,
     fold: Fold,
@@ -136,7 +112,7 @@ pub fn mark_literal(
     }
 }
 
-/// Sets a bit in the byte of a number: marks it as one that stands so far back.
+/// Sets bit `back` in the byte of a number: a literal may end `back` positions later.
 pub fn mark(marks: &mut Vec<u8>, number: usize, back: usize)
     requires room { number < vec_len marks.old }
     requires bit { back < 8 }
@@ -147,7 +123,7 @@ pub fn mark(marks: &mut Vec<u8>, number: usize, back: usize)
     marks[number] |= 1 << back;
 }
 
-/// Whether a byte of marks has a bit: one that stands so far back.
+/// Whether a byte of hash bits has bit `back`.
 #[inline(always)]
 pub fn is_marked(marks: u8, back: usize) -> bool
     requires { back < 8 }

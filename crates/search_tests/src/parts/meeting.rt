@@ -18,8 +18,8 @@ pub(super) struct Meeting<'a, C> {
     late: AtomicU64,
 }
 
-/// What a gate has seen: the workers that entered and those that left, each as often as it did, and
-/// how many waited in vain.
+/// The counts of a gate: the workers that entered and those that left, each as often as it did, and how many waited
+/// without result.
 #[derive(Clone, Copy, Debug, PartialEq, Eq)]
 pub(super) struct Seen {
     pub(super) entered: u64,
@@ -40,7 +40,7 @@ impl<'a, C: Clock> Meeting<'a, C> {
         }
     }
 
-    /// What it has seen.
+    /// Its counts.
     pub(super) fn seen(&self) -> Seen {
         Seen {
             entered: self.entered.load(Ordering::SeqCst),

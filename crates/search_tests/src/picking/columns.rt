@@ -1,7 +1,7 @@
 //! Lines in which literals end in one column, and others.
 use super::*;
 
-/// Lines with a literal that ends behind five bytes, one so short that its fifth byte is the next one's, and some with a literal in
+/// Lines with a literal that ends after five bytes, one so short that its fifth byte is the next one's, and some with a literal in
 /// other columns.
 static ALIKE: [Turn; 3] = [
     (

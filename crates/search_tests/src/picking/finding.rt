@@ -1,12 +1,12 @@
-//! Pickers by a search that learns from the text, beside those by the plan alone.
+//! Pickers with a finder that tunes itself to the text, compared with pickers by the plan alone.
 ghost use Rattle.std.specs.Prelude.{◌≡◌, IfSome};
 
 use super::*;
 
-/// Literals of which the text below has some, and pieces of the others.
+/// Literals, some of them in the text below, and pieces of the others.
 const WORDS: &[u8] = b"cats\nbirds\nhorse\nhens\n";
 
-/// Lines of which two hold one of them.
+/// Lines; two of them hold a literal.
 const LINES: &[u8] = b"a cat or a bird\nbirds\nhouses and hen\nthe horse\n";
 
 /// Their plan.
@@ -14,7 +14,7 @@ fn plan_of_words(alloc: Global) -> Option<Compiled> {
     let mut raw = RawList::new(alloc);
     raw.add_file_bytes(WORDS).ok()?;
     let (list, _) = LitList::normal(alloc, &raw, Fold::No).ok()?;
-    compile(alloc, list).ok()
+    compile(alloc, list, Profile::Eight).ok()
 }
 
 /// The lines, 10,000 times.
@@ -133,7 +133,7 @@ fn hands_back_a_finder(alloc: Global) -> Option<bool> {
     hands_back_by(alloc, &compiled)
 }
 
-/// Whether one that was made without does.
+/// Whether a picker that was made without a finder does.
 fn hands_out_a_finder(alloc: Global) -> bool {
     let picker = Picker::new(alloc, None, true, PARTS);
     picker.learns() || picker.into_finder().is_some()

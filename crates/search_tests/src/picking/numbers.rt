@@ -1,4 +1,4 @@
-//! Pickers without numbers, beside those with them.
+//! Pickers without numbers, compared with pickers with them.
 use super::*;
 
 /// A sink that keeps lines without their numbers.

@@ -1,15 +1,15 @@
-//! Searches for whole lines, beside lines that are compared one by one.
+//! Searches for whole lines, compared with lines that are compared one by one.
 use super::{Kept, Mood, WHOLE};
 use flow_scan::Compiled;
 use line_pick::{LineRule, Picker, Sink, is_in_lines};
 use list_plan::compile;
-use lit_base::{Fold, Lines, LitList, RawList};
+use lit_base::{Fold, Lines, LitList, Profile, RawList};
 use std::alloc::{AllocError, Global};
 
-/// Literals of which some are the end of others, or as long as others.
+/// Literals, some of them the end of others, or as long as others.
 const LITERALS: [&[u8]; 5] = [b"a", b"ab", b"bb", b"aab", b"bab"];
 
-/// More bytes than one look at a line takes.
+/// More bytes than one comparison of a line takes.
 const LONG: &[u8] =
     b"........................................................................................................................................ab";
 
@@ -43,7 +43,7 @@ fn plan_of(alloc: Global, fold: Fold) -> Option<Compiled> {
         raw.push(literal).ok()?;
     }
     let (list, _) = LitList::normal(alloc, &raw, fold).ok()?;
-    compile(alloc, list).ok()
+    compile(alloc, list, Profile::Eight).ok()
 }
 
 /// Whether a line is one of the literals, or empty where the null pattern is there.
@@ -57,7 +57,7 @@ fn is_pattern(line: &[u8], fold: Fold, has_empty: bool) -> bool {
     })
 }
 
-/// What is kept of a text whose lines are compared one by one.
+/// The lines kept of a text whose lines are compared one by one.
 fn kept_one_by_one(
     alloc: Global,
     text: &[u8],
@@ -76,7 +76,7 @@ fn kept_one_by_one(
     Some(sink.text)
 }
 
-/// What is kept by a picker that gets the text in pieces of so many bytes.
+/// The lines kept by a picker that gets the text in pieces of `size` bytes.
 fn kept_in_pieces(
     alloc: Global,
     compiled: &Compiled,

@@ -4,10 +4,10 @@ use flow_scan::{Compiled, next_end};
 use lit_base::Fold;
 use std::alloc::{AllocError, Global};
 
-/// How many bytes the texts have besides those looked for.
+/// How many bytes the texts have besides the searched bytes.
 const SPARE: [usize; 8] = [0, 1, 62, 63, 64, 65, 129, 192];
 
-/// Small letters, and what is found for them where case is ignored.
+/// Small letters, and bytes that are found for them where case is ignored.
 const FOLDED: [(&[u8], &[u8]); 4] = [
     (b"z", b"Z"),
     (b"-", b"-"),
@@ -15,7 +15,7 @@ const FOLDED: [(&[u8], &[u8]); 4] = [
     (b"the quick", b"tHE Quick"),
 ];
 
-/// So many dots, with these bytes at one place.
+/// `len` dots, with these bytes at one position.
 fn text_with(alloc: Global, bytes: &[u8], place: usize, len: usize) -> Result<Vec<u8>, AllocError> {
     let mut text = vec![in alloc; b'.'; len]?;
     for (dot, byte) in text.iter_mut().skip(place).zip(bytes.iter()) {
@@ -24,7 +24,7 @@ fn text_with(alloc: Global, bytes: &[u8], place: usize, len: usize) -> Result<Ve
     Ok(text)
 }
 
-/// Whether an end is the only one, from wherever it is looked for.
+/// Whether an end is the only one, for a search from each position.
 fn is_only_end(compiled: &Compiled, text: &[u8], end: usize) -> bool {
     next_end(compiled, text, 0) == Some(end)
         && next_end(compiled, text, end / 2) == Some(end)
@@ -57,14 +57,13 @@ fn finds_everywhere(alloc: Global, compiled: &Compiled, bytes: &[u8]) -> Option<
     Some(true)
 }
 
-/// Whether a search for literals, of which the texts hold the first alone, finds these bytes at each
-/// place.
+/// Whether a search for literals finds these bytes at each position, in texts that hold only the first literal.
 fn finds(alloc: Global, fold: Fold, literals: &[&[u8]], bytes: &[u8]) -> Option<bool> {
     let compiled = plan_of(alloc, fold, literals)?;
     finds_everywhere(alloc, &compiled, bytes)
 }
 
-/// Where a literal ends first in a text, case told apart.
+/// Where a literal ends first in a text, case-sensitive.
 fn first_end(alloc: Global, literal: &[u8], text: &[u8]) -> Option<Option<usize>> {
     let compiled = plan_of(alloc, Fold::No, &[literal])?;
     Some(next_end(&compiled, text, 0))

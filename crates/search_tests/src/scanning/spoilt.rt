@@ -1,4 +1,4 @@
-//! Scans of texts that are made of the literals, most of them with one byte spoilt, beside a search that
+//! Scans of near-misses: texts made of the literals, most of them with one byte changed, compared with a search that
 //! compares each literal.
 use super::{are_of_text, hit, plan_of};
 use flow_scan::{Compiled, Hit};
@@ -18,7 +18,7 @@ const WORDS: [&[u8]; 8] = [
     b"the planner of it",
 ];
 
-/// These words, each with the byte at each of its places spoilt so, but at each seventh.
+/// These words, each with the byte at each of its places changed, except at each seventh.
 fn spoilt_text(alloc: Global, words: &[&[u8]], spoilt: u8) -> Option<Vec<u8>> {
     let mut text = Vec::new(alloc);
     for word in words {
@@ -63,7 +63,7 @@ pub(super) fn finds_the_same(alloc: Global, compiled: &Compiled, text: &[u8]) ->
     are_of_text(alloc, compiled, text, wanted.as_slice())
 }
 
-/// Whether it does in a text of these words, spoilt so.
+/// Whether it does in a text of the words, changed so.
 fn tells_apart(alloc: Global, words: &[&[u8]], spoilt: u8) -> Option<bool> {
     let compiled = plan_of(alloc, Fold::No, words)?;
     let text = spoilt_text(alloc, words, spoilt)?;

@@ -1,7 +1,7 @@
 use Rattle.std.specs.Prelude.{◌≡◌, ◌≤◌, ℕ, length}
 use Rattle.bench_lanes.proofs.texts.quiet_text.Given as goal
 
--- so many bytes so far, and no more than wanted
+-- `count` bytes so far, and no more than wanted
 pub record IsSoFar (items count len : ℕ) : Type 0 where
   pub long : items ≡ count
   pub within : count ≤ len

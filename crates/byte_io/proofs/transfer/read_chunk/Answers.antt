@@ -1,4 +1,4 @@
--- Behind the text there is room, which a read fills from its front.
+-- After the text there is room, which a read fills from its front.
 use Rattle.std.proofs.Common.{◌≡◌, take, arith}
 use Rattle.std.proofs.lemmas.Grind.{common_steps}
 use Rattle.byte_io.proofs.TransferLemmas.{ReadsInto-read, ReadsInto-failed}

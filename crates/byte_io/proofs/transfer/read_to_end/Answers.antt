@@ -1,4 +1,4 @@
--- What was read before the last turn and in it, and that each turn read at least one byte.
+-- The bytes read before the last turn and in it, and that each turn read at least one byte.
 use Rattle.std.proofs.Common.{arith}
 use Rattle.byte_io.proofs.TransferLemmas.{ReadsInto-more, ReadsInto-many}
 use Rattle.byte_io.proofs.transfer.read_to_end.Goals as goal

@@ -1,4 +1,4 @@
--- The text gained what was read, at least one byte a turn, and as much as there is less room.
+-- The text gained the bytes that were read, at least one byte a turn, and as much as there is less room.
 use Rattle.std.proofs.Common.{◌≡◌, ◌+◌, ◌≤◌, vec_len}
 use Rattle.byte_io.specs.Transfers.{ReadsInto}
 use Rattle.byte_io.proofs.transfer.read_to_end.Given as goal

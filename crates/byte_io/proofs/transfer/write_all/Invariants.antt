@@ -1,4 +1,4 @@
--- What is gone from the rest was written, and no call has failed.
+-- The bytes gone from the rest were written, and no call has failed.
 use Rattle.std.proofs.Common.{◌≡◌, length}
 use Rattle.byte_io.proofs.TransferLemmas.{WritesFront}
 use Rattle.byte_io.proofs.transfer.write_all.Given as goal

@@ -3,9 +3,9 @@ use Rattle.std.proofs.Common.{arith}
 use Rattle.flow_scan.proofs.claiming.claims_behind.Goals as goal
 
 pub returns-then-seen-lt-FRONT : goal.returns-then-seen-lt-FRONT
-returns-then-seen-lt-FRONT c = λ from first place end counted below occurs after behind before.
-    c.look_at_each.ensures from first place end counted below occurs after behind (omega (arith, before, c.min.ensures))
+returns-then-seen-lt-FRONT c = λ from first place end occurs after behind before.
+    c.look_at_each.ensures from first place end occurs after behind (omega (arith, before, c.min.ensures))
 
 pub returns : goal.returns
-returns c = λ from first place end counted below occurs after behind before.
-    c.look_at_block.ensures from first place end counted below occurs after behind (omega (arith, before))
+returns c = λ from first place end occurs after behind before.
+    c.look_at_block.ensures from first place end occurs after behind (omega (arith, before))

@@ -1,4 +1,4 @@
-use Rattle.std.proofs.Common.{ℕ, ◌+◌, ◌-◌, ◌≤◌, length}
+use Rattle.std.proofs.Common.{ℕ, ◌+◌, ◌-◌, ◌≤◌}
 use Rattle.flow_scan.specs.Windowed.{AreClaimed}
 use Rattle.flow_scan.proofs.claiming.look_at_each.Given as goal
 
@@ -6,8 +6,8 @@ use Rattle.flow_scan.proofs.claiming.look_at_each.Given as goal
 abbrev pub invariant-places : goal.invariant-places
 invariant-places l = record {
   few : l.back ≤ l.count;
-  claimed : (from : ℕ) → AreClaimed 0 (length l.windows.literals.texts) l.windows l.text from l.seen (l.seen + 1) l.marks
-      → AreClaimed 0 (length l.windows.literals.texts) l.windows l.text from l.seen (l.seen + 1 + l.back) l.found;
+  claimed : (from : ℕ) → AreClaimed l.windows l.text from l.seen (l.seen + 1) l.marks
+      → AreClaimed l.windows l.text from l.seen (l.seen + 1 + l.back) l.found;
 }
 
 abbrev pub decreases-places : goal.decreases-places

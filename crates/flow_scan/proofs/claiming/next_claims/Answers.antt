@@ -1,5 +1,9 @@
--- What is skipped claims nothing.
+-- Near the front nothing is skipped.
+use Rattle.std.proofs.Common.{arith}
 use Rattle.flow_scan.proofs.claiming.next_claims.Goals as goal
 
-pub returns-clause-claimed : goal.returns-clause-claimed
-returns-clause-claimed c = λ first. c.claims_behind.ensures c.args.seen (c.skip_quiet-at.ensures.claimed first)
+pub returns-then-seen-lt-FRONT-clause-none : goal.returns-then-seen-lt-FRONT-clause-none
+returns-then-seen-lt-FRONT-clause-none c = λ first end after within here. absurd (omega (arith, after, within))
+
+pub returns-then-seen-lt-FRONT-clause-claimed : goal.returns-then-seen-lt-FRONT-clause-claimed
+returns-then-seen-lt-FRONT-clause-claimed c = λ first. c.claims_behind.ensures c.args.seen first

@@ -10,10 +10,10 @@ use Rattle.flow_scan.proofs.claiming.sieve.Goals as goal
 
 pub places-init : goal.places-init
 places-init c = record {
-  left = λ place end before occurs behind inside.
+  left = λ place end occurs behind inside.
       let at : ℕ = end - offset_at c.args.windows.now place - (c.args.seen + 1) in
       let one = bit_at_ones 56 at (omega (arith, behind, inside)) in
-      inr (omega (arith, bit_at_and c.args.passing 72057594037927935 at, one, c.requires.passing place end before occurs behind inside));
+      inr (omega (arith, bit_at_and c.args.passing 72057594037927935 at, one, c.requires.passing place end occurs behind inside));
   kept = λ back near set. set;
   low = λ back set. elim (cases_lt back 56) [
     | inl near ↦ near
@@ -26,14 +26,14 @@ places-preserved c =
     let before = c.places.invariant in
     let back : ℕ = c.split_lowest-back.result.0 in
     record {
-      left = left_further c.args.windows.now c.args.text.now c.args.seen c.split-split.ensures.within c.places.found c.places.rest back c.split_lowest-back.result.1 c.sieved_marks_behind_front-look.result
-          c.split_lowest-back.ensures c.sieved_marks_behind_front-look.ensures before.left;
-      kept = λ other near set. marked_below c.places.found c.sieved_marks_behind_front-look.result back other near (before.kept other near set);
+      left = left_further c.args.windows.now c.args.text.now c.args.seen c.stride-stride.ensures.within c.places.found c.places.rest back c.split_lowest-back.result.1 c.marks_by_widths-look.result
+          c.split_lowest-back.ensures c.marks_by_widths-look.ensures before.left;
+      kept = λ other near set. marked_below c.places.found c.marks_by_widths-look.result back other near (before.kept other near set);
       low = λ other set. before.low other ((c.split_lowest-back.ensures.others other).0 set).1;
     }
 
-pub returns-clause-claimed : goal.returns-clause-claimed
-returns-clause-claimed c = λ from.
+pub returns : goal.returns
+returns c = λ from.
     let before = c.places.invariant in
-    sieve_claims c.args.windows.now c.args.text.now c.args.seen c.split-split.ensures.within from c.args.marks c.places.found c.places.rest
+    sieve_claims c.args.windows.now c.args.text.now c.args.seen c.stride-stride.ensures.within from c.args.marks c.places.found c.places.rest
     (λ k near. ap (λ m. bit_at m k) c.places-test.false ∙ bit_at-zero k) before.left before.kept

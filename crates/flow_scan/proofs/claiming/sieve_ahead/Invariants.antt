@@ -1,5 +1,5 @@
 use Rattle.std.proofs.Common.{◌+◌, ◌-◌, ◌≤◌, length}
-use Rattle.text_windows.specs.NoEnds.{NoEndUpTo}
+use Rattle.lit_base.specs.NextEnds.{NoEndUpTo}
 use Rattle.flow_scan.specs.Windowed.{AreClaimed}
 use Rattle.flow_scan.proofs.claiming.sieve_ahead.Given as goal
 
@@ -9,9 +9,9 @@ invariant-blocks-2 l = record {
   front : 3 ≤ l.at;
   ahead : l.seen ≤ l.at;
   inside : l.at ≤ length l.text;
-  none : AreClaimed 0 (length l.windows.literals.texts) l.windows l.text l.seen l.seen (l.seen + 1) l.marks → NoEndUpTo l.windows.literals l.text l.seen l.at;
-  claimed : AreClaimed 0 (length l.windows.literals.texts) l.windows l.text l.seen l.seen (l.seen + 1) l.marks
-      → AreClaimed 0 (length l.windows.literals.texts) l.windows l.text l.seen l.at (l.at + 1) l.marks;
+  none : AreClaimed l.windows l.text l.seen l.seen (l.seen + 1) l.marks → NoEndUpTo l.windows.literals l.text l.seen l.at;
+  claimed : AreClaimed l.windows l.text l.seen l.seen (l.seen + 1) l.marks
+      → AreClaimed l.windows l.text l.seen l.at (l.at + 1) l.marks;
 }
 
 abbrev pub decreases-blocks-2 : goal.decreases-blocks-2

@@ -6,10 +6,10 @@ use Rattle.flow_scan.proofs.claiming.skip_unmarked.Given as goal
 abbrev pub invariant-strides : goal.invariant-strides
 invariant-strides l = record {
   ahead : l.seen < l.at;
-  inside : l.at ≤ l.last;
-  claimed : (from : ℕ) → AreClaimed l.windows.split (length l.windows.literals.texts) l.windows l.text from from (l.seen + 1) 0
-      → AreClaimed l.windows.split (length l.windows.literals.texts) l.windows l.text from from l.at 0;
+  inside : l.at ≤ length l.text;
+  claimed : (from : ℕ) → AreClaimed l.windows l.text from from (l.seen + 1) 0
+      → AreClaimed l.windows l.text from from l.at 0;
 }
 
 abbrev pub decreases-strides : goal.decreases-strides
-decreases-strides l = l.last - l.at
+decreases-strides l = length l.text - l.at

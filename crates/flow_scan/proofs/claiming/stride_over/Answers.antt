@@ -1,34 +1,30 @@
 -- One look after the other joins its claims.
-use Rattle.std.proofs.Common.{ℕ, ◌+◌, ◌*◌, ◌%◌, ◌^◌, length, sym, subst, arith}
+use Rattle.std.proofs.Common.{ℕ, ◌+◌, ◌*◌, ◌%◌, ◌^◌, sym, subst, arith}
 use Rattle.std.specs.Int.RustNames.{bit_or}
 use Rattle.flow_scan.specs.Windowed.{AreClaimed}
 use Rattle.flow_scan.proofs.ClaimSteps.{claims_further}
-use Rattle.flow_scan.proofs.MarkSteps.{marked_below}
 use Rattle.flow_scan.proofs.claiming.stride_over.Goals as goal
 
 pub looks-init : goal.looks-init
 looks-init c = record {
   few = omega arith;
-  claimed = λ from claimed place end counted below occurs after behind before. claimed place end counted below occurs after behind (omega (arith, before));
-  kept = λ back near set. set;
+  claimed = λ from claimed place end occurs after behind before. claimed place end occurs after behind (omega (arith, before));
 }
 
 pub looks-preserved : goal.looks-preserved
 looks-preserved c =
     let w = c.args.windows.now in
-    let all : ℕ = length w.literals.texts in
     let text = c.args.text.now in
     let before = c.looks.invariant in
     let within = c.stride-stride.ensures.within in
     record {
       few = omega (arith, c.looks-test.true, c.stride-stride.ensures.short);
       claimed = λ from first.
-          subst (λ (s : ℕ). AreClaimed w.split all w text from c.args.seen (c.args.seen + 1 + (c.looks.back + s)) (bit_or c.looks.found (c.marks_behind_front-look.result * 2 ^ c.looks.back % 2 ^ 64))) (sym c.stride-stride.ensures.value)
-          (claims_further w.split all w text from c.args.seen c.looks.back w.stride c.looks.found c.marks_behind_front-look.result c.looks-test.true
-          (λ place counted below. (within.strided place counted below).near) c.marks_behind_front-look.ensures (before.claimed from first));
-      kept = λ back near set. marked_below c.looks.found c.marks_behind_front-look.result c.looks.back back near (before.kept back near set);
+          subst (λ (s : ℕ). AreClaimed w text from c.args.seen (c.args.seen + 1 + (c.looks.back + s)) (bit_or c.looks.found (c.marks_behind_front-look.result * 2 ^ c.looks.back % 2 ^ 64))) (sym c.stride-stride.ensures.value)
+          (claims_further w text from c.args.seen c.looks.back w.stride c.looks.found c.marks_behind_front-look.result c.looks-test.true
+          (λ place below. (within.all place below).near) c.marks_behind_front-look.ensures (before.claimed from first));
     }
 
-pub returns-clause-claimed : goal.returns-clause-claimed
-returns-clause-claimed c = λ from first place end counted below occurs after behind before.
-    c.looks.invariant.claimed from first place end counted below occurs after behind (omega (arith, before, c.looks-test.false))
+pub returns : goal.returns
+returns c = λ from first place end occurs after behind before.
+    c.looks.invariant.claimed from first place end occurs after behind (omega (arith, before, c.looks-test.false))

@@ -1,5 +1,4 @@
-use Rattle.std.proofs.Common.{◌≡◌, ℕ, ◌+◌, ◌-◌, ◌<◌, length}
-use Rattle.std.specs.Int.{bit_at}
+use Rattle.std.proofs.Common.{ℕ, ◌+◌, ◌-◌, ◌<◌}
 use Rattle.flow_scan.specs.Windowed.{AreClaimed}
 use Rattle.flow_scan.proofs.claiming.stride_over.Given as goal
 
@@ -7,9 +6,8 @@ use Rattle.flow_scan.proofs.claiming.stride_over.Given as goal
 abbrev pub invariant-looks : goal.invariant-looks
 invariant-looks l = record {
   few : l.back < 64;
-  claimed : (from : ℕ) → AreClaimed l.windows.split (length l.windows.literals.texts) l.windows l.text from l.seen (l.seen + 1) l.marks
-      → AreClaimed l.windows.split (length l.windows.literals.texts) l.windows l.text from l.seen (l.seen + 1 + l.back) l.found;
-  kept : (back : ℕ) → back < 64 → bit_at l.marks back ≡ 1 → bit_at l.found back ≡ 1;
+  claimed : (from : ℕ) → AreClaimed l.windows l.text from l.seen (l.seen + 1) l.marks
+      → AreClaimed l.windows l.text from l.seen (l.seen + 1 + l.back) l.found;
 }
 
 abbrev pub decreases-looks : goal.decreases-looks

@@ -1,43 +1,62 @@
--- The list goes on behind each crowd.
-use Rattle.std.proofs.Common.{◌≤◌, ◌∙◌, sym, subst, arith}
-use Rattle.text_windows.specs.NoEnds.{NoEndUpTo}
-use Rattle.flow_scan.proofs.EndLemmas.{found_further, next_further, none_joined}
+-- Nothing ends between two candidates, nor at one that was looked at.
+use Rattle.std.proofs.Common.{◌≡◌, ℕ, ◌+◌, ◌<◌, length, inl, inr, sym, ◌∙◌, subst, arith}
+use Rattle.std.proofs.lemmas.Bool.{cases_lt}
+use Rattle.lit_base.specs.NextEnds.{NoEndUpTo}
+use Rattle.lit_base.specs.Occurrences.{Occurs}
+use Rattle.lane_filter.specs.PlacesAfter.{IsFirstAfter, NoneWithin}
+use Rattle.lane_filter.specs.Sieves.{Passes}
+use Rattle.flow_scan.proofs.Steps.{all_bytes, none_before}
 use Rattle.flow_scan.proofs.endings.next_verified.Goals as goal
-use Rattle.flow_scan.proofs.endings.next_verified.Goals.{In-Err}
+use Rattle.flow_scan.proofs.endings.next_verified.Goals.{In_default-first_ending}
 
-pub next_sieved-requires-clause-covers : goal.next_sieved-requires-clause-covers
-next_sieved-requires-clause-covers c = rw c.crowds.invariant.sieve c.requires.covers
-
-pub returns-in-Ok-clause-next : goal.returns-in-Ok-clause-next
-returns-in-Ok-clause-next c =
-    let before = c.crowds.invariant in
-    found_further c.args.list.now c.args.text.now c.args.candidates.now.from c.crowds.candidates.from before.none c.in-Ok.found before.ahead c.in-Ok.ensures.next
-
--- nothing ends up to the crowd's last candidate
-passed : (c : In-Err) → NoEndUpTo c.args.list.now c.args.text.now c.args.candidates.now.from c.in-Err.crowd.last
-passed c = none_joined c.args.list.now c.args.text.now c.args.candidates.now.from c.crowds.candidates.from c.crowds.invariant.none c.in-Err.crowd.last c.in-Err.ensures.crowd.none
-
--- and it is further on
-crowd_ahead : (c : In-Err) → c.args.candidates.now.from ≤ c.in-Err.crowd.last
-crowd_ahead c = omega (arith, c.in-Err.ensures.crowd.after, c.crowds.invariant.ahead)
-
-pub returns-in-Ok-next_by_list-clause-next : goal.returns-in-Ok-next_by_list-clause-next
-returns-in-Ok-next_by_list-clause-next c =
-    let at = (goal.at.returns-in-Ok-next_by_list-clause-next c).In-Err in
-    next_further c.args.list.now c.args.text.now c.args.candidates.now.from c.in-Err.crowd.last (passed at) c.in-Ok-next_by_list.end (crowd_ahead at) c.in-Ok-next_by_list.ensures.next
-
-pub crowds-preserved : goal.crowds-preserved
-crowds-preserved c =
-    let at = (goal.at.crowds-preserved c).In-Err in
-    let before = c.crowds.invariant in
+pub returns-in-Some-first_ending-clause-next : goal.returns-in-Some-first_ending-clause-next
+returns-in-Some-first_ending-clause-next c =
     let l = c.args.list.now in
     let text = c.args.text.now in
-    let from = c.args.candidates.now.from in
-    let reached = c.skip_to-in-Err-next_by_list.ensures in
-    let further : NoEndUpTo l text from c.in-Err-next_by_list.last = none_joined l text from c.in-Err.crowd.last (passed at) c.in-Err-next_by_list.last c.in-Err-next_by_list.ensures.passed.none in
+    let sieve = c.args.candidates.now.sieve in
+    let before = c.loop-end.invariant in
+    let next : IsFirstAfter (Passes sieve text) c.loop-end.candidates.from c.in-Some.end = rw before.sieve at (rw before.text at c.in-Some.ensures.first) in
     record {
-      sieve = reached.sieve ∙ c.next_sieved.ensures.sieve ∙ before.sieve;
-      text = reached.text ∙ c.next_sieved.ensures.text ∙ before.text;
-      ahead = omega (arith, reached.from, crowd_ahead at, c.in-Err-next_by_list.ensures.passed.after);
-      none = subst (NoEndUpTo l text from) (sym reached.from) further;
+      after = omega (arith, next.after, before.ahead);
+      within = rw before.text at c.in-Some.ensures.within;
+      here = (c.in-Some-first_ending.first, c.in-Some-first_ending.ensures.first.occurs);
+      first = none_before l sieve text c.args.candidates.now.from c.loop-end.candidates.from c.in-Some.end c.requires.covers (all_bytes text c.type_inv.text) before.none next.quiet;
     }
+
+-- where a candidate is none, nothing ends up to it
+none_to_end : (c : In_default-first_ending) → NoEndUpTo c.args.list.now c.args.text.now c.args.candidates.now.from c.in-Some.end
+none_to_end c other after within here =
+    let l = c.args.list.now in
+    let text = c.args.text.now in
+    let sieve = c.args.candidates.now.sieve in
+    let end = c.in-Some.end in
+    let before = c.loop-end.invariant in
+    let next : IsFirstAfter (Passes sieve text) c.loop-end.candidates.from end = rw before.sieve at (rw before.text at c.in-Some.ensures.first) in
+    elim (cases_lt other end) [
+      | inl sooner ↦ none_before l sieve text c.args.candidates.now.from c.loop-end.candidates.from end c.requires.covers (all_bytes text c.type_inv.text) before.none next.quiet other after sooner here
+      | inr later ↦ let there : other ≡ end = omega (arith, within, later) in
+          c.in_default-first_ending.ensures.first here.0 (omega arith) (subst (λ e. Occurs l text here.0 e) there here.1)
+    ]
+
+pub loop-end-preserved : goal.loop-end-preserved
+loop-end-preserved c =
+    let at = (goal.at.loop-end-preserved c).In_default-first_ending in
+    let before = c.loop-end.invariant in
+    let reached : c.next.new.self.from ≡ c.in-Some.end = c.in-Some.ensures.moved in
+    record {
+      sieve = c.next.ensures.sieve ∙ before.sieve;
+      text = c.next.ensures.text ∙ before.text;
+      ahead = omega (arith, reached, c.in-Some.ensures.first.after, before.ahead);
+      none = subst (NoEndUpTo c.args.list.now c.args.text.now c.args.candidates.now.from) (sym reached) (none_to_end at);
+    }
+
+pub returns-clause-next : goal.returns-clause-next
+returns-clause-next c =
+    let l = c.args.list.now in
+    let text = c.args.text.now in
+    let sieve = c.args.candidates.now.sieve in
+    let before = c.loop-end.invariant in
+    let none : NoneWithin (Passes sieve text) c.loop-end.candidates.from (length text) = rw before.sieve at (rw before.text at c.in_default.ensures.none) in
+    let nowhere = none_before l sieve text c.args.candidates.now.from c.loop-end.candidates.from (length text + 1) c.requires.covers (all_bytes text c.type_inv.text) before.none
+    (λ (other : ℕ) (after : c.loop-end.candidates.from < other) (within : other < length text + 1). none other after (omega (arith, within))) in
+    λ end after here. nowhere end after (omega (arith, here.1.ends)) here

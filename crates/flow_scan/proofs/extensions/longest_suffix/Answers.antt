@@ -25,11 +25,11 @@ suffixes-preserved c =
 pub returns-in_default-clause-longest : goal.returns-in_default-clause-longest
 returns-in_default-clause-longest c =
     let before = c.suffixes.invariant in
-    longest_of_last c.args.list.now c.get-literal.result.now c.args.place c.suffixes.longest c.suffixes.from (get_or_read c.args.list.now.texts c.args.place c.get-literal.result.now c.requires c.get-literal.ensures.value [])
+    longest_of_last c.args.list.now c.get-literal.result.now c.args.place c.suffixes.longest c.suffixes.from (get_or_read c.args.list.now.texts c.args.place c.get-literal.result.now c.requires.within c.get-literal.ensures.value [])
     before.before before.ends before.found (λ other from low. c.in_default.ensures.first other from)
 
 pub returns-then-other-place-clause-longest : goal.returns-then-other-place-clause-longest
 returns-then-other-place-clause-longest c =
     let before = c.suffixes.invariant in
-    longest_of_last c.args.list.now c.get-literal.result.now c.args.place c.suffixes.longest c.suffixes.from (get_or_read c.args.list.now.texts c.args.place c.get-literal.result.now c.requires c.get-literal.ensures.value [])
+    longest_of_last c.args.list.now c.get-literal.result.now c.args.place c.suffixes.longest c.suffixes.from (get_or_read c.args.list.now.texts c.args.place c.get-literal.result.now c.requires.within c.get-literal.ensures.value [])
     before.before before.ends before.found (λ other from low. c.in-Some.ensures.first.first other from (omega (arith, low, c.if-other-place.true)))

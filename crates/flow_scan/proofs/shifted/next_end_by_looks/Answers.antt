@@ -2,8 +2,7 @@
 use Rattle.std.proofs.Common.{ℕ, List, Option, None, Some, MatchOption, IfSome, length}
 use Rattle.lit_base.specs.Literals.{Literals}
 use Rattle.lit_base.specs.Occurrences.{IsFirstEnding}
-use Rattle.text_windows.specs.NoEnds.{Finds}
-use Rattle.flow_scan.specs.NextEnds.{IsNextEnd, NoEndAfter}
+use Rattle.lit_base.specs.NextEnds.{Finds, IsNextEnd, NoEndAfter}
 use Rattle.flow_scan.proofs.shifted.next_end_by_looks.Goals as goal
 
 -- an end that is found is the next one

@@ -1,4 +1,4 @@
--- A file that gives patterns is one more that is read; one that gives none is the last.
+-- A file that gives patterns is one more that is read; a file that gives none is the last.
 use Rattle.std.proofs.Common.{map, string_bytes, arith}
 use Rattle.std.proofs.lemmas.Result.{err_from_is_err_and}
 use Rattle.grep_run.specs.Options.{asks_for}

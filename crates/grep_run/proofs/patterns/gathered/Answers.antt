@@ -1,4 +1,4 @@
--- All lists and all files gave their patterns, and there are not too many literals.
+-- All lists and all files gave their patterns.
 use Rattle.std.proofs.Common.{◌≡◌, ◌∙◌, [], None, ap, map, string_bytes, subst}
 use Rattle.byte_io.specs.Devices.{Told}
 use Rattle.byte_io.specs.Sources.{AreShort}
@@ -16,4 +16,4 @@ returns g c =
     (c.in_ok-patterns.ensures.ok ∙ ap (λ xs. patterns_in (map string_bytes xs)) c.as_slice.ensures.value)
     (subst (λ xs. Told (g.O.Opener.sources c.args.opener.now) (g.O.Opener.sources c.add_files.new.opener) (λ s left. AreShort s → TakesAllFiles c.in_ok-patterns.patterns c.add_files.new.patterns s left (found (asks_for (map string_bytes xs)) s)))
     c.as_slice-2.ensures.value c.in_ok-add_files.ensures.answer)
-    c.in_ok-new.ensures.refusal c.in_ok-new.ensures.ok
+    c.in_ok-new.ensures.ok

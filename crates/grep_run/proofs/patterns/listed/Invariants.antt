@@ -3,7 +3,7 @@ use Rattle.lit_base.specs.Lines.{IsOnePiece}
 use Rattle.grep_run.specs.Patterns.{lists_refusal, patterns_in}
 use Rattle.grep_run.proofs.patterns.listed.Given as goal
 
--- the patterns of the lists so far are there, hold no newline, and what is refused is refused behind them
+-- the patterns of the lists so far are there, hold no newline, and a later refusal comes after them
 abbrev pub invariant-loop-list : goal.invariant-loop-list
 invariant-loop-list l =
     All IsOnePiece l.patterns

@@ -1,4 +1,4 @@
--- Behind what was written stands the message on want of memory.
+-- After the text written stands the message on want of memory.
 use Rattle.grep_run.specs.Writers.{writer}
 use Rattle.grep_run.proofs.AnswerLemmas.{ends-starved}
 use Rattle.grep_run.proofs.running.run.Goals as goal

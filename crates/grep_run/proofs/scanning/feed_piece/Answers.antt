@@ -1,4 +1,4 @@
--- Where picker and block stand behind one more piece.
+-- Where picker and block stand after one more piece.
 use Rattle.std.proofs.lemmas.Result.{err_from_is_err_and}
 use Rattle.grep_run.proofs.ScanLemmas.{fed-cut, fed-halted, fed-on, fed-starved, feeds-as}
 use Rattle.grep_run.proofs.scanning.feed_piece.Goals as goal

@@ -1,4 +1,4 @@
--- A picker that learns from now on is the same but for that.
+-- A picker with a finder from now on is otherwise the same.
 use Rattle.std.proofs.Common.{Bool, sym, ap, ◌∙◌}
 use Rattle.line_pick.specs.Picking.{Picking}
 use Rattle.grep_run.proofs.scanning.learn_if.Goals as goal

@@ -1,4 +1,4 @@
--- A read that fails, one that finds the end, one more piece, and the last one.
+-- A read that fails, a read that finds the end, one more piece, and the last one.
 use Rattle.std.proofs.Common.{◌≡◌, ◌<◌, [], refl, rules, arith, Ok, ◌∙◌, subst, take}
 use Rattle.std.proofs.lemmas.Result.{err_from_is_err_and}
 use Rattle.grep_run.specs.Scanning.{FeedsPiece}

@@ -1,4 +1,4 @@
--- A sieve of each kind lets pass what its test does.
+-- A prefilter of each kind passes what its test passes.
 use Rattle.lane_filter.proofs.candidates.sieved_bits.Goals as goal
 
 pub returns-in-Nibbles-clause-marked : goal.returns-in-Nibbles-clause-marked

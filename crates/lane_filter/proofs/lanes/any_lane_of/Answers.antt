@@ -1,9 +1,9 @@
--- Where a lane of one vector is not zero, neither is that of all.
+-- Where a lane of one vector is not zero, neither is the lane of all joined.
 use Rattle.std.proofs.Common.{◌≡◌, ◌≢◌, ℕ, bit_or, arith}
 use Rattle.std.proofs.lemmas.Nat.{le_or_l, le_or_r}
 use Rattle.lane_filter.proofs.lanes.any_lane_of.Goals as goal
 
--- what is one of two numbers' bits is not zero where a number is not
+-- a number is not zero if its bits include those in a number that is not zero
 set_left : (a b c : ℕ) → c ≡ bit_or a b → a ≢ 0 → c ≢ 0
 set_left a b c is set none = let le = le_or_l a b in set (omega (arith, is, none, le))
 

@@ -1,4 +1,4 @@
--- The place found is one of the last, and apart from the place chosen before, and unlike it, where one looked at is.
+-- The place found is one of the last, and apart from the place chosen before, and unlike it, where one tried is.
 use Rattle.std.proofs.Common.{◌+◌, ◌<◌, ◌≤◌, IfSome, length}
 use Rattle.lane_filter.proofs.Ranks.{IsBeside}
 use Rattle.lane_filter.proofs.pair.rarest.Given as goal

@@ -1,4 +1,4 @@
--- Where 128 ends are told to be none, the stretch is longer by them.
+-- Where 128 ends are ruled out, the stretch is longer by them.
 use Rattle.std.proofs.Common.{◌+◌, arith}
 use Rattle.std.proofs.lemmas.Bool.{both_ways}
 use Rattle.lane_filter.proofs.EndLemmas.{quiet_in_row, quiet_on}

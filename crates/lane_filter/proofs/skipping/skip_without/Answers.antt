@@ -1,4 +1,4 @@
--- Where one byte tells of 128 ends that they are none, the stretch is longer by them.
+-- Where one byte rules out 128 ends, the stretch is longer by them.
 use Rattle.std.proofs.Common.{◌+◌, arith}
 use Rattle.std.proofs.lemmas.Bool.{both_ways}
 use Rattle.lane_filter.proofs.EndLemmas.{quiet_in_row, quiet_on}

@@ -1,4 +1,4 @@
--- The place found is one of the last, and beside the pair where one looked at is.
+-- The place found is one of the last, and outside the pair where one tried is.
 use Rattle.std.proofs.Common.{◌+◌, ◌<◌, ◌≤◌, length}
 use Rattle.lane_filter.proofs.TripleLemmas.{IsBesidePair}
 use Rattle.lane_filter.proofs.triple.rarest_beside.Given as goal

@@ -1,4 +1,4 @@
--- The bits that are left are those of the last bytes.
+-- The remaining bits belong to the last bytes.
 use Rattle.std.proofs.Common.{eqb, ap, ◌∙◌, ◌/◌, ◌^◌, ◌-◌}
 use Rattle.std.specs.Int.RustNames.{count_ones}
 use Rattle.line_pick.proofs.Counts.{ones-last}

@@ -1,4 +1,4 @@
--- The stretches, what lies behind them, and the last bytes.
+-- The stretches, what lies after them, and the last bytes.
 use Rattle.std.proofs.Common.{◌≡◌, ◌-◌, eqb, count_by, length, drop, ap, ◌∙◌, arith}
 use Rattle.line_pick.proofs.Counts.{count_by-parts}
 use Rattle.line_pick.proofs.counting.count_newlines.Goals as goal

@@ -1,4 +1,4 @@
--- Up to the last newline nothing is open, and behind it there is none.
+-- Up to the last newline nothing is open, and after it there is none.
 use Rattle.line_pick.proofs.Newlines.{last-cut, last-cut-none}
 use Rattle.line_pick.proofs.cutting.split_ended.Goals as goal
 

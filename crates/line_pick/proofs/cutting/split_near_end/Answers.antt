@@ -1,4 +1,4 @@
--- The cut is behind the newline that was seen.
+-- The cut is after the newline that was seen.
 use Rattle.std.proofs.Common.{arith}
 use Rattle.line_pick.proofs.Newlines.{last-cut-behind}
 use Rattle.line_pick.proofs.cutting.split_near_end.Goals as goal

@@ -1,4 +1,4 @@
--- What ends behind the lines before a text ends in the text.
+-- What ends after the lines before a text ends in the text.
 use Rattle.std.proofs.Common.{◌≡◌, ◌+◌, ◌-◌, length, arith}
 use Rattle.line_pick.proofs.BehindLines.{behind-len, rest-next, rest-none}
 use Rattle.line_pick.proofs.hit_line.first_end.Goals as goal

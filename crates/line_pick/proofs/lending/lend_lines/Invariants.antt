@@ -1,4 +1,4 @@
--- What is lent of the rest is lent of the text, and the lines of the rest are still to be counted.
+-- Lines emitted of the rest are emitted of the text, and the lines of the rest are still to be counted.
 use Rattle.std.proofs.Common.{◌≡◌, ◌≤◌, ◌+◌, length}
 use Rattle.lit_base.specs.Lines.{ended_lines}
 use Rattle.line_pick.specs.Lending.{numbered}

@@ -1,4 +1,5 @@
--- What is lent of the rest is lent of the text, and the lines of the rest are still to be counted, if lines are numbered.
+-- Lines emitted of the rest are emitted of the text, and the lines of the rest are still to be counted, if lines are
+-- numbered.
 use Rattle.std.proofs.Common.{◌≡◌, ◌≤◌, ◌+◌, [], length, true}
 use Rattle.lit_base.specs.Lines.{ended_lines, open_rest}
 use Rattle.lit_base.specs.Selected.{is_selected}

@@ -4,7 +4,7 @@ use Rattle.std.proofs.lemmas.List.{length-map}
 use Rattle.lit_base.specs.Literals.{lengths}
 use Rattle.lit_base.specs.Costs.{group_cost}
 use Rattle.lit_base.specs.Assignments.{bucket}
-use Rattle.lit_base.proofs.Buckets.{joined_own, joined_other}
+use Rattle.lit_base.proofs.BucketLemmas.{joined_own, joined_other}
 use Rattle.lit_base.proofs.costs.bucket_cost.Goals as goal
 use Rattle.lit_base.proofs.costs.bucket_cost.Goals.{then-own-number, else-own-number}
 

@@ -2,7 +2,7 @@ use Rattle.std.proofs.Common.{◌≡◌, ◌≤◌, drop}
 use Rattle.lit_base.specs.Literals.{lengths}
 use Rattle.lit_base.specs.Costs.{group_cost}
 use Rattle.lit_base.specs.Assignments.{bucket}
-use Rattle.lit_base.proofs.Buckets.{joined_cost}
+use Rattle.lit_base.proofs.BucketLemmas.{joined_cost}
 use Rattle.lit_base.proofs.costs.bucket_cost.Given as goal
 
 abbrev pub invariant-loop-place : goal.invariant-loop-place

@@ -1,4 +1,4 @@
--- The list so far and the keys that are left are all keys.
+-- The list so far and the remaining keys are all keys.
 use Rattle.std.proofs.Common.{◌≡◌, ◌++◌}
 use Rattle.lit_base.proofs.normal_form.in_order.Given as goal
 

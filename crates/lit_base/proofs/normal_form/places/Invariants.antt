@@ -1,4 +1,4 @@
--- Each pattern so far has its place.
+-- Each pattern so far has a place.
 use Rattle.std.proofs.Common.{take}
 use Rattle.std.specs.List.{AllZip}
 use Rattle.lit_base.specs.NormalForm.{IsPlaceOf}

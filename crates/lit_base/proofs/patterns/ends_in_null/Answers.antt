@@ -1,4 +1,4 @@
--- The pieces are the lines and a null piece where the text is open, which its last byte tells.
+-- The pieces are the lines, and a null piece where the text is open, as its last byte shows.
 use Rattle.std.proofs.Common.{◌≡◌, ◌++◌, ◌<◌, [], length, true, arith, ap, sym, ◌∙◌}
 use Rattle.std.proofs.lemmas.Grind.{common_steps}
 use Rattle.lit_base.specs.Lines.{lines}

@@ -1,4 +1,4 @@
--- What the truncated list has is what it had at first.
+-- The truncated list is the list as it was at first.
 use Rattle.lit_base.proofs.Places.{cut_back}
 use Rattle.lit_base.proofs.raw_list.append.Goals as goal
 

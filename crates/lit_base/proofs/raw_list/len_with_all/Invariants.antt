@@ -1,4 +1,4 @@
--- What the patterns so far add stands in the count and the length; the refusal of all is that of the rest.
+-- The count and the length include the patterns so far; the refusal of all is the refusal of the rest.
 use Rattle.std.proofs.Common.{◌≡◌, ◌+◌, ◌≤◌, length, sum_by}
 use Rattle.lit_base.specs.RawLists.{first_refusal}
 use Rattle.lit_base.specs.Patterns.{patterns_of}

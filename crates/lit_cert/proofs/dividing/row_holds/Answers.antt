@@ -1,4 +1,4 @@
--- The rows are those of the potentials, which the end rows keep small.
+-- The rows are rows of the potentials, which the end rows keep small.
 use Rattle.std.proofs.Common.{◌≡◌, ◌-◌, ◌*◌, ◌^◌, ◌<◌, sym, subst, arith}
 use Rattle.std.specs.Prelude.{All}
 use Rattle.std.specs.List.{slice_range}

@@ -1,4 +1,4 @@
--- The half of the byte itself and that of its capital.
+-- The half of the byte, and the half of its capital.
 use Rattle.std.proofs.Common.{◌≡◌, ℕ, ◌+◌, ◌-◌, ◌||◌, ◌==◌, length, get_or, bit_or, refl, ap, ◌∙◌}
 use Rattle.nib_mask.specs.FilterSet.{capital, half_of, has_half}
 use Rattle.nib_mask.proofs.HalfLemmas.{has_half-long, tells-either, tells-same}

@@ -1,4 +1,4 @@
--- An entry that keeps the front is that of its byte or that of the byte's capital.
+-- An entry that keeps the prefix is the entry of its byte or of the byte's capital.
 use Rattle.std.proofs.Common.{◌≡◌, ℕ, ◌+◌, ◌-◌, ◌%◌, length, get_or, slice_index, inl, inr, refl, sym, ap, ◌∙◌}
 use Rattle.std.specs.Int.{bit_at}
 use Rattle.nib_mask.specs.FilterSet.{half_of}

@@ -4,7 +4,7 @@ use Rattle.std.specs.Int.{bit_at}
 use Rattle.std.proofs.lemmas.List.{get_or-replicate, take_all, length-drop}
 use Rattle.nib_mask.specs.Runs.{runs_mask}
 use Rattle.nib_mask.specs.Tables.{allows}
-use Rattle.nib_mask.proofs.Buckets.{first-within, runs_mask-none, runs_mask-first, runs_mask-seven}
+use Rattle.nib_mask.proofs.Buckets.{first-within, runs_mask-none, runs_mask-first, runs_mask-fifteen}
 use Rattle.nib_mask.proofs.masks.+table.Goals as goal
 
 pub kept_halves-kept-requires-clause-within : goal.kept_halves-kept-requires-clause-within
@@ -17,10 +17,10 @@ pub with_first-requires : goal.with_first-requires
 with_first-requires t c = λ value less.
     let ends = c.args.ends.now in
     let rest : take (length ends - 1) (drop 1 ends) ≡ drop 1 ends = take_all (length ends - 1) (drop 1 ends) (omega (arith, length-drop 1 ends)) in
-    let few : length (take (length ends - 1) (drop 1 ends)) ≤ 7 = omega (arith, ap length rest, length-drop 1 ends, c.requires.few) in
+    let few : length (take (length ends - 1) (drop 1 ends)) ≤ 15 = omega (arith, ap length rest, length-drop 1 ends, c.requires.few) in
     let is = c.table-later.ensures value less in
-    let small = runs_mask-seven (allows c.args.list.now.folding c.args.position c.args.half value) c.args.list.now.texts c.from-end.result (take (length ends - 1) (drop 1 ends)) few in
-    subst (λ n. n < 128) (sym is) small
+    let small = runs_mask-fifteen (allows c.args.list.now.folding c.args.position c.args.half value) c.args.list.now.texts c.from-end.result (take (length ends - 1) (drop 1 ends)) few in
+    subst (λ n. n < 32768) (sym is) small
 
 pub returns-in-empty : goal.returns-in-empty
 returns-in-empty t c = λ value less.

@@ -12,19 +12,19 @@ abbrev bad_file : ℕ → Cause → Result (Vec Compiled) Fault
 bad_file place cause = Err (BadPlanFile place cause)
 
 pub overflow_sub-result : goal.overflow_sub-result
-overflow_sub-result c = wrong_within 8 1024 c.args.bytes.now c.in-Err-Wrong.wrong (rw c.in-Err-Wrong.field-0-is at c.in-Err-Wrong.ensures.wrong)
+overflow_sub-result c = wrong_within c.args.bytes.now c.in-Err-Wrong.wrong (rw c.in-Err-Wrong.field-0-is at c.in-Err-Wrong.ensures.wrong)
 
 pub returns-in-Ok-clause-only : goal.returns-in-Ok-clause-only
-returns-in-Ok-clause-only c = λ plans are e memory. one_list 8 1024 c.args.bytes.now c.in-Ok.plans.items plans c.in-Ok.ensures.found.0 are c.in-Ok.ensures.found.1 e
+returns-in-Ok-clause-only c = λ plans f memory. one_list c.args.bytes.now c.in-Ok.plans.items plans c.in-Ok.ensures.found f
 
 pub returns-in-Ok-clause-exact : goal.returns-in-Ok-clause-exact
-returns-in-Ok-clause-exact c = λ place cause first memory. absurd (none_wrong 8 1024 c.args.bytes.now c.in-Ok.plans.items _ c.in-Ok.ensures.found.0 c.in-Ok.ensures.found.1 first.wrong)
+returns-in-Ok-clause-exact c = λ place cause first memory. absurd (none_wrong c.args.bytes.now c.in-Ok.plans.items _ c.in-Ok.ensures.found first.wrong)
 
 pub returns-in-Err-Wrong-clause-only : goal.returns-in-Err-Wrong-clause-only
-returns-in-Err-Wrong-clause-only c = λ plans are e memory. none_wrong 8 1024 c.args.bytes.now plans c.in-Err-Wrong.wrong are e (rw c.in-Err-Wrong.field-0-is at c.in-Err-Wrong.ensures.wrong)
+returns-in-Err-Wrong-clause-only c = λ plans f memory. none_wrong c.args.bytes.now plans c.in-Err-Wrong.wrong f (rw c.in-Err-Wrong.field-0-is at c.in-Err-Wrong.ensures.wrong)
 
 pub returns-in-Err-Wrong-clause-wrong : goal.returns-in-Err-Wrong-clause-wrong
-returns-in-Err-Wrong-clause-wrong c = first_fault 8 1024 c.args.bytes.now c.in-Err-Wrong.wrong (rw c.in-Err-Wrong.field-0-is at c.in-Err-Wrong.ensures.wrong)
+returns-in-Err-Wrong-clause-wrong c = first_fault c.args.bytes.now c.in-Err-Wrong.wrong (rw c.in-Err-Wrong.field-0-is at c.in-Err-Wrong.ensures.wrong)
 
 pub returns-in-Err-Wrong-clause-exact : goal.returns-in-Err-Wrong-clause-exact
-returns-in-Err-Wrong-clause-exact c = λ place cause first memory. told bad_file 8 1024 c.args.bytes.now c.in-Err-Wrong.wrong place cause (rw c.in-Err-Wrong.field-0-is at c.in-Err-Wrong.ensures.wrong) first
+returns-in-Err-Wrong-clause-exact c = λ place cause first memory. told bad_file c.args.bytes.now c.in-Err-Wrong.wrong place cause (rw c.in-Err-Wrong.field-0-is at c.in-Err-Wrong.ensures.wrong) first

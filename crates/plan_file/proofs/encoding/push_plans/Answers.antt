@@ -1,7 +1,8 @@
--- One more entry is appended, and its plan is one that a file can tell.
+-- One more entry is appended, and its plan can stand in a file.
 use Rattle.std.proofs.Common.{◌≡◌, ◌<◌, length, get_or, rules, subst}
 use Rattle.std.proofs.lemmas.List.Elements.{All-more}
 use Rattle.flow_scan.specs.Plans.{Plan}
+use Rattle.plan_file.specs.declared.version.Version.TheVariants.{Two}
 use Rattle.plan_file.specs.Spelling.{IsPlan}
 use Rattle.plan_file.proofs.StreamLemmas.{entries_more}
 use Rattle.plan_file.proofs.encoding.push_plans.Goals as goal
@@ -15,5 +16,5 @@ loop-plan-preserved c =
     let is : plan ≡ get_or plans i plan = search rules in
     let more = c.in_ok-push_plan.ensures in (
       entries_more c.args.out.now.items c.loop-plan.out.items _ plans i plan within is c.loop-plan.invariant.0 more.text,
-      All-more (IsPlan 8 1024) plans i plan within c.loop-plan.invariant.1 (subst (IsPlan 8 1024) is more.right),
+      All-more (IsPlan Two) plans i plan within c.loop-plan.invariant.1 (subst (IsPlan Two) is more.right),
     )

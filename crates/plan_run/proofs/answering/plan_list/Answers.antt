@@ -10,6 +10,6 @@ tell_certificate-requires g c = record { shape = shaped c.args.list.now c.in-Ok.
 
 pub returns-in-Ok-clause-answer : goal.returns-in-Ok-clause-answer
 returns-in-Ok-clause-answer g c =
-    tells-text (IsPlanAnswer c.args.list.now) _ Done c.tell_certificate.result _ _
-    (Planned c.in-Ok.certificate (record { first = c.in-Ok.ensures.first; cost = c.in-Ok.ensures.cost; potentials = c.in-Ok.ensures.potentials; len = c.in-Ok.ensures.len }) refl)
+    tells-text (IsPlanAnswer c.args.profile c.args.list.now) _ Done c.tell_certificate.result _ _
+    (Planned c.in-Ok.certificate (record { told = c.in-Ok.ensures.profile; first = c.in-Ok.ensures.first; cost = c.in-Ok.ensures.cost; potentials = c.in-Ok.ensures.potentials; len = c.in-Ok.ensures.len }) refl)
     c.tell_certificate.ensures.text

@@ -1,4 +1,4 @@
--- What holds of the content that was read holds of the source that the files told.
+-- Facts on the content that was read hold of the files' known source.
 use Rattle.byte_io.specs.Sources.{Named}
 use Rattle.byte_io.proofs.OpenerLemmas.{opened}
 use Rattle.plan_run.specs.Answers.{IsCheckAnswer}

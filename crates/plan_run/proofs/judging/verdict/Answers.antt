@@ -1,4 +1,4 @@
--- The verdict is the one that the check gives.
+-- The verdict is the verdict of the check.
 use Rattle.std.proofs.Common.{rules}
 use Rattle.plan_run.specs.Answers.{Fails, Holds, IsVerdict}
 use Rattle.plan_run.specs.declared.status.Status.TheVariants.{Done, NotCertified}

@@ -8,7 +8,7 @@ abbrev pub invariant-loop-rest : goal.invariant-loop-rest
 invariant-loop-rest g l = record {
   done : List (ℕ × ℕ);
   parts : l.hits ≡ done ++ l.rest;
-  written : Appends (g.W.ByteOut.written l.fn.out) (g.W.ByteOut.written l.out) (hit_lines done);
+  written : Appends (g.W.ByteOut.written l.fn.out) (g.W.ByteOut.written l.out) (hit_lines l.names l.compiled.literals done);
   flag : g.W.ByteOut.has_failed l.out ≡ g.W.ByteOut.has_failed l.fn.out;
 }
 

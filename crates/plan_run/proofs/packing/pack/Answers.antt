@@ -1,10 +1,11 @@
--- The plan file of the patterns' plan is made, or there is no plan.
-use Rattle.plan_run.proofs.PackLemmas.{pack-had, pack-stopped}
+-- A plan file that is one of the files of patterns is refused before any is read.
+use Rattle.std.proofs.Common.{map, string_bytes, refl, sym, ◌∙◌}
+use Rattle.plan_run.specs.declared.stop.Refusal.TheVariants.{Unusable}
+use Rattle.plan_run.specs.declared.stop.Stop.TheVariants.{Refused}
+use Rattle.plan_run.proofs.PackLemmas.{pack-own}
 use Rattle.plan_run.proofs.packing.pack.Goals as goal
 
-pub returns-in-Ok-clause-packed : goal.returns-in-Ok-clause-packed
-returns-in-Ok-clause-packed g c =
-    pack-had g.F.Output.ByteOut.written c.args.fold c.args.file.now c.args.output.now _ _ _ c.in-Ok.plan c.make.result c.in-Ok.ensures.plan c.make.ensures.made
-
-pub returns-in-Err-clause-packed : goal.returns-in-Err-clause-packed
-returns-in-Err-clause-packed g c = pack-stopped g.F.Output.ByteOut.written c.args.fold c.args.file.now c.args.output.now _ _ c.in-Err.stop c.in-Err.ensures.plan
+pub returns-then-reads_file-clause-packed : goal.returns-then-reads_file-clause-packed
+returns-then-reads_file-clause-packed g c =
+    pack-own g.F.Output.ByteOut.written c.args.fold c.args.profile (map string_bytes c.args.names.now) c.args.output.now (g.F.Opener.sources c.args.files.now)
+    (Refused (Unusable c.args.output)) (sym c.reads_file.ensures ∙ c.if-reads_file.true) refl

@@ -1,6 +1,7 @@
--- All patterns were taken, and there are not too many literals.
-use Rattle.std.proofs.Common.{rules, ◌≡◌}
+-- All patterns were taken.
+use Rattle.std.proofs.Common.{rules, ◌≡◌, []}
 use Rattle.lit_base.specs.Lines.{lines}
+use Rattle.lit_base.specs.RawLists.{text_refusal}
 use Rattle.plan_run.proofs.ListLemmas.{not-refused, placed}
 use Rattle.plan_run.proofs.reading.listed.Goals as goal
 
@@ -11,4 +12,4 @@ returns-clause-places c =
 
 pub returns-clause-refusal : goal.returns-clause-refusal
 returns-clause-refusal c =
-    not-refused c.args.fold c.args.text.now c.add_file_bytes.result (search rules) c.in_ok-add_file_bytes.was (search rules)
+    not-refused (text_refusal [] c.args.text.now (lines c.args.text.now)) c.add_file_bytes.result (search rules) c.in_ok-add_file_bytes.was

@@ -1,10 +1,18 @@
--- What holds of the content that was read holds of the source that the files told.
+-- Facts on the content that was read hold of the files' known source.
+use Rattle.std.proofs.Common.{IfErr}
 use Rattle.byte_io.specs.Sources.{ask_of}
 use Rattle.byte_io.proofs.OpenerLemmas.{opened}
-use Rattle.plan_run.specs.Running.{TakesPlaces}
+use Rattle.plan_run.proofs.ListLemmas.{named-told}
+use Rattle.plan_run.specs.Running.{NamesStop, TakesPlaces}
 use Rattle.plan_run.proofs.reading.placed_list_of.Goals as goal
 
 pub returns-in-Ok-clause-list : goal.returns-in-Ok-clause-list
 returns-in-Ok-clause-list g c =
     opened _ c.in-Ok.input _ _ (ask_of c.args.file.now) (λ source. TakesPlaces c.args.fold c.args.file.now source c.list_from.result)
     c.in-Ok.ensures.takes c.in-Ok.ensures.gives c.list_from.ensures.list
+
+pub returns-in-Ok-clause-named : goal.returns-in-Ok-clause-named
+returns-in-Ok-clause-named g c =
+    named-told c.args.file.now _ _ c.list_from.result
+    (opened _ c.in-Ok.input _ _ (ask_of c.args.file.now) (λ source. IfErr c.list_from.result (NamesStop source))
+    c.in-Ok.ensures.takes c.in-Ok.ensures.gives c.list_from.ensures.named)

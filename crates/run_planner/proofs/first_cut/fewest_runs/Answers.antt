@@ -1,4 +1,4 @@
--- The first entry of each row is compared with that of the last.
+-- The first entry of each row is compared with the last row's.
 use Rattle.std.proofs.Common.{◌≡◌, ◌∙◌, inl, inr, sym, subst, arith}
 use Rattle.std.proofs.lemmas.Bool.{cases_lt}
 use Rattle.lit_base.specs.Potentials.{potential}

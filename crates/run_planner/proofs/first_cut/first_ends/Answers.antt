@@ -1,4 +1,4 @@
--- The potentials serve each run, and at the end no place is left.
+-- The potentials serve each run, and at the end no place remains.
 use Rattle.std.proofs.Common.{sym, subst, arith}
 use Rattle.lit_base.specs.Potentials.{potential}
 use Rattle.run_planner.specs.TailCosts.{IsTailCost}

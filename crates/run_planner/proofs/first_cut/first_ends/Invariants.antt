@@ -1,4 +1,4 @@
--- Whatever goes on as the first cheapest cut of what is left makes the first of all.
+-- Each first cheapest cut of the remaining places completes the first cheapest cut of all.
 use Rattle.std.proofs.Common.{◌≡◌, ℕ, ◌+◌, ◌-◌, ◌<◌, ◌≤◌, List, ◌++◌, length}
 use Rattle.lit_base.specs.Potentials.{potential}
 use Rattle.run_planner.specs.FirstCut.{IsFirstTail}

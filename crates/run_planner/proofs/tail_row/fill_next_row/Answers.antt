@@ -1,4 +1,4 @@
--- The row behind holds tail costs, which are small; at first every end is tried.
+-- The row after holds tail costs, which are small; at first every end is tried.
 use Rattle.std.proofs.Common.{◌≡◌, ◌-◌, ◌*◌, length, take, drop, subst, arith}
 use Rattle.std.specs.List.{slice_index}
 use Rattle.lit_base.specs.Costs.{AreSmall}

@@ -6,7 +6,7 @@ use Rattle.scan_core.specs.Blocks.{AreBlocks}
 use Rattle.scan_core.specs.Sessions.{replies_of}
 use Rattle.scan_core.proofs.answering.push_blocks.Given as goal
 
--- blocks were told, and with those of the rest they are the blocks of all
+-- blocks were added, and with the blocks of the rest they are the blocks of all
 abbrev pub invariant-loop-rest : goal.invariant-loop-rest
 invariant-loop-rest l =
     (done : List (List (ℕ × ℕ)))

@@ -1,4 +1,4 @@
--- A status that is clean is that of a stream that ended so.
+-- A clean status belongs to a stream that ended so.
 use Rattle.scan_run.proofs.StatusLemmas.{clean_ended}
 use Rattle.scan_run.proofs.alone.serve_alone.Goals as goal
 

@@ -1,4 +1,4 @@
--- A file that was opened, and one that was not.
+-- A file that was opened, and a file that was not.
 use Rattle.scan_run.specs.Loading.{IsUnopened}
 use Rattle.scan_run.proofs.LoadLemmas.{missing-loads, named-loaded}
 use Rattle.scan_run.proofs.loading.load_named.Goals as goal

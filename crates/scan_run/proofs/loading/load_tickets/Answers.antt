@@ -1,4 +1,4 @@
--- A file that was loaded, and one that was not, and why.
+-- A file that was loaded, and a file that was not, and why.
 use Rattle.scan_run.proofs.LoadLemmas.{loads-done, loads-refused}
 use Rattle.scan_run.proofs.loading.load_tickets.Goals as goal
 

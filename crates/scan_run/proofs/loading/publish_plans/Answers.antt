@@ -1,4 +1,4 @@
--- A plan behind those before it.
+-- A plan after those before it.
 use Rattle.std.proofs.Common.{◌≡◌, ◌∙◌, ◌∷◌, [], ◌++◌, Ok, Err, ap, append_assoc, arith, length, rules, subst}
 use Rattle.std.proofs.lemmas.Result.{err_from_is_err_and}
 use Rattle.std.specs.Vec.Iter.{into_iter_items}

@@ -1,4 +1,4 @@
--- What is handed back is the session served.
+-- The session returned is the session served.
 use Rattle.std.proofs.Common.{◌∙◌, ap}
 use Rattle.scan_core.specs.Sessions.{Serving}
 use Rattle.scan_run.proofs.SeenLemmas.{ends_store}

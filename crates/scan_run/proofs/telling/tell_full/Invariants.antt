@@ -2,7 +2,7 @@ use Rattle.std.proofs.Common.{◌≡◌, length}
 use Rattle.scan_run.specs.Feeding.{TellsFull}
 use Rattle.scan_run.proofs.telling.tell_full.Given as goal
 
--- the first hits were told, and these are left; no write failed
+-- the first hits were sent, and the rest remain; no write failed
 abbrev pub invariant-loop-hits : goal.invariant-loop-hits
 invariant-loop-hits g l = record {
   told : TellsFull l.stream l.fn.hits.items l.hits.items (g.W.ByteOut.written l.fn.out) (g.W.ByteOut.written l.out) l.fn.outbox l.outbox;

@@ -1,4 +1,4 @@
--- The greatest of the lengths is no less than any.
+-- The greatest of the lengths is at least each of them.
 use Rattle.std.proofs.Common.{[], length, arith}
 use Rattle.std.proofs.lemmas.List.{get_or-map, length-map}
 use Rattle.text_automaton.proofs.automaton.longest_of.Goals as goal

@@ -1,4 +1,4 @@
--- As many states tell none as there are bits in a row.
+-- As many states have no output as there are bits in a row.
 use Rattle.std.proofs.Common.{◌≡◌, ◌+◌, ◌-◌, ◌<◌, inl, inr, slice_index, subst, arith}
 use Rattle.std.proofs.lemmas.Bool.{cases_lt}
 use Rattle.text_automaton.proofs.QuietLemmas.{skipped}

@@ -1,7 +1,7 @@
 use Rattle.std.proofs.Common.{ℕ, ◌-◌, ◌<◌, ◌≤◌, slice_index}
 use Rattle.text_automaton.proofs.telling.first_telling.Given as goal
 
--- the states passed tell no end
+-- the states passed have no output
 abbrev pub invariant-chunks : goal.invariant-chunks
 invariant-chunks l = record {
   after : l.from ≤ l.at;

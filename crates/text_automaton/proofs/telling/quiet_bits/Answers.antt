@@ -1,4 +1,4 @@
--- The bits are those of the tests, state by state.
+-- The bits are the answers of the tests, state by state.
 use Rattle.std.proofs.Common.{◌<◌, sym, subst, arith}
 use Rattle.std.proofs.lemmas.Simd.{get_or-chunk, length-chunk}
 use Rattle.text_automaton.proofs.QuietLemmas.{bit_of_less, bits_of_less}

@@ -6,7 +6,7 @@ use Rattle.std.proofs.lemmas.Nat.Bits.{bit_at-zero}
 use Rattle.std.proofs.lemmas.Simd.{length-put_chunk}
 use Rattle.std.specs.Simd.Lanes.{put_chunk}
 use Rattle.text_windows.specs.Blocks.{IsBlock}
-use Rattle.text_windows.specs.NoEnds.{NoEndUpTo}
+use Rattle.lit_base.specs.NextEnds.{NoEndUpTo}
 use Rattle.text_windows.specs.ShiftOr.{RulesOut}
 use Rattle.text_windows.specs.declared.blocks.TheConstants.{GROUPS}
 use Rattle.text_windows.proofs.BlockLemmas.{one_more}

@@ -1,4 +1,4 @@
--- What the reader's bytes became is what the device tells of them.
+-- The device's known bytes change as the reader's do.
 use Rattle.byte_io.proofs.DeviceLemmas.{unsure-reads}
 use Rattle.byte_io.proofs.std_device.FromReadByteIn.read_some.Goals as goal
 

@@ -1,7 +1,7 @@
 -- No literal ends up to where the search begins.
 use Rattle.std.proofs.Common.{ap, length, ◌∙◌, arith}
 use Rattle.flow_scan.specs.Plans.{Plan}
-use Rattle.text_windows.specs.NoEnds.{NoEndUpTo}
+use Rattle.lit_base.specs.NextEnds.{NoEndUpTo}
 use Rattle.flow_scan.proofs.EndLemmas.{next_further, none_further}
 use Rattle.flow_scan.proofs.end_finder.EndFinder.next_end_of.Goals as goal
 use Rattle.flow_scan.proofs.end_finder.EndFinder.next_end_of.Goals.{After-skip_short_ends-start}

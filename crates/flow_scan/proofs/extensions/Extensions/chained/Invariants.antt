@@ -1,6 +1,6 @@
 use Rattle.std.proofs.Common.{◌≡◌, ◌≤◌, length, slice_index}
 use Rattle.lit_base.specs.Chains.{IsChained}
-use Rattle.lit_base.specs.declared.limits.TheConstants.{MAX_LITERALS}
+use Rattle.flow_scan.specs.declared.extensions.TheConstants.{MOST_LITERALS}
 use Rattle.flow_scan.proofs.extensions.Extensions.chained.Given as goal
 
 -- the literals from the last down to this one are chained
@@ -8,7 +8,7 @@ abbrev pub invariant-loop-low : goal.invariant-loop-low
 invariant-loop-low l = record {
   within : l.low ≤ l.count;
   heads : length l.heads ≡ 1025;
-  links : length l.links ≡ MAX_LITERALS;
+  links : length l.links ≡ MOST_LITERALS;
   chained : IsChained (slice_index l.suffixes) l.count l.low l.heads l.links;
 }
 

@@ -1,26 +1,25 @@
 -- The next block begins where this one ends, or further on.
-use Rattle.std.proofs.Common.{ℕ, ◌+◌, length, subst, arith}
-use Rattle.lit_base.specs.Literals.{Literals}
-use Rattle.text_windows.specs.NoEnds.{NoEndUpTo}
+use Rattle.std.proofs.Common.{ℕ, ◌+◌, subst, arith}
+use Rattle.lit_base.specs.NextEnds.{NoEndUpTo}
 use Rattle.flow_scan.specs.Windowed.{AreClaimed, AreClaims}
 use Rattle.flow_scan.proofs.ClaimSteps.{claims_rest}
 use Rattle.flow_scan.proofs.windowed.Claims.next_block.Goals as goal
 use Rattle.flow_scan.proofs.windowed.Claims.next_block.Goals.{After-but_first-rest}
 
 -- what is claimed behind this block
-first : (c : After-but_first-rest) → AreClaimed 0 (length c.args.windows.now.literals.texts) c.args.windows.now c.args.text.now c.but_first-rest.result.seen c.but_first-rest.result.seen (c.but_first-rest.result.seen + 1) c.but_first-rest.result.marks
+first : (c : After-but_first-rest) → AreClaimed c.args.windows.now c.args.text.now c.but_first-rest.result.seen c.but_first-rest.result.seen (c.but_first-rest.result.seen + 1) c.but_first-rest.result.marks
 first c =
     let rest : AreClaims c.args.windows.now c.args.text.now c.but_first-rest.result = claims_rest c.args.windows.now c.args.text.now c.args.self c.args.self.count c.but_first-rest.result c.requires.claims (omega arith)
     c.but_first-rest.ensures.seen c.but_first-rest.ensures.count c.but_first-rest.ensures.marks in
-    λ place end low below occurs after behind before. rest.claimed place end low below occurs after behind (omega (arith, before))
+    λ place end occurs after behind before. rest.claimed place end occurs after behind (omega (arith, before))
 
 pub returns-clause-claims : goal.returns-clause-claims
 returns-clause-claims c =
     let at = (goal.at.returns-clause-claims c).After-but_first-rest in
     let ahead = c.next_claims-seen.ensures in
     record {
-      claimed = λ place end low below occurs after behind before.
-          ahead.claimed (first at) place end low below occurs (omega (arith, after, ahead.ahead)) behind (omega (arith, before, c.min.ensures));
+      claimed = λ place end occurs after behind before.
+          ahead.claimed (first at) place end occurs (omega (arith, after, ahead.ahead)) behind (omega (arith, before, c.min.ensures));
       inside = omega (arith, c.min.ensures, ahead.inside);
       few = omega (arith, c.min.ensures);
     }
@@ -28,6 +27,4 @@ returns-clause-claims c =
 pub returns-clause-none : goal.returns-clause-none
 returns-clause-none c =
     let at = (goal.at.returns-clause-none c).After-but_first-rest in
-    let none = c.next_claims-seen.ensures.none (first at) in
-    subst (λ (from : ℕ). NoEndUpTo c.args.list.now c.args.text.now from c.next_claims-seen.result.0) c.but_first-rest.ensures.seen
-    (subst (λ (l : Literals). NoEndUpTo l c.args.text.now c.but_first-rest.result.seen c.next_claims-seen.result.0) c.requires.list none)
+    subst (λ (from : ℕ). NoEndUpTo c.args.windows.now.literals c.args.text.now from c.next_claims-seen.result.0) c.but_first-rest.ensures.seen (c.next_claims-seen.ensures.none (first at))

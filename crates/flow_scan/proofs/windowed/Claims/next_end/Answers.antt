@@ -1,6 +1,7 @@
 -- One block after the other is claimed, until a literal ends at one of the claimed ends.
-use Rattle.std.proofs.Common.{ℕ, ◌+◌, ◌-◌, arith}
-use Rattle.text_windows.specs.NoEnds.{NoEndUpTo}
+use Rattle.std.proofs.Common.{ℕ, ◌+◌, ◌-◌, subst, arith}
+use Rattle.lit_base.specs.Literals.{Literals}
+use Rattle.lit_base.specs.NextEnds.{NoEndUpTo}
 use Rattle.flow_scan.proofs.ClaimSteps.{claims_rest}
 use Rattle.flow_scan.proofs.EndLemmas.{next_further, none_joined}
 use Rattle.flow_scan.proofs.windowed.Claims.next_end.Goals as goal
@@ -31,5 +32,6 @@ blocks-2-preserved c =
     record {
       claims = c.next_block-claims.ensures.claims;
       ahead = omega (arith, c.next_block-claims.ensures.ahead, c.blocks-2.invariant.ahead);
-      none = none_joined l text from last passed c.next_block-claims.result.seen c.next_block-claims.ensures.none;
+      none = none_joined l text from last passed c.next_block-claims.result.seen
+          (subst (λ (of : Literals). NoEndUpTo of text last c.next_block-claims.result.seen) c.requires.list c.next_block-claims.ensures.none);
     }

@@ -1,5 +1,5 @@
 use Rattle.std.proofs.Common.{◌+◌, ◌-◌, ◌≤◌, length}
-use Rattle.text_windows.specs.NoEnds.{NoEndUpTo}
+use Rattle.lit_base.specs.NextEnds.{NoEndUpTo}
 use Rattle.flow_scan.specs.Windowed.{AreClaims}
 use Rattle.flow_scan.proofs.windowed.Claims.next_end.Given as goal
 

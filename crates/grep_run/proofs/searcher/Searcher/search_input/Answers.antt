@@ -1,4 +1,4 @@
--- The block that was read, with its end and the message behind it, and where one of them is cut.
+-- The block that was read, with its end and the message after it, and where one of them is cut.
 use Rattle.std.proofs.Common.{Some, ap}
 use Rattle.std.specs.Prelude.{nat_lt}
 use Rattle.std.proofs.lemmas.Result.{err_from_is_err_and}

@@ -1,4 +1,4 @@
--- What holds of the content that was searched holds of the source that the opener told.
+-- Facts on the content that was searched hold of the opener's known source.
 use Rattle.std.proofs.Common.{◌≡◌, subst}
 use Rattle.byte_io.specs.Sources.{AreShort, after, ask_of, taken_by}
 use Rattle.byte_io.specs.Devices.{Told}

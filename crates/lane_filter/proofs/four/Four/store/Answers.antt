@@ -4,5 +4,5 @@ use Rattle.lane_filter.proofs.four.Four.store.Goals as goal
 
 pub returns : goal.returns
 returns c f four below k l =
-    ap (λ o. get_or o k 0) c.store-4.ensures
-    ∙ holds_after_four f c.args.self.now c.args.at _ _ _ _ c.requires four below c.store.ensures c.store-2.ensures c.store-3.ensures k l
+    ap (λ o. get_or o k 0) c.store_wide-4.ensures
+    ∙ holds_after_four f c.args.self.now c.args.at _ _ _ _ c.requires four below c.store_wide.ensures c.store_wide-2.ensures c.store_wide-3.ensures k l

@@ -1,5 +1,5 @@
--- Each literal has its byte, its three bytes, or its pair.
-use Rattle.std.proofs.Common.{◌≡◌, ℕ, ◌<◌, List, length, inl, inr, subst, arith}
+-- Each literal has a byte, three bytes, or a pair.
+use Rattle.std.proofs.Common.{◌≡◌, ℕ, ◌<◌, List, length, inl, inr, subst, sym, arith}
 use Rattle.std.proofs.lemmas.Bool.{cases_eq}
 use Rattle.std.proofs.lemmas.Option.{slice_get_within}
 use Rattle.lit_base.specs.Literals.{Literals}
@@ -66,3 +66,10 @@ returns-in-3-clause-covers c text place end _ occurs =
         | inr other ↦ inr (inr (c.of-in-3-3.ensures.stands text end (occurs_at l text place 2 end (omega (arith, within, not_first, other, c.in-3.is, c.len.ensures.value)) occurs)))
       ]
     ])
+
+pub returns-in_default-clause-sieve : goal.returns-in_default-clause-sieve
+returns-in_default-clause-sieve c = c.of_masks.ensures.sieve c.args.list.now c.args.ends.now.items (sym c.len-in_default.ensures.value) c.of-in_default.ensures.set
+
+pub returns-in_default-clause-covers : goal.returns-in_default-clause-covers
+returns-in_default-clause-covers c =
+    c.of_masks.ensures.passes c.args.list.now c.args.ends.now.items (sym c.len-in_default.ensures.value) c.of-in_default.ensures.set c.of-in_default.ensures.covers

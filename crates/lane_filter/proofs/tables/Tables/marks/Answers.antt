@@ -1,4 +1,4 @@
--- The bits are those of the lanes; there are none where no lane of both vectors joined is set.
+-- The bits stand for the lanes; there are none where no lane of both vectors joined is set.
 use Rattle.std.proofs.Common.{◌+◌, get_or, arith}
 use Rattle.std.proofs.lemmas.Bool.{both_ways}
 use Rattle.nib_mask.specs.Tables.{table_value}

@@ -1,4 +1,4 @@
--- What is shown of the picker, by what its progress took.
+-- The picker as shown, by the text that its progress took.
 use Rattle.std.proofs.Common.{rules, ◌≡◌, ℕ, Bool, List, ◌++◌, Option, cond, length, Result, Ok, Err, OnOk, ap, sym, ◌∙◌}
 use Rattle.std.specs.Prelude.{is_some}
 use Rattle.std.specs.Option.{option_copied}
@@ -20,7 +20,7 @@ on_more : {T P : Type 0} (r : Result T Halt) → answer_of r ≡ Ok More → OnO
 on_more (Ok x) e p = p
 on_more (Err halt) e p = absurd (answer_to-More halt e)
 
--- what is shown of a picker
+-- a picker as shown
 abbrev shown : Option Plan → Bool → LineRule → Bool → List ℕ → ℕ → ℕ → State → Bool → Picking
 shown plan has_empty rule is_numbered held lines bytes state learns = record { plan = plan; has_empty = has_empty; rule = rule; is_numbered = is_numbered; held = held; lines = lines; bytes = bytes; state = state; learns = learns }
 

@@ -1,4 +1,4 @@
--- The line is what was held and its last bytes.
+-- The line is the held bytes and its last bytes.
 use Rattle.std.proofs.Common.{◌≡◌, Bool, List, ℕ, ◌++◌, ◌∷◌, [], Err, ap, ◌∙◌}
 use Rattle.std.proofs.lemmas.Result.{err_from_is_err_and}
 use Rattle.line_pick.specs.Lending.{Whole, numbered}

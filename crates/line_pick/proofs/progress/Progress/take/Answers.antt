@@ -1,4 +1,4 @@
--- The first line of what is held and the piece, and those behind it.
+-- The first line of the held bytes and the piece, and the lines after it.
 use Rattle.std.proofs.Common.{◌≡◌, ◌+◌, ◌++◌, Result, Err, arith, sym, ap, ◌∙◌}
 use Rattle.std.proofs.lemmas.Result.{err_from_is_err_and, on_ok_weaker}
 use Rattle.lit_base.specs.Lines.{ended_lines}
@@ -11,7 +11,7 @@ use Rattle.line_pick.proofs.NumberLemmas.{Lends-same, Lends-taken, Lent-taken}
 use Rattle.line_pick.proofs.Newlines.{first-held, one-append, open_rest-first}
 use Rattle.line_pick.proofs.progress.Progress.take.Goals as goal
 
--- the fault of one answer is that of another
+-- two answers have the same fault
 same_fault : {T : Type 0} {h k : Halt} → ◌≡◌ {A = Result T Halt} (Err h) (Err k) → h ≡ k
 same_fault e = (cc)
 

@@ -1,4 +1,4 @@
--- The suffixes are those of the literals.
+-- The suffixes belong to the literals.
 use Rattle.lit_base.proofs.ChainLemmas.{found_within}
 use Rattle.lit_base.proofs.lit_list.LitList.first_ending.Goals as goal
 

@@ -1,8 +1,9 @@
 -- The literals are the normal form, and keep the limits of the raw list.
-use Rattle.std.proofs.Common.{◌≡◌, subst, sym, ◌∙◌, All, length, map, ◌<◌}
+use Rattle.std.proofs.Common.{◌≡◌, subst, sym, ◌∙◌, All, length, map, ◌<◌, ◌≤◌}
 use Rattle.std.specs.List.{AllZip}
 use Rattle.std.specs.List.Sorted.{IsNonDecreasing}
 use Rattle.lit_base.specs.Literals.{IsNormal}
+use Rattle.lit_base.specs.declared.limits.TheConstants.{MAX_LITERALS}
 use Rattle.lit_base.specs.Checks.{AreSuffixesOf}
 use Rattle.lit_base.specs.NormalForm.{IsNormalForm, IsPlaceOf, normal_form}
 use Rattle.lit_base.proofs.LengthLemmas.{lengths_rise}
@@ -12,11 +13,11 @@ use Rattle.lit_base.proofs.lit_list.LitList.normal.Goals.{In_ok-literals}
 
 -- the literals in order are the normal form
 form : (c : In_ok-literals) → c.in_ok-literals.literals.items ≡ normal_form c.args.fold c.args.raw.now
-form c = c.in_ok-literals.ensures.ok.0 ∙ c.in_ok-distinct.ensures.keys
+form c = c.in_ok-literals.ensures ∙ c.in_ok-distinct.ensures.keys
 
 -- and so keep to it
 normal : (c : In_ok-literals) → IsNormal (record { folding = c.args.fold; texts = c.in_ok-literals.literals.items })
-normal c = is_normal c.args.fold c.args.raw.now c.in_ok-literals.literals.items (form c) c.in_ok-distinct.ensures.limits c.in_ok-literals.ensures.ok.1
+normal c = is_normal c.args.fold c.args.raw.now c.in_ok-literals.literals.items (form c) c.in_ok-distinct.ensures.limits (subst (λ ts. length ts ≤ MAX_LITERALS) (sym c.in_ok-literals.ensures) c.in_ok-distinct.ensures.few)
 
 pub new-requires-clause-nonempty : goal.new-requires-clause-nonempty
 new-requires-clause-nonempty c =

@@ -1,4 +1,4 @@
--- Patterns of which none is refused keep the list within its limits.
+-- Patterns without a refusal keep the list within its limits.
 use Rattle.std.proofs.Common.{◌≡◌, length, map, arith}
 use Rattle.std.proofs.lemmas.Grind.{common_steps}
 use Rattle.lit_base.specs.Patterns.{patterns_of}

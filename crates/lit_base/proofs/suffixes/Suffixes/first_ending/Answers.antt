@@ -9,4 +9,4 @@ returns-then-rules_out c = λ place low occurs.
     let text = c.args.text.now in
     let is = c.requires.of.marks in
     let out = c.rules_out.ensures.0 c.if-rules_out.true in
-    out.1 (marked-occurs c.args.literals.now c.args.self.now.marks text place c.args.end 0 c.args.end is (are_bytes text c.type_inv.text) (add-zero c.args.end) (omega (arith, is.stride)) out.0 occurs)
+    out.1 (marked-occurs c.args.literals.now c.args.self.now.marks text place c.args.end 0 c.args.end is (are_bytes text c.type_inv.text) (add-zero c.args.end) (omega arith) out.0 occurs)

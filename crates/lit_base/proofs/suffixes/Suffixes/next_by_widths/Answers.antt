@@ -1,4 +1,5 @@
--- The lowest width is gone over first, as literals of fewer bytes come before, and it is dropped where none of its literals is left.
+-- The lowest width comes first, as literals of fewer bytes come before; it is dropped where none of its literals
+-- remains.
 use Rattle.std.proofs.Common.{◌≡◌, ◌+◌, ◌-◌, ◌<◌, w8, ap, arith}
 use Rattle.std.specs.Int.{bit_at, trailing_zeros}
 use Rattle.std.proofs.Math.Facts.{Fits-lt-pow}

@@ -1,4 +1,4 @@
--- All widths are told where the checks cannot be asked, and else those that they tell.
+-- All widths where the checks cannot be read, and otherwise the widths that they give.
 use Rattle.std.proofs.Common.{◌-◌, arith}
 use Rattle.std.proofs.lemmas.Nat.Bits.{bit_at_ones}
 use Rattle.lit_base.specs.Chains.{told_at}

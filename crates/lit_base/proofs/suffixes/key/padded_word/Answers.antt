@@ -1,4 +1,4 @@
--- The bytes stand behind zeros.
+-- The bytes stand after zeros.
 use Rattle.std.proofs.Common.{◌∙◌}
 use Rattle.lit_base.proofs.SuffixLemmas.{padded}
 use Rattle.lit_base.proofs.suffixes.key.padded_word.Goals as goal

@@ -1,4 +1,4 @@
--- Either way the word is what the bytes spell behind zeros.
+-- Either way the word is what the bytes spell after zeros.
 use Rattle.std.proofs.Common.{◌≡◌, ◌-◌, ◌++◌, length, replicate, ap, ◌∙◌, arith}
 use Rattle.std.specs.Int.RustNames.{bit_and, bit_or}
 use Rattle.std.specs.List.{slice_range}

@@ -4,7 +4,7 @@ use Rattle.lit_base.specs.Suffixes.{hash_of, suffix_key}
 use Rattle.lit_base.specs.declared.suffixes.marks.TheConstants.{HASH_BITS}
 use Rattle.lit_base.proofs.suffixes.marks.mark_literal.Given as goal
 
--- the places passed are marked, and what was marked still is
+-- the positions passed are marked, and earlier marks stay
 abbrev pub invariant-loop-back : goal.invariant-loop-back
 invariant-loop-back l = record {
   len : vec_len l.marks ≡ vec_len l.fn.marks;

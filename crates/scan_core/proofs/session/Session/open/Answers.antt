@@ -8,6 +8,7 @@ use Rattle.scan_wire.specs.Messages.{Open, Opened, reply_parts}
 use Rattle.scan_core.specs.declared.limits.TheConstants.{MAX_STREAMS}
 use Rattle.scan_core.specs.declared.refusal.Refusal.TheVariants.{StreamInUse}
 use Rattle.scan_core.specs.Sessions.{Bound, IsBound, IsEvent, Serving}
+use Rattle.scan_core.specs.Steps.{IsSound}
 use Rattle.scan_core.specs.Streams.{StandsAt}
 use Rattle.scan_core.specs.Together.{AgreesWith, tickets_of}
 use Rattle.scan_core.proofs.ServingLemmas.{found, found_none}
@@ -36,17 +37,19 @@ returns-in_default-clause-ok c =
     subst (λ (t : Serving). IsEvent t request (reply ∷ []) t) c.self.view_is
     (opened_none s c.args.stream c.args.number reply (opened_free s c.args.stream c.args.number free few) stranger c.reply-in_default.ensures)
 
-pub invariant_of-self-2 : goal.invariant_of-self-2
-invariant_of-self-2 c =
+pub invariant_of-self : goal.invariant_of-self
+invariant_of-self c =
     let store = c.self.inside.store.now in
     let ticket = c.in-Some.ticket in
     let Here : ℕ × Bound → Type 0 = λ stream. IsBound store stream.1 in
     let here : IsOf store ticket = subst (λ (t : Serving). IsOf t.store ticket) (sym c.self.view_is) c.in-Some.ensures.here in
     let bound : Here (c.args.stream, record { ticket = ticket; scan = started ticket.plan 0 }) = record { here = here; plan = refl } in
+    let is : c.in-Ok.opened ≡ (c.args.stream, record { ticket = ticket; scan = started ticket.plan 0 }) =
+    c.in-Ok.ensures.ok ∙ ap (λ (t : Told). (c.args.stream, record { ticket = t; scan = started t.plan 0 })) c.again.ensures in
     record {
       serving = record {
         told = c.self.invariant.serving.told;
-        streams = rw c.push.ensures (All-push Here c.self.inside.streams c.in_ok-open.field-0 c.self.invariant.serving.streams (subst Here (sym c.in_ok-open.ensures.ok) bound));
+        streams = rw c.push.ensures (All-push Here c.self.inside.streams c.in-Ok.opened c.self.invariant.serving.streams (subst Here (sym is) bound));
       };
       own = c.self.invariant.own;
     }
@@ -59,8 +62,8 @@ returns-clause-ok c =
     let free = found_none c.find_stream.result (lookup (nat_eq c.args.stream) s.streams ≡ None) (StandsAt c.args.stream s.streams) c.find_stream.ensures (sym c.is_some.ensures ∙ c.if-is_some.false) in
     let few : length s.streams < MAX_STREAMS = omega (arith, c.len.ensures.len, c.if-len-ge-MAX_STREAMS.false) in
     let grown : c.push.new.self ≡ s.streams ++ (c.args.stream, record { ticket = c.in-Some.ticket; scan = started c.in-Some.ticket.plan 0 }) ∷ [] =
-    c.push.ensures ∙ ap (λ (item : ℕ × Bound). s.streams ++ item ∷ []) c.in_ok-open.ensures.ok in
+    c.push.ensures ∙ ap (λ (item : ℕ × Bound). s.streams ++ item ∷ []) (c.in-Ok.ensures.ok ∙ ap (λ (t : Told). (c.args.stream, record { ticket = t; scan = started t.plan 0 })) c.again.ensures) in
     let agreed : AgreesWith c.in-Some.ticket s = subst (AgreesWith c.in-Some.ticket) (sym c.self.view_is) c.agrees_with.ensures in
     subst (λ (t : Serving). IsEvent t request (Opened c.args.stream ∷ []) new) c.self.view_is
     (opened_stream s c.args.stream c.args.number c.in-Some.ticket (Opened c.args.stream) new (opened_free s c.args.stream c.args.number free few)
-    c.in_ok-open.ensures.sound (known_agree s c.in-Some.ticket agreed) c.in-Some.ensures.number refl (ap (λ (streams : List (ℕ × Bound)). record s { streams = streams }) grown))
+    (subst (λ (t : Told). IsSound t.plan) c.again.ensures c.in-Ok.ensures.sound) (known_agree s c.in-Some.ticket agreed) c.in-Some.ensures.number refl (ap (λ (streams : List (ℕ × Bound)). record s { streams = streams }) grown))

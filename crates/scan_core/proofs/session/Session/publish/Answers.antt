@@ -1,10 +1,9 @@
 use Rattle.std.proofs.Common.{◌≡◌, ◌∷◌, [], List, length, None, sym, ap, ◌∙◌, subst}
 use Rattle.std.proofs.lemmas.List.Elements.{All-push}
-use Rattle.std.proofs.lemmas.Option.{MatchOption-at_some}
 use Rattle.plan_store.specs.Tickets.{IsOf, Told}
 use Rattle.scan_wire.specs.Messages.{Publish, Published, texts_of}
 use Rattle.scan_core.specs.Publishing.{IsPlanFor}
-use Rattle.scan_core.specs.Refusals.{raw_refusal}
+use Rattle.scan_core.specs.Refusals.{publish_refusal}
 use Rattle.scan_core.specs.Sessions.{IsEvent, Serving}
 use Rattle.scan_core.specs.Together.{AgreesWith}
 use Rattle.scan_core.proofs.StepLemmas.{published_entry}
@@ -24,14 +23,13 @@ pub returns-clause-ok : goal.returns-clause-ok
 returns-clause-ok g c =
     let texts = texts_of c.args.literals.now in
     let s : Serving = record { store = c.self.inside.store.now; told = c.self.inside.told; streams = c.self.inside.streams } in
-    let raw : None ≡ raw_refusal (length s.told) texts =
-    sym c.in_default.is ∙ c.refusal_of_literals.ensures ∙ ap (λ n. raw_refusal n texts) c.len.ensures.len in
+    let none : None ≡ publish_refusal (length s.told) texts =
+    sym c.in_default.is ∙ c.refusal_of_literals.ensures ∙ ap (λ n. publish_refusal n texts) c.len.ensures.len in
     let ticket = c.in-Ok.ticket in
     let new : Serving = record s { told = c.push.new.self } in
-    let planned : IsPlanFor c.args.fold texts c.in-Some-2.plan = MatchOption-at_some _ _ c.in-Some-2.plan c.in-Some-2.is c.in_ok-plan.ensures.plan in
-    subst (λ (t : Serving). IsEvent t (Publish c.args.fold texts) (Published c.number-number.result ∷ []) new) c.self.view_is
-    (published_entry s c.args.fold texts ticket (Published c.number-number.result) new raw
-    (subst (IsPlanFor c.args.fold texts) (sym c.in-Ok.ensures.plan) planned)
+    subst (λ (t : Serving). IsEvent t (Publish c.args.fold c.args.profile texts) (Published c.number-number.result ∷ []) new) c.self.view_is
+    (published_entry s c.args.fold c.args.profile texts ticket (Published c.number-number.result) new none
+    (subst (IsPlanFor c.args.fold c.args.profile texts) (sym c.in-Ok.ensures.plan) c.in_ok-plan.ensures.plan)
     (known_agree s ticket (subst (AgreesWith ticket) (sym c.self.view_is) c.agrees_with.ensures))
     (ap Published c.number-number.ensures)
     (ap (λ (told : List Told). record s { told = told }) c.push.ensures))

@@ -1,7 +1,7 @@
--- The first state that is not quiet is that of the next end.
+-- The first state with output belongs to the next end.
 use Rattle.std.proofs.Common.{◌≡◌, ◌+◌, slice_index, sym, ap, subst, arith}
 use Rattle.text_automaton.specs.Automata.{IsStateAt, Telling}
-use Rattle.text_automaton.proofs.TellingLemmas.{none_further}
+use Rattle.text_automaton.proofs.TellingLemmas.{ends_where_told, none_further}
 use Rattle.text_automaton.proofs.automaton.Automaton.next_end.Goals as goal
 
 pub returns-then-at-reading-clause-next : goal.returns-then-at-reading-clause-next
@@ -16,11 +16,13 @@ returns-then-at-reading-clause-next c =
     let there : IsStateAt a c.args.text.now (r.start + at + 1) c.from.result = subst (IsStateAt a c.args.text.now (r.start + at + 1)) (sym c.from.ensures) here in
     let none = none_further a c.args.text.now r _ at before.reading found.within before.none (λ k low high. omega (arith, quiet, found.none k low high)) in
     record {
-      after = omega (arith, before.after, found.after);
-      within = omega (arith, before.reading.inside, c.if-at-reading.true);
-      none = λ other after low. none other after (omega (arith, low));
+      next = record {
+        after = omega (arith, before.after, found.after);
+        within = omega (arith, before.reading.inside, c.if-at-reading.true);
+        here = ends_where_told a c.args.text.now (r.start + at + 1) c.from.result there (there.telling (omega (arith, quiet, c.from.ensures, found.telling c.if-at-reading.true)));
+        first = λ other after low. none other after (omega (arith, low));
+      };
       state = there;
-      some = there.telling (omega (arith, quiet, c.from.ensures, found.telling c.if-at-reading.true));
     }
 
 pub returns-then-text-reading-clause-next : goal.returns-then-text-reading-clause-next

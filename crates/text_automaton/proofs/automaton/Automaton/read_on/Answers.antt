@@ -1,4 +1,4 @@
--- The states that were read are those of their places.
+-- The states that were read belong to their positions.
 use Rattle.std.proofs.Common.{◌+◌, ap, ◌∙◌, subst, slice_index, arith}
 use Rattle.text_automaton.specs.Automata.{IsStateAt, Telling}
 use Rattle.text_automaton.specs.Stages.{is_made}

@@ -1,4 +1,4 @@
--- One state more tells what it is to tell.
+-- One more state has the right output.
 use Rattle.std.proofs.Common.{◌≡◌, inl, inr, refl, subst, arith}
 use Rattle.std.proofs.lemmas.Bool.{cases_lt}
 use Rattle.text_automaton.specs.Tables.{IsTelling}

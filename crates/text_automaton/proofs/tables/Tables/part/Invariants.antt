@@ -6,7 +6,7 @@ use Rattle.text_automaton.proofs.tables.Tables.part.Given as goal
 abbrev pub invariant-loop-state : goal.invariant-loop-state
 invariant-loop-state l = length l.names ≡ MOST_STATES
 
--- and both ends of what is not parted yet are states
+-- and both ends of the part not yet ordered are states
 abbrev pub invariant-loop-low : goal.invariant-loop-low
 invariant-loop-low l = record {
   high : l.high ≤ MOST_STATES;

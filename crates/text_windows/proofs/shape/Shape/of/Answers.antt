@@ -7,18 +7,17 @@ use Rattle.text_windows.proofs.shape.Shape.of.Goals as goal
 pub returns : goal.returns
 returns c =
     let texts = c.args.list.now.texts in
-    let first : ℕ = c.args.first in
-    let some : first < length texts = omega (arith, c.if-first-count.false, c.len-count.ensures.value) in
-    let nonempty = c.normal_law.ensures.nonempty first [] some in
+    let some : 0 < length texts = omega (arith, c.if-count-eq0.false, c.len-count.ensures.value) in
+    let nonempty = c.normal_law.ensures.nonempty 0 [] some in
     record {
       some = omega (arith, c.clamp.ensures);
       few = omega (arith, c.clamp.ensures);
-      wide = omega (arith, nonempty, length_at texts first 0 some, c.get-shortest.ensures.len, c.min.ensures);
-      least = λ place from inside.
-          let longer = c.len-count.ensures.rising first place 0 from (omega (arith, inside, length-map texts (length {A = ℕ}))) in
+      wide = omega (arith, nonempty, length_at texts 0 0 some, c.get-shortest.ensures.len, c.min.ensures);
+      least = λ place inside.
+          let longer = c.len-count.ensures.rising 0 place 0 (omega arith) (omega (arith, inside, length-map texts (length {A = ℕ}))) in
           omega (arith, longer, length_at texts place 0 inside, c.get-shortest.ensures.len, c.min.ensures);
-      room = λ place from inside.
-          let longer = c.len-count.ensures.rising first place 0 from (omega (arith, inside, length-map texts (length {A = ℕ}))) in
+      room = λ place inside.
+          let longer = c.len-count.ensures.rising 0 place 0 (omega arith) (omega (arith, inside, length-map texts (length {A = ℕ}))) in
           let here = c.normal_law.ensures.nonempty place [] inside in
           omega (arith, longer, here, length_at texts place 0 inside, c.get-shortest.ensures.len, c.saturating_sub.ensures, c.clamp.ensures);
     }

@@ -1,4 +1,4 @@
-use Rattle.text_windows.specs.NoEnds.{NoEndUpTo}
+use Rattle.lit_base.specs.NextEnds.{NoEndUpTo}
 use Rattle.text_windows.proofs.shift_or.ShiftOr.first_between.Given as goal
 
 -- nothing ends up to the place reached

@@ -1,5 +1,5 @@
 use Rattle.std.proofs.Common.{ℕ, ◌+◌, ◌*◌, ◌-◌, ◌<◌, slice_index}
-use Rattle.text_windows.specs.NoEnds.{NoEndUpTo}
+use Rattle.lit_base.specs.NextEnds.{NoEndUpTo}
 use Rattle.text_windows.proofs.shift_or.ShiftOr.has_end.Given as goal
 
 -- nothing ends at the places of the words whose numbers were passed

@@ -3,7 +3,7 @@ use Rattle.std.proofs.Common.{◌≡◌, ℕ, ◌+◌, ◌-◌, ◌*◌, inl, in
 use Rattle.std.specs.Int.{bit_at}
 use Rattle.std.proofs.lemmas.Nat.Bits.{bit_at-zero}
 use Rattle.text_windows.specs.Looks.{AreLooks, IsVerified}
-use Rattle.text_windows.specs.NoEnds.{NoEndUpTo}
+use Rattle.lit_base.specs.NextEnds.{NoEndUpTo}
 use Rattle.text_windows.specs.ShiftOr.{AreRuled, RulesOut}
 use Rattle.text_windows.proofs.ShiftOrLemmas.{found_further, none_joined, none_of_group}
 use Rattle.text_windows.proofs.shift_or.ShiftOr.next_by_step.Goals as goal

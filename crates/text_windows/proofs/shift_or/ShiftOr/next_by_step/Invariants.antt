@@ -1,5 +1,5 @@
 use Rattle.std.proofs.Common.{◌+◌, ◌-◌, ◌≤◌, length, max, slice_index}
-use Rattle.text_windows.specs.NoEnds.{NoEndUpTo}
+use Rattle.lit_base.specs.NextEnds.{NoEndUpTo}
 use Rattle.text_windows.specs.ShiftOr.{RulesOut}
 use Rattle.text_windows.specs.declared.shift_or.TheConstants.{FRONT}
 use Rattle.text_windows.proofs.shift_or.ShiftOr.next_by_step.Given as goal

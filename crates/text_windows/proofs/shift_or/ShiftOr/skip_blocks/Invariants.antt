@@ -1,5 +1,5 @@
 use Rattle.std.proofs.Common.{◌≡◌, ◌+◌, ◌*◌, ◌-◌, ◌≤◌, ◌⊎◌, length, slice_index}
-use Rattle.text_windows.specs.NoEnds.{NoEndUpTo}
+use Rattle.lit_base.specs.NextEnds.{NoEndUpTo}
 use Rattle.text_windows.specs.ShiftOr.{RulesOut}
 use Rattle.text_windows.specs.declared.blocks.TheConstants.{GROUPS}
 use Rattle.text_windows.proofs.shift_or.ShiftOr.skip_blocks.Given as goal

@@ -1,4 +1,4 @@
--- The literals behind the one have their bits, as no other of its length ends there.
+-- The bits of the literals after the one are set, as no other of its length ends there.
 use Rattle.std.proofs.Common.{◌≡◌, ◌+◌, [], length, sym, ap, arith}
 use Rattle.std.proofs.lemmas.List.{get_or_read}
 use Rattle.std.proofs.lemmas.Option.{slice_get_within}

@@ -1,4 +1,4 @@
--- What the suffixes answer is what the cursor tells, and each literal that is left has the bit of its width yet.
+-- The cursor gives the answer of the suffixes, and each remaining literal still has the bit of its key width.
 use Rattle.std.proofs.Common.{◌<◌, length, arith}
 use Rattle.std.proofs.lemmas.Option.{slice_get_within}
 use Rattle.lit_base.proofs.lit_list.endings.Endings.next.Goals as goal
@@ -7,7 +7,7 @@ use Rattle.lit_base.proofs.lit_list.endings.Endings.next.Goals.{In_ok-place}
 pub returns-in_err-place-clause-first : goal.returns-in_err-place-clause-first
 returns-in_err-place-clause-first c = rw (c.from_residual.ensures, ← c.self.view_is, ← c.list.view_is) c.in_err-place.ensures.first
 
--- what is found is one of the literals
+-- a literal that is found is in the list
 within : (c : In_ok-place) → c.in_ok-place.place < length c.list.inside.literals.texts
 within c =
     let occurs = c.in_ok-place.ensures.first.occurs in

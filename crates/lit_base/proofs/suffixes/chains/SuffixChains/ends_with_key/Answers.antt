@@ -1,4 +1,5 @@
--- Where the key is another, the literal is not one that is told by so many bytes and ends there, and where it is that of all bytes, it is.
+-- If the key differs, the literal, at this key width, does not end there; if the key has all its bytes and is equal, it
+-- does.
 use Rattle.std.proofs.Common.{rules, ◌≡◌, ◌<◌, ℕ, Fits, w8, [], length, get_or, refl, sym, ap, ◌∙◌, subst, arith}
 use Rattle.std.proofs.lemmas.List.{get_or_read}
 use Rattle.lit_base.specs.declared.fold.Fold.TheVariants.{No}

@@ -1,4 +1,4 @@
--- The walk stays on the chain of the text's key, and passes no literal told by so many bytes that ends there.
+-- The walk stays on the chain of the text's key, and passes no literal with a key of this width that ends there.
 use Rattle.std.proofs.Common.{◌≡◌, ◌<◌, ◌≤◌, length, sym, ap, ◌∙◌, subst, arith}
 use Rattle.std.proofs.lemmas.List.{get_or_read}
 use Rattle.lit_base.specs.Chains.{Reaches, told_at}

@@ -1,4 +1,4 @@
--- There is a bit for each hash, and in the end every literal has its own set.
+-- There is a bit for each hash, and in the end the bit of every literal is set.
 use Rattle.std.proofs.Common.{◌≡◌, ◌<◌, [], length, min, get_or, ◌∙◌, subst, arith, below_more}
 use Rattle.std.proofs.lemmas.List.{get_or_read}
 use Rattle.lit_base.specs.Checks.{IsChecked}

@@ -5,7 +5,7 @@ use Rattle.lit_base.specs.Checks.{IsChecked}
 use Rattle.lit_base.specs.Suffixes.{last_bits}
 use Rattle.lit_base.proofs.suffixes.checks.SuffixChecks.widths_at.Given as goal
 
--- each width passed that a check has is told, and those that were told first stay so
+-- each width passed that a check has is in the answer, and the earlier widths still are
 abbrev pub invariant-loop-width : goal.invariant-loop-width
 invariant-loop-width l = record {
   passed : (width : ℕ) → l.self.least ≤ width → width < l.width → IsChecked l.self.widths.items width (bit_or (bit_and l.word (last_bits width)) l.self.case_bits) → bit_at l.widths (width - 1) ≡ 1;

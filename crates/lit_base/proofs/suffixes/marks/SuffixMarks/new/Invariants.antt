@@ -7,5 +7,5 @@ use Rattle.lit_base.proofs.suffixes.marks.SuffixMarks.new.Given as goal
 abbrev pub invariant-loop-place : goal.invariant-loop-place
 invariant-loop-place l = record {
   len : vec_len l.marks ≡ 2 ^ HASH_BITS;
-  marked : (place : ℕ) → place < l.place → IsMarkedFor l.marks.items l.fold (slice_index_or l.literals place []) l.width 0 l.stride;
+  marked : (place : ℕ) → place < l.place → IsMarkedFor l.marks.items l.fold (slice_index_or l.literals place []) l.width 0 1;
 }

@@ -1,0 +1,136 @@
+//! From patterns to a plan in a handle.
+ghost use Rattle.std.specs.Prelude.{◌≡◌, ◌≤◌, ◌<◌, ◌⊎◌, ℕ, IfErr, IfOk, IsSomeAnd, None, Some, length, map, take};
+ghost use Rattle.std.specs.Arc.{arc_value};
+ghost use Rattle.std.specs.List.{AllZip};
+ghost use Rattle.lit_base.specs.NormalForm.{IsPlaceOf};
+ghost use Rattle.lit_base.specs.RawLists.{first_refusal};
+ghost use Rattle.lit_base.specs.declared.fault.Fault.TheVariants.{OutOfMemory};
+ghost use Rattle.plan_file.specs.Reading.{fold_of, profile_of};
+ghost use Rattle.fiolargu.specs.Found.{plan_of};
+ghost use Rattle.fiolargu.specs.Made.{IsPlanOf, bytes_of, number_at};
+ghost use Rattle.fiolargu.specs.declared.statuses.TheConstants.{NO_LITERALS, NULL_HANDLE, OK, OUT_OF_MEMORY};
+
+use crate::statuses::{NO_LITERALS, OK, OUT_OF_MEMORY};
+use crate::views::Bytes;
+use c_handle::{PlanHandle, SharedPlan};
+use flow_scan::Compiled;
+use list_plan::compile;
+use lit_base::{Fault, Fold, LitList, Profile, RawList};
+use std::alloc::Global;
+use std::sync::Arc;
+
+/// All flags: ASCII case is ignored, and sixteen buckets.
+pub(crate) const ALL_FLAGS: u32 = 3;
+
+/// The fold in the flags: bit 0.
+fn fold_of(flags: u32) -> Fold
+    ensures { result ≡ fold_of flags }
+{
+    if flags % 2 == 0 {
+        Fold::No
+    } else {
+        Fold::Ascii
+    }
+}
+
+/// The profile in the flags: bit 1.
+fn profile_of(flags: u32) -> Profile
+    ensures { result ≡ profile_of flags }
+{
+    if flags < 2 {
+        Profile::Eight
+    } else {
+        Profile::Sixteen
+    }
+}
+
+/// The patterns of the caller, in order.
+pub(crate) fn patterns_of(alloc: Global, patterns: &[Bytes]) -> Result<RawList, Fault>
+    ensures ok { IfOk result (λ raw. raw ≡ bytes_of patterns.now) }
+    ensures accepted { IfOk result (λ _. first_refusal 0 0 (bytes_of patterns.now) ≡ None) }
+    ensures err { IfErr result (λ fault. (fault ≡ OutOfMemory) ⊎ (first_refusal 0 0 (bytes_of patterns.now) ≡ Some fault)) }
+{
+    let mut raw = RawList::new(alloc);
+    for pattern in patterns {
+        raw.push(pattern.bytes)?;
+    }
+    Ok(raw)
+}
+
+/// The plan of patterns, and the place of each of them among its literals.
+pub(crate) fn plan_of(
+    alloc: Global,
+    raw: &RawList,
+    flags: u32,
+) -> Result<(Compiled, Vec<Option<u16>>), i32>
+    ensures made { IfOk result (λ made. IsPlanOf flags raw.now made.0) }
+    ensures places { IfOk result (λ made. AllZip (IsPlaceOf (fold_of flags) made.0.literals.texts) raw.now made.1.items) }
+    ensures refused { IfErr result (λ status. (status ≡ OUT_OF_MEMORY) ⊎ (status ≡ NO_LITERALS)) }
+    ensures not_ok { IfErr result (λ status. status ≡ OK → ⊥) }
+{
+    let Ok((list, normal)) = LitList::normal(alloc, raw, fold_of(flags)) else {
+        return Err(OUT_OF_MEMORY);
+    };
+    match compile(alloc, list, profile_of(flags)) {
+        Ok(made) => Ok((made, normal.place_of)),
+        Err(run_planner::Fault::NoLiterals) => Err(NO_LITERALS),
+        Err(run_planner::Fault::OutOfMemory) => Err(OUT_OF_MEMORY),
+    }
+}
+
+/// Writes the numbers of literals to the front of a buffer, if it has room for them.
+pub(crate) fn write_numbers(places: &[Option<u16>], numbers: &mut [u32])
+    ensures { length places.now ≤ length numbers.old → take (length places.now) numbers.new ≡ map number_at places.now }
+{
+    if places.len() > numbers.len() {
+        return;
+    }
+    let mut count = 0;
+    for place in places {
+        numbers[count] = number_at(*place);
+        count += 1;
+    }
+}
+
+/// The number by which C sees the place of a pattern.
+fn number_at(place: Option<u16>) -> u32
+    ensures { result ≡ number_at place }
+{
+    match place {
+        Some(place) => u32::from(place),
+        None => u32::MAX,
+    }
+}
+
+/// Makes a handle one more owner of a plan.
+pub(crate) fn set_shared(handle: &mut PlanHandle, alloc: Global, plan: Arc<Compiled>) -> i32
+    ensures set { result ≡ OK → plan_of handle.new.held ≡ Some (arc_value plan) }
+    ensures same { (result ≡ OK → ⊥) → handle.new.held ≡ handle.old.held }
+    ensures refused { (result ≡ OK) ⊎ (result ≡ OUT_OF_MEMORY) }
+    ensures not_null { result ≡ NULL_HANDLE → ⊥ }
+{
+    let held = SharedPlan {
+        plan,
+        out: Vec::new(alloc),
+    };
+    match Box::new(alloc, held) {
+        Ok(held) => {
+            handle.put(held);
+            OK
+        }
+        Err(_) => OUT_OF_MEMORY,
+    }
+}
+
+/// Makes a handle the owner of a plan.
+pub(crate) fn set_plan(handle: &mut PlanHandle, alloc: Global, plan: Compiled) -> i32
+    ensures set { result ≡ OK → plan_of handle.new.held ≡ Some plan }
+    ensures same { (result ≡ OK → ⊥) → handle.new.held ≡ handle.old.held }
+    ensures refused { (result ≡ OK) ⊎ (result ≡ OUT_OF_MEMORY) }
+    ensures not_null { result ≡ NULL_HANDLE → ⊥ }
+{
+    match Arc::new(alloc, plan) {
+        Ok(plan) => set_shared(handle, alloc, plan),
+        Err(_) => OUT_OF_MEMORY,
+    }
+}

@@ -1,0 +1,218 @@
+//! Exports that make, share, show and free plans.
+ghost use Rattle.std.specs.Prelude.{◌≡◌, ◌-◌, ◌≤◌, ◌<◌, ◌⊎◌, ◌↔◌, ℕ, [], IsSomeAnd, IfSome, None, Some, length, take};
+ghost use Rattle.std.specs.List.{slice_get};
+ghost use Rattle.lit_base.specs.Lines.{lines};
+ghost use Rattle.lit_base.specs.RawLists.{first_refusal, text_refusal};
+ghost use Rattle.lit_base.specs.declared.fault.Fault.TheVariants.{LiteralTooLong};
+ghost use Rattle.fiolargu.specs.Found.{plan_of};
+ghost use Rattle.fiolargu.specs.Made.{IsInfoOf, IsPlanOf, bytes_of};
+ghost use Rattle.plan_file.specs.Spelling.{flags_of};
+ghost use Rattle.fiolargu.specs.declared.statuses.TheConstants.{LITERAL_TOO_LONG, NULL_HANDLE, OK, OUT_OF_MEMORY, OUT_OF_RANGE, SMALL_BUFFER};
+
+use crate::making::{ALL_FLAGS, patterns_of, plan_of, set_plan, set_shared, write_numbers};
+use crate::statuses::{NULL_HANDLE, OK, OUT_OF_MEMORY, OUT_OF_RANGE, SMALL_BUFFER, status_of_list};
+use crate::views::{Bytes, PlanInfo};
+use c_handle::PlanHandle;
+use flow_scan::Compiled;
+use lit_base::{Fold, Profile, RawList};
+use std::alloc::Global;
+use std::sync::Arc;
+
+/// Makes a plan of patterns. `literal_of` gets the number of each pattern's literal, if it has any room.
+#[unsafe(no_mangle)]
+pub extern "C" fn fiolargu_plan_new(
+    alloc: Global,
+    plan: &mut PlanHandle,
+    patterns: &[Bytes],
+    flags: u32,
+    literal_of: &mut [u32],
+    fault_at: &mut usize,
+) -> i32
+    ensures made { result ≡ OK → IsSomeAnd (plan_of plan.new.held) (IsPlanOf flags (bytes_of patterns.now)) }
+    ensures same { (result ≡ OK → ⊥) → plan.new.held ≡ plan.old.held }
+    ensures fault { result ≡ LITERAL_TOO_LONG → first_refusal 0 0 (bytes_of patterns.now) ≡ Some (LiteralTooLong fault_at.new) }
+    ensures flags { result ≡ OUT_OF_RANGE ↔ (3 < flags) }
+{
+    *fault_at = 0;
+    if flags > ALL_FLAGS {
+        return OUT_OF_RANGE;
+    }
+    if !literal_of.is_empty() && literal_of.len() < patterns.len() {
+        return SMALL_BUFFER;
+    }
+    let raw = match patterns_of(alloc, patterns) {
+        Ok(raw) => raw,
+        Err(fault) => {
+            let (status, place) = status_of_list(fault);
+            *fault_at = place;
+            return status;
+        }
+    };
+    match plan_of(alloc, &raw, flags) {
+        Ok((made, places)) => {
+            write_numbers(&places, literal_of);
+            set_plan(plan, alloc, made)
+        }
+        Err(status) => status,
+    }
+}
+
+/// Makes a plan of the lines of a text.
+#[unsafe(no_mangle)]
+pub extern "C" fn fiolargu_plan_of_lines(
+    alloc: Global,
+    plan: &mut PlanHandle,
+    text: &[u8],
+    flags: u32,
+    fault_at: &mut usize,
+) -> i32
+    ensures made { result ≡ OK → IsSomeAnd (plan_of plan.new.held) (IsPlanOf flags (lines text.now)) }
+    ensures same { (result ≡ OK → ⊥) → plan.new.held ≡ plan.old.held }
+    ensures fault { result ≡ LITERAL_TOO_LONG → text_refusal [] text.now (lines text.now) ≡ Some (LiteralTooLong fault_at.new) }
+    ensures flags { result ≡ OUT_OF_RANGE ↔ (3 < flags) }
+{
+    *fault_at = 0;
+    if flags > ALL_FLAGS {
+        return OUT_OF_RANGE;
+    }
+    let mut raw = RawList::new(alloc);
+    if let Err(fault) = raw.add_file_bytes(text) {
+        let (status, place) = status_of_list(fault);
+        *fault_at = place;
+        return status;
+    }
+    match plan_of(alloc, &raw, flags) {
+        Ok((made, _)) => set_plan(plan, alloc, made),
+        Err(status) => status,
+    }
+}
+
+/// Makes `other` a second owner of a plan.
+#[unsafe(no_mangle)]
+pub extern "C" fn fiolargu_plan_share(
+    alloc: Global,
+    plan: &mut PlanHandle,
+    other: &mut PlanHandle,
+) -> i32
+    ensures plan { plan.new.held ≡ plan.old.held }
+    ensures shared { result ≡ OK → plan_of other.new.held ≡ plan_of plan.old.held }
+    ensures same { (result ≡ OK → ⊥) → other.new.held ≡ other.old.held }
+    ensures null { result ≡ NULL_HANDLE ↔ plan.old.held ≡ None }
+{
+    let Some(held) = plan.take(alloc) else {
+        return NULL_HANDLE;
+    };
+    let status = match Arc::try_clone(&held.plan) {
+        Ok(again) => set_shared(other, alloc, again),
+        Err(_) => OUT_OF_MEMORY,
+    };
+    plan.put(held);
+    status
+}
+
+/// What a plan has.
+fn info_of(plan: &Compiled) -> PlanInfo
+    ensures { IsInfoOf plan.now result }
+{
+    let certificate = plan.certificate();
+    let list = plan.list();
+    PlanInfo {
+        literals: list.len() as u64,
+        longest: list.longest() as u64,
+        cost: certificate.cost,
+        flags: flags_of(list.fold(), certificate.profile),
+        groups: certificate.ends.len() as u32,
+    }
+}
+
+/// The flags of a fold and a profile.
+fn flags_of(fold: Fold, profile: Profile) -> u32
+    ensures { result ≡ flags_of fold profile }
+{
+    match (fold, profile) {
+        (Fold::No, Profile::Eight) => 0,
+        (Fold::Ascii, Profile::Eight) => 1,
+        (Fold::No, Profile::Sixteen) => 2,
+        (Fold::Ascii, Profile::Sixteen) => 3,
+    }
+}
+
+/// Says what a plan has.
+#[unsafe(no_mangle)]
+pub extern "C" fn fiolargu_plan_info(
+    alloc: Global,
+    plan: &mut PlanHandle,
+    info: &mut PlanInfo,
+) -> i32
+    ensures plan { plan.new.held ≡ plan.old.held }
+    ensures info { result ≡ OK → IfSome (plan_of plan.old.held) (λ p. IsInfoOf p info.new) }
+    ensures null { result ≡ NULL_HANDLE ↔ plan.old.held ≡ None }
+    ensures ok { (result ≡ OK) ⊎ (result ≡ NULL_HANDLE) }
+{
+    let Some(held) = plan.take(alloc) else {
+        return NULL_HANDLE;
+    };
+    *info = info_of(&held.plan);
+    plan.put(held);
+    OK
+}
+
+/// Writes the bytes of a literal.
+#[unsafe(no_mangle)]
+pub extern "C" fn fiolargu_plan_literal(
+    alloc: Global,
+    plan: &mut PlanHandle,
+    literal: usize,
+    buffer: &mut [u8],
+    len: &mut usize,
+) -> i32
+    ensures plan { plan.new.held ≡ plan.old.held }
+    ensures literal { result ≡ OK → IfSome (plan_of plan.old.held) (λ p. slice_get p.literals.texts literal ≡ Some (take len.new buffer.new)) }
+    ensures null { result ≡ NULL_HANDLE ↔ plan.old.held ≡ None }
+    ensures range { IfSome (plan_of plan.old.held) (λ p. result ≡ OUT_OF_RANGE ↔ (length p.literals.texts ≤ literal)) }
+{
+    *len = 0;
+    let Some(held) = plan.take(alloc) else {
+        return NULL_HANDLE;
+    };
+    let status = write_literal(&held.plan, literal, buffer, len);
+    plan.put(held);
+    status
+}
+
+fn write_literal(plan: &Compiled, literal: usize, buffer: &mut [u8], len: &mut usize) -> i32
+    ensures literal { result ≡ OK → slice_get plan.now.literals.texts literal ≡ Some (take len.new buffer.new) }
+    ensures not_null { result ≡ NULL_HANDLE → ⊥ }
+    ensures range { result ≡ OUT_OF_RANGE ↔ (length plan.now.literals.texts ≤ literal) }
+{
+    if literal >= plan.list().len() {
+        return OUT_OF_RANGE;
+    }
+    write_bytes(plan.list().get(literal), buffer, len)
+}
+
+/// Writes bytes to the front of a buffer, if it has room. `len` gets how many they are.
+pub(crate) fn write_bytes(bytes: &[u8], buffer: &mut [u8], len: &mut usize) -> i32
+    ensures written { result ≡ OK → take len.new buffer.new ≡ bytes.now }
+    ensures len { len.new ≡ length bytes.now }
+    ensures room { result ≡ OK ↔ (length bytes.now ≤ length buffer.old) }
+    ensures small { (result ≡ OK) ⊎ (result ≡ SMALL_BUFFER) }
+    ensures not_null { result ≡ NULL_HANDLE → ⊥ }
+    ensures not_range { result ≡ OUT_OF_RANGE → ⊥ }
+    ensures same { (result ≡ OK → ⊥) → buffer.new ≡ buffer.old }
+{
+    *len = bytes.len();
+    if bytes.len() > buffer.len() {
+        return SMALL_BUFFER;
+    }
+    buffer[..bytes.len()].copy_from_slice(bytes);
+    OK
+}
+
+/// Frees a plan.
+#[unsafe(no_mangle)]
+pub extern "C" fn fiolargu_plan_free(alloc: Global, plan: &mut PlanHandle)
+    ensures { plan.new.held ≡ None }
+{
+    drop(plan.take(alloc));
+}

@@ -1,0 +1,61 @@
+-- The hits at the seam, and behind them those of the piece in place.
+use Rattle.std.proofs.Common.{◌≡◌, ◌+◌, ◌-◌, ◌++◌, length, take, ap, ◌∙◌, arith}
+use Rattle.std.proofs.lemmas.Bool.{false≢true}
+use Rattle.std.proofs.lemmas.List.{length-append, length-take}
+use Rattle.flow_scan.specs.Plans.{Plan}
+use Rattle.flow_scan.specs.Tails.{StopsAt, carry_of}
+use Rattle.flow_scan.proofs.HitLists.{gained_both, gained_more}
+use Rattle.flow_scan.proofs.TailSteps.{quiet_front, quiet_rest}
+use Rattle.flow_scan.proofs.Stops.{stopped_in_front, stopped_in_place}
+use Rattle.flow_scan.proofs.progress.add_piece.Goals as goal
+use Rattle.flow_scan.proofs.progress.add_piece.Goals.{In_ok-stop}
+use Rattle.flow_scan.proofs.progress.add_piece.Given.{Over}
+
+pub returns-in_err-stop-clause-quiet : goal.returns-in_err-stop-clause-quiet
+returns-in_err-stop-clause-quiet g c = λ none.
+    let l = c.args.compiled.now.literals in
+    absurd (false≢true ((rw (ap (λ (p : Plan). p.literals) c.requires.plan) at c.in_err-stop.ensures.quiet)
+    (rw (c.text.ensures, c.tail_len.ensures, c.requires.front) (quiet_front l c.args.seam.now.tail c.args.piece.now c.args.seam.now.carry none))))
+
+pub returns-in_err-in_place-clause-kept : goal.returns-in_err-in_place-clause-kept
+returns-in_err-in_place-clause-kept g c =
+    let first = c.in_ok-stop.ensures.kept in
+    let second = c.in_err-in_place.ensures.kept in
+    (first.0 ++ second.0, gained_both c.args.out.now.items c.add_hits.new.out.items c.add_hits-2.new.out.items first.0 second.0 first.1 second.1)
+
+pub returns-in_err-in_place-clause-quiet : goal.returns-in_err-in_place-clause-quiet
+returns-in_err-in_place-clause-quiet g c = λ none.
+    absurd (false≢true ((rw (ap (λ (p : Plan). p.literals) (c.in_ok-stop.ensures.same ∙ c.requires.plan)) at c.in_err-in_place.ensures.quiet)
+    (quiet_rest c.args.compiled.now.literals c.args.seam.now.tail c.args.piece.now c.carry-carry.result none)))
+
+-- the search from the tail on
+at_seam : (g : Over) (c : In_ok-stop g) → StopsAt c.args.compiled.now.literals (c.args.seam.now.tail ++ take c.args.seam.now.carry c.args.piece.now) (length c.args.seam.now.tail) c.args.at c.args.most c.in_ok-stop.stop c.args.out.now.items c.add_hits.new.out.items
+at_seam g c = rw (ap (λ (p : Plan). p.literals) c.requires.plan, c.text.ensures, c.tail_len.ensures, c.requires.front) at c.in_ok-stop.ensures.ok
+
+pub returns-then-gained-most-clause-ok : goal.returns-then-gained-most-clause-ok
+returns-then-gained-most-clause-ok g c =
+    let kept = c.in_ok-stop.ensures.kept in
+    let more = gained_more c.args.out.now.items c.add_hits.new.out.items kept.0 kept.1 in
+    rw c.tail_len-then-gained-most.ensures (stopped_in_front c.args.compiled.now.literals c.args.seam.now.tail c.args.piece.now c.args.seam.now.carry c.args.at c.args.most c.in_ok-stop.stop c.args.out.now.items c.add_hits.new.out.items
+    (at_seam g (goal.at.returns-then-gained-most-clause-ok g c).In_ok-stop) (λ _. omega (arith, more, c.if-gained-most.true, c.len.ensures, c.len-before.ensures, c.args.out.now.ok.0, c.add_hits.new.out.ok.0)))
+
+pub returns-then-piece-carry-clause-ok : goal.returns-then-piece-carry-clause-ok
+returns-then-piece-carry-clause-ok g c =
+    let search = at_seam g (goal.at.returns-then-piece-carry-clause-ok g c).In_ok-stop in
+    let tail = c.args.seam.now.tail in
+    let piece = c.args.piece.now in
+    rw c.tail_len-then-piece-carry.ensures (stopped_in_front c.args.compiled.now.literals tail piece c.args.seam.now.carry c.args.at c.args.most c.in_ok-stop.stop c.args.out.now.items c.add_hits.new.out.items
+    search (λ sooner. search.enough (omega (arith, sooner, c.if-piece-carry.true, c.carry-carry.ensures.value, c.requires.carry, length-append tail (take c.args.seam.now.carry piece), length-take c.args.seam.now.carry piece))))
+
+pub returns-clause-ok : goal.returns-clause-ok
+returns-clause-ok g c =
+    let l = c.args.compiled.now.literals in
+    let old = c.args.out.now.items in
+    let middle = c.add_hits.new.out.items in
+    let new = c.add_hits-2.new.out.items in
+    let gained : c.len.result - c.len-before.result ≡ length middle - length old = omega (arith, c.len.ensures, c.len-before.ensures, c.args.out.now.ok.0, c.add_hits.new.out.ok.0) in
+    let first = rw c.requires.carry at (at_seam g (goal.at.returns-clause-ok g c).In_ok-stop) in
+    let second : StopsAt l c.args.piece.now (carry_of l) (c.args.at + carry_of l) (c.args.most - (length middle - length old)) c.in_ok-in_place.in_place middle new =
+    rw (ap (λ (p : Plan). p.literals) (c.in_ok-stop.ensures.same ∙ c.requires.plan), c.carry-carry.ensures.value, gained) at c.in_ok-in_place.ensures.ok in
+    stopped_in_place l c.args.seam.now.tail c.args.piece.now c.args.at c.args.most c.in_ok-stop.stop c.in_ok-in_place.in_place old middle new c.carry-carry.ensures.bounds
+    first (omega (arith, gained, c.if-gained-most.false)) second

@@ -1,0 +1,163 @@
+//! What a scan of a stream keeps beside its plan.
+ghost use Rattle.std.specs.Prelude.{◌≡◌, ◌↔◌, ◌+◌, ◌-◌, ◌^◌, ◌<◌, ◌≤◌, ◌⊎◌, ◌++◌, [], IfErr, IfOk, IsErrOf, IsOk, IsOkUnless, OnErr, length, min, take};
+ghost use Rattle.flow_scan.specs.declared.fault.Fault.TheVariants.{OutOfMemory, StreamTooLong};
+ghost use Rattle.lit_base.specs.NextEnds.{NoEndAfter};
+ghost use Rattle.flow_scan.specs.HitsAt.{Extends};
+ghost use Rattle.flow_scan.specs.Scanners.{Reached, advanced, started_at};
+ghost use Rattle.flow_scan.specs.Tails.{StopsIn, carry_of};
+
+use crate::compiled::Compiled;
+use crate::fault::Fault;
+use crate::hit::Hit;
+use crate::hit_search::HitSearch;
+use crate::seam::Seam;
+use std::alloc::{AllocError, Global};
+use std::marker::Model;
+
+/// The position that a scan of a stream has reached, and the last bytes before it.
+#[derive(Drop)]
+pub(crate) struct Progress {
+    base: u64,
+    /// How many bytes were fed.
+    count: u64,
+    seam: Seam,
+}
+
+impl Model for Progress {
+    ghost use Rattle.std.specs.Prelude.{◌+◌};
+    ghost use Rattle.flow_scan.specs.Scanners.{IsProgress, Reached};
+
+    ghost Value = { Reached };
+
+    ghost view = { λ p. record {
+      base = p.base;
+      place = p.base + p.count;
+      carry = p.seam.carry;
+      tail = p.seam.tail;
+    } };
+
+    ghost invariant = { λ p. IsProgress p.base p.count p.seam };
+}
+
+impl Progress {
+    /// That of a scan that was fed nothing and counts positions from `base`. It keeps at most `carry` bytes.
+    pub(crate) fn new(alloc: Global, carry: usize, base: u64) -> Result<Progress, AllocError>
+        requires { carry < 2 ^ 32 }
+        ensures { IfOk result (λ p. p ≡ started_at carry base) }
+    {
+        let seam = Seam::new(alloc, carry)?;
+        Ok(Progress {
+            base,
+            count: 0,
+            seam,
+        })
+    }
+
+    /// The position reached: the base and how many bytes were fed.
+    pub(crate) fn place(&self) -> u64
+        ensures place { result ≡ self.now.place }
+        ensures tail { length self.now.tail ≡ min (result - self.now.base) self.now.carry }
+    {
+        self.base + self.count
+    }
+
+    /// Feeds the next piece up to the first end in it by which `out` gained at least `most` hits, or all of it, and adds the
+    /// hits that the search finds in what was fed. It returns how many bytes were fed.
+    ///
+    /// Refusals: `StreamTooLong` where the whole piece would pass 2^64 - 1, and `OutOfMemory`.
+    pub(crate) fn feed_by<S: HitSearch>(
+        &mut self,
+        search: &mut S,
+        compiled: &Compiled,
+        piece: &[u8],
+        most: usize,
+        out: &mut Vec<Hit>,
+    ) -> Result<usize, Fault>
+        requires plan { S.plan search.old ≡ compiled.now }
+        requires carry { self.old.carry ≡ carry_of compiled.now.literals }
+        ensures plan { S.plan search.new ≡ S.plan search.old }
+        ensures ok { IfOk result (λ count. self.new ≡ advanced self.old (take count piece.now)) }
+        ensures hits { IfOk result (λ count. StopsIn compiled.now.literals self.old.tail piece.now self.old.place most count out.old.items out.new.items) }
+        ensures too_long { IsErrOf result StreamTooLong ↔ (2 ^ 64 ≤ self.old.place + length piece.now) }
+        ensures faults { IfErr result (λ fault. (fault ≡ StreamTooLong) ⊎ (fault ≡ OutOfMemory)) }
+        ensures same { OnErr result (self.new ≡ self.old) }
+        ensures same_hits { OnErr result (out.new.items ≡ out.old.items) }
+        ensures quiet { NoEndAfter compiled.now.literals (self.old.tail ++ piece.now) (length self.old.tail)
+            → IsOkUnless result StreamTooLong }
+    {
+        if piece.len() as u64 > u64::MAX - self.place() {
+            return Err(Fault::StreamTooLong);
+        }
+        self.seam.offer(piece);
+        let before = out.len();
+        let at = self.place();
+        match add_piece(search, compiled, &self.seam, piece, at, most, out) {
+            Ok(count) => {
+                self.seam.commit(piece, count);
+                self.count += count as u64;
+                Ok(count)
+            }
+            Err(_) => {
+                out.truncate(before);
+                Err(Fault::OutOfMemory)
+            }
+        }
+    }
+
+    /// An equal one.
+    pub(crate) fn copy(&self) -> Result<Progress, AllocError>
+        ensures { IfOk result (λ p. p ≡ self.now) }
+    {
+        let seam = self.seam.copy()?;
+        Ok(Progress {
+            base: self.base,
+            count: self.count,
+            seam,
+        })
+    }
+
+    /// Begins anew, counting positions from `base`. It takes no memory.
+    pub(crate) fn restart(&mut self, base: u64)
+        ensures { self.new ≡ started_at self.old.carry base }
+    {
+        self.base = base;
+        self.count = 0;
+        self.seam.restart();
+    }
+}
+
+/// Adds the hits that end in a piece by a search, where its first bytes stand at the seam: those in its first bytes
+/// from there, and the others from the piece in place, up to the first end by which `out` gained at
+/// least `most` of them. The answer is how many bytes of the piece lie up to there, or its length.
+/// Where memory is refused, hits before were added.
+fn add_piece<S: HitSearch>(
+    search: &mut S,
+    compiled: &Compiled,
+    seam: &Seam,
+    piece: &[u8],
+    at: u64,
+    most: usize,
+    out: &mut Vec<Hit>,
+) -> Result<usize, AllocError>
+    requires plan { S.plan search.old ≡ compiled.now }
+    requires carry { seam.now.carry ≡ carry_of compiled.now.literals }
+    requires front { seam.now.front ≡ take seam.now.carry piece.now }
+    requires room { at + length piece.now < 2 ^ 64 }
+    ensures plan { S.plan search.new ≡ S.plan search.old }
+    ensures ok { IfOk result (λ count. StopsIn compiled.now.literals seam.now.tail piece.now at most count out.old.items out.new.items) }
+    ensures kept { Extends out.old.items out.new.items }
+    ensures quiet { NoEndAfter compiled.now.literals (seam.now.tail ++ piece.now) (length seam.now.tail) → IsOk result }
+{
+    let before = out.len();
+    let stop = search.add_hits(seam.text(), seam.tail_len(), at, most, out)?;
+    let gained = out.len() - before;
+    if gained >= most {
+        return Ok(stop - seam.tail_len());
+    }
+    let carry = compiled.carry();
+    if piece.len() <= carry {
+        return Ok(stop - seam.tail_len());
+    }
+    let in_place = search.add_hits(piece, carry, at + carry as u64, most - gained, out)?;
+    Ok(in_place)
+}

@@ -1,0 +1,110 @@
+//! A scan of a stream that shares its plan.
+ghost use Rattle.std.specs.Prelude.{◌≡◌, ◌↔◌, ◌+◌, ◌-◌, ◌^◌, ◌≤◌, ◌⊎◌, ◌++◌, IfErr, IfOk, IsErrOf, IsOkUnless, OnErr, length, min, take};
+ghost use Rattle.std.specs.Arc.{arc_value};
+ghost use Rattle.flow_scan.specs.declared.fault.Fault.TheVariants.{OutOfMemory, StreamTooLong};
+ghost use Rattle.lit_base.specs.NextEnds.{NoEndAfter};
+ghost use Rattle.flow_scan.specs.Scanners.{Scanning, fed, started};
+ghost use Rattle.flow_scan.specs.Tails.{StopsIn, carry_of};
+
+use crate::compiled::Compiled;
+use crate::fault::Fault;
+use crate::hit::Hit;
+use crate::hit_search::PlainSearch;
+use crate::progress::Progress;
+use std::alloc::Global;
+use std::marker::Model;
+use std::sync::Arc;
+
+/// A scan of one stream, as a `Scanner` makes it, that owns a share of its plan. So it may outlive all other owners.
+#[derive(Drop)]
+pub struct Stream {
+    plan: Arc<Compiled>,
+    progress: Progress,
+}
+
+impl Model for Stream {
+    ghost use Rattle.std.specs.Prelude.{◌≡◌};
+    ghost use Rattle.flow_scan.specs.Scanners.{Scanning, scanning};
+    ghost use Rattle.flow_scan.specs.Tails.{carry_of};
+
+    ghost Value = { Scanning };
+
+    ghost view = { λ s. scanning s.plan.value s.progress };
+
+    ghost invariant = { λ s. s.progress.carry ≡ carry_of s.plan.value.literals };
+}
+
+impl Stream {
+    /// A scan that counts its positions from `base`. The only refusal is `OutOfMemory`.
+    pub fn new_at(alloc: Global, plan: Arc<Compiled>, base: u64) -> Result<Stream, Fault>
+        ensures ok { IfOk result (λ s. s ≡ started (arc_value plan) base) }
+        ensures refused { IsOkUnless result OutOfMemory }
+    {
+        let progress = Progress::new(alloc, plan.carry(), base)?;
+        Ok(Stream { plan, progress })
+    }
+
+    /// The plan.
+    pub fn plan(&self) -> &Compiled
+        ensures { result.now ≡ self.now.plan }
+    {
+        &self.plan
+    }
+
+    /// Feeds the next piece up to the first end in it by which `out` gained at least `most` hits, or all of it, and adds the
+    /// hits that end in what was fed: in order, each once, their ends counted from the scan's base. It returns how many bytes
+    /// were fed.
+    ///
+    /// Refusals: `StreamTooLong` where the position would pass 2^64 - 1 with the whole piece, and `OutOfMemory`, which comes
+    /// only where a literal ends in the piece. Scan and `out` are then as they were.
+    pub fn feed_until(
+        &mut self,
+        piece: &[u8],
+        most: usize,
+        out: &mut Vec<Hit>,
+    ) -> Result<usize, Fault>
+        ensures ok { IfOk result (λ count. self.new ≡ fed self.old (take count piece.now)) }
+        ensures hits { IfOk result (λ count. StopsIn self.old.plan.literals self.old.tail piece.now self.old.place most count out.old.items out.new.items) }
+
+        ensures too_long { IsErrOf result StreamTooLong ↔ (2 ^ 64 ≤ self.old.place + length piece.now) }
+        ensures faults { IfErr result (λ fault. (fault ≡ StreamTooLong) ⊎ (fault ≡ OutOfMemory)) }
+        ensures same { OnErr result (self.new ≡ self.old) }
+        ensures same_hits { OnErr result (out.new.items ≡ out.old.items) }
+
+        // Where nothing ends in the piece, it takes no memory.
+        ensures quiet { NoEndAfter self.old.plan.literals (self.old.tail ++ piece.now) (length self.old.tail)
+            → IsOkUnless result StreamTooLong }
+    {
+        let compiled: &Compiled = &self.plan;
+        let mut search = PlainSearch { compiled };
+        self.progress
+            .feed_by(&mut search, compiled, piece, most, out)
+    }
+
+    /// The position reached: the base and how many bytes were fed.
+    pub fn place(&self) -> u64
+        ensures place { result ≡ self.now.place }
+        ensures tail { length self.now.tail ≡ min (result - self.now.base) (carry_of self.now.plan.literals) }
+    {
+        self.progress.place()
+    }
+
+    /// An equal scan: from here on both give the same hits. The only refusal is `OutOfMemory`.
+    pub fn copy(&self) -> Result<Stream, Fault>
+        ensures ok { IfOk result (λ s. s ≡ self.now) }
+        ensures refused { IsOkUnless result OutOfMemory }
+    {
+        let progress = self.progress.copy()?;
+        match Arc::try_clone(&self.plan) {
+            Ok(plan) => Ok(Stream { plan, progress }),
+            Err(_) => Err(Fault::OutOfMemory),
+        }
+    }
+
+    /// Begins a new stream by the same plan, which counts its positions from `base`. It takes no memory.
+    pub fn restart(&mut self, base: u64)
+        ensures { self.new ≡ started self.old.plan base }
+    {
+        self.progress.restart(base);
+    }
+}

@@ -1,0 +1,37 @@
+//! Scans of a text that stop once enough was found, and go on from there.
+ghost use Rattle.std.specs.Prelude.{◌≤◌, IfOk, IsOk, IsOkUnless, length};
+ghost use Rattle.flow_scan.specs.declared.fault.Fault.TheVariants.{OutOfMemory};
+ghost use Rattle.flow_scan.specs.HitsAt.{Extends};
+ghost use Rattle.lit_base.specs.NextEnds.{NoEndAfter};
+ghost use Rattle.flow_scan.specs.Tails.{StopsAt};
+
+use crate::compiled::Compiled;
+use crate::endings::SievedEnds;
+use crate::ends::add_hits_of;
+use crate::fault::Fault;
+use crate::hit::Hit;
+
+/// Adds to `out` the hits of a text that end after `from`, up to the first end by which `out` gained at least `most` of them.
+/// It returns that end, or the text's length. A scan from there on goes on with the next hit. So `out` never gains more than
+/// `most` hits and one for each literal.
+///
+/// The only refusal is `OutOfMemory`, and `out` may then have gained some.
+pub fn scan_until(
+    compiled: &Compiled,
+    text: &[u8],
+    from: usize,
+    most: usize,
+    out: &mut Vec<Hit>,
+) -> Result<usize, Fault>
+    requires { from ≤ length text.now }
+    ensures ok { IfOk result (λ stop. StopsAt compiled.now.literals text.now from from most stop out.old.items out.new.items) }
+    ensures kept { Extends out.old.items out.new.items }
+    ensures refused { IsOkUnless result OutOfMemory }
+
+    // Where nothing ends after the position, it takes no memory.
+    ensures quiet { NoEndAfter compiled.now.literals text.now from → IsOk result }
+{
+    let mut ends = SievedEnds::behind(compiled, text, from);
+    let stop = add_hits_of(&mut ends, text, from, from as u64, most, out)?;
+    Ok(stop)
+}

@@ -1,0 +1,66 @@
+-- From what a part answers under the names of a request to what the request has to answer.
+use Rattle.std.proofs.Common.{◌≡◌, ℕ, Bool, List, [], ◌∷◌, Option, Result, subst}
+use Rattle.std.specs.Global.{Global}
+use Rattle.std.specs.Prelude.{String, string_bytes}
+use Rattle.byte_io.specs.Devices.{Told}
+use Rattle.byte_io.specs.Sources.{AreShort, Ask, Named, Sources, ask_of}
+use Rattle.byte_io.proofs.ToldLemmas.{Told-weaker}
+use Rattle.lit_base.specs.declared.fold.Fold.{Fold}
+use Rattle.lit_base.specs.declared.profile.Profile.{Profile}
+use Rattle.plan_run.specs.Answers.{Answer, AnswersCheck, AnswersCheckPlan, AnswersExplain, AnswersExplainCertificate, AnswersExplainPlan, check_asks}
+use Rattle.plan_run.specs.Running.{Answers, Asks, Tells}
+use Rattle.plan_run.specs.declared.request.Request.{Request}
+use Rattle.plan_run.specs.declared.request.Request.TheVariants.{Check, CheckPlan, Explain, ExplainCertificate, ExplainPlan}
+use Rattle.plan_run.specs.declared.status.Status.{Status}
+use Rattle.plan_run.specs.declared.stop.Stop.{Stop}
+
+-- what is asked for and answered under one name
+of-name : {O : Type 0} (written : O → Option (List ℕ)) (has_failed : O → Bool) (request : Request) (asks : List ℕ → Sources → List Ask) (P : List ℕ → Sources → Answer → Type 0) (from name : List ℕ) (known left : Option Sources) (r : Result Status Stop) (old new : Option (List ℕ))
+    → from ≡ name → ((s l : Sources) → Asks r (asks name s) s l → Tells (P name s) r old new → Answers written has_failed request s l r old new)
+    → Told known left (λ s l. AreShort s → Asks r (asks from s) s l × Tells (P from s) r old new)
+    → Told known left (λ s l. AreShort s → Answers written has_failed request s l r old new)
+of-name written has_failed request asks P from name known left r old new same build answers =
+    Told-weaker known left _ (λ s l. AreShort s → Answers written has_failed request s l r old new) answers (λ s l h short.
+    let t = h short in
+    build s l (subst (λ n. Asks r (asks n s) s l) same t.0) (subst (λ n. Tells (P n s) r old new) same t.1))
+
+pub check-answers : {O : Type 0} (written : O → Option (List ℕ)) (has_failed : O → Bool) (fold : Fold) (file certificate : String Global) (from to : List ℕ) (known left : Option Sources) (r : Result Status Stop) (old new : Option (List ℕ))
+    → from ≡ string_bytes file → to ≡ string_bytes certificate
+    → Told known left (λ s l. AreShort s → Asks r (check_asks from to s) s l × Tells (AnswersCheck fold from to s) r old new)
+    → Told known left (λ s l. AreShort s → Answers written has_failed (Check fold file certificate) s l r old new)
+check-answers written has_failed fold file certificate from to known left r old new here there answers =
+    of-name written has_failed (Check fold file certificate) (λ n s. check_asks n (string_bytes certificate) s) (λ n s. AnswersCheck fold n (string_bytes certificate) s) from (string_bytes file) known left r old new here
+    (λ s l asked tells. record { asks = asked; tells = tells })
+    (subst (λ n. Told known left (λ s l. AreShort s → Asks r (check_asks from n s) s l × Tells (AnswersCheck fold from n s) r old new)) there answers)
+
+pub check-plan-answers : {O : Type 0} (written : O → Option (List ℕ)) (has_failed : O → Bool) (file : String Global) (place : ℕ) (from : List ℕ) (known left : Option Sources) (r : Result Status Stop) (old new : Option (List ℕ))
+    → from ≡ string_bytes file
+    → Told known left (λ s l. AreShort s → Asks r (ask_of from ∷ []) s l × Tells (AnswersCheckPlan from place s) r old new)
+    → Told known left (λ s l. AreShort s → Answers written has_failed (CheckPlan file place) s l r old new)
+check-plan-answers written has_failed file place from known left r old new here answers =
+    of-name written has_failed (CheckPlan file place) (λ n s. ask_of n ∷ []) (λ n s. AnswersCheckPlan n place s) from (string_bytes file) known left r old new here
+    (λ s l asked tells. record { asks = asked; tells = tells }) answers
+
+pub explain-answers : {O : Type 0} (written : O → Option (List ℕ)) (has_failed : O → Bool) (fold : Fold) (profile : Profile) (svg : Bool) (file : String Global) (from : List ℕ) (known left : Option Sources) (r : Result Status Stop) (old new : Option (List ℕ))
+    → from ≡ string_bytes file
+    → Told known left (λ s l. AreShort s → Asks r (ask_of from ∷ []) s l × Tells (AnswersExplain fold profile svg from s) r old new)
+    → Told known left (λ s l. AreShort s → Answers written has_failed (Explain fold profile svg file) s l r old new)
+explain-answers written has_failed fold profile svg file from known left r old new here answers =
+    of-name written has_failed (Explain fold profile svg file) (λ n s. ask_of n ∷ []) (λ n s. AnswersExplain fold profile svg n s) from (string_bytes file) known left r old new here
+    (λ s l asked tells. record { asks = asked; tells = tells }) answers
+
+pub explain-plan-answers : {O : Type 0} (written : O → Option (List ℕ)) (has_failed : O → Bool) (svg : Bool) (file : String Global) (place : ℕ) (from : List ℕ) (known left : Option Sources) (r : Result Status Stop) (old new : Option (List ℕ))
+    → from ≡ string_bytes file
+    → Told known left (λ s l. AreShort s → Asks r (ask_of from ∷ []) s l × Tells (AnswersExplainPlan svg from place s) r old new)
+    → Told known left (λ s l. AreShort s → Answers written has_failed (ExplainPlan svg file place) s l r old new)
+explain-plan-answers written has_failed svg file place from known left r old new here answers =
+    of-name written has_failed (ExplainPlan svg file place) (λ n s. ask_of n ∷ []) (λ n s. AnswersExplainPlan svg n place s) from (string_bytes file) known left r old new here
+    (λ s l asked tells. record { asks = asked; tells = tells }) answers
+
+pub explain-certificate-answers : {O : Type 0} (written : O → Option (List ℕ)) (has_failed : O → Bool) (certificate : String Global) (from : List ℕ) (known left : Option Sources) (r : Result Status Stop) (old new : Option (List ℕ))
+    → from ≡ string_bytes certificate
+    → Told known left (λ s l. AreShort s → Asks r (Named from ∷ []) s l × Tells (AnswersExplainCertificate from s) r old new)
+    → Told known left (λ s l. AreShort s → Answers written has_failed (ExplainCertificate certificate) s l r old new)
+explain-certificate-answers written has_failed certificate from known left r old new here answers =
+    of-name written has_failed (ExplainCertificate certificate) (λ n s. Named n ∷ []) (λ n s. AnswersExplainCertificate n s) from (string_bytes certificate) known left r old new here
+    (λ s l asked tells. record { asks = asked; tells = tells }) answers

@@ -1,0 +1,8 @@
+//! Tests of plan files and of the store of plans. They make public calls. A crate with tests is proved twice, with them and
+//! without, so these stand in a crate of their own.
+#![tactic(auto)]
+
+#[cfg(test)]
+mod plan_files;
+#[cfg(test)]
+mod stores;
