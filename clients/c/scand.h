@@ -39,7 +39,7 @@ enum scand_refusal {
     SCAND_LITERAL_TOO_LONG = 3,
     SCAND_EMPTY_LITERAL = 4,
     SCAND_NO_LITERALS = 5,
-    SCAND_TOO_MANY_LITERALS = 6,
+    SCAND_TOO_MANY_LITERALS = 6, /* not answered any more */
     SCAND_BAD_FRAME = 11,
     SCAND_STREAM_IN_USE = 12,
     SCAND_NO_SUCH_STREAM = 13,
@@ -48,6 +48,9 @@ enum scand_refusal {
     SCAND_STREAM_QUOTA = 16,
     SCAND_STREAM_TOO_LONG = 20
 };
+
+/* Flags of a Publish and of a Plan: ASCII case is ignored; the plan may have sixteen buckets, not eight. */
+enum scand_flags { SCAND_IGNORES_CASE = 1, SCAND_SIXTEEN_BUCKETS = 2, SCAND_FLAGS_ALL = 3 };
 
 /* What is wrong with a frame. */
 enum scand_cause { SCAND_BAD_LENGTH = 1, SCAND_BAD_KIND = 2, SCAND_BAD_STREAM = 3, SCAND_BAD_PAYLOAD = 4 };
@@ -71,12 +74,13 @@ struct scand_hit {
     uint64_t end;
 };
 
-/* A Plan, but for where its runs end. */
+/* A Plan, but for where its runs end. It may have `buckets` runs, 8 or 16. */
 struct scand_shown {
     int ignores_case;
     uint16_t literals;
     uint64_t price;
     uint8_t runs;
+    uint8_t buckets;
 };
 
 /* Numbers, of so many bytes, the greatest first. */
@@ -123,10 +127,13 @@ static inline size_t scand_put_frame(uint8_t *to, size_t room, uint8_t kind, uin
     return scand_put_head(to, room, kind, stream, payload.size) + payload.size;
 }
 
-/* A Publish of these literals; none that has more than 65,535 bytes fits. */
-static inline size_t scand_put_publish(uint8_t *to, size_t room, int ignores_case, const struct scand_text *literals, size_t count)
+/* A Publish of these literals, with flags or 0; none that has more than 65,535 bytes fits. */
+static inline size_t scand_put_publish(uint8_t *to, size_t room, unsigned flags, const struct scand_text *literals, size_t count)
 {
     size_t size = 3;
+    if (flags > SCAND_FLAGS_ALL) {
+        return 0;
+    }
     for (size_t place = 0; place < count; place++) {
         if (literals[place].size > SCAND_PAYLOAD - 2 || size > SCAND_PAYLOAD - 2 - literals[place].size) {
             return 0;
@@ -137,7 +144,7 @@ static inline size_t scand_put_publish(uint8_t *to, size_t room, int ignores_cas
         return 0;
     }
     (void)scand_put_head(to, room, SCAND_PUBLISH, 0, size);
-    to[SCAND_HEAD] = ignores_case != 0;
+    to[SCAND_HEAD] = (uint8_t)flags;
     scand_put(to + SCAND_HEAD + 1, 2, count);
     uint8_t *at = to + SCAND_HEAD + 3;
     for (size_t place = 0; place < count; place++) {
@@ -218,7 +225,7 @@ static inline struct scand_text scand_literals(const struct scand_frame *frame, 
 
 static inline int scand_is_publish(const struct scand_frame *frame)
 {
-    if (frame->payload.size < 3 || frame->payload.at[0] > 1) {
+    if (frame->payload.size < 3 || frame->payload.at[0] > SCAND_FLAGS_ALL) {
         return 0;
     }
     size_t count;
@@ -273,7 +280,7 @@ static inline int scand_is_reply(const struct scand_frame *frame)
     case SCAND_FED:
         return payload.size == 8;
     case SCAND_PLAN:
-        return payload.size >= 12 && payload.at[0] <= 1 && payload.size == 12 + 2 * (size_t)payload.at[11];
+        return payload.size >= 12 && payload.at[0] <= SCAND_FLAGS_ALL && payload.size == 12 + 2 * (size_t)payload.at[11];
     case SCAND_REFUSED:
         return payload.size == 3;
     default:
@@ -302,7 +309,9 @@ static inline struct scand_hit scand_hit_at(const struct scand_frame *frame, siz
 static inline struct scand_shown scand_shown_of(const struct scand_frame *frame)
 {
     const uint8_t *at = frame->payload.at;
-    return (struct scand_shown){at[0], (uint16_t)scand_get(at + 1, 2), scand_get(at + 3, 8), at[11]};
+    int ignores_case = (at[0] & SCAND_IGNORES_CASE) != 0;
+    uint8_t buckets = (at[0] & SCAND_SIXTEEN_BUCKETS) != 0 ? 16 : 8;
+    return (struct scand_shown){ignores_case, (uint16_t)scand_get(at + 1, 2), scand_get(at + 3, 8), at[11], buckets};
 }
 
 /* Where a run of a Plan ends, from 0. */

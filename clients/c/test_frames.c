@@ -104,7 +104,7 @@ static int print_reply(const struct scand_frame *frame)
         }
     } else if (frame->kind == SCAND_PLAN) {
         struct scand_shown shown = scand_shown_of(frame);
-        printf(" %d %u %" PRIu64, shown.ignores_case, (unsigned)shown.literals, shown.price);
+        printf(" %d %u %u %" PRIu64, shown.ignores_case, (unsigned)shown.buckets, (unsigned)shown.literals, shown.price);
         for (size_t place = 0; place < shown.runs; place++) {
             printf(" %u", (unsigned)scand_run_end(frame, place));
         }
@@ -161,6 +161,9 @@ static void check_limits(void)
     check(scand_put_publish(room, ROOM, 0, literals, 2) == 0, "a Publish with a byte more");
     literals[0].size = SIZE_MAX;
     check(scand_put_publish(room, ROOM, 0, literals, 2) == 0, "a Publish of the longest literal");
+    literals[0].size = literals[1].size = 10;
+    check(scand_put_publish(room, ROOM, SCAND_FLAGS_ALL, literals, 2) > 0, "a Publish with both flags");
+    check(scand_put_publish(room, ROOM, SCAND_FLAGS_ALL + 1, literals, 2) == 0, "a Publish with an unknown flag");
 }
 
 int main(void)

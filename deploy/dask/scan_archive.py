@@ -10,10 +10,11 @@ hit: the literal's number in the list by length and bytes, and how many bytes of
 several files each line begins with `NAME:`. WORDS has one literal a line; for hits, empty lines count for nothing.
 
 Each worker, also one that comes later, is sent one file, which stays in its folder until it ends: the list for litgrep,
-or for hits the plan file that litplan makes of it here, once, and that the scand of each part checks again. Files are
-searched in parts: for lines and counts cut at newlines, for hits anywhere, with the `longest - 1` bytes before a part fed
-first and their hits dropped. Each worker needs the files under the same names, and litgrep or scand; before anything is
-sent, each is asked whether it has the program, and each file is looked for here. A part whose worker is lost is searched by
+or for hits the plan file that litplan makes of it here, once, and that each worker checks again. Workers find hits in their
+own process, by the C library and the Python package `fiolargu`, which is sent too; with --scand they ask a scand for each
+part. Files are searched in parts: for lines and counts cut at newlines, for hits anywhere, with the `longest - 1` bytes
+before a part fed first and their hits dropped. Each worker needs the files under the same names, and litgrep, the library
+or scand; before anything is sent, each is asked whether it has them, and each file is looked for here. A part whose worker is lost is searched by
 another one. Progress goes to standard error. Status 0: something was found; 1: nothing; 2: some part could not be searched,
 or the list could not be planned, and the output is the first part of what it should be.
 """
@@ -21,11 +22,13 @@ or the list could not be planned, and the output is the first part of what it sh
 import argparse
 import collections
 import functools
+import importlib.machinery
 import os
 import shutil
 import subprocess
 import sys
 import tempfile
+import zipfile
 
 try:
     import distributed
@@ -34,7 +37,8 @@ except ImportError as fault:
     sys.exit(2)
 
 HERE = os.path.dirname(os.path.abspath(__file__))
-CLIENT = os.path.join(HERE, "..", "..", "clients", "python", "scand_client.py")
+# Where the package is, unless Python knows it from elsewhere.
+CLIENTS = os.path.join(HERE, "..", "..", "clients", "python")
 CHUNK = 1 << 20
 
 
@@ -101,7 +105,7 @@ def chunks(file, size):
 
 def begun(scand, plan_file):
     """A scand that began with the plan of a file, which it checked, and the number that it told for the plan."""
-    from scand_client import Client
+    from fiolargu.scand import Client
 
     reader, writer = os.pipe()
     with open(reader, errors="replace") as messages:
@@ -115,9 +119,52 @@ def begun(scand, plan_file):
     return client, int(number)
 
 
+def name_library(library):
+    """Names the library for the package, where it was given."""
+    if library:
+        os.environ["FIOLARGU_LIBRARY"] = library
+
+
+def loaded(library, plan_file):
+    """The plan of a file, which the library checked. A worker keeps the last plan."""
+    worker = distributed.get_worker()
+    if getattr(worker, "scan_archive_plan", (None,))[0] != plan_file:
+        from fiolargu import FiolarguError, Plan
+
+        name_library(library)
+        try:
+            worker.scan_archive_plan = plan_file, Plan.from_file(plan_file)
+        except FiolarguError as fault:
+            raise RuntimeError(f"{plan_file}: {fault}") from fault
+    return worker.scan_archive_plan[1]
+
+
+@located
+def library_hits(library, plan_file, longest, path, start, end):
+    """A line for each hit that ends in a part of a file, by the library."""
+    lead = min(longest - 1, start)
+    with loaded(library, sent(plan_file)).stream(start - lead) as stream, open(path, "rb") as file:
+        file.seek(start - lead)
+        stream.feed(file.read(lead))
+        found = (stream.feed(piece) for piece in chunks(file, end - start))
+        return b"".join(b"%d %d\n" % pair for hits in found for pair in zip(hits.literals, hits.ends))
+
+
+def library_fault(library):
+    """Why a worker cannot load the library, or None."""
+    import fiolargu
+
+    name_library(library)
+    try:
+        fiolargu.library_version()
+    except fiolargu.LibraryMissing as fault:
+        return str(fault)
+    return None
+
+
 @located
 def hits(scand, plan_file, longest, path, start, end):
-    """A line for each hit that ends in a part of a file."""
+    """The same, by a scand."""
     client, plan = begun(scand, sent(plan_file))
     with client, client.open(plan) as stream, open(path, "rb") as file:
         lead = min(longest - 1, start)
@@ -139,7 +186,8 @@ def arguments():
     parser.add_argument("--scheduler", required=True, metavar="HOST:PORT", help="the cluster's scheduler")
     parser.add_argument("--part", type=part_size, default=64 << 20, metavar="BYTES", help="the size of a part (64 MiB)")
     parser.add_argument("--litgrep", default="litgrep", help="litgrep on each worker")
-    parser.add_argument("--scand", default="scand", help="scand on each worker")
+    parser.add_argument("--library", metavar="FILE", help="the C library on each worker (where its loader finds it)")
+    parser.add_argument("--scand", help="scand on each worker, which finds hits in place of the library")
     parser.add_argument("--litplan", default="litplan", help="litplan on this machine, for hits")
     parser.add_argument("-i", "--ignore-case", action="store_true", help="ignore ASCII case")
     parser.add_argument("what", choices=["lines", "count", "hits"])
@@ -157,21 +205,47 @@ def send(cluster, given):
         name = os.path.basename(file.name)
         if is_planned:
             output([given.litplan, "pack", *flags, "-", file.name], text, {0})
-            call = hits, given.scand, name, max(map(len, text.split(b"\n")))
+            by = (hits, given.scand) if given.scand else (library_hits, given.library)
+            call = *by, name, max(map(len, text.split(b"\n")))
         else:
             file.write(text)
             file.flush()
             call = selected, given.litgrep, flags + ["-c"] * (given.what == "count"), name
         cluster.upload_file(file.name)
-    cluster.upload_file(CLIENT)
     return call
 
 
+def package_folder():
+    """Where the package `fiolargu` is. RuntimeError where it is missing."""
+    found = importlib.machinery.PathFinder.find_spec("fiolargu", [CLIENTS, *sys.path])
+    if found is None or not found.submodule_search_locations:
+        raise RuntimeError(f"{CLIENTS}: there is no Python package fiolargu")
+    return found.submodule_search_locations[0]
+
+
+def send_package(cluster):
+    """Sends each worker the package `fiolargu`, as an archive that Python imports from."""
+    with tempfile.TemporaryDirectory() as folder:
+        archive, package = os.path.join(folder, "fiolargu.zip"), package_folder()
+        with zipfile.ZipFile(archive, "w") as file:
+            for name in sorted(os.listdir(package)):
+                if name.endswith(".py"):
+                    file.write(os.path.join(package, name), f"fiolargu/{name}")
+        cluster.upload_file(archive)
+
+
 def ready(cluster, given):
-    """Waits for a worker, and looks whether each has the program that it needs. RuntimeError where one has not."""
+    """Waits for a worker, and looks whether each has what it needs. RuntimeError where one has not."""
     if not cluster.scheduler_info()["workers"]:
         print(f"scan_archive: {given.scheduler} has no worker yet", file=sys.stderr, flush=True)
         cluster.wait_for_workers(1)
+    if given.what == "hits":
+        send_package(cluster)
+    if given.what == "hits" and not given.scand:
+        for worker, fault in cluster.run(library_fault, given.library).items():
+            if fault is not None:
+                raise RuntimeError(f"{worker}: {fault}")
+        return
     program = given.scand if given.what == "hits" else given.litgrep
     for worker, path in cluster.run(shutil.which, program).items():
         if path is None:

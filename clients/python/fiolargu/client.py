@@ -1,0 +1,306 @@
+"""A connection to `scand`, and its streams."""
+
+from __future__ import annotations
+
+import contextlib
+import os
+import selectors
+import socket
+import struct
+import subprocess
+from typing import BinaryIO, Callable, Dict, Generator, Iterable, List, Optional, Sequence, Tuple, Union
+
+from .errors import BadFrame, BadReply, ConnectionLost, FiolarguError, NotStarted, Refusal, Refused, TimedOut, refusal
+from .frames import (
+    HEAD, HIT, NUMBER, SIXTEEN_BUCKETS, IGNORES_CASE, TAKEN, PAYLOAD, Hit, Plan, PlanShown, Reply, Request, cut, feed_frame, frame,
+    is_whole, open_frame, ordered, publish_frame, texts,
+)
+
+class Link:
+    """The two ways of a connection, over descriptors that do not block."""
+
+    def __init__(self, take: Callable[[int], bytes], give: Callable[[memoryview], int], reader: int, writer: int) -> None:
+        self.take, self.give, self.reader, self.writer = take, give, reader, writer
+        self.selector = selectors.DefaultSelector()
+        self.selector.register(reader, selectors.EVENT_READ)
+        self.is_writing = False
+
+    def wait(self, is_writing: bool, timeout: Optional[float]) -> Tuple[bool, bool]:
+        """Waits until the link can be read, or written where that is wanted, and tells which."""
+        if is_writing != self.is_writing:
+            self.select(is_writing)
+        events = {key.fd: mask for key, mask in self.selector.select(timeout)}
+        can_write = bool(events.get(self.writer, 0) & selectors.EVENT_WRITE)
+        return bool(events.get(self.reader, 0) & selectors.EVENT_READ), can_write
+
+    def select(self, is_writing: bool) -> None:
+        if self.reader == self.writer:
+            both = selectors.EVENT_READ | selectors.EVENT_WRITE
+            self.selector.modify(self.reader, both if is_writing else selectors.EVENT_READ)
+        elif is_writing:
+            self.selector.register(self.writer, selectors.EVENT_WRITE)
+        else:
+            self.selector.unregister(self.writer)
+        self.is_writing = is_writing
+
+
+class Client:
+    """One connection to a server. Made by `connect` or `spawn`; a context manager that closes it."""
+
+    def __init__(self, link: Link, leave: Callable[[], None], timeout: Optional[float], name: str = "the server") -> None:
+        self.timeout, self.name = timeout, name
+        self._link, self._leave = link, leave
+        self._sent, self._got, self._at = bytearray(), bytearray(), 0
+        self._streams: Dict[int, Stream] = {}
+        self._is_open, self._can_write, self._is_scanning = True, True, False
+
+    @classmethod
+    def connect(cls, host: str, port: int, *, timeout: Optional[float] = 30.0) -> Client:
+        """A connection to a server. `timeout` bounds each wait in which no byte goes either way, in seconds. ValueError where
+        there is no such port."""
+        name = f"{host}:{port}"
+        if not 0 < port < 65536:
+            raise ValueError(f"{name}: a port is a number from 1 to 65535")
+        try:
+            peer = socket.create_connection((host, port), timeout)
+            peer.setsockopt(socket.IPPROTO_TCP, socket.TCP_NODELAY, 1)
+            peer.setblocking(False)
+        except socket.timeout as fault:
+            raise TimedOut(f"{name} did not answer for {timeout} seconds") from fault
+        except OSError as fault:
+            raise ConnectionLost(f"{name}: {fault.strerror or fault}") from fault
+        link = Link(peer.recv, peer.send, peer.fileno(), peer.fileno())
+        return cls(link, peer.close, timeout, name)
+
+    @classmethod
+    def spawn(
+        cls, words: Sequence[str] = ("scand", "--stdio"), *, timeout: Optional[float] = 30.0, stderr: Optional[BinaryIO] = None
+    ) -> Client:
+        """A server of its own, over the standard streams of a subprocess, which `close` ends. Its messages, among them the
+        numbers of a plan file's plans, go to `stderr`, or else to this program's own."""
+        try:
+            child = subprocess.Popen(words, stdin=subprocess.PIPE, stdout=subprocess.PIPE, stderr=stderr, bufsize=0)
+        except OSError as fault:
+            raise NotStarted(f"{words[0]}: {fault.strerror or fault}") from fault
+        assert child.stdin is not None and child.stdout is not None
+        reader, writer = child.stdout.fileno(), child.stdin.fileno()
+        os.set_blocking(reader, False)
+        os.set_blocking(writer, False)
+        link = Link(lambda most: os.read(reader, most), lambda text: os.write(writer, text), reader, writer)
+        return cls(link, lambda: _end(child), timeout, words[0])
+
+    def __enter__(self) -> Client:
+        return self
+
+    def __exit__(self, *_: object) -> None:
+        self.close()
+
+    @property
+    def is_open(self) -> bool:
+        """Whether nobody has closed the connection, and no fault has ended it."""
+        return self._is_open
+
+    def close(self) -> None:
+        """Ends the connection, and with it the session: its streams are gone, and a server of its own ends."""
+        if self._is_open:
+            self._is_open = False
+            self._link.selector.close()
+            self._leave()
+
+    def publish(self, literals: Iterable[bytes], ignore_case: bool = False, *, buckets: int = 8) -> Plan:
+        """Publishes a list, and gives its plan, which may have 8 or 16 buckets. Hits are the same with both; 16 are meant
+        for lists of many literals. ValueError where the list does not fit a frame."""
+        words = texts(literals)
+        number = NUMBER.unpack(self._ask(publish_frame(words, ignore_case, buckets), 0, Reply.PUBLISHED))[0]
+        return Plan(number, ordered(words, ignore_case), ignore_case, buckets)
+
+    def open(self, plan: Union[Plan, int], number: Optional[int] = None) -> Stream:
+        """Opens a stream by a plan, or by the number of one that another client published or the server began with. The
+        stream gets this number, or the first free one."""
+        if number is None:
+            number = next(free for free in range(len(self._streams) + 1) if free not in self._streams)
+        self._ask(open_frame(number, plan.number if isinstance(plan, Plan) else plan), number, Reply.OPENED)
+        self._streams[number] = Stream(self, number, plan if isinstance(plan, Plan) else None)
+        return self._streams[number]
+
+    def _ask(self, request: bytes, stream: int, kind: Reply) -> bytes:
+        """The payload of the only reply to a request."""
+        self._send(request)
+        return self._expect(stream, (kind,))[1]
+
+    def _send(self, request: bytes) -> None:
+        """Puts a request behind the bytes to go out."""
+        if not self._is_open:
+            raise ConnectionLost(f"the connection to {self.name} is closed")
+        if self._is_scanning:
+            raise RuntimeError("a scan of this client has not ended: take its hits to the end, or close it")
+        self._sent += request
+
+    def _begin(self) -> None:
+        """Begins a scan."""
+        self._send(b"")
+        self._is_scanning = True
+
+    def _expect(self, stream: int, kinds: Tuple[Reply, ...]) -> Tuple[int, bytes]:
+        """The kind and payload of the next reply, which is to be of that stream and one of those kinds."""
+        kind, of, payload = self._reply()
+        code, detail = struct.unpack(">BH", payload) if kind == Reply.REFUSED else (0, 0)
+        if code == Refusal.BAD_FRAME and of == 0:
+            raise self._closed(BadFrame(code, detail, of))
+        if of != stream or kind not in (*kinds, Reply.REFUSED):
+            raise self._bad(f"kind {kind:#x} of stream {of}")
+        if kind == Reply.REFUSED:
+            raise refusal(code, detail, of)
+        return kind, payload
+
+    def _reply(self) -> Tuple[int, int, bytes]:
+        """The next frame: kind, stream and payload."""
+        self._need(HEAD.size)
+        length, kind, stream = HEAD.unpack_from(self._got, self._at)
+        if not 5 <= length <= PAYLOAD + 5:
+            raise self._bad(f"a length of {length}")
+        self._need(4 + length)
+        payload = bytes(self._got[self._at + HEAD.size : self._at + 4 + length])
+        self._at += 4 + length
+        if not is_whole(kind, payload):
+            raise self._bad(f"kind {kind:#x} with a payload of {len(payload)} bytes")
+        return kind, stream, payload
+
+    def _need(self, size: int) -> None:
+        """Waits until so many bytes of replies are there. What is to go out goes out meanwhile."""
+        if len(self._got) - self._at < size:
+            del self._got[: self._at]
+            self._at = 0
+        while len(self._got) - self._at < size:
+            self._turn()
+
+    def _turn(self) -> None:
+        """Moves some bytes, in either way."""
+        try:
+            can_read, can_write = self._link.wait(bool(self._sent) and self._can_write, self.timeout)
+            if not can_read and not can_write:
+                raise self._closed(TimedOut(f"{self.name}: no byte went either way for {self.timeout} seconds"))
+            if can_write:
+                self._write()
+            if can_read:
+                self._read()
+        except FiolarguError:
+            raise
+        except BlockingIOError:
+            pass
+        except OSError as fault:
+            raise self._closed(ConnectionLost(f"{self.name}: {fault.strerror or fault}")) from fault
+
+    def _write(self) -> None:
+        """Sends some. Where the server takes no more, its replies so far are still read."""
+        try:
+            with memoryview(self._sent) as view:
+                taken = self._link.give(view[:TAKEN])
+            del self._sent[:taken]
+        except BlockingIOError:
+            pass
+        except OSError:
+            self._can_write = False
+
+    def _read(self) -> None:
+        piece = self._link.take(TAKEN)
+        if not piece:
+            raise self._closed(ConnectionLost(f"{self.name} ended the connection"))
+        self._got += piece
+
+    def _bad(self, what: str) -> FiolarguError:
+        return self._closed(BadReply(f"{self.name} sent what is no reply to what was asked: {what}"))
+
+    def _closed(self, fault: FiolarguError) -> FiolarguError:
+        """The fault, once the connection is closed."""
+        self.close()
+        return fault
+
+
+def _end(child: subprocess.Popen[bytes]) -> None:
+    """Ends a server of one's own: by the end of its input, and by force where that does not serve."""
+    for pipe in child.stdin, child.stdout:
+        with contextlib.suppress(OSError):
+            if pipe is not None:
+                pipe.close()
+    try:
+        child.wait(5)
+    except subprocess.TimeoutExpired:
+        child.kill()
+        child.wait()
+
+
+class Stream:
+    """An open stream. Its hits are told by their ends, and by literal where they end together."""
+
+    def __init__(self, client: Client, number: int, plan: Optional[Plan]) -> None:
+        self.client, self.number, self.plan = client, number, plan
+        self.place = 0
+        """How many bytes the server has told to have."""
+
+    def __enter__(self) -> Stream:
+        return self
+
+    def __exit__(self, *_: object) -> None:
+        if self.client._is_open and not self.client._is_scanning and self.number in self.client._streams:
+            with contextlib.suppress(ConnectionLost, TimedOut):
+                self.close()
+
+    def feed(self, piece: bytes) -> List[Hit]:
+        """Feeds a piece of any length, and gives all hits that end in it."""
+        return list(self.scan([piece]))
+
+    def scan(self, pieces: Iterable[bytes], ahead: int = 4) -> Generator[Hit, None, None]:
+        """Feeds pieces as its hits are asked for, and gives these as they come. Up to `ahead` Feeds are on their way at
+        once: so many pieces are taken before the hits of the first are given; with 1 each piece is answered before the
+        next is taken. Nothing else can be asked of the client until the iterator is at its end or closed. Where it is
+        closed, what was fed stays fed, and its hits are dropped."""
+        source, awaited, is_over = cut(pieces), 0, False
+        self.client._begin()
+        try:
+            while awaited or not is_over:
+                while not is_over and awaited < max(ahead, 1):
+                    piece = next(source, None)
+                    is_over = piece is None
+                    if piece is not None:
+                        self.client._sent += feed_frame(self.number, piece)
+                        awaited += 1
+                if awaited:
+                    is_fed, hits = self._answer()
+                    awaited -= is_fed
+                    yield from hits
+        except Refused:
+            awaited -= 1
+            raise
+        finally:
+            self._drain(awaited)
+
+    def _answer(self) -> Tuple[bool, Iterable[Hit]]:
+        """Whether the next reply is the Fed of a Feed, and the hits that it tells where it is not."""
+        kind, payload = self.client._expect(self.number, (Reply.HITS, Reply.FED))
+        if kind == Reply.HITS:
+            return False, map(Hit._make, HIT.iter_unpack(payload[2:]))
+        self.place = NUMBER.unpack(payload)[0]
+        return True, ()
+
+    def _drain(self, awaited: int) -> None:
+        """Takes the replies to so many Feeds, or those before the connection ends."""
+        with contextlib.suppress(ConnectionLost, TimedOut, BadReply):
+            while awaited and self.client._is_open:
+                try:
+                    awaited -= self._answer()[0]
+                except Refused:
+                    awaited -= 1
+        self.client._is_scanning = False
+
+    def show_plan(self) -> PlanShown:
+        """What the server tells of the stream's plan."""
+        payload = self.client._ask(frame(Request.SHOW_PLAN, self.number), self.number, Reply.PLAN)
+        flags, literals, price, runs = struct.unpack_from(">BHQB", payload)
+        ends, buckets = struct.unpack_from(f">{runs}H", payload, 12), 16 if flags & SIXTEEN_BUCKETS else 8
+        return PlanShown(bool(flags & IGNORES_CASE), literals, price, ends, buckets)
+
+    def close(self) -> None:
+        """Closes the stream. Its number is free again."""
+        self.client._ask(frame(Request.CLOSE, self.number), self.number, Reply.CLOSED)
+        self.client._streams.pop(self.number, None)

@@ -1,0 +1,164 @@
+"""A stream that goes on where a connection is lost."""
+
+from __future__ import annotations
+
+import contextlib
+import itertools
+import time
+from collections import deque
+from typing import Callable, Deque, Generator, Iterable, Iterator, List, Optional, Union
+
+from .client import Client, Stream
+from .errors import BadReply, ConnectionLost, FiolarguError, NotStarted, TimedOut
+from .frames import Hit, Plan, cut, ordered, texts
+
+class Resumed:
+    """A stream by a list of its own, which goes on where a connection is lost: `dial` gives a new client, which publishes
+    the list and opens a stream anew. That stream is fed, from the last place that was told as fed, the bytes that a hit
+    may need, `longest - 1` of them, and what was not told as fed. Hits that were given are left out and places shifted,
+    so that each hit of the whole stream is given once, in order.
+
+    Only a stream of a list that one has oneself can be taken up again: another client's plan is gone with its server. With a
+    `number` nothing is published, and streams are opened by that plan, which each server has from the same plan file. It
+    is to be the plan of this list: BadReply where it has another number of literals, or tells otherwise whether case
+    counts.
+
+        with Resumed(lambda: Client.connect("127.0.0.1", 7000), [b"cat"]) as stream:
+            for hit in stream.scan(pieces_of(file)):
+                ...
+
+    After `tries` connections in a row that bring it no further the last fault is raised, and again by whatever is asked
+    later. Between them it waits for `pause` seconds, and twice as long each time, up to two seconds.
+    """
+
+    def __init__(
+        self, dial: Callable[[], Client], literals: Iterable[bytes], ignore_case: bool = False, *,
+        buckets: int = 8, number: Optional[int] = None, tries: int = 6, pause: float = 0.05,
+    ) -> None:
+        self.number, self.buckets = number, buckets
+        self.dial, self.ignore_case, self.tries, self.pause = dial, ignore_case, tries, pause
+        self.words = texts(literals)
+        self.literals = ordered(self.words, ignore_case)
+        """The literals in the order that hits count them by."""
+        self.place = 0
+        """How many bytes were told as fed, in all."""
+        self.losses = 0
+        """How many connections were lost or not to be had."""
+        self._client: Optional[Client] = None
+        self._stream: Optional[Stream] = None
+        self._plan: Union[Plan, int, None] = number
+        self._base, self._lead = 0, b""
+        self._unfed: Deque[bytes] = deque()
+        self._told = (0, 0)
+        self._failed, self._place_failed = 0, 0
+        self._fault: Optional[FiolarguError] = None
+
+    def __enter__(self) -> Resumed:
+        return self
+
+    def __exit__(self, *_: object) -> None:
+        self.close()
+
+    def close(self) -> None:
+        """Ends the connection."""
+        if self._client is not None:
+            self._client.close()
+        self._client = self._stream = None
+
+    def feed(self, piece: bytes) -> List[Hit]:
+        """Feeds a piece of any length, and gives all hits that end in it."""
+        return list(self.scan([piece]))
+
+    def scan(self, pieces: Iterable[bytes], ahead: int = 4) -> Generator[Hit, None, None]:
+        """As `Stream.scan`, over as many connections as it takes."""
+        if self._fault is not None:
+            raise self._fault
+        source = self._noted(cut(pieces))
+        is_over = False
+        try:
+            while not is_over:
+                try:
+                    yield from self._hits(self._taken_up(), source, ahead)
+                    is_over = True
+                except NotStarted:
+                    raise
+                except (ConnectionLost, TimedOut) as fault:
+                    self._lose(fault)
+        finally:
+            self._note_place()
+            self._told = max(self._told, (self.place + sum(map(len, self._unfed)), len(self.literals)))
+
+    def restart(self) -> None:
+        """Begins a new stream by the same list, over the same connection while that holds. Its place is 0."""
+        self.place, self._lead, self._told = 0, b"", (0, 0)
+        self._failed = self._place_failed = self._base = 0
+        self._unfed.clear()
+        if self._client is not None and self._stream is not None and self._plan is not None:
+            try:
+                self._stream.close()
+                self._stream = self._client.open(self._plan)
+            except (ConnectionLost, TimedOut):
+                self.close()
+
+    def _hits(self, stream: Stream, source: Iterator[bytes], ahead: int) -> Iterator[Hit]:
+        """The hits of one connection that were not given yet."""
+        hits = stream.scan(itertools.chain(list(self._unfed), source), ahead)
+        with contextlib.closing(hits):
+            for literal, end in hits:
+                found = end + self._base, literal
+                if found > self._told:
+                    self._told = found
+                    yield Hit(literal, found[0])
+
+    def _noted(self, source: Iterator[bytes]) -> Iterator[bytes]:
+        """The pieces, each kept until it is told as fed."""
+        for piece in source:
+            self._note_place()
+            self._unfed.append(piece)
+            yield piece
+
+    def _note_place(self) -> None:
+        """Moves on to the last place told as fed."""
+        place = self.place if self._stream is None else self._base + self._stream.place
+        while self._unfed and self.place + len(self._unfed[0]) <= place:
+            piece = self._unfed.popleft()
+            self.place += len(piece)
+            known = self._lead + piece
+            self._lead = known[max(len(known) - len(self.literals[-1]) + 1, 0) :]
+
+    def _taken_up(self) -> Stream:
+        """The stream, on a new connection where there is none, fed with the lead."""
+        if self._stream is None:
+            client = self.dial()
+            try:
+                stream = self._opened(client)
+                if self._lead:
+                    stream.feed(self._lead)
+            except BaseException:
+                client.close()
+                raise
+            self._client, self._stream, self._base = client, stream, self.place - len(self._lead)
+        return self._stream
+
+    def _opened(self, client: Client) -> Stream:
+        """A stream by the list, on a new connection."""
+        if self.number is None:
+            self._plan = client.publish(self.words, self.ignore_case, buckets=self.buckets)
+            return client.open(self._plan)
+        stream = client.open(self.number)
+        shown = stream.show_plan()
+        if (shown.literals, shown.ignore_case) != (len(self.literals), self.ignore_case):
+            raise BadReply(f"{client.name}: plan {self.number} is another one: {shown}")
+        return stream
+
+    def _lose(self, fault: FiolarguError) -> None:
+        """Leaves a lost connection behind, and waits. Raises the fault where it is one too many."""
+        self._note_place()
+        self.close()
+        self.losses += 1
+        self._failed = self._failed + 1 if self.place == self._place_failed else 1
+        self._place_failed = self.place
+        if self._failed >= self.tries:
+            self._fault = fault
+            raise fault
+        time.sleep(min(self.pause * 2 ** (self._failed - 1), 2.0))
