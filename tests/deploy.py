@@ -19,16 +19,22 @@ from support.playing import played
 # The parts, in order. Each has its module, and the programs that it needs in addition to Python and a C compiler.
 PARTS = {
     "python_types": ("deploy_parts.python_types", ["mypy"]),
+    "rust_crate": ("deploy_parts.rust_crate", ["cargo"]),
     "python_client": ("parts.python_client", []),
+    "scan_files": ("parts.scan_files", []),
     "c_header": ("parts.c_header", []),
     "dissector": ("deploy_parts.dissector", ["tshark"]),
     "systemd_units": ("deploy_parts.systemd_units", ["systemd-socket-activate", "systemd-analyze", "strace"]),
     "haproxy_balancer": ("deploy_parts.haproxy_balancer", ["haproxy", "systemd-socket-activate"]),
     "parallel_hosts": ("deploy_parts.parallel_hosts", ["parallel"]),
     "dask_cluster": ("deploy_parts.dask_cluster", ["dask-scheduler", "dask-worker"]),
+    "nginx_filter": ("deploy_parts.nginx_filter", ["nginx"]),
+    "rsyslog_tags": ("deploy_parts.rsyslog_tags", ["rsyslogd"]),
 }
-# Debian's packages of programs with another name.
+# Debian's packages of programs with another name, or that are more than a program.
 PACKAGES = {
+    "nginx": "nginx libnginx-mod-http-lua",
+    "rsyslogd": "rsyslog",
     "systemd-socket-activate": "systemd",
     "systemd-analyze": "systemd",
     "dask-scheduler": "python3-distributed",
@@ -39,7 +45,8 @@ PACKAGES = {
 def install(names):
     """Installs missing programs, where that can be done. Answers the parts that can be played, and prints the others."""
     needed = {program for name in names for program in PARTS[name][1]}
-    missing = sorted({PACKAGES.get(program, program) for program in needed if not shutil.which(program)})
+    packages = {PACKAGES.get(program, program) for program in needed if not shutil.which(program)}
+    missing = sorted(name for names in packages for name in names.split())
     if missing and os.geteuid() == 0 and shutil.which("apt-get"):
         print(f"installing {' '.join(missing)}", flush=True)
         quiet = {"stdout": subprocess.DEVNULL, "env": dict(os.environ, DEBIAN_FRONTEND="noninteractive")}

@@ -4,7 +4,7 @@
     python3 tests/refused_calls.py
 
 A cell has the number of refused calls, and in brackets the number of runs that then ended as if nothing were refused.
-The status is 1 where a run ends wrongly. `python3 tests/run.py refused_calls` makes these checks and more."""
+The status is 1 where a run ends wrongly. `python3 tests/run.py refused_calls` draws a sample of these checks, and makes others."""
 
 import collections
 import os
@@ -26,15 +26,15 @@ COLUMNS = {
 
 def group_of(run):
     """The program of a run, and its command."""
-    command = next((word for word in run.words[1:2] if word in ("plan", "check", "pack", "explain", "scan", "--stdio")), "")
+    command = next((word for word in run.words[1:2] if word in ("plan", "check", "pack", "explain", "migrate", "scan", "--stdio")), "")
     return f"{os.path.basename(run.words[0])} {command}".strip()
 
 
 def main():
     """Prints wrong endings, and the table."""
     refused, own, wrong = collections.Counter(), collections.Counter(), 0
-    with bench() as (_, endings):
-        for one in seen(endings, RUNS):
+    with bench() as made:
+        for one in seen(made, RUNS):
             if not one.is_right:
                 wrong += 1
                 print(f"FAILED: {name_of(one.run)}, {one.sweep} {one.number}\n  {one.got!r:.300}\n  {one.whole!r:.300}")

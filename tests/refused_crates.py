@@ -13,14 +13,13 @@ import os
 import sys
 import tempfile
 
-from parts.refused_crates import program_of, swept, tests_of, wrong_of
-from support.programs import TOP
+from parts.refused_crates import crates_with_tests, program_of, swept, tests_of, wrong_of
 from support.shim import built_shim
 
 
 def main(crates):
     """Prints wrong endings, and a table."""
-    crates = crates or [crate for crate in sorted(os.listdir(os.path.join(TOP, "crates"))) if os.path.exists(program_of(crate))]
+    crates = crates or crates_with_tests()
     jobs = [(crate, test, suffix) for crate in crates for test in tests_of(program_of(crate)) for suffix in ("", "-on")]
     seen, all_wrong = collections.defaultdict(collections.Counter), 0
     with tempfile.TemporaryDirectory() as folder, concurrent.futures.ProcessPoolExecutor(os.cpu_count()) as pool:

@@ -31,7 +31,8 @@ CANNED = [
     ("a Fed of stream 1", PUBLISHED_5 + OPENED_0 + sessions.fed(1, 3), "BadReply"),
     ("a Closed for a Feed", PUBLISHED_5 + OPENED_0 + frame(CLOSED, 0), "BadReply"),
     ("a place that would pass", PUBLISHED_5 + OPENED_0 + sessions.refused(0, 20), "StreamTooLong"),
-    ("a Plan of flags 2", PUBLISHED_5 + OPENED_0 + sessions.fed(0, 3) + frame(PLAN, 0, b"\2" + bytes(11)), "BadReply"),
+    ("a Plan of flags 4", PUBLISHED_5 + OPENED_0 + sessions.fed(0, 3) + frame(PLAN, 0, b"\4" + bytes(11)), "BadReply"),
     ("a Plan of an end too few", PUBLISHED_5 + OPENED_0 + sessions.fed(0, 3) + frame(PLAN, 0, bytes(11) + b"\1"), "BadReply"),
     ("a Plan", PUBLISHED_5 + OPENED_0 + sessions.fed(0, 3) + frame(PLAN, 0, bytes(11) + b"\1\0\1"), "nothing"),
+    ("a Plan of both flags", PUBLISHED_5 + OPENED_0 + sessions.fed(0, 3) + frame(PLAN, 0, b"\3" + bytes(10) + b"\1\0\1"), "nothing"),
 ]

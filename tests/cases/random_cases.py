@@ -79,11 +79,11 @@ def long_lines():
             yield text, source.choice([5, 23, 64, 127, 128, 4096])
 
 
-def lists():
-    """Patterns whose literals have few lengths or many, and whether case is ignored."""
+def lists(most=100):
+    """This number of lists of patterns, whose literals have few lengths or many, and whether case is ignored."""
     source = random.Random(4)
-    for number in range(100):
-        count, longest = source.randrange(1, 12 if number < 70 else 50), source.choice([1, 2, 4, 11])
+    for number in range(most):
+        count, longest = source.randrange(1, 12 if number < most * 7 // 10 else 50), source.choice([1, 2, 4, 11])
         patterns = [text_of(source, b"abAB01", longest - 1) + b"z" for _ in range(count)]
         yield patterns, source.random() < 0.5
 

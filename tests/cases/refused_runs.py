@@ -11,7 +11,7 @@ from cases import session_cases
 from oracles import plain_grep, plain_plan, plain_plan_file, plain_view
 from oracles.plain_scan import plain_scan
 from oracles.sessions import Plan, conversation, feed, open_stream, publish, replies_of, requests_of
-from support.programs import LITGREP, LITPLAN, program_at
+from support.programs import LITGREP, LITPLAN, program_at, version
 
 # The message of a program for want of memory. Its status is 2.
 NO_MEMORY = {
@@ -196,9 +196,9 @@ def planned(words, names, output, stdin=b"", status=0, messages=b"", **more):
     return Run([LITPLAN, *words], answer, sources, starved, unwritten, stdin, **more)
 
 
-def packed(words, name, literals, is_folded, stdin=b""):
+def packed(words, name, literals, is_folded, stdin=b"", buckets=8):
     """A run of `litplan pack`. It reads one file and makes another, which is whole only where the run succeeds."""
-    text = b"".join(plain_plan_file.file_fields([(literals, is_folded, plain_plan.plan_of(literals))]))
+    text = b"".join(plain_plan_file.file_fields([(literals, is_folded, plain_plan.plan_of(literals, buckets))]))
     like = planned(["pack", *words, name, "made"], [name], b"", stdin, made=("made",))
 
     def answer(faults):
@@ -208,6 +208,31 @@ def packed(words, name, literals, is_folded, stdin=b""):
         return like.is_starved(whole, got) and got.made != whole.made
 
     return like._replace(answer=answer, is_starved=is_starved, is_unwritten=stops_with(b"litplan: made: cannot be used\n"))
+
+
+def migrated(name, lists, version):
+    """A run of `litplan migrate`. It reads a plan file with the plans of some lists and makes another. Lines follow once that
+    is whole."""
+    old = [(literals, is_folded, plain_plan.plan_of(literals)) for literals, is_folded in lists]
+    new = [(literals, is_folded, plain_plan.plan_of(literals, 16)) for literals, is_folded in lists]
+    FILES[name] = b"".join(plain_plan_file.file_fields(old, version))
+    text = b"".join(plain_plan_file.file_fields(new))
+    costs = [(before[2][1], after[2][1]) for before, after in zip(old, new)]
+    lines = b"".join(b"plan %d %d %d\n" % (place, *both) for place, both in enumerate(costs))
+    like = planned(["migrate", name, "made"], [name], lines, made=("made",))
+
+    def answer(faults):
+        return like.answer(faults)._replace(made=(None if faults else text,))
+
+    def is_starved(whole, got):
+        return like.is_starved(whole, got) and got.output == b"" and got.made != whole.made
+
+    def is_unwritten(whole, got):
+        is_made = got.made == whole.made
+        message = b"litplan: refused (18)\n" if is_made else b"litplan: made: cannot be used\n"
+        return stops_with(message)(whole, got) and (is_made or got.output == b"")
+
+    return like._replace(answer=answer, is_starved=is_starved, is_unwritten=is_unwritten)
 
 
 WORDS = plain_plan.literals_of(FILES["w"].split(), False)
@@ -226,6 +251,7 @@ PLANS = [
     planned(["plan", "-"], ["-"], FILES["c"], FILES["w"]),
     planned(["plan", "-i", "w"], ["w"], FILES["c"]),
     planned(["plan", "-"], ["-"], MANY_PLANNED, MANY),
+    planned(["plan", "--buckets", "16", "w"], ["w"], plain_plan.spelled(plain_plan.plan_of(WORDS, 16))),
     planned(["check", "-", "c"], ["-", "c"], b"optimal 934\n", FILES["w"]),
     planned(["plan", "e"], ["e"], b"", status=2, messages=b"litplan: refused (5)\n"),
     planned(["check", "w", "d"], ["w", "d"], plain_plan.answer(WORDS, FILES["d"])[1], status=1),
@@ -244,12 +270,20 @@ EXPLAINED = [
     planned(["explain", "-i", "-"], ["-"], plain_view.text_of(REPEATED, True), FILES["r"]),
     planned(["explain", "--svg", "-i", "r"], ["r"], plain_view.drawing_of(REPEATED, True)),
     planned(["explain", "--svg", "-"], ["-"], MANY_DRAWN, MANY),
-    planned(["explain", "e"], ["e"], b"", status=2, messages=b"litplan: refused (5)\n"),
+    planned(["explain", "--buckets=16", "r"], ["r"], plain_view.text_of(REPEATED, False, 16)),
+    planned(["explain", "e"], ["e"], b"no line has a literal\n", status=1),
 ]
 PACKS = [
     packed([], "w", WORDS, False),
     packed(["-i"], "-", plain_plan.literals_of(MANY.split(), True), True, MANY),
+    packed(["--buckets=16"], "w", WORDS, False, buckets=16),
 ]
+MIGRATIONS = [
+    migrated("one.plans", [([b"%c" % letter for letter in b"abcdefghi"], False)], 1),
+    migrated("three.plans", [(WORDS, False), ([b"a"], True), (plain_plan.literals_of(MANY.split(), True), True)], 2),
+]
+FILES["bad.plans"] = FILES["one.plans"][:-1]
+MIGRATIONS += [planned(["migrate", "bad.plans", "made"], ["bad.plans"], b"", status=2, messages=b"litplan: refused (10)\n")]
 
 # scand.
 
@@ -329,14 +363,14 @@ def answered(name, words, message):
 
 ANSWERED = [
     answered("litgrep", [], b"litgrep: no pattern given\n"),
-    answered("litgrep", ["--version"], b"litgrep 0.1.0\n"),
+    answered("litgrep", ["--version"], b"litgrep %s\n" % version().encode()),
     answered("litplan", ["plan", "none"], b"litplan: none: cannot be used\n"),
-    answered("litplan", ["--version"], b"litplan 0.1.0\n"),
+    answered("litplan", ["--version"], b"litplan %s\n" % version().encode()),
     answered("scand", [], b"scand: --stdio or --port and --connections are needed\n"),
-    answered("scand", ["--version"], b"scand 0.1.0\n"),
+    answered("scand", ["--version"], b"scand %s\n" % version().encode()),
 ]
 
-RUNS = [*(search.run() for search in SEARCHES), *PLANS, *EXPLAINED, *PACKS, *SESSIONS, *PREPLANNED, *ANSWERED]
+RUNS = [*(search.run() for search in SEARCHES), *PLANS, *EXPLAINED, *PACKS, *MIGRATIONS, *SESSIONS, *PREPLANNED, *ANSWERED]
 
 # Random runs.
 
@@ -359,11 +393,12 @@ def random_plan(source):
     """A plan of a random list, a table of the plan, or a scan by it."""
     patterns = random_text(source, b"abcd\n\n", 60) + b"ab"
     literals = plain_plan.literals_of(patterns.split(b"\n"), False)
-    command = source.random()
+    command, buckets = source.random(), source.choice([8, 16])
+    flag = f"--buckets={buckets}"
     if command < 0.2:
-        return planned(["explain", "-"], ["-"], plain_view.text_of(patterns.split(b"\n"), False), patterns)
+        return planned(["explain", flag, "-"], ["-"], plain_view.text_of(patterns.split(b"\n"), False, buckets), patterns)
     if command < 0.4:
-        return planned(["plan", "-"], ["-"], plain_plan.spelled(plain_plan.plan_of(literals)), patterns)
+        return planned(["plan", "-", flag], ["-"], plain_plan.spelled(plain_plan.plan_of(literals, buckets)), patterns)
     name, workers = source.choice(["f", "t", "w"]), source.randrange(1, 17)
     hits = plain_scan(literals, FILES[name], False)
     return planned(["scan", f"--workers={workers}", "-", name], ["-", name], hits, patterns, has_threads=workers > 1)

@@ -9,6 +9,7 @@ import tempfile
 import time
 
 from deploy_parts.parallel_hosts import DYING
+from support import clibrary
 from support.programs import LITGREP, LITPLAN, TOP
 from support.pyclient import plain_hits
 from support.servers import SCAND, SECONDS
@@ -31,7 +32,8 @@ for out; do :; done
 class Cluster:
     """A scheduler and workers, each a process of its own."""
 
-    def __init__(self, folder):
+    def __init__(self, folder, by):
+        self.by = by
         self.folder, self.file = folder, os.path.join(folder, "scheduler.json")
         listen = ["--host", "127.0.0.1", "--no-dashboard", "--scheduler-file", self.file]
         self.programs = [self.start("dask-scheduler", "--port", "0", *listen)]
@@ -75,7 +77,7 @@ class Cluster:
 
     def run(self, *words, midway=None):
         """The status and output of a search. `midway` may do something to the cluster in the middle of it."""
-        own = ["--scheduler", self.address(), "--scand", SCAND, "--litgrep", LITGREP, "--litplan", LITPLAN]
+        own = ["--scheduler", self.address(), *self.by, "--litgrep", LITGREP, "--litplan", LITPLAN]
         pipes = {"stdout": subprocess.PIPE, "stderr": subprocess.PIPE}
         with tempfile.TemporaryFile() as out:
             pipes["stdout"] = out
@@ -145,6 +147,13 @@ def searches(folder, texts, cluster):
         yield f"no {what} found", cluster.run(what, "none", "log"), (1, b"")
 
 
+# Words of a search by a library that a worker cannot load.
+LIBRARY_FAULTS = [
+    (["--library", "/none/lib.so", "hits", "words", "log"], rb"tcp://[0-9.:]+: the C library cannot be loaded: /none/lib.so: .*"),
+    (["--library", "libc.so.6", "hits", "words", "log"], rb"tcp://[0-9.:]+: libc.so.6 is another library, .*"),
+]
+
+
 def refusals(folder, _, cluster):
     """What cannot be searched is reported before anything is searched."""
     for words, want in (
@@ -154,6 +163,7 @@ def refusals(folder, _, cluster):
         (["--litgrep", "nope", "count", "words", "log"], rb"tcp://[0-9.:]+: nope: there is no such program"),
         (["--litplan", "nope", "hits", "words", "log"], rb"nope: No such file or directory"),
         (["--scand", "true", "hits", "words", "log"], rb"tcp://[0-9.:]+: true told no plan of \S+"),
+        *LIBRARY_FAULTS * (cluster.by[0] == "--library"),
     ):
         status, message = cluster.run(*words)
         yield f"{words}, {message!r}", (status, bool(re.fullmatch(rb"scan_archive: %s\n" % want, message))), (2, True)
@@ -162,7 +172,12 @@ def refusals(folder, _, cluster):
     status, message = cluster.run("hits", "nulls", "log")
     yield "a list of no literals", (status, b"refused (5)" in message), (2, True)
     status, message = cluster.run("--litplan", os.path.join(folder, "changing"), "hits", "words", "log")
-    refused = rb"scan_archive: tcp://[0-9.:]+: scand: %s/\S+/scan_archive-\w+\.plan: refused \(10\)\n" % os.fsencode(folder)
+    refused = rb"%s/\S+/scan_archive-\w+\.plan: " % os.fsencode(folder)
+    if cluster.by[0] == "--library":
+        refused += rb"BadPlanFile \(10\): no plan file, or not certified, at byte \d+"
+    else:
+        refused = rb"scand: " + refused + rb"refused \(10\)"
+    refused = rb"scan_archive: tcp://[0-9.:]+: " + refused + rb"\n"
     yield f"a plan file that was changed, {message!r}", (status, bool(re.fullmatch(refused, message))), (2, True)
 
 
@@ -181,13 +196,24 @@ def losses(folder, texts, cluster):
     yield "the other one was started", os.path.isdir(os.path.join(folder, "another")), True
 
 
-def on_a_cluster():
+def on_a_cluster(*by):
     """Each test, on one cluster."""
     with tempfile.TemporaryDirectory() as folder:
         texts = lay_out(folder)
-        with Cluster(folder) as cluster:
+        with Cluster(folder, by) as cluster:
             for test in searches, refusals, losses:
                 yield from test(folder, texts, cluster)
 
 
-TESTS = (on_a_cluster,)
+def by_scand():
+    """Hits by the scand of each part."""
+    yield from on_a_cluster("--scand", SCAND)
+
+
+def by_library():
+    """Hits by the library, in the processes of the workers."""
+    if clibrary.is_there("dask_cluster, by the library"):
+        yield from on_a_cluster("--library", clibrary.LIBRARY)
+
+
+TESTS = (by_scand, by_library)

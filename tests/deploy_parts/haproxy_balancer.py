@@ -9,7 +9,7 @@ import threading
 import time
 
 from deploy_parts.systemd_units import Activated, packed
-from support.programs import TOP
+from support.programs import LITPLAN, TOP
 from support.pyclient import Client, ConnectionLost, Resumed, fault_of, plain_hits
 from support.servers import SECONDS, free_port
 
@@ -18,17 +18,36 @@ WORDS = [b"error", b"warn", b"cat", b"concat", b"e", b"timeout reached", b"x" * 
 LOADED = 12
 
 
-class Balancer:
-    """The balancer of deploy/haproxy on free ports, before as many servers as it names, each with the same plan file."""
+def same_file(folder):
+    """The plan files of the three servers: the same for all."""
+    return [packed(folder, WORDS)] * 3
 
-    def __init__(self):
+
+def files_of_each_version(folder):
+    """A plan file of version 1, made from one of version 2 with the same plan, that one, and the old one migrated."""
+    new = packed(folder, WORDS)
+    old, migrated = os.path.join(folder, "old.plan"), os.path.join(folder, "migrated.plan")
+    with open(new, "rb") as file:
+        head, version, rest = file.read(4), file.read(2), file.read()
+    assert version == b"\0\2"
+    with open(old, "wb") as file:
+        file.write(head + b"\0\1" + rest)
+    subprocess.run([LITPLAN, "migrate", old, migrated], stdout=subprocess.DEVNULL, check=True)
+    return [old, new, migrated]
+
+
+class Balancer:
+    """The balancer of deploy/haproxy on free ports, before as many servers as it names, each with a plan file."""
+
+    def __init__(self, files_in=same_file):
         self.folder = tempfile.TemporaryDirectory()
         with open(CONFIG) as file:
             text = file.read()
         ports = {port: str(free_port()) for port in re.findall(r"127\.0\.0\.1:(\d+)", text)}
         self.port = int(ports["7000"])
-        plans = ["--plans", packed(self.folder.name, WORDS)]
-        self.servers = [Activated(int(ports[port]), plans) for port in sorted(ports) if port != "7000"]
+        backends = [int(ports[port]) for port in sorted(ports) if port != "7000"]
+        files = files_in(self.folder.name)
+        self.servers = [Activated(port, ["--plans", file]) for port, file in zip(backends, files, strict=True)]
         path = os.path.join(self.folder.name, "haproxy.cfg")
         with open(path, "w") as file:
             file.write(re.sub(r"(127\.0\.0\.1:)(\d+)", lambda found: found[1] + ports[found[2]], text))
@@ -132,9 +151,20 @@ def killed():
     yield from killed_by(0)
 
 
-def killed_by(number):
+def each_version():
+    """Servers with plan files of both versions stand side by side: each has the plan with the same number, and the same is true
+    of its hits, also where one of them is killed under load."""
+    with Balancer(files_of_each_version) as balancer:
+        for server, buckets in zip(balancer.servers, [8, 8, 16]):
+            with Client.connect("127.0.0.1", server.port) as client, client.open(0) as stream:
+                yield f"the plan of a server, {buckets} buckets", stream.show_plan().buckets, buckets
+                yield "its hits", stream.feed(b"concat"), plain_hits(WORDS, False, b"concat")
+    yield from killed_by(0, files_of_each_version)
+
+
+def killed_by(number, files_in=same_file):
     """The same by the plan of this number, or by published plans."""
-    with Balancer() as balancer:
+    with Balancer(files_in) as balancer:
         yield "haproxy -c", (balancer.checked.returncode, balancer.checked.stderr), (0, "")
         yield "through the balancer", balancer.waited(), plain_hits(WORDS, False, b"concat")
         load = Load(balancer, number)
@@ -175,4 +205,4 @@ def untended():
         yield "no server left", (fault_of(lost.feed, b"cat")[0], lost.losses), ("ConnectionLost", 3)
 
 
-TESTS = (same_plans, killed, untended)
+TESTS = (same_plans, killed, each_version, untended)

@@ -22,8 +22,9 @@ def reply_line(reply):
         return f"{front} {int.from_bytes(payload, 'big')}"
     if kind == HITS and size >= 12 and size == 2 + 10 * int.from_bytes(payload[:2], "big") <= 40962:
         return " ".join([front, *(f"{literal}:{end}" for literal, end in struct.iter_unpack(">HQ", payload[2:]))])
-    if kind == PLAN and size >= 12 and payload[0] <= 1 and size == 12 + 2 * payload[11]:
-        return " ".join(map(str, [front, *struct.unpack_from(f">BHQx{payload[11]}H", payload)]))
+    if kind == PLAN and size >= 12 and payload[0] <= 3 and size == 12 + 2 * payload[11]:
+        flags, *numbers = struct.unpack_from(f">BHQx{payload[11]}H", payload)
+        return " ".join(map(str, [front, flags & 1, 16 if flags & 2 else 8, *numbers]))
     return f"{front} {payload[0]} {int.from_bytes(payload[1:], 'big')}" if kind == REFUSED and size == 3 else None
 
 

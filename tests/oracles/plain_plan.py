@@ -1,5 +1,7 @@
 """A plain model of `litplan plan` and `litplan check`: plans, certificates, and the check of a certificate.
 
+A certificate has a row of potentials for each bucket of its profile, so the number of its rows is 8 or 16.
+
 A plan is the least of all cuts, built up from the last literal. A certificate is read by splitting lines and words.
 Nothing here is fast, and nothing comes from the program."""
 
@@ -7,6 +9,9 @@ import re
 
 BUCKETS = 8
 NUMBER_MAX = (1 << 64) - 1
+MOST_LITERALS = 4096
+# The first lines of the texts of certificates, each with the number of buckets.
+VERSIONS = {"litcert 1": 8, "litcert 2": 16}
 
 
 def literals_of(patterns, is_folded):
@@ -21,12 +26,12 @@ def cost(literals, start, end):
     return 200 + (end - start) ** 2 * weight
 
 
-def first_cuts(literals):
-    """For at most 1, 2 .. 8 runs, and for each position, the first cut of the literals from there on. A cut is its price,
-    the number of its runs, and their ends; cuts are ordered by these three."""
+def first_cuts(literals, buckets=BUCKETS):
+    """For at most 1, 2 .. runs, up to the buckets, and for each position, the first cut of the literals from there on. A cut
+    is its price, the number of its runs, and their ends; cuts are ordered by these three."""
     n = len(literals)
     rows = []
-    for most in range(1, BUCKETS + 1):
+    for most in range(1, buckets + 1):
         row = [(0, 0, ())] * (n + 1)
         for start in range(n):
             found = [(cost(literals, start, n), 1, (n,))]
@@ -38,17 +43,35 @@ def first_cuts(literals):
     return rows
 
 
-def plan_of(literals):
-    """The certificate of some literals: its ends, its cost, and its rows of potentials."""
-    rows = first_cuts(literals)
+def plan_of(literals, buckets=BUCKETS):
+    """The certificate of some literals: its ends, its cost, and its rows of potentials, one for each bucket."""
+    rows = first_cuts(literals, buckets)
     price, _, ends = rows[-1][0]
     return list(ends), price, [[price for price, _, _ in row[:-1]] for row in rows]
+
+
+def even_price(count, length, most):
+    """The least price of this number of literals of one length in at most some runs, which are then as even as they can be."""
+    prices = []
+    for runs in range(1, min(most, count) + 1):
+        small, more = divmod(count, runs)
+        weight = 4096 // min(length, 8) ** 3
+        prices.append(200 * runs + weight * ((runs - more) * small**2 + more * (small + 1) ** 2))
+    return min(prices)
+
+
+def even_plan_of(literals, buckets=BUCKETS):
+    """The certificate of many literals of one length, in runs of one size: what `plan_of` answers, without its search."""
+    n, length = len(literals), len(literals[0])
+    rows = [[even_price(n - start, length, most) for start in range(n)] for most in range(1, buckets + 1)]
+    return [n * (run + 1) // buckets for run in range(buckets)], rows[-1][0], rows
 
 
 def spelled(certificate):
     """The text of a certificate."""
     ends, price, rows = certificate
-    lines = ["litcert 1", f"literals {len(rows[0])}", " ".join(["ends", *map(str, ends)]), f"cost {price}"]
+    first = next(line for line, buckets in VERSIONS.items() if buckets == len(rows))
+    lines = [first, f"literals {len(rows[0])}", " ".join(["ends", *map(str, ends)]), f"cost {price}"]
     lines += [" ".join(map(str, [number, *row])) for number, row in enumerate(rows, 1)]
     return "".join(line + "\n" for line in [*lines, "end"]).encode()
 
@@ -70,11 +93,13 @@ def line_of(line, front, greatest):
 def read_certificate(text):
     """The certificate in a text, or None where the text is no certificate."""
     lines = text.decode("latin-1").split("\n")
-    if len(lines) != 14 or lines[0] != "litcert 1" or lines[12:] != ["end", ""]:
+    buckets = VERSIONS.get(lines[0], 0)
+    if not buckets or len(lines) != buckets + 6 or lines[-2:] != ["end", ""]:
         return None
-    count, ends, price = line_of(lines[1], "literals", 1024), line_of(lines[2], "ends", 65535), line_of(lines[3], "cost", NUMBER_MAX)
-    rows = [line_of(line, str(number), NUMBER_MAX) for number, line in enumerate(lines[4:12], 1)]
-    if None in (count, ends, price, *rows) or len(count) != 1 or count[0] < 1 or len(ends) > BUCKETS or len(price) != 1:
+    count, ends = line_of(lines[1], "literals", MOST_LITERALS), line_of(lines[2], "ends", 65535)
+    price = line_of(lines[3], "cost", NUMBER_MAX)
+    rows = [line_of(line, str(number), NUMBER_MAX) for number, line in enumerate(lines[4:-2], 1)]
+    if None in (count, ends, price, *rows) or len(count) != 1 or count[0] < 1 or len(ends) > buckets or len(price) != 1:
         return None
     return (ends, price[0], rows) if all(len(row) == count[0] for row in rows) else None
 
@@ -90,7 +115,7 @@ def failure(literals, certificate):
     n = len(literals)
     if n == 0 or len(rows[0]) != n:
         return "length"
-    if not is_cut(ends, n):
+    if not is_cut(ends, n) or len(ends) > len(rows):
         return "ends"
     if sum(cost(literals, start, end) for start, end in zip([0, *ends], ends)) != price or rows[-1][0] != price:
         return "total"
@@ -98,7 +123,7 @@ def failure(literals, certificate):
         for p in range(n):
             if row[p] > cost(literals, p, n):
                 return f"end row {r} {p}"
-    for r in range(2, BUCKETS + 1):
+    for r in range(2, len(rows) + 1):
         for p in range(n):
             for q in range(p + 1, n):
                 if rows[r - 1][p] > cost(literals, p, q) + rows[r - 2][q]:

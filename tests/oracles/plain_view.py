@@ -4,6 +4,8 @@ from xml.sax.saxutils import escape
 
 from oracles import plain_plan
 
+# What even parts are called, by their number.
+EVEN = {8: "even eighths", 16: "even sixteenths"}
 HEADING = "bucket  literals  shortest  bytes  weight        cost    %   endings  first and last literal\n"
 
 
@@ -37,11 +39,11 @@ def endings(run, is_folded):
     return count
 
 
-def costs(literals):
-    """The cost of a list by its plan, in one bucket, and in even eighths."""
-    count, starts = len(literals), [k * len(literals) // 8 for k in range(9)]
+def costs(literals, buckets):
+    """The cost of a list by its plan, in one bucket, and in as many even parts as there are buckets."""
+    count, starts = len(literals), [k * len(literals) // buckets for k in range(buckets + 1)]
     even = sum(plain_plan.cost(literals, start, end) for start, end in zip(starts, starts[1:]) if start < end)
-    return plain_plan.plan_of(literals)[1], plain_plan.cost(literals, 0, count), even
+    return plain_plan.plan_of(literals, buckets)[1], plain_plan.cost(literals, 0, count), even
 
 
 def repeats(patterns, is_folded):
@@ -55,9 +57,9 @@ def repeats(patterns, is_folded):
     return found
 
 
-def runs_of(literals):
+def runs_of(literals, buckets):
     """The runs of a list's plan, each by its start and its end."""
-    ends = plain_plan.plan_of(literals)[0]
+    ends = plain_plan.plan_of(literals, buckets)[0]
     return list(zip([0, *ends], ends))
 
 
@@ -65,18 +67,18 @@ def weight(shortest):
     return 4096 // min(shortest, 8) ** 3
 
 
-def text_of(patterns, is_folded):
+def text_of(patterns, is_folded, buckets=8):
     """The text that `explain` prints for these patterns."""
     literals = plain_plan.literals_of(patterns, is_folded)
-    total, single, eighths = costs(literals)
+    total, single, even = costs(literals, buckets)
     lines = [HEADING]
-    for number, (start, end) in enumerate(runs_of(literals), 1):
+    for number, (start, end) in enumerate(runs_of(literals, buckets), 1):
         run = literals[start:end]
         shortest, cost = len(run[0]), plain_plan.cost(literals, start, end)
         lines.append(f"{number:6}{end - start:10}{shortest:10}{min(3, shortest):7}{weight(shortest):8}{cost:12}")
         lines.append(f"{cost * 100 // total:5}{endings(run, is_folded):10}  {shown(run[0])} to {shown(run[-1])}\n")
-    for name, cost in ("total", total), ("one bucket for all", single), ("even eighths", eighths):
-        lines.append(f"{name:41}{cost:12}{cost * 100 // total:5}\n")
+    for name, cost in ("total", total), ("one bucket for all", single), (EVEN[buckets], even):
+        lines.append(f"{name:41}{cost:12} {cost * 100 // total:4}\n")
     found = repeats(patterns, is_folded)
     lines.append(f"equal to an earlier line: {len(found)}\n")
     lines += [f"  line {later} is line {first} again\n" for later, first in found[:10]]
@@ -107,12 +109,12 @@ def bar(literals, number, start, end, total, highest):
     return text + "</g>\n"
 
 
-def drawing_of(patterns, is_folded):
+def drawing_of(patterns, is_folded, buckets=8):
     """The drawing that `explain --svg` prints for these patterns."""
     literals = plain_plan.literals_of(patterns, is_folded)
-    total, single, eighths = costs(literals)
-    runs = runs_of(literals)
+    total, single, even = costs(literals, buckets)
+    runs = runs_of(literals, buckets)
     highest = max(plain_plan.cost(literals, *run) for run in runs)
-    text = HEAD + f'<text x="40" y="24">cost {total}; one bucket for all {single}; even eighths {eighths}</text>\n'
+    text = HEAD + f'<text x="40" y="24">cost {total}; one bucket for all {single}; {EVEN[buckets]} {even}</text>\n'
     text += "".join(bar(literals, number, *run, total, highest) for number, run in enumerate(runs, 1))
     return (text + FOOT).encode()

@@ -11,12 +11,15 @@ from oracles import plain_plan
 PUBLISH, OPEN, FEED, CLOSE, SHOW_PLAN = range(1, 6)
 PUBLISHED, OPENED, HITS, FED, CLOSED, PLAN, REFUSED = range(0x11, 0x18)
 
-# Codes of a Refused, and the cause of a bad frame.
-TOO_MANY_PATTERNS, LITERAL_TOO_LONG, EMPTY_LITERAL, NO_LITERALS, TOO_MANY_LITERALS, BAD_FRAME = 2, 3, 4, 5, 6, 11
+# Codes of a Refused, and the cause of a bad frame. Code 6 is not answered any more.
+TOO_MANY_PATTERNS, LITERAL_TOO_LONG, EMPTY_LITERAL, NO_LITERALS, BAD_FRAME = 2, 3, 4, 5, 11
 STREAM_IN_USE, NO_SUCH_STREAM, NO_SUCH_PLAN, PLAN_QUOTA, STREAM_QUOTA = 12, 13, 14, 15, 16
 LENGTH, KIND, STREAM, PAYLOAD = range(1, 5)
 
-LITERAL_BYTES, RAW_LITERALS, LITERALS, PLANS, STREAMS, HITS_IN_FRAME = 4095, 4096, 1024, 64, 64, 4096
+LITERAL_BYTES, LITERALS, PLANS, STREAMS, HITS_IN_FRAME = 4095, 4096, 64, 64, 4096
+
+# Bits of the flags of a Publish and of a Plan. The other bits are 0.
+IGNORES_CASE, SIXTEEN_BUCKETS = 1, 2
 
 
 def frame(kind, stream, payload=b""):
@@ -24,9 +27,13 @@ def frame(kind, stream, payload=b""):
     return struct.pack(">IBI", 5 + len(payload), kind, stream) + payload
 
 
-def publish(literals, is_folded=False, stream=0, flags=None):
-    """A Publish. A stream other than 0, or other flags, make it a bad frame."""
-    front = struct.pack(">BH", is_folded if flags is None else flags, len(literals))
+def flags_of(is_folded, buckets):
+    return IGNORES_CASE * is_folded | SIXTEEN_BUCKETS * (buckets == 16)
+
+
+def publish(literals, is_folded=False, buckets=8, *, stream=0, flags=None):
+    """A Publish. A stream other than 0, or unknown flags, make it a bad frame."""
+    front = struct.pack(">BH", flags_of(is_folded, buckets) if flags is None else flags, len(literals))
     return frame(PUBLISH, stream, front + b"".join(struct.pack(">H", len(literal)) + literal for literal in literals))
 
 
@@ -67,7 +74,7 @@ def hits_replies(stream, hits):
 
 def literals_of(payload):
     """The literals in the payload of a Publish, or None where this is no such payload."""
-    if len(payload) < 3 or payload[0] > 1:
+    if len(payload) < 3 or payload[0] & ~(IGNORES_CASE | SIXTEEN_BUCKETS):
         return None
     found, at = [], 3
     for _ in range(int.from_bytes(payload[1:3], "big")):
@@ -117,17 +124,18 @@ def requests_of(text):
 
 
 @functools.lru_cache
-def shown(literals, is_folded):
+def shown(literals, is_folded, buckets):
     """The payload of a Plan."""
-    ends, price, _ = plain_plan.plan_of(literals)
-    return struct.pack(f">BHQB{len(ends)}H", is_folded, len(literals), price, len(ends), *ends)
+    ends, price, _ = plain_plan.plan_of(literals, buckets)
+    return struct.pack(f">BHQB{len(ends)}H", flags_of(is_folded, buckets), len(literals), price, len(ends), *ends)
 
 
 class Plan:
-    """Literals in their order, and whether ASCII case is ignored."""
+    """Literals in their order, whether ASCII case is ignored, and how many buckets there may be."""
 
-    def __init__(self, literals, is_folded):
-        self.literals, self.is_folded = tuple(plain_plan.literals_of(literals, is_folded)), is_folded
+    def __init__(self, literals, is_folded, buckets=8):
+        self.literals = tuple(plain_plan.literals_of(literals, is_folded))
+        self.is_folded, self.buckets = is_folded, buckets
 
     def hits(self, text, place):
         """The hits that end after a position: by their ends, then by literal."""
@@ -140,18 +148,18 @@ class Plan:
         return [(number, end) for end, number in sorted(found)]
 
 
-def refusal_of(literals, is_folded):
+def refusal_of(literals):
     """The refusal of the literals of a Publish: a code and its detail, or None."""
     if not literals:
         return NO_LITERALS, 0
-    if len(literals) > RAW_LITERALS:
+    if len(literals) > LITERALS:
         return TOO_MANY_PATTERNS, 0
     for place, literal in enumerate(literals):
         if not literal:
             return EMPTY_LITERAL, place
         if len(literal) > LITERAL_BYTES:
             return LITERAL_TOO_LONG, place
-    return (TOO_MANY_LITERALS, 0) if len(plain_plan.literals_of(literals, is_folded)) > LITERALS else None
+    return None
 
 
 class Session:
@@ -172,19 +180,19 @@ class Session:
             return self.on_feed(stream, payload)
         if kind == SHOW_PLAN:
             plan = self.streams[stream][0]
-            return [frame(PLAN, stream, shown(plan.literals, plan.is_folded))]
+            return [frame(PLAN, stream, shown(plan.literals, plan.is_folded, plan.buckets))]
         del self.streams[stream]
         return [frame(CLOSED, stream)]
 
     def on_publish(self, payload, number):
-        literals, is_folded = literals_of(payload), payload[0] == 1
+        literals, flags = literals_of(payload), payload[0]
         if self.plans_published == PLANS:
             return refused(0, PLAN_QUOTA)
-        refusal = refusal_of(literals, is_folded)
+        refusal = refusal_of(literals)
         if refusal:
             return refused(0, *refusal)
         self.plans_published += 1
-        self.store[number] = Plan(literals, is_folded)
+        self.store[number] = Plan(literals, bool(flags & IGNORES_CASE), 16 if flags & SIXTEEN_BUCKETS else 8)
         return published(number)
 
     def on_open(self, stream, number):

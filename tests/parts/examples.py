@@ -1,13 +1,16 @@
 """The example programs of docs/LIBRARY.md: their output, compared with a plain search and a plain plan."""
 
 import itertools
+import os
 import random
 import subprocess
 import tempfile
 
 from oracles import plain_plan
 from support.programs import lay_out, program_at
+from support.shim import built_shim, taken
 
+NEEDS = "example_scan", "example_check"
 SECONDS = 60
 
 
@@ -50,6 +53,48 @@ def scans():
         yield f"example_scan of {patterns!r:.60} in {text!r:.40}", got, (0, found(patterns, text))
 
 
+LONGEST = b"a" * 4095
+
+
+def starved(folder, text, refused):
+    """How example_scan ends that searches a text for the longest literal, and reads it by one byte less, where this growth of
+    memory is refused; and whether any was."""
+    mark = os.path.join(folder, "mark")
+    env = dict(os.environ, LD_PRELOAD=os.path.join(folder, "refuse.so"), REFUSED=refused, REFUSED_MARK=mark, REFUSED_PIECE=str(len(LONGEST) - 1))
+    got = subprocess.run([program_at("example_scan"), "patterns"], input=text, capture_output=True, timeout=SECONDS, cwd=folder, env=env)
+    return (got.returncode, got.stdout, got.stderr), taken(mark) is not None
+
+
+def growths_of(folder, text):
+    """The number of growths of memory in a run: the greatest that can be refused."""
+    least, most = 0, 1 << 20
+    while least < most:
+        middle = (least + most + 1) // 2
+        least, most = (middle, most) if starved(folder, text, f"growth-{middle}")[1] else (least, middle - 1)
+    return least
+
+
+def carried():
+    """A scan needs no memory but for hits: all but the last byte of the longest literal is fed where each growth is refused
+    once the scan is made. With the last byte it is found."""
+    with tempfile.TemporaryDirectory() as folder:
+        built_shim(folder)
+        lay_out(folder, {"patterns": LONGEST + b"\n"})
+        made = growths_of(folder, b"")
+        yield "there are growths before a scan", made > 0, True
+        yield "the growths of 4,094 bytes", growths_of(folder, LONGEST[1:]), made
+        found, refused = (0, found_line(), b""), f"growth-{made + 1}-on"
+        yield "4,094 bytes without memory", starved(folder, LONGEST[1:], refused), ((0, b"", b""), False)
+        yield "4,095 bytes with memory", starved(folder, LONGEST, "none")[0], found
+        (status, output, _), was_refused = starved(folder, LONGEST, refused)
+        yield "4,095 bytes without memory", (status, output, was_refused), (1, b"", True)
+
+
+def found_line():
+    """The line about the longest literal, where a text begins with it."""
+    return b"0 %s 1\n" % LONGEST
+
+
 def checks():
     """example_check accepts a right certificate, and refuses a wrong one."""
     literals = plain_plan.literals_of([b"he", b"his", b"she", b"hers"], False)
@@ -74,4 +119,4 @@ def usages():
         yield f"{name} {words}", (got.returncode, got.stdout, got.stderr), (1, b"", wanted)
 
 
-TESTS = (scans, checks, usages)
+TESTS = (scans, carried, checks, usages)

@@ -10,7 +10,7 @@ import re
 import subprocess
 import tempfile
 
-from support.programs import TOP
+from support.programs import BIN, TOP
 
 DOCUMENTS = ("README.md", "docs/GUIDE.md")
 # Ends the output of a command, and leaves its status as it is.
@@ -47,12 +47,12 @@ def commands_in(lines):
 def printed(section, commands):
     """What each command of a section prints, in a folder of its own."""
     with tempfile.TemporaryDirectory() as folder:
-        for name in "bin", "clients":
-            os.symlink(os.path.join(TOP, name), os.path.join(folder, name))
+        os.symlink(BIN, os.path.join(folder, "bin"))
+        os.symlink(os.path.join(TOP, "clients"), os.path.join(folder, "clients"))
         for name, text in re.findall(r"^```python (\S+)\n(.*?)^```$", section, re.M | re.S):
             with open(os.path.join(folder, name), "w") as file:
                 file.write(text)
-        env = dict(os.environ, PATH=os.path.join(TOP, "bin") + os.pathsep + os.environ["PATH"])
+        env = dict(os.environ, PATH=BIN + os.pathsep + os.environ["PATH"])
         script = MARK + "".join(f"{command}\nmark\n" for command, _ in commands)
         how = {"cwd": folder, "env": env, "stdin": subprocess.DEVNULL, "stderr": subprocess.STDOUT}
         shown = subprocess.run(["bash", "-c", script], stdout=subprocess.PIPE, timeout=60, **how).stdout

@@ -3,6 +3,9 @@
 from support.programs import cut_to, run_in_folder
 
 NO_PATTERN = b"litgrep: no pattern given\n"
+NO_TEXT = b"litgrep: a word is not UTF-8\n"
+UNNAMED = b"litgrep: caf\\xe9: cannot be read\n"
+NAMES = {"f": b"cat\n", "caf\udce9": b"1 cat\n", "g": b"2 cat\n"}
 MISSING = b"litgrep: missing: cannot be read\n"
 
 # Each row: files by name, the words of litgrep, standard input; standard output, standard error, status. Words name files
@@ -19,7 +22,8 @@ GREPS = [
     ({}, ["\n" * 4096], b"x\n", b"", b"litgrep: patterns refused (2)\n", 2),
     ({}, ["\n" * 4095], b"x\n", b"x\n", b"", 0),
     ({}, ["a" * 4096], b"x\n", b"", b"litgrep: patterns refused (3)\n", 2),
-    ({}, ["\n".join(map(str, range(1025)))], b"x\n", b"", b"litgrep: patterns refused (6)\n", 2),
+    ({}, ["\n".join(map(str, range(1025)))], b"x\n1024\n", b"1024\n", b"", 0),
+    ({}, ["-x", "\n".join(map(str, range(4096)))], b"x\n4095\n4096\n", b"4095\n", b"", 0),
     ({}, ["-i", "\n".join(map(str, range(1024))) + "\n7\n9"], b"12\n", b"12\n", b"", 0),
     ({}, ["cat"], b"\0cat\r\n\r\n", b"\0cat\r\n", b"", 0),
     ({}, [], b"", b"", NO_PATTERN, 2),
@@ -27,7 +31,25 @@ GREPS = [
     ({}, ["-F", "-c"], b"", b"", NO_PATTERN, 2),
     ({}, ["-z", "a"], b"a\n", b"", b"error: unexpected argument '-z' found...", 2),
     ({}, ["--help"], b"", b"", b"litgrep writes the lines...", 2),
-    ({}, [b"\xff"], b"", b"", b"litgrep: a word is not UTF-8\n", 2),
+    ({}, [b"\xff"], b"", b"", NO_TEXT, 2),
+    # words that are not UTF-8: a file to search is passed over, any other word ends the run
+    (NAMES, ["cat", "f", b"caf\xe9", "g"], b"", b"f:cat\ng:2 cat\n", UNNAMED, 2),
+    (NAMES, ["-n", b"caf\xe9", "-e", "cat", "f"], b"", b"f:1:cat\n", UNNAMED, 2),
+    (NAMES, ["-s", "-c", "cat", "f", b"caf\xe9"], b"", b"f:1\n", b"", 2),
+    (NAMES, ["-q", "cat", b"caf\xe9", "f"], b"", b"", UNNAMED, 0),
+    (NAMES, ["cat", b"caf\xe9"], b"cat\n", b"", UNNAMED, 2),
+    (NAMES, ["cat", b"caf\xe9", "-", b"caf\xe9"], b"3 cat\n", b"(standard input):3 cat\n", UNNAMED * 2, 2),
+    ({}, ["cat", "--", b"-\xe9", b"--\xe9"], b"", b"", b"litgrep: -\\xe9: cannot be read\nlitgrep: --\\xe9: cannot be read\n", 2),
+    ({}, ["cat", b"a\\b \xc3\xa9\xff"], b"", b"", b"litgrep: a\\\\b \\xc3\\xa9\\xff: cannot be read\n", 2),
+    ({"f": b"cat\n"}, ["cat", "f", b"\xff" * 100000], b"", b"f:cat\n", b"litgrep: " + b"\\xff" * 100000 + b": cannot be read\n", 2),
+    ({"caf\\xe9": b"cat\n"}, ["cat", "caf\\xe9"], b"", b"cat\n", b"", 0),
+    *(({"f": b"cat\n"}, words, b"", b"", NO_TEXT, 2) for words in (
+        [b"\xff", "f"], ["-e", b"\xff", "f"], ["-e", b"-\xff", "f"], [b"-e\xff", "f"], [b"-ie\xff", "f"], ["--regexp", b"\xff"],
+        [b"--regexp=\xff", "f"], ["-e", "cat", "-f", b"\xff", "f"], [b"-f\xff", "f"], ["cat", b"-\xff", "f"], ["cat", b"--\xff", "f"],
+        ["cat", "f", b"-n\xff"], ["-e", "cat", "-e", "--", b"-\xff"], ["--", b"\xff", "f"],
+    )),
+    ({}, ["-z", b"\xff"], b"", b"", b"error: unexpected argument '-z' found...", 2),
+    ({}, ["-F", "-e", "cat", "--help", b"\xff"], b"", b"", b"litgrep writes the lines...", 2),
     # long spellings
     ({}, ["--count", "--ignore-case", "--regexp=CAT"], b"cat\n", b"1\n", b"", 0),
     ({"-v": b"dog\n"}, ["--line-number", "--regexp", "-n", "--file", "-v"], b"a-n\ndog\n", b"1:a-n\n2:dog\n", b"", 0),

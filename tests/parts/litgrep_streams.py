@@ -11,14 +11,36 @@ UNREADABLE = b"litgrep: (standard input): cannot be read\n"
 MANY = b"".join(b"%d cat\n%d dog\n" % (n, n) for n in range(9000))
 
 
+def long_lines():
+    """Lines that one read of 64 KiB does not hold, before, after and around its end, and without a newline at theirs."""
+    for size in 65530, 65535, 65536, 65537, 131072, 300000:
+        line = b"x" * (size - 3) + b"cat"
+        for end in b"\n", b"":
+            yield f"a line of {size} bytes, then {end}", run(["-n", "cat"], b"dog\n" + line + end), (0, b"2:" + line + b"\n", b"")
+            yield f"a line of {size} bytes, then {end}, counted", run(["-c", "cat"], line + end), (0, b"1\n", b"")
+            yield f"a line of {size} bytes, then {end}, with -v", run(["-v", "dog"], line + end), (0, line + b"\n", b"")
+            yield f"a line of {size} bytes, then {end}, not selected", run(["-v", "cat"], b"a\n" + line + end), (0, b"a\n", b"")
+            yield f"a line of {size} bytes before the whole line cat, then {end}", run(["-x", "cat"], line + b"\ncat" + end), (0, b"cat\n", b"")
+
+
+def long_inputs():
+    """32 MiB of lines."""
+    lines = b"a cat\nno dog\nthe end\n"
+    count = (32 << 20) // len(lines)
+    yield "32 MiB, counted", run(["-c", "cat"], lines * count), (0, b"%d\n" % count, b"")
+
+
 def edges():
     """Streams that are full, closed, very long, or a folder."""
     lines = b"".join(line + b"\n" for line in MANY.split(b"\n") if b"7 cat" in line)
     yield "a long input", run(["7 cat"], MANY), (0, lines, b"")
     mebibyte = b"x" * (1 << 20) + b" cat\n"
     yield "a line of a mebibyte", run(["cat"], mebibyte + b"dog\n"), (0, mebibyte, b"")
+    yield from long_lines()
+    yield from long_inputs()
     with open("/dev/full", "wb") as full:
         yield "a full device", run(["cat"], b"cat\n", stdout=full), (2, None, b"")
+        yield "a folder, counted on a full device", run(["-c", "cat", "/"], stdout=full), (2, None, b"")
     no_output, no_input = {"preexec_fn": lambda: os.close(1)}, {"preexec_fn": lambda: os.close(0)}
     yield "a closed output", run(["cat"], b"cat\n", **no_output), (2, b"", b"")
     yield "a closed output, not used", run(["cat"], b"dog\n", **no_output), (1, b"", b"")
@@ -44,6 +66,12 @@ def streams():
         program.stdin.close()
         yield "the end of a stream", program.wait(30), 0
     for words, shown in (["-q", "cat"], b""), (["-l", "cat"], b"(standard input)\n"):
+        with subprocess.Popen([LITGREP, *words], **pipes) as program:
+            program.stdin.write(b"cat\n")
+            program.stdin.flush()
+            has_ended = bool(select.select([program.stdout], [], [], 30)[0])
+            yield f"{words} of an input that stays open", has_ended and (program.stdout.read(), program.wait(30)), (shown, 0)
+            program.stdin.close()
         with subprocess.Popen(["yes", "cat"], stdout=subprocess.PIPE, stderr=subprocess.DEVNULL) as endless:
             yield f"{words} of an endless input", run(words, endless.stdout), (0, shown, b"")
             endless.kill()
@@ -82,7 +110,7 @@ def prompt():
 
 
 def own_outputs():
-    """A file that is also standard output counts as missing, under any name, where lines go there; else it is read."""
+    """A file that is also standard output counts as missing, under any name and as standard input, where lines go there."""
     with tempfile.TemporaryDirectory() as folder:
         whole = os.path.join(folder, "all")
         refused = b"litgrep: %s: cannot be read\n"
@@ -94,7 +122,13 @@ def own_outputs():
             (["-c", "cat", "all", "f"], 0, b"", b"all:1\nf:1\n"),
             (["-l", "cat", "all", "f"], 0, b"", b"all\nf\n"),
             (["-q", "cat", "all"], 0, b"", b""),
-            (["-v", "cat", "-"], 1, b"", b""),
+            (["-v", "dog"], 2, UNREADABLE, b""),
+            (["cat", "f", "-", "g"], 2, UNREADABLE, b"f:cat\ng:2 cat\n"),
+            (["-s", "cat", "-", "f"], 2, b"", b"f:cat\n"),
+            (["cat", "/dev/stdin"], 2, refused % b"/dev/stdin", b""),
+            (["-c", "cat"], 0, b"", b"1\n"),
+            (["-l", "cat", "-"], 0, b"", b"(standard input)\n"),
+            (["-q", "cat"], 0, b"", b""),
         ):
             lay_out(folder, {"f": b"cat\n", "g": b"2 cat\n", "all": b"old cat\n"})
             if not os.path.exists(whole.replace("all", "link")):
@@ -103,8 +137,20 @@ def own_outputs():
                 got = run(words, given, cwd=folder, stdout=out)
             with open(whole, "rb") as file:
                 yield f"{words} >> all", (*got, file.read()), (status, None, messages, b"old cat\n" + added)
-        with open("/dev/null", "wb") as out:
-            yield "a device for both", run(["cat", "/dev/null"], stdout=out), (1, None, b"")
+        with open(os.path.join(folder, "f"), "rb") as given, open(whole, "ab") as out:
+            yield "another file as input", run(["cat"], given, stdout=out), (0, None, b"")
+        with open("/dev/null", "r+b") as both:
+            yield "a device for both", run(["cat", "/dev/null"], both, stdout=both), (1, None, b"")
+            yield "a device as input too", run(["cat"], both, stdout=both), (1, None, b"")
 
 
-TESTS = (edges, streams, prompt, own_outputs)
+def batches():
+    """Names from `find`, of which one is not UTF-8: all other files are searched."""
+    with tempfile.TemporaryDirectory() as folder:
+        lay_out(folder, {"f": b"cat\n", "caf\udce9": b"cat\n", "g": b"2 cat\n"})
+        script = f"find . -type f -print0 | sort -z | xargs -0 '{LITGREP}' cat"
+        shown = run(["-c", script], program="bash", cwd=folder)
+        yield "a batch of names", shown, (123, b"./f:cat\n./g:2 cat\n", b"litgrep: ./caf\\xe9: cannot be read\n")
+
+
+TESTS = (edges, streams, prompt, own_outputs, batches)

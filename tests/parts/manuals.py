@@ -1,4 +1,4 @@
-"""Help, manuals and completions: same options and commands, true examples, one version; installing and removing them."""
+"""Help, manuals and completions: same options and commands, true examples, one version."""
 
 import glob
 import os
@@ -6,9 +6,8 @@ import re
 import shlex
 import shutil
 import subprocess
-import tempfile
 
-from support.programs import TOP, program_at
+from support.programs import TOP, program_at, version
 
 PROGRAMS = ("litgrep", "litplan", "scand")
 
@@ -201,53 +200,25 @@ def examples():
 
 def versions():
     """Each program, each page, and the first heading of the changelog have the version of the code."""
-    version = re.search(r'VERSION: &str = "(.*)"', text_of("crates", "program_words", "src", "reading.rt"))[1]
     for program in PROGRAMS:
-        yield f"{program} --version", ran(program_at(program), "--version"), (2, "", f"{program} {version}\n")
+        yield f"{program} --version", ran(program_at(program), "--version"), (2, "", f"{program} {version()}\n")
     for page in sorted(os.listdir(os.path.join(TOP, "man"))):
         head = re.search(r"^\.TH .*", text_of("man", page), re.M)[0]
         name, section = page.upper().rsplit(".", 1)
         dated = re.fullmatch(rf'\.TH {name} {section} "\w+ \d+, \d+" "Fiolargu (.*)"', head)
-        yield f"the version of {page}", dated and dated[1], version
-    yield "the version of the last changes", re.search(r"^## (\S+)", text_of("CHANGELOG.md"), re.M)[1], version
+        yield f"the version of {page}", dated and dated[1], version()
+    yield "the version of the last changes", re.search(r"^## (\S+)", text_of("CHANGELOG.md"), re.M)[1], version()
 
 
-def files_below(folder):
-    """The files below a folder, each with its rights."""
-    found = {}
-    for parent, _, names in os.walk(folder):
-        for name in names:
-            path = os.path.join(parent, name)
-            found[os.path.relpath(path, folder)] = oct(os.stat(path).st_mode & 0o777)
-    return found
+def surprises():
+    """What surprised readers stands where they look first."""
+    front = text_of("man", "scand-protocol.7").partition(".TS")[0]
+    yield "the deadlock, before the frames", "Read while you write." in front, True
+    front = manual_of("scand").partition(".SH DESCRIPTION")[2].partition(".PP")[0]
+    yield "how many connections, in the first paragraph", ("in its whole life" in front, "scand.socket" in front), (True, True)
+    for program in PROGRAMS:
+        statuses = re.search(r"^\.SH EXIT STATUS\n((?:(?!\.SH).*\n)*)", manual_of(program), re.M)[1]
+        yield f"statuses of {program}", re.findall(r"^\.TP\n\.B (\d+)", statuses, re.M), ["0", "1", "2", "127"]
 
 
-def to_install():
-    """The files to install, each with its rights."""
-    share = {f"share/man/man{page[-1]}/{page}" for page in os.listdir(os.path.join(TOP, "man"))}
-    share |= {f"share/bash-completion/completions/{program}" for program in PROGRAMS}
-    share |= {f"share/zsh/site-functions/_{program}" for program in PROGRAMS}
-    share |= {f"share/fish/vendor_completions.d/{program}.fish" for program in PROGRAMS}
-    return {**dict.fromkeys(share, "0o644"), **{f"bin/{program}": "0o755" for program in PROGRAMS}}
-
-
-def installing():
-    """make installs programs without symbols, manuals and completions, and removes exactly these files."""
-    env = {name: value for name, value in os.environ.items() if not name.startswith("MAKE")}
-    with tempfile.TemporaryDirectory() as folder:
-        below = os.path.join(folder, "a b", "usr")
-        make = ["make", "-s", "-C", TOP, "PREFIX=/usr", f"DESTDIR={folder}/a b"]
-        yield "make install", ran(*make, "install", env=env), (0, "", "")
-        yield "what is installed", files_below(below), to_install()
-        for program in PROGRAMS:
-            path = os.path.join(below, "bin", program)
-            with open(path, "rb") as file:
-                yield f"{program} without symbols", b".symtab\0" in file.read(), False
-            yield f"{program} as installed", ran(path, "--version"), ran(program_at(program), "--version")
-        with open(os.path.join(below, "bin", "other"), "w"):
-            os.chmod(os.path.join(below, "bin", "other"), 0o600)
-        yield "make uninstall", ran(*make, "uninstall", env=env), (0, "", "")
-        yield "the remaining files", files_below(below), {"bin/other": "0o600"}
-
-
-TESTS = (options, commands, words_in_bash, pages, examples, versions, installing)
+TESTS = (options, commands, words_in_bash, pages, surprises, examples, versions)

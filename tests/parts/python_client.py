@@ -20,9 +20,11 @@ FOUND = [Hit(0, 4), Hit(2, 4), Hit(3, 6)]
 def frames():
     """The client sends the frames of the model."""
     for literals in [], [b"cat"], [b"", b"a" * 4096], session_cases.PAIRS, [b"a"] * 4097:
-        for is_folded in False, True:
-            got = scand_client.publish_frame(literals, is_folded)
-            yield f"a Publish of {len(literals)}", got, sessions.publish(literals, is_folded)
+        for is_folded, buckets in (False, 8), (True, 8), (False, 16), (True, 16):
+            got = scand_client.publish_frame(literals, is_folded, buckets)
+            yield f"a Publish of {len(literals)} by {buckets}", got, sessions.publish(literals, is_folded, buckets)
+    for buckets in 0, 7, 9, 32:
+        yield f"a Publish by {buckets}", fault_of(scand_client.publish_frame, [b"a"], buckets=buckets)[0], "ValueError"
     yield "an Open", scand_client.open_frame(7, 1 << 63), sessions.open_stream(7, 1 << 63)
     yield "a full Feed", scand_client.feed_frame(0xFFFFFFFF, b"a" * 65536), sessions.feed(0xFFFFFFFF, b"a" * 65536)
     yield "a Feed too large", fault_of(scand_client.feed_frame, 0, bytes(65537))[0], "ValueError"
@@ -41,11 +43,12 @@ def talk(way, client):
     with client.open(plan) as first, client.open(plan.number, 0xFFFFFFFF) as second:
         yield f"{way}: hits", (first.feed(b"ush"), first.feed(b"ers"), first.place), ([], FOUND, 6)
         yield f"{way}: hits across pieces", list(second.scan([b"u", b"sh", b"", b"ers"])), FOUND
-        yield f"{way}: a plan shown", first.show_plan(), PlanShown(False, 4, price, tuple(ends))
+        yield f"{way}: a plan shown", first.show_plan(), PlanShown(False, 4, price, tuple(ends), 8)
         yield f"{way}: numbers of streams", (first.number, second.number), (0, 0xFFFFFFFF)
     with client.open(client.publish([b"Cat", b"cAT", b"dog"], ignore_case=True), 0) as third:
         yield f"{way}: case ignored", third.feed(b"CAT DOG"), [Hit(0, 3), Hit(1, 7)]
         yield f"{way}: its plan", third.show_plan()[:2], (True, 2)
+    yield from sixteen(way, client)
     with client.open(client.publish(MANY)) as fourth:
         count = sum(1 for _ in fourth.scan([b"a" * 100000], ahead=3))
         yield f"{way}: many hits", (count, fourth.place), (12 * 100000 - 66, 100000)
@@ -57,6 +60,17 @@ def talk(way, client):
         yield f"{way}: a scan left", fourth.feed(b"a")[0], Hit(0, place + 1)
     client.close()
     yield f"{way}: a stream of a closed client", fault_of(fourth.feed, b"a")[0], "ConnectionLost"
+
+
+def sixteen(way, client):
+    """Plans of sixteen buckets."""
+    ends, price, _ = plain_plan.plan_of(session_cases.LETTERS, 16)
+    for is_folded in False, True:
+        plan = client.publish(session_cases.LETTERS, ignore_case=is_folded, buckets=16)
+        with client.open(plan) as stream:
+            yield f"{way}: hits by sixteen", stream.feed(b"xaxi"), [Hit(0, 2), Hit(8, 4)]
+            shown = PlanShown(is_folded, 9, price, tuple(ends), 16)
+            yield f"{way}: a plan of sixteen shown", (plan.buckets, stream.show_plan()), (16, shown)
 
 
 def talks():
@@ -78,7 +92,7 @@ def refusals():
             ([], ("NoLiterals", 0)),
             ([b"a", b""], ("EmptyLiteral", 1)),
             ([b"a", b"b", b"a" * 4096], ("LiteralTooLong", 2)),
-            (session_cases.DIFFERENT, ("TooManyLiterals", 0)),
+            (session_cases.DIFFERENT, ("TooManyPatterns", 0)),
             ([b"a"] * 4097, ("TooManyPatterns", 0)),
         ):
             yield f"a Publish of {literals!r:.40}", fault_of(client.publish, literals), want
@@ -118,7 +132,7 @@ def random_talks():
 def over(peer, timeout=SECONDS):
     """A client over a socket."""
     peer.setblocking(False)
-    return Client(scand_client._Link(peer.recv, peer.send, peer.fileno(), peer.fileno()), peer.close, timeout)
+    return Client(scand_client.Link(peer.recv, peer.send, peer.fileno(), peer.fileno()), peer.close, timeout)
 
 
 def asks_all(client):
@@ -251,7 +265,7 @@ class Cut:
             child.kill()
             child.communicate()
 
-        return Client(scand_client._Link(take, give, reader, writer), leave, SECONDS)
+        return Client(scand_client.Link(take, give, reader, writer), leave, SECONDS)
 
 
 def resumed(literals, is_folded, pieces, ahead, *limits):

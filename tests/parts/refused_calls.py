@@ -1,7 +1,7 @@
-"""Programs whose growths of memory, reads, writes and threads are refused in turn, by the shim refuse.c.
+"""Programs with growths of memory, reads, writes and threads refused, by the shim refuse.c: rows, and a sample.
 
 Each run must end as if nothing were refused, or with exactly the refusal that docs/FORMATS.md names and a prefix of its
-own output. `python3 tests/refused_calls.py` prints a table of all runs."""
+own output. `python3 tests/refused_calls.py` refuses each call in turn and prints a table."""
 
 import concurrent.futures
 import contextlib
@@ -15,6 +15,7 @@ from typing import NamedTuple, Sequence
 
 from cases import refused_runs
 from cases.refused_runs import ROWS, RUNS, Ending, Run, are_prefixes
+from support import sampling
 from support.programs import lay_out
 from support.shim import built, built_shim, taken
 
@@ -115,18 +116,32 @@ def swept(bench, words, stdin, made, sweep):
     return found, ended(bench, words, stdin, made, piece)[0]
 
 
+class Bench(NamedTuple):
+    """A folder with the shim, and the processes that run sweeps side by side."""
+
+    folder: str
+    pool: concurrent.futures.Executor
+
+    def words_of(self, run, sweep):
+        """The words of the call that runs a sweep."""
+        return self.folder, run.words, run.stdin, run.made, sweep
+
+    def endings(self, jobs):
+        """All of some jobs with their endings, in order."""
+        return zip(jobs, self.pool.map(swept, *zip(*itertools.starmap(self.words_of, jobs))))
+
+    def sampled(self, jobs):
+        """The same for as many jobs as are begun in the time of a sample."""
+        return sampling.sampled(self.pool, swept, ((job, self.words_of(*job)) for job in jobs))
+
+
 @contextlib.contextmanager
 def bench():
-    """A folder with the shim, and a function that runs sweeps in parallel and answers them in order."""
+    """Makes a bench."""
     with tempfile.TemporaryDirectory() as folder:
         built_shim(folder)
         with concurrent.futures.ProcessPoolExecutor(os.cpu_count()) as pool:
-
-            def endings(jobs):
-                each = [(folder, run.words, run.stdin, run.made, sweep) for run, sweep in jobs]
-                return zip(jobs, pool.map(swept, *zip(*each)))
-
-            yield folder, endings
+            yield Bench(folder, pool)
 
 
 # The right endings after a refusal.
@@ -211,10 +226,10 @@ class Seen(NamedTuple):
     is_right: bool
 
 
-def seen(endings, runs):
+def seen(bench, runs):
     """All endings of each sweep of some runs."""
     jobs = [(run, sweep) for run in runs for sweep in sweeps_of(run)]
-    for (run, sweep), (found, last) in endings(jobs):
+    for (run, sweep), (found, last) in bench.endings(jobs):
         whole = run.answer({})
         is_right = judge_of(run, whole, sweep)
         for number, got in found:
@@ -228,15 +243,37 @@ def name_of(run):
     return f"{words:.60} on {run.stdin!r:.20}"
 
 
-def refusals():
-    """The rows, and each ending of each sweep."""
-    with bench() as (folder, endings):
+def rows():
+    """The rows."""
+    with bench() as made:
         for run, refused, wanted in ROWS:
-            got = ended(folder, run.words, run.stdin, run.made, {"REFUSED": refused})
+            got = ended(made.folder, run.words, run.stdin, run.made, {"REFUSED": refused})
             yield f"{name_of(run)}, {refused}", got, (wanted, True)
-        for one in seen(endings, RUNS):
-            name = f"{name_of(one.run)}, {one.sweep} {one.number} refused"
-            yield name, one.got, one.got if one.is_right else (one.whole, "or an ending that is right for the refusal")
+
+
+def checked(endings):
+    """The checks of sweeps that each refuse some calls and then none."""
+    for (run, sweep), (found, last) in endings:
+        whole = run.answer({})
+        yield f"{name_of(run)}, {sweep}", last, whole
+        is_right = judge_of(run, whole, sweep)
+        for number, got in found:
+            yield f"{name_of(run)}, {sweep} {number} refused", got, got if is_right(number, got) else (whole, "or a refusal")
+
+
+def drawn(source):
+    """Sweeps without end, each of one call, drawn by chance."""
+    while True:
+        run = source.choice(RUNS)
+        sweep = source.choice(list(sweeps_of(run)))
+        number = sweep.numbers[sampling.place_in(source, len(sweep.numbers))]
+        yield run, sweep._replace(numbers=[number])
+
+
+def sample():
+    """Calls drawn by chance from all sweeps."""
+    with bench() as made:
+        yield from checked(made.sampled(drawn(sampling.source_of("refused_calls"))))
 
 
 # The mistakes of mistaken.c, and for each some sweeps that find it. Each kind of sweep finds a mistake.
@@ -261,11 +298,11 @@ MISTAKES = {
 def mistakes():
     """The sweeps find each mistake, and find nothing in a program without mistakes."""
     found = {mistake: set() for mistake in MISTAKES}
-    with bench() as (folder, endings):
-        fake = built(folder, "mistaken.c", "mistaken", "-fno-builtin")
+    with bench() as made:
+        fake = built(made.folder, "mistaken.c", "mistaken", "-fno-builtin")
         texts = b"what is copied, in four pieces.", b""
         runs = [refused_runs.copied(fake, mistake, text) for mistake in MISTAKES for text in texts]
-        for one in seen(endings, runs):
+        for one in seen(made, runs):
             if not one.is_right:
                 found[one.run.words[1]].add(str(one.sweep))
     for mistake, wanted in MISTAKES.items():
@@ -284,14 +321,8 @@ def random_refusals():
         kind, farthest = source.choice(list(FARTHEST.items()))
         suffix = source.choice(["", "-on"]) if kind not in ("given", "room", "interrupt", "cut") else ""
         jobs.append((run, Sweep(kind, [source.randrange(1, farthest)], suffix, source.choice([0, 0, 7, 50]))))
-    with bench() as (_, endings):
-        for (run, sweep), (found, last) in endings(jobs):
-            whole = run.answer({})
-            is_right = judge_of(run, whole, sweep)
-            name = f"{name_of(run)}, {sweep}"
-            yield name, last, whole
-            for number, got in found:
-                yield f"{name} {number} refused", got, got if is_right(number, got) else (whole, "or a refusal")
+    with bench() as made:
+        yield from checked(made.endings(jobs))
 
 
-TESTS = (mistakes, refusals, random_refusals)
+TESTS = (mistakes, rows, sample, random_refusals)

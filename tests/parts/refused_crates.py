@@ -1,8 +1,10 @@
-"""The check of tests/refused_crates.py, on a program of tests with mistakes.
+"""The tests of crates with growths of memory refused: a sample of tests/refused_crates.py, and its check of mistakes.
 
 tests/refused_crates.py runs each test of a crate with its growths of memory refused in turn, by the shim refuse.c. A test
-must pass, or report that memory ran out. No other answer may take the place of that report."""
+must pass, or report that memory ran out. No other answer may take the place of that report. The sample needs the programs
+that the gate or `rt test` leaves in the crates."""
 
+import concurrent.futures
 import itertools
 import os
 import re
@@ -10,6 +12,7 @@ import subprocess
 import tempfile
 from typing import NamedTuple
 
+from support import sampling
 from support.programs import TOP
 from support.shim import built, built_shim, taken
 
@@ -31,10 +34,12 @@ ALSO_STARVED = {
 ANSWER_NONE = re.compile(
     "flow_scan::tests::.*"
     "|base_tests::(costs|lit_lists|raw_lists)::.*"
-    "|search_tests::(automata|scanning|windows)::.*"
+    "|filter_tests::(automata|windows)::.*"
+    "|search_tests::scanning::.*"
     "|search_tests::picking::(finding::.*|names_its_faults|numbers::.*|whole_lines::selects_.*)"
     "|serve_tests::sessions::opens_.*_published"
-    "|serve_tests::stores::(finds_.*_published|shows_in_one_thread_what_another_published|tells_two_threads_two_numbers)"
+    "|plan_tests::plan_files::reads_nine_letters_.*"
+    "|plan_tests::stores::(finds_.*_published|shows_in_one_thread_what_another_published|tells_two_threads_two_numbers)"
     "|mistaken::answers none"
 )
 NO_VALUE = re.compile(rb"left: None\n right: Some\(")
@@ -43,14 +48,14 @@ NO_VALUE = re.compile(rb"left: None\n right: Some\(")
 LEFT_OUT = {
     "search_tests::parts::runs_two_workers_at_once",
     "search_tests::parts::runs_sixteen_workers_at_once",
-    "serve_tests::stores::finds_what_eight_threads_published",
+    "plan_tests::stores::finds_what_eight_threads_published",
 }
 # Tests that may pass where all growths after one are refused. They do without a thread that does not start, and the first
 # and the last want to find nothing at their ends.
 MAY_PASS = {
     "search_tests::parts::finds_the_worked_hits",
-    "serve_tests::stores::finds_in_each_of_two_threads_what_the_other_published",
-    "serve_tests::stores::shows_in_one_thread_what_another_published",
+    "plan_tests::stores::finds_in_each_of_two_threads_what_the_other_published",
+    "plan_tests::stores::shows_in_one_thread_what_another_published",
 }
 
 
@@ -72,6 +77,11 @@ class Test(NamedTuple):
 def program_of(crate):
     """The program of tests that `rt test` leaves in a crate."""
     return os.path.join(TOP, "crates", crate, "out", f"{crate}_tests")
+
+
+def crates_with_tests():
+    """The crates with a program of tests."""
+    return [crate for crate in sorted(os.listdir(os.path.join(TOP, "crates"))) if os.path.exists(program_of(crate))]
 
 
 def tests_of(program):
@@ -117,12 +127,49 @@ def swept(folder, test, suffix, seconds=SECONDS):
         number = number + 1 if number < FIRST else int(number * FACTOR)
 
 
+def allowed_of(test, suffix):
+    """How a test may end where a growth is refused. It may ask again for memory and pass, except where all later growths are
+    refused."""
+    return ["starved"] if suffix and test.path not in MAY_PASS else ["starved", "own"]
+
+
 def wrong_of(test, found, last, suffix):
-    """The growths at whose refusal a test ends wrongly. A test may ask again for memory and pass, except where all later
-    growths are refused."""
-    allowed = ["starved"] if suffix and test.path not in MAY_PASS else ["starved", "own"]
-    wrong = [(number, how) for number, how in found if how not in allowed]
+    """The growths at whose refusal a test ends wrongly."""
+    wrong = [(number, how) for number, how in found if how not in allowed_of(test, suffix)]
     return wrong + [(None, last)] * (last != "own")
+
+
+def job_of(folder, test, suffix, number, seconds=SECONDS):
+    """A test with a growth that is refused, and the words of the call that runs it."""
+    return (test, suffix, number), (folder, test, f"growth-{number}{suffix}", seconds)
+
+
+def drawn(source, folder, tests):
+    """Such jobs without end, drawn by chance."""
+    while True:
+        test, suffix = source.choice(tests), source.choice(["", "-on"])
+        yield job_of(folder, test, suffix, 1 + sampling.place_in(source, FIRST_OF_LONG if LONG.fullmatch(test.path) else FIRST))
+
+
+def checked(jobs, seconds):
+    """Each job that is begun in this time, how it ended and how it may end. A test that has no growth of its number has to
+    pass."""
+    with concurrent.futures.ProcessPoolExecutor(os.cpu_count()) as pool:
+        for job, (how, was_refused) in sampling.sampled(pool, ended, jobs, seconds):
+            yield job, how, allowed_of(*job[:2]) if was_refused else ["own"]
+
+
+def sample():
+    """Growths drawn by chance from all tests of all crates."""
+    tests = [test for crate in crates_with_tests() for test in tests_of(program_of(crate))]
+    if not tests:
+        print("refused_crates: no crate has a program of tests to sample; the gate and `make sweep` leave them")
+        return
+    with tempfile.TemporaryDirectory() as folder:
+        built_shim(folder)
+        jobs = drawn(sampling.source_of("refused_crates"), folder, tests)
+        for (test, suffix, number), how, allowed in checked(jobs, sampling.SECONDS):
+            yield f"{test.path}, growth{suffix} {number} refused", how, how if how in allowed else allowed
 
 
 # The tests of mistaken_tests.c that end rightly. "asks again" does so where it then gets memory.
@@ -140,4 +187,14 @@ def mistakes():
             yield f"the mistaken test {test.name!r}, growth{suffix}", [number for number, _ in found], wanted
 
 
-TESTS = (mistakes,)
+def sampled_mistakes():
+    """A sample finds them too."""
+    with tempfile.TemporaryDirectory() as folder:
+        built_shim(folder)
+        program = built(folder, "mistaken_tests.c", "mistaken_tests", "-fno-builtin")
+        jobs = [job_of(folder, test, suffix, 1, 1) for test, suffix in itertools.product(tests_of(program), RIGHT)]
+        for (test, suffix, _), how, allowed in checked(jobs, SECONDS):
+            yield f"a sample of the mistaken test {test.name!r}, growth{suffix}", how in allowed, test.name in RIGHT[suffix]
+
+
+TESTS = (mistakes, sampled_mistakes, sample)

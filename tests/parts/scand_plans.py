@@ -3,28 +3,30 @@
 import os
 import select
 import socket
+import struct
 import subprocess
 import tempfile
 
-from cases.session_cases import FIRST_THREE, PUBLISH_CAT
+from cases.session_cases import FIRST_THREE, LETTERS, PUBLISH_CAT
 from oracles import plain_plan
 from oracles.plain_plan_file import file_fields, number
-from oracles.sessions import Plan, conversation, feed, open_stream, publish, show_plan
+from oracles.sessions import PLAN, Plan, conversation, feed, frame, open_stream, publish, show_plan
 from support.programs import lay_out
 from support.servers import NEEDED, SCAND, SECONDS, Server, ended, free_port, lines
 
 A = [b"a"], False
 WORDS = [b"He", b"she", b"HE", b"his"], True
 ANIMALS = [b"cat", b"dog", b"horse"], False
+SIXTEEN = [b"%c" % letter for letter in range(97, 117)], False, 16
 
 
-def file_of(*lists):
-    """The plan file of some lists. A list is its patterns, and whether case is ignored."""
+def file_of(*lists, version=2):
+    """The plan file of some lists. A list is its patterns, whether case is ignored, and 16 where it has so many buckets."""
     plans = []
-    for patterns, is_folded in lists:
+    for patterns, is_folded, *buckets in lists:
         literals = plain_plan.literals_of(patterns, is_folded)
-        plans.append((literals, is_folded, plain_plan.plan_of(literals)))
-    return b"".join(file_fields(plans))
+        plans.append((literals, is_folded, plain_plan.plan_of(literals, *buckets)))
+    return b"".join(file_fields(plans, version))
 
 
 def store_of(*lists):
@@ -77,11 +79,14 @@ def rows():
     yield "a first plan after a file of none", served(FIRST_THREE, {"f": file_of()}, STDIO), outcome(FIRST_THREE)
     yield "two plans", served(BOTH, {"f": file_of(A, WORDS)}, STDIO), outcome(BOTH, A, WORDS)
     yield "two plans, in another order", served(BOTH, {"f": file_of(WORDS, A)}, STDIO), outcome(BOTH, WORDS, A)
+    got = served(BOTH, {"f": file_of(A, WORDS, version=1)}, STDIO)
+    yield "two plans in a file of version 1", got, outcome(BOTH, A, WORDS)
     yield "one plan twice", served(BOTH, {"f": file_of(A, A)}, STDIO), outcome(BOTH, A, A)
     many = [([b"%d" % place, b"end"], place % 2 == 1) for place in range(64)]
     text = b"".join(open_stream(place, place) + feed(place, b"1, 12, 63 END") for place in range(64)) + publish([b"new"])
     yield "as many plans as a file may have", served(text, {"f": file_of(*many)}, STDIO), outcome(text, *many)
     yield "the file, ahead of the other words", served(BANANA, {"f": file_of(A)}, ["--plans=f", "--stdio"]), outcome(BANANA, A)
+    yield from sixteen_rows()
     words = [*STDIO, "--port", "1", "--connections", "1"]
     yield "a port that counts for nothing", served(BANANA, {"f": file_of(A)}, words), outcome(BANANA, A)
     yield "a truncated session", served(BANANA[:-1], {"f": file_of(A)}, STDIO), outcome(BANANA[:-1], A)
@@ -90,13 +95,51 @@ def rows():
     yield "no file called -", served(file_of(A), {}, ["--stdio", "--plans", "-"]), (2, b"", unread("-"))
 
 
+def sixteen_rows():
+    """Plans of sixteen buckets: each shows up to sixteen ends, beside plans of eight buckets."""
+    letters = publish(LETTERS, True, 16)
+    text = open_stream(7, 0) + feed(7, b"xatat") + show_plan(7) + letters + open_stream(8, 1) + show_plan(8) + feed(8, b"XI")
+    got = served(text, {"f": file_of(SIXTEEN)}, STDIO)
+    yield "a file of a plan of sixteen buckets", got, outcome(text, SIXTEEN)
+    plan = frame(PLAN, 7, struct.pack(">BHQB", 2, 20, plain_plan.plan_of(SIXTEEN[0], 16)[1], 16))
+    yield "its sixteen ends", plan[9:] in got[1], True
+    text = b"".join(open_stream(place, place) + feed(place, b"usHERSat") + show_plan(place) for place in range(3))
+    files = {"f": file_of(WORDS, SIXTEEN, A)}
+    yield "plans of both kinds", served(text, files, STDIO), outcome(text, WORDS, SIXTEEN, A)
+
+
+def several():
+    """Several files: the numbers go on from file to file, and the first that is refused ends the run."""
+    two = {"f": file_of(A), "g": file_of(WORDS)}
+    got = served(BOTH, two, [*STDIO, "--plans", "g"])
+    yield "two files", got, outcome(BOTH, A, WORDS)
+    yield "two files, in another order", served(BOTH, two, ["--plans", "g", *STDIO]), outcome(BOTH, WORDS, A)
+    yield "a file twice", served(BOTH, two, [*STDIO, "--plans=f"]), outcome(BOTH, A, A)
+    empty = {**two, "h": file_of()}
+    words = ["--plans", "h", *STDIO, "--plans", "h", "--plans", "g"]
+    yield "files of no plans between two", served(BOTH, empty, words), outcome(BOTH, A, WORDS)
+    many = {name: file_of(*[([b"%s%d" % (name.encode(), place)], False) for place in range(64)]) for name in "abc"}
+    lists = [([b"%s%d" % (name.encode(), place)], False) for name in "abc" for place in range(64)]
+    text = b"".join(open_stream(stream, 3 * stream) + feed(stream, b"a0 a63 b1 b40 c3 c60 c63") for stream in range(64))
+    words = ["--stdio", "--plans", "a", "--plans", "b", "--plans", "c"]
+    yield "three files of 64 plans", served(text, many, words), outcome(text, *lists)
+    after_one = plan_lines(1)
+    missing = served(BANANA, {"f": file_of(A), "g": b""}, [*STDIO, "--plans", "x", "--plans", "g"])
+    yield "a second file that is not there", missing, (2, b"", after_one + unread("x"))
+    wrong = served(BANANA, {**two, "x": b"LPLF"}, [*STDIO, "--plans", "x", "--plans", "g"])
+    yield "a second file that is no plan file", wrong, (2, b"", after_one + refused("x", 10))
+    first = served(BANANA, two, ["--stdio", "--plans", "x", "--plans", "f"])
+    yield "a first file that is not there", first, (2, b"", unread("x"))
+
+
 def refusals():
     """Files that are missing, cannot be read or are no plan files: nothing is served."""
     one, two = file_of(A), file_of(ANIMALS, A)
     for name, text in (
         ("an empty file", b""),
         ("another magic", b"\0" + one[1:]),
-        ("another version", one[:5] + b"\2" + one[6:]),
+        ("another version", one[:5] + b"\3" + one[6:]),
+        ("sixteen buckets in a file of version 1", file_of(SIXTEEN, version=1)),
         ("65 plans", one[:6] + number(65, 2) + one[8:] + one[8:] * 64),
         ("a second plan with another cost", two[:-72] + number(4297, 8) + two[-64:]),
         ("a plan less than announced", one[:6] + number(2, 2) + one[8:]),
@@ -119,7 +162,7 @@ def orders():
     good = {"f": file_of(A)}
     yield "a missing option", served(b"", {}, ["--plans", "f"]), (2, b"", NEEDED)
     yield "a missing number", served(b"", good, ["--plans", "f", "--port", "5000"]), (2, b"", NEEDED)
-    for words in ["--stdio", "--plans"], [*STDIO, "--plans", "f"], [*STDIO, "-z"], ["--stdio", "--plans", "f", "x"]:
+    for words in ["--stdio", "--plans"], [*STDIO, "--plans"], [*STDIO, "-z"], ["--stdio", "--plans", "f", "x"]:
         got = served(b"", good, words)
         yield f"scand {words}", (*got[:2], got[2][:7]), (2, b"", b"error: ")
     with socket.create_server(("127.0.0.1", 0)) as taken:
@@ -178,4 +221,4 @@ def connections():
         yield "a port and no file", (done.returncode, done.stdout, done.stderr), (2, b"", unread(name + "x"))
 
 
-TESTS = (rows, refusals, orders, before_serving, connections)
+TESTS = (rows, several, refusals, orders, before_serving, connections)

@@ -2,15 +2,19 @@
 
 import contextlib
 import os
+import re
 import resource
 import socket
 import subprocess
+import tempfile
 import threading
 import time
 
 from cases.session_cases import CAT_IN_7, FEED_CONCAT, FIRST_THREE, PUBLISH_CAT, THEIR_REPLIES
-from oracles.sessions import OPENED, PUBLISHED, REFUSED, close, feed, frame, open_stream, publish, refused, replies_of, show_plan
-from support.servers import BROKEN, COSTLIEST, NEEDED, SCAND, SECONDS, Client, Server, lines, sends_deafly
+from oracles import plain_plan
+from oracles.plain_plan_file import file_fields
+from oracles.sessions import FED, HITS, OPENED, PUBLISHED, REFUSED, close, feed, frame, open_stream, publish, refused, replies_of, show_plan
+from support.servers import BROKEN, COSTLIEST, NEEDED, SCAND, SECONDS, Client, Server, ended, lines, sends_deafly
 
 MOST = 64
 
@@ -20,7 +24,8 @@ def usages():
     for words, stderr in (
         (["--port", "5000"], NEEDED),
         (["--connections", "2"], NEEDED),
-        (["--port", "0", "--connections", "1"], b"error: "),
+        (["--port", "0"], NEEDED),
+        (["--port", "-1", "--connections", "1"], b"error: "),
         (["--port", "65536", "--connections", "1"], b"error: "),
         (["--port", "x", "--connections", "1"], b"error: "),
         (["--port", "5000", "--connections", "0"], b"error: "),
@@ -50,6 +55,48 @@ def lone():
         client.sends(FIRST_THREE)
         yield "a connection before a full device", client.leaves(), THEIR_REPLIES
         yield "a full device", server.ends(), (2, None, b"")
+
+
+CHOOSING = [SCAND, "--port", "0", "--connections", "1"]
+PIPES = {"stdout": subprocess.PIPE, "stderr": subprocess.PIPE}
+
+
+def port_in(line):
+    """The port in the line of the server about the port that the system chose, 0 if it is no such line."""
+    found = re.fullmatch(rb"scand: port ([1-9][0-9]*)\n", line)
+    return int(found[1]) if found else 0
+
+
+def chosen():
+    """Port 0: the system chooses a port, which the server reports before it serves; two servers get two ports."""
+    with subprocess.Popen(CHOOSING, **PIPES) as one, subprocess.Popen(CHOOSING, **PIPES) as other:
+        ports = [port_in(program.stderr.readline()) for program in (one, other)]
+        yield f"two ports, {ports}", (0 not in ports, len(set(ports))), (True, 2)
+        for program, port in zip((one, other), ports):
+            with Client(port, {}) as client:
+                client.sends(FIRST_THREE)
+                yield "a connection to a chosen port", client.leaves(), THEIR_REPLIES
+            yield "the end at a chosen port", ended(program), (0, lines(["clean"]), b"")
+    with open("/dev/full", "wb") as full:
+        done = subprocess.run(CHOOSING, stdout=subprocess.PIPE, stderr=full, timeout=SECONDS)
+        yield "a port that cannot be reported is not served", (done.returncode, done.stdout), (2, b"")
+
+
+def chosen_with_plans():
+    """The line about the port follows the lines about the plans of a file."""
+    with tempfile.NamedTemporaryFile() as file:
+        literals = plain_plan.literals_of([b"cat"], False)
+        file.write(b"".join(file_fields([(literals, False, plain_plan.plan_of(literals))], 2)))
+        file.flush()
+        with subprocess.Popen([*CHOOSING, "--plans", file.name], **PIPES) as program:
+            yield "the plan first", program.stderr.readline(), b"scand: plan 0\n"
+            port = port_in(program.stderr.readline())
+            yield "and then the port", port != 0, True
+            with Client(port, {}) as client:
+                client.sends(open_stream(7, 0) + FEED_CONCAT)
+                replies = replies_of(client.leaves())[0]
+                yield "a plan of the file, at a chosen port", [reply[4] for reply in replies], [OPENED, HITS, FED]
+            yield "the end with a plan", ended(program), (0, lines(["clean"]), b"")
 
 
 class Shared:
@@ -137,6 +184,36 @@ def many_plans():
         for client in clients:
             client.socket.close()
         yield "the end of many plans", server.ends(), (0, lines(["clean"] * 8), b"")
+
+
+def refused_publishes():
+    """A refused Publish stores nothing: the next number follows the last one, and no other number has a plan."""
+    with Server(2) as server, server.client() as full, server.client() as other:
+        for place in range(64):
+            got, want = full.asks(publish([bytes([place])]))
+            if got != want:
+                yield f"plan {place}", got, want
+        yield "a Publish past the quota", *full.asks(publish([b"more"]))
+        yield "a Publish of an empty literal", *other.asks(publish([b"a", b""]))
+        yield "a Publish of no literal", *other.asks(publish([]))
+        got, want = other.asks(publish([b"next"]))
+        yield "a Publish after them", got, want
+        yield "its number", int.from_bytes(got[0][9:], "big"), 64
+        yield "no later number", *other.asks(open_stream(1, 65))
+        yield "the ends", (full.leaves(), other.leaves()), (b"", b"")
+        yield "the end after refusals", server.ends(), (0, lines(["clean"] * 2), b"")
+
+
+def reopened():
+    """The number of another session has one plan, however often a stream is opened by it and closed."""
+    with Server(2) as server, server.client() as owner, server.client() as stranger:
+        for literal in b"cat", b"dog", b"cow":
+            yield f"Publish {literal}", *owner.asks(publish([literal, b"end"]))
+        for turn, number in enumerate((1, 0, 2, 1, 1, 2, 0)):
+            for request in open_stream(1, number), feed(1, b"cat dog cow"), show_plan(1), close(1):
+                yield f"turn {turn}, {request.hex():.40}", *stranger.asks(request)
+        yield "the ends", (owner.leaves(), stranger.leaves()), (b"", b"")
+        yield "the end of both", server.ends(), (0, lines(["clean"] * 2), b"")
 
 
 def idle():
@@ -297,4 +374,4 @@ def threads():
         yield "each connection's word", (len(words), [word for word, some in zip(words, allowed) if word not in some]), (MOST, [])
 
 
-TESTS = (usages, lone, at_once, many_plans, idle, hostile, crowd, late, descriptors, threads)
+TESTS = (usages, chosen, chosen_with_plans, lone, at_once, many_plans, refused_publishes, reopened, idle, hostile, crowd, late, descriptors, threads)

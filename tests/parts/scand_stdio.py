@@ -15,11 +15,14 @@ import tempfile
 from cases import session_cases
 from cases.session_cases import CAT_IN_7, CLOSE_7, FEED_CONCAT, FIRST_THREE, OPEN_7, PUBLISH_CAT, SHOW_PLAN_7, THEIR_REPLIES
 from oracles.sessions import HITS, close, conversation, fed, feed, frame, hits_replies, open_stream, publish, refused, requests_of
+from support.programs import TOP
 from support.servers import COSTLIEST, NEEDED, NO_END, SCAND, SECONDS, SERVER, ended
 
 # The room of a read: the server holds the frame that has begun, up to a multiple of this number of its bytes.
 ROOM = 4096
 SESSIONS = 10000
+# Sessions of a client of release 0.1, and the replies of its server.
+FIRST_RELEASE = os.path.join(TOP, "tests", "cases", "frames_0_1")
 
 
 def served(text, **how):
@@ -103,6 +106,23 @@ def model():
     for name, text, replies, ending in session_cases.ROWS:
         got, ended = conversation(text)
         yield f"the model on {name}", (b"".join(got), ended), (replies, ending)
+
+
+def recorded(name):
+    """The bytes of a file of the first release's frames."""
+    with open(os.path.join(FIRST_RELEASE, name), "rb") as file:
+        return file.read()
+
+
+def first_release():
+    """A client of release 0.1, which knows nothing of sixteen buckets, gets the replies that it got then."""
+    for name, ending in ("bad_frame", "bad"), ("cat", "clean"), ("cut", "truncated"), ("refusals", "clean"), ("two_plans", "clean"):
+        text, replies = recorded(f"{name}.requests"), recorded(f"{name}.replies")
+        got, ended = conversation(text)
+        yield f"the model on {name} of release 0.1", (b"".join(got), ended), (replies, ending)
+        want = (int(ending != "clean"), replies, b"")
+        yield f"{name} of release 0.1", served(text), want
+        yield f"{name} of release 0.1, byte by byte", in_pieces(text, [1] * len(text)), want
 
 
 def places(text):
@@ -336,11 +356,13 @@ def in_turn(rng, texts, sizes):
 
 def long_session(seed):
     """A session whose streams are long enough that the server tunes itself. It feeds two plans one after the other and in
-    turn, and a plan of two literals. Texts change their kind, and a stream is opened again by another plan."""
+    turn, and a plan of two literals. Texts change their kind, and a stream is opened again by another plan. An odd seed
+    asks for sixteen buckets."""
     rng = random.Random(seed)
     lines, figures = text_of(rng, LINE_WORDS, 1 << 20), text_of(rng, FIGURES, 1 << 19)
     lists = [literals_from(rng, lines, 40, 5), literals_from(rng, figures, 40, 4), [b"search", b"ation"]]
-    yield b"".join(publish(literals, is_folded) for literals, is_folded in zip(lists, (False, True, False)))
+    buckets = 16 if seed % 2 else 8
+    yield b"".join(publish(literals, is_folded, buckets) for literals, is_folded in zip(lists, (False, True, False)))
     yield b"".join(open_stream(stream, number) for stream, number in ((1, 0), (2, 1), (3, 0), (4, 2)))
     yield from in_turn(rng, {1: lines}, [65536])
     yield from in_turn(rng, {2: figures * 4 + lines}, [65536])
@@ -358,4 +380,4 @@ def long_streams():
         yield f"hits in long streams of seed {seed}", len(replies) > 1 << 19, True
 
 
-TESTS = (words, model, rows, cuts, waits, halves, costliest, each_end_once, long_streams, faults, random_serving)
+TESTS = (words, model, first_release, rows, cuts, waits, halves, costliest, each_end_once, long_streams, faults, random_serving)

@@ -1,18 +1,26 @@
-"""The programs in bin/, and how the tests run them."""
+"""The programs to test, in bin/ or the folder that PROGRAMS names, and how the tests run them."""
 
 import os
+import re
 import subprocess
 import tempfile
 
 TOP = os.path.dirname(os.path.dirname(os.path.dirname(os.path.abspath(__file__))))
+BIN = os.path.abspath(os.environ.get("PROGRAMS", os.path.join(TOP, "bin")))
 
 
 def program_at(name):
     """Where a program is."""
-    return os.path.join(TOP, "bin", name)
+    return os.path.join(BIN, name)
 
 
 LITGREP, LITPLAN = program_at("litgrep"), program_at("litplan")
+
+
+def version():
+    """The version of the programs, in their source."""
+    with open(os.path.join(TOP, "crates", "program_words", "src", "reading.rt"), encoding="utf-8") as file:
+        return re.search(r'VERSION: &str = "(.*)"', file.read())[1]
 
 
 def run(words, stdin=b"", **how):

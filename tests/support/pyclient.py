@@ -8,8 +8,8 @@ from support.programs import TOP
 
 PYTHON = os.path.join(TOP, "clients", "python")
 sys.path.insert(0, PYTHON)
-import scand_client  # noqa: E402, F401
-from scand_client import Client, ConnectionLost, Hit, PlanShown, Resumed  # noqa: E402, F401
+from fiolargu import scand as scand_client  # noqa: E402, F401
+from fiolargu.scand import Client, ConnectionLost, Hit, PlanShown, Resumed  # noqa: E402, F401
 
 PRONOUNS = [b"he", b"his", b"she", b"hers"]
 # The hits of a full Feed by this list take more than pipes and sockets hold.

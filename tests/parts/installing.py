@@ -1,0 +1,129 @@
+"""make install and make uninstall, with stand-ins for the programs: which files, their rights, where units find `scand`."""
+
+import os
+import subprocess
+import tempfile
+
+from support.programs import TOP
+
+PROGRAMS = ("litgrep", "litplan", "scand")
+# What needs no list: folders of the repository, and where their files go.
+WHOLE = {
+    "completions/bash": "share/bash-completion/completions",
+    "completions/zsh": "share/zsh/site-functions",
+    "completions/fish": "share/fish/vendor_completions.d",
+    "deploy/systemd": "lib/systemd/system",
+    "deploy/dask": "share/fiolargu/deploy/dask",
+    "deploy/haproxy": "share/fiolargu/deploy/haproxy",
+    "deploy/nginx": "share/fiolargu/deploy/nginx",
+    "deploy/rsyslog": "share/fiolargu/deploy/rsyslog",
+    "clients/rust/src": "share/fiolargu/clients/rust/src",
+    "clients/rust/tests": "share/fiolargu/clients/rust/tests",
+    "docs": "share/doc/fiolargu/docs",
+}
+SCRIPTS = "share/fiolargu/deploy/parallel/part.sh", "share/fiolargu/deploy/rsyslog/tag_messages.py"
+CLIENTS = (
+    "c/find.c", "c/scan.c", "c/scand.h", "python/scan_files.py", "python/scand_client.py", "python/pyproject.toml", "rust/Cargo.toml", "rust/build.rs",
+)
+
+
+def ran(*words, **how):
+    """Runs a command. Answers its status, output and messages."""
+    done = subprocess.run(words, capture_output=True, text=True, timeout=120, **how)
+    return done.returncode, done.stdout, done.stderr
+
+
+def stand_ins(folder):
+    """Puts a small program with symbols into a folder under the name of each program."""
+    source = os.path.join(folder, "main.c")
+    with open(source, "w") as file:
+        file.write("int main(void) { return 0; }\n")
+    for program in PROGRAMS:
+        subprocess.run(["cc", "-g", "-o", os.path.join(folder, program), source], check=True)
+
+
+def files_below(folder):
+    """The files below a folder, each with its rights."""
+    found = {}
+    for parent, _, names in os.walk(folder):
+        for name in names:
+            path = os.path.join(parent, name)
+            found[os.path.relpath(path, folder)] = oct(os.lstat(path).st_mode & 0o777)
+    return found
+
+
+def in_folder(name, *endings):
+    """The names of a folder of the repository, or those that end so."""
+    return [file for file in os.listdir(os.path.join(TOP, name)) if file.endswith(endings or "")]
+
+
+def to_install():
+    """The files to install, each with its rights."""
+    share = {f"{to}/{name}" for folder, to in WHOLE.items() for name in in_folder(folder) if name != "__pycache__"}
+    share |= {f"share/man/man{page[-1]}/{page}" for page in in_folder("man")}
+    share |= {f"share/fiolargu/clients/{name}" for name in CLIENTS} | {"share/fiolargu/tools/scand.lua"}
+    share |= {f"share/doc/fiolargu/{name}" for name in in_folder(".", ".md")}
+    share |= {f"share/doc/fiolargu/bench/{name}" for name in in_folder("bench", ".md", ".svg")}
+    executable = {f"bin/{program}" for program in PROGRAMS} | {*SCRIPTS}
+    return {**dict.fromkeys(share, "0o644"), **dict.fromkeys(executable, "0o755")}
+
+
+def without_libraries(files):
+    """The files, except libraries."""
+    left_out = "include/", "lib/lib", "lib/pkgconfig/", "lib/glibc-hwcaps/", "share/fiolargu/clients/python/fiolargu/"
+    return {name: mode for name, mode in files.items() if not name.startswith(left_out)}
+
+
+def has_symbols(*path):
+    """Whether a program has symbols."""
+    with open(os.path.join(*path), "rb") as file:
+        return b".symtab\0" in file.read()
+
+
+def text_of(*path):
+    """The text of a file."""
+    with open(os.path.join(*path)) as file:
+        return file.read()
+
+
+def installing():
+    """make installs exactly these files, without symbols, and removes exactly these files."""
+    env = {name: value for name, value in os.environ.items() if not name.startswith("MAKE")}
+    with tempfile.TemporaryDirectory() as folder:
+        stand_ins(folder)
+        below = os.path.join(folder, "a b", "usr")
+        make = ["make", "-s", "-C", TOP, f"BIN={folder}", "PREFIX=/usr", f"DESTDIR={folder}/a b"]
+        for _ in range(2):
+            yield "make install", ran(*make, "install", env=env), (0, "", "")
+            yield "what is installed", without_libraries(files_below(below)), to_install()
+        yield "symbols", [has_symbols(below, "bin", program) for program in PROGRAMS], [False] * 3
+        yield "make install with symbols", ran(*make, "INSTALL_STRIP=", "install", env=env), (0, "", "")
+        yield "kept symbols", [has_symbols(below, "bin", program) for program in PROGRAMS], [True] * 3
+        for name in in_folder("deploy/systemd", ".service"):
+            yield f"the folder in {name}", "ExecStart=/usr/bin/scand " in text_of(below, "lib/systemd/system", name), True
+        with open(os.path.join(below, "bin", "other"), "w"):
+            os.chmod(os.path.join(below, "bin", "other"), 0o600)
+        yield "make uninstall", ran(*make, "uninstall", env=env), (0, "", "")
+        yield "the remaining files", files_below(below), {"bin/other": "0o600"}
+        folders = [name for name in ("fiolargu", "doc/fiolargu") if os.path.isdir(f"{below}/share/{name}")]
+        yield "the remaining folders of its own", folders, []
+
+
+def moved():
+    """The folders can be chosen one by one."""
+    env = {name: value for name, value in os.environ.items() if not name.startswith("MAKE")}
+    with tempfile.TemporaryDirectory() as folder:
+        stand_ins(folder)
+        dirs = [f"{name}={folder}/to/{name}" for name in ("BINDIR", "UNITDIR", "DOCDIR", "PREFIX")]
+        make = ["make", "-s", "-C", TOP, f"BIN={folder}", *dirs]
+        yield "make install", ran(*make, "install", env=env), (0, "", "")
+        yield "BINDIR", sorted(os.listdir(f"{folder}/to/BINDIR")), sorted(PROGRAMS)
+        yield "UNITDIR", sorted(os.listdir(f"{folder}/to/UNITDIR")), sorted(in_folder("deploy/systemd"))
+        unit = text_of(f"{folder}/to/UNITDIR", "scand@.service")
+        yield "BINDIR in a unit", f"ExecStart={folder}/to/BINDIR/scand --stdio" in unit, True
+        yield "DOCDIR", os.path.isfile(f"{folder}/to/DOCDIR/docs/GUIDE.md"), True
+        yield "make uninstall", ran(*make, "uninstall", env=env), (0, "", "")
+        yield "the remaining files", files_below(f"{folder}/to"), {}
+
+
+TESTS = (installing, moved)
