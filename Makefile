@@ -3,21 +3,31 @@
 #
 #   make                    the programs, in bin/, for the processor level of this machine; -j proves crates side by side
 #   make CPU=x86-64-v2      the same for any processor of the last fifteen years
+#   make VERBOSE=1          the programs, with the prover's output as it comes
 #   make check              proves and tests everything from nothing, then runs the tests of the programs that this built
 #   make test               the programs' tests alone, over what `make` builds
+#   make dist               packs the programs into dist/ for machines without the kit; it needs a processor of level x86-64-v3
 #   make check-deploy       tries what is in clients/, tools/ and deploy/, with Debian's packages, on this machine
+#   make check-dist         makes dist/, installs the package in a bare Debian, uses it and purges it; as root
+#   make sweep              refuses each growth, read, write and thread of the programs and of the crates' tests; `make test`
+#                           draws a sample of them
 #   make mutants            tries every wrong body that the contracts are to refuse, for more than an hour
 #   make soak MINUTES=..    the scan server under load, hostile connections among it, for some minutes
 #   make bench              the programs that measure, in bin/
 #   make examples           the programs to copy from, in bin/
-#   make install PREFIX=..  copies what was built into PREFIX/bin, manuals and completions into PREFIX/share
-#   make uninstall ..       removes these files again
+#   make library            the C library, in lib/ and include/; `make install` installs it if it is there
+#   make install PREFIX=..  installs programs, manuals, completions, clients, systemd units and documents below PREFIX; BINDIR,
+#                           UNITDIR, DOCDIR and DESTDIR are as usual, and INSTALL_STRIP= keeps the programs' symbols
+#   make installcheck ..    the programs' tests over the installed programs, without the kit
+#   make uninstall ..       removes what was installed
 
 PROGRAMS = litgrep litplan scand
 MEASURES = bench_check bench_lanes bench_scan
 PROBES = plan_probe
 EXAMPLES = example_scan example_check
 PREFIX = /usr/local
+# The folder of the programs that are installed.
+BIN = bin
 
 # What a processor of level x86-64-v3 says of itself.
 V3_FLAGS = avx2 bmi1 bmi2 f16c fma abm movbe
@@ -26,7 +36,8 @@ CPU := $(if $(filter-out $(shell grep -m1 '^flags' /proc/cpuinfo),$(V3_FLAGS)),x
 # tools/build.py proves crates side by side and says why that needs copies of the tree. Its processors are those of -j, or
 # all. It proves again only what changed.
 JOBS = $(filter -j%,$(MAKEFLAGS))
-build = tools/build.py --cpu $(CPU) $(JOBS) $(1)
+build_for = tools/build.py --cpu $(1) $(JOBS) $(if $(VERBOSE),--verbose) $(2)
+build = $(call build_for,$(CPU),$(1))
 
 all:
 	@$(call build,$(PROGRAMS))
@@ -34,20 +45,30 @@ all:
 # A probe is a program that only the tests ask. The tests run the examples too.
 TRIED = $(PROGRAMS) $(PROBES) $(EXAMPLES)
 
-# The programs as the gate proved and built them: another build would prove each crate once more. The next `make` builds
-# its own.
+# The programs and the C library as the gate proved and built them: another build would prove each crate once more. The
+# next `make` builds its own.
 check:
 	rt ci
 	@mkdir -p bin
 	cp $(foreach program,$(TRIED),crates/$(program)/out/$(program)) bin/
+	tools/library.py --v2 crates/fiolargu/out --v3 crates/fiolargu/out
 	python3 tests/run.py
 
-test:
+test: library
 	@$(call build,$(TRIED))
 	python3 tests/run.py
 
 check-deploy: all
 	python3 tests/deploy.py
+
+# The crates with tests; `rt test` leaves their programs of tests.
+TESTED = base_tests byte_io filter_tests flow_scan grep_tests line_pick plan_tests search_tests serve_tests
+
+sweep:
+	@$(call build,$(PROGRAMS))
+	for crate in $(TESTED); do (cd crates/$$crate && rt test) || exit 1; done
+	python3 tests/refused_crates.py $(TESTED)
+	python3 tests/refused_calls.py
 
 # The gate tries the wrong bodies that tell most, in crates/*/must-fail/; this tries those of mutants/ too, on a copy.
 mutants:
@@ -63,34 +84,48 @@ soak:
 bench:
 	@$(call build,$(MEASURES) $(PROBES))
 
+# The C library for both processor levels. tools/library.py makes the archive, the shared objects and what pkg-config reads.
+library:
+	@$(call build_for,x86-64-v2,--into out/library/v2 fiolargu)
+	@$(call build_for,x86-64-v3,--into out/library/v3 fiolargu)
+	tools/library.py --v2 out/library/v2 --v3 out/library/v3
+
 # Programs that use the libraries, to copy from; docs/LIBRARY.md goes through them.
 examples:
 	@$(call build,$(EXAMPLES))
 
-# What is installed: files, each with its folder below PREFIX behind a colon.
-BINARIES = $(PROGRAMS:%=bin/%:bin)
-TEXTS = $(foreach page,$(wildcard man/*.[1-8]),$(page):share/man/man$(patsubst .%,%,$(suffix $(page)))) \
-	$(patsubst %,%:share/bash-completion/completions,$(wildcard completions/bash/*)) \
-	$(patsubst %,%:share/zsh/site-functions,$(wildcard completions/zsh/*)) \
-	$(patsubst %,%:share/fish/vendor_completions.d,$(wildcard completions/fish/*))
+# tools/install.py has the table of what is installed.
+INSTALL_STRIP = -s
+BINDIR = $(PREFIX)/bin
+LIBDIR = $(PREFIX)/lib
+UNITDIR = $(LIBDIR)/systemd/system
+PYTHONDIR = $(PREFIX)/share/fiolargu/clients/python
+DOCDIR = $(PREFIX)/share/doc/fiolargu
+install_to = tools/install.py --prefix '$(PREFIX)' --destdir '$(DESTDIR)' --bindir '$(BINDIR)' --libdir '$(LIBDIR)' \
+	--unitdir '$(UNITDIR)' --pythondir '$(PYTHONDIR)' --docdir '$(DOCDIR)' --programs '$(BIN)'
 
-file_of = $(firstword $(subst :, ,$(1)))
-target_of = '$(DESTDIR)$(PREFIX)/$(lastword $(subst :, ,$(1)))/$(notdir $(file_of))'
-define put
-install -D $(2) $(file_of) $(target_of)
-
-endef
-
-# What was built is taken as it is, for whatever processor, without its symbols; what was not is built.
+# What was built is taken as it is, for whatever processor; what was not is built.
 install:
-	$(if $(filter-out $(wildcard bin/*),$(PROGRAMS:%=bin/%)),@$(call build,$(PROGRAMS)))
-	$(foreach binary,$(BINARIES),$(call put,$(binary),-s -m 755))
-	$(foreach text,$(TEXTS),$(call put,$(text),-m 644))
+	$(if $(filter-out $(wildcard $(BIN)/*),$(PROGRAMS:%=$(BIN)/%)),@$(call build,--into '$(BIN)' $(PROGRAMS)))
+	$(install_to) $(if $(INSTALL_STRIP),--strip)
+
+installcheck:
+	python3 tests/run.py --programs '$(DESTDIR)$(BINDIR)'
 
 uninstall:
-	rm -f $(foreach installed,$(BINARIES) $(TEXTS),$(call target_of,$(installed)))
+	$(install_to) --uninstall
+
+# A release has the programs for both processor levels. Each program is run once it is linked, so this processor needs to be
+# of level x86-64-v3. BUILDINFO has the last line of dist/gate.txt, where that is the output of the gate.
+dist: library
+	@$(call build_for,x86-64-v2,--into dist/programs/v2 $(PROGRAMS))
+	@$(call build_for,x86-64-v3,--into dist/programs/v3 $(PROGRAMS))
+	@tools/dist.py --programs-v2 dist/programs/v2 --programs-v3 dist/programs/v3
+
+check-dist: dist
+	python3 tests/dist.py
 
 clean:
-	rm -rf bin crates/*/out
+	rm -rf bin lib include out dist/programs crates/*/out
 
-.PHONY: all check test check-deploy mutants soak bench examples install uninstall clean
+.PHONY: all check test check-deploy sweep mutants soak bench examples library install installcheck uninstall dist check-dist clean

@@ -20,7 +20,7 @@ import sys
 import tempfile
 
 from held import with_reasons
-from lists import COUNTS, FEWER, gathered, make_texts, pick, pools
+from lists import COUNTS, FEWER, LONG, LONG_POOL, LONG_SHORT, gathered, make_texts, pick, pools, span
 from plot import plot_of_learned
 from programs import HERE, MB, machine, write_lines
 from scanning import PEERS, scan
@@ -36,7 +36,7 @@ WAYS = {"at hand": ("all", "learned", "block", "block-kept"),
 
 def group_of(name, kind, count):
     """What lists of this kind and about this length are called."""
-    return "%s: %s, %s" % (name, kind, "5 to 29" if count < 30 else "30 to 1,000")
+    return "%s: %s, %s" % (name, kind, span(count))
 
 
 def random_rows(folder, size, seed):
@@ -58,13 +58,21 @@ def rows(folder, size, seed):
     """The group, the name, the text and the list of each row."""
     yield from random_rows(folder, size, seed)
     rng = random.Random(seed)
-    for text in make_texts(folder, size, seed):
-        pool = pools(text, rng)
-        for kind, counts in KINDS:
-            for count in counts:
-                path = os.path.join(folder, "%s-%s-%d" % (text.name, kind.replace(", ", "-"), count))
-                write_lines(path, pick(rng, pool, kind, count))
-                yield group_of(text.name, kind, count), "%s: %d %s" % (text.name, count, kind), text.path, path
+    texts = make_texts(folder, size, seed)
+    for text in texts:
+        yield from drawn(folder, text, rng, pools(text, rng), KINDS)
+    for text in texts:
+        rng = random.Random(seed)
+        yield from drawn(folder, text, rng, pools(text, rng, LONG_POOL, LONG_SHORT), [(kind, LONG) for kind, _ in KINDS])
+
+
+def drawn(folder, text, rng, pool, kinds):
+    """The rows of one text."""
+    for kind, counts in kinds:
+        for count in counts:
+            path = os.path.join(folder, "%s-%s-%d" % (text.name, kind.replace(", ", "-"), count))
+            write_lines(path, pick(rng, pool, kind, count))
+            yield group_of(text.name, kind, count), "%s: %d %s" % (text.name, count, kind), text.path, path
 
 
 def programs(scanner, way):

@@ -30,8 +30,11 @@ from programs import (COMMON, HERE, MB, UNITS, Row, differs, english_block, fill
 
 COUNTS = (5, 10, 30, 100, 300, 1000)
 FEWER = (10, 100, 1000)
+LONG = (2000, 4096)
 POOL = 2000             # literals of each kind of a text, of which its lists are drawn
 SHORT = 200             # and those of 2 and 3 bytes
+LONG_POOL = 5000        # the same for long lists
+LONG_SHORT = 500
 RARE, FREQUENT = 2, 20  # a rare literal occurs at most, a frequent one at least so often in the sample of a megabyte
 NO_SOURCE = {"test", "tests", "site-packages", "dist-packages", "__pycache__"}
 
@@ -173,7 +176,7 @@ def draw(rng, wanted, make, fits):
     return sorted(found)
 
 
-def pools(text, rng):
+def pools(text, rng, size=POOL, short=SHORT):
     """The literals of a text: rare ones of 4 to 14 bytes and of 2 and 3, and frequent ones, which are pieces of 4 to 14 bytes
     of a word or of up to three words in a row."""
     occurs = lambda literal: text.folded.count(literal.lower())
@@ -182,10 +185,15 @@ def pools(text, rng):
     often = lambda literal: (len(literal) >= 4 and b"\n" not in literal and len(re.findall(rb"\w+", literal)) <= 3
                              and occurs(literal) >= FREQUENT)
     return {
-        "rare": draw(rng, POOL, lambda rng: cut(rng, put_together(rng, text), rng.randint(4, 14)), rare(4)),
-        "short": draw(rng, SHORT, lambda rng: cut(rng, put_together(rng, text), rng.randint(2, 3)), rare(2)),
-        "frequent": draw(rng, POOL, running, often),
+        "rare": draw(rng, size, lambda rng: cut(rng, put_together(rng, text), rng.randint(4, 14)), rare(4)),
+        "short": draw(rng, short, lambda rng: cut(rng, put_together(rng, text), rng.randint(2, 3)), rare(2)),
+        "frequent": draw(rng, size, running, often),
     }
+
+
+def span(count):
+    """The lengths of lists that are shown together."""
+    return "5 to 29" if count < 30 else "30 to 1,000" if count <= 1000 else "2,000 and 4,096"
 
 
 def pick(rng, pool, kind, count):
@@ -232,7 +240,7 @@ class Searches:
         """Lists of one kind, some of each length."""
         options = [word for word in kind.split() if word.startswith("-")]
         for count in counts:
-            group = "%s: %s, %s" % (name, kind, "5 to 29" if count < 30 else "30 to 1,000")
+            group = "%s: %s, %s" % (name, kind, span(count))
             for _ in range(self.draws):
                 yield self.list_row(group, "%s: %d %s" % (name, count, kind), options, path, pick(self.rng, pool, kind, count))
 
@@ -326,6 +334,12 @@ class Searches:
         for count in FEWER:
             yield self.list_row("one source file", "one source file: %d rare" % count, [], alone, pick(self.rng, pool, "rare", count))
 
+    def long_lists(self, text):
+        """Lists that are longer than those of `own_lists`, with literals of their own, so that the other rows stay as they were."""
+        pool = pools(text, random.Random(self.seed), LONG_POOL, LONG_SHORT)
+        for kind in "rare", "rare -i", "rare, some short", "frequent":
+            yield from self.drawn(text.name, text.path, pool, kind, LONG)
+
     def rows(self, size):
         for text in self.texts:
             for rows in (self.own_lists, self.one_literal, self.one_byte, self.whole_lines):
@@ -334,6 +348,8 @@ class Searches:
         yield from self.changing()
         yield from self.spoilt(size)
         yield from self.many_files(size)
+        for text in self.texts:
+            yield from self.long_lists(text)
 
 
 # ---------------------------------------------------------------- output

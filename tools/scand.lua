@@ -5,7 +5,7 @@
 --
 -- scand has no port of its own: name yours in the preference scand.ports, or decode a port as scand.
 
-local LENGTH_LEAST, LENGTH_MOST, HITS_MOST = 5, 65541, 4096
+local LENGTH_LEAST, LENGTH_MOST, HITS_MOST, FLAGS_MOST = 5, 65541, 4096, 3
 
 local KINDS = {
   [0x01] = "Publish", [0x02] = "Open", [0x03] = "Feed", [0x04] = "Close", [0x05] = "ShowPlan",
@@ -13,10 +13,17 @@ local KINDS = {
   [0x17] = "Refused",
 }
 
+-- Code 6 is not answered any more.
 local CODES = {
   [2] = "TooManyPatterns", [3] = "LiteralTooLong", [4] = "EmptyLiteral", [5] = "NoLiterals", [6] = "TooManyLiterals",
   [11] = "BadFrame", [12] = "StreamInUse", [13] = "NoSuchStream", [14] = "NoSuchPlan", [15] = "PlanQuota",
   [16] = "StreamQuota", [20] = "StreamTooLong",
+}
+
+-- Bit 0: case. Bit 1: how many buckets the plan may have.
+local FLAGS = {
+  [0] = "case counts, eight buckets", [1] = "ASCII case is ignored, eight buckets",
+  [2] = "case counts, sixteen buckets", [3] = "ASCII case is ignored, sixteen buckets",
 }
 
 local scand = Proto("scand", "Frames of scand")
@@ -24,7 +31,7 @@ local length = ProtoField.uint32("scand.length", "Length", base.DEC)
 local kind = ProtoField.uint8("scand.kind", "Kind", base.HEX, KINDS)
 local stream = ProtoField.uint32("scand.stream", "Stream", base.DEC)
 local plan = ProtoField.uint64("scand.plan", "Plan number", base.DEC)
-local flags = ProtoField.uint8("scand.flags", "Flags", base.DEC, { [0] = "case counts", [1] = "ASCII case is ignored" })
+local flags = ProtoField.uint8("scand.flags", "Flags", base.DEC, FLAGS)
 local count = ProtoField.uint16("scand.count", "Count", base.DEC)
 local literal_length = ProtoField.uint16("scand.literal.length", "Length of a literal", base.DEC)
 local literal = ProtoField.bytes("scand.literal", "Literal")
@@ -60,7 +67,7 @@ local function empty(payload)
 end
 
 readers[0x01] = function(payload, tree)
-  if payload:len() < 3 or payload(0, 1):uint() > 1 then return nil end
+  if payload:len() < 3 or payload(0, 1):uint() > FLAGS_MOST then return nil end
   local number, at = payload(1, 2):uint(), 3
   tree:add(flags, payload(0, 1))
   tree:add(count, payload(1, 2))
@@ -116,7 +123,7 @@ readers[0x14] = function(payload, tree)
 end
 
 readers[0x16] = function(payload, tree)
-  if payload:len() < 12 or payload(0, 1):uint() > 1 then return nil end
+  if payload:len() < 12 or payload(0, 1):uint() > FLAGS_MOST then return nil end
   if payload:len() ~= 12 + 2 * payload(11, 1):uint() then return nil end
   tree:add(flags, payload(0, 1))
   tree:add(count, payload(1, 2))
