@@ -31,7 +31,7 @@ pub(crate) enum Engine {
     Automaton,
 }
 
-/// What a search is asked for.
+/// The result that a search has to give.
 #[derive(Clone, Copy)]
 pub(crate) enum Wanted {
     /// One end after the other.

@@ -91,8 +91,8 @@ impl<'a, 'p> Ends for ToldEnds<'a, 'p> {
     }
 }
 
-/// Adds the hits of the literals at the places `told`, all of which end at `end`, with `at` as their end. When memory
-/// is refused, earlier hits stay added.
+/// Adds a hit for each literal of `told`; all end at `end`, which counts as `at`. When memory is refused, earlier hits
+/// stay added.
 #[inline(always)]
 fn add_told(
     list: &LitList,

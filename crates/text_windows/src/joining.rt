@@ -133,7 +133,7 @@ pub(crate) fn last_of(words: u64x4) -> u64
     last
 }
 
-/// Which of four words lack a bit: bit k stands for word k.
+/// The words that lack a bit: bit k stands for word k.
 #[inline(always)]
 pub(crate) fn lacking(words: u64x4) -> u64
     ensures few { result < 16 }

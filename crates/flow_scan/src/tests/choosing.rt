@@ -219,7 +219,7 @@ pub(super) fn changes_the_same(
     Some(changing_in(alloc, compiled, finder, &mut draws, text)? == wanted)
 }
 
-/// Whether it does in a text whose halves consist of these words. Some of the words are its literals.
+/// Whether it does in a text whose halves consist of the given words. Some of the words are its literals.
 fn agree(
     alloc: Global,
     fold: Fold,

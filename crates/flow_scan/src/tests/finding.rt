@@ -55,7 +55,7 @@ fn add_words(text: &mut Vec<u8>, draws: &mut Draws, words: &[&[u8]], len: usize)
     Some(())
 }
 
-/// A text whose halves consist of these words.
+/// A text whose halves consist of the given words.
 pub(super) fn text_of(
     alloc: Global,
     draws: &mut Draws,
@@ -105,14 +105,14 @@ pub(super) fn pieces_of(
     Some(raw)
 }
 
-/// The plan of these literals.
+/// The plan of the literals.
 pub(super) fn plan_of_pieces(alloc: Global, raw: &RawList, fold: Fold) -> Option<Compiled> {
     let (list, _) = LitList::normal(alloc, raw, fold).ok()?;
     let certificate = plan(alloc, &list, Profile::Eight).ok()?;
     Compiled::new(list, certificate).ok()
 }
 
-/// The plan of these literals, in which case counts.
+/// The plan of the literals, in which case counts.
 pub(super) fn plan_of(alloc: Global, literals: &[&[u8]]) -> Option<Compiled> {
     let mut raw = RawList::new(alloc);
     for literal in literals {
@@ -195,7 +195,7 @@ pub(super) fn find_the_same(
     learned_in(finder, text, size) == plain_in(compiled, text, size)
 }
 
-/// Whether they do for forty pieces of a text whose halves consist of these words.
+/// Whether they do for forty pieces of a text whose halves consist of the given words.
 fn agree(
     alloc: Global,
     fold: Fold,

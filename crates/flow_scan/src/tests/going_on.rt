@@ -49,7 +49,7 @@ fn anew(compiled: &Compiled, text: &[u8], skip: usize) -> Told {
     told
 }
 
-/// Whether all three find the same at each of these distances.
+/// Whether all three find the same at each distance.
 pub(super) fn go_on_the_same(compiled: &Compiled, finder: &mut EndFinder<'_>, text: &[u8]) -> bool {
     for skip in [0, 1, 7, 31, 61, 62, 63, 64, 65, 66, 127, 128, 129, 1000] {
         let wanted = anew(compiled, text, skip);
@@ -60,7 +60,7 @@ pub(super) fn go_on_the_same(compiled: &Compiled, finder: &mut EndFinder<'_>, te
     true
 }
 
-/// Whether they do for forty pieces of a text whose halves consist of these words.
+/// Whether they do for forty pieces of a text whose halves consist of the given words.
 fn agree(alloc: Global, fold: Fold, halves: [&[&[u8]]; 2], least: usize) -> Option<bool> {
     let [first, second] = halves;
     let mut draws = Draws { state: 3 };

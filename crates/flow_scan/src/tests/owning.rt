@@ -1,4 +1,4 @@
-//! The only function of these tests that owns a finder. Each owner has to prove at each of its exits that the whole
+//! The only function in the tests that owns a finder. Each owner has to prove at each of its exits that the whole
 //! finder may be dropped, which takes long.
 ghost use Rattle.std.specs.Prelude.{◌≡◌};
 

@@ -58,7 +58,7 @@ fn has_no_finder_for_three_literals(rt: HostRuntime) {
     assert_eq!(rt; has_finder(rt.alloc(), &WORDS), Some(true));
 }
 
-/// Whether it does for forty pieces of a text whose halves consist of these words.
+/// Whether it does for forty pieces of a text whose halves consist of the given words.
 fn agree(alloc: Global, fold: Fold, halves: [&[&[u8]]; 2], least: usize) -> Option<bool> {
     let [first, second] = halves;
     let mut draws = Draws { state: 7 };

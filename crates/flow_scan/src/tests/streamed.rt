@@ -68,7 +68,7 @@ pub(super) fn feed_the_same(
     Some(wanted.len() > 100)
 }
 
-/// Whether they do for forty pieces of a text whose halves consist of these words.
+/// Whether they do for forty pieces of a text whose halves consist of the given words.
 fn agree(alloc: Global, fold: Fold, halves: [&[&[u8]]; 2], least: usize) -> Option<bool> {
     let [first, second] = halves;
     let mut draws = Draws { state: 11 };
