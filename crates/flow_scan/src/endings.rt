@@ -53,7 +53,7 @@ impl<'a> SievedEnds<'a> {
         }
     }
 
-    /// The counts so far.
+    /// The counters so far.
     pub fn met(&self) -> Met {
         self.met
     }

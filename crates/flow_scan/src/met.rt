@@ -1,4 +1,4 @@
-//! The counts of a search.
+//! The counters of a search.
 
 /// Counts positions that passed the prefilter, false positives among the pending ends, and ends of literals.
 #[derive(Clone, Copy, Debug)]
@@ -9,7 +9,7 @@ pub(crate) struct Met {
 }
 
 impl Met {
-    /// All counts 0.
+    /// All counters 0.
     pub fn nothing() -> Met {
         Met {
             passed: 0,

@@ -39,7 +39,7 @@ fn cost_of_looks(stride: usize, count: usize) -> usize {
     count.saturating_mul(LOOK_COST) / stride.max(1)
 }
 
-/// The cost of a search by factors that passed `count` bytes, with the counts `met` and the ends `found`.
+/// The cost of a search by factors that passed `count` bytes, with the counters `met` and the ends `found`.
 pub(crate) fn cost_by_windows(
     windows: &Windows<'_>,
     count: usize,

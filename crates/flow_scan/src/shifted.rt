@@ -86,7 +86,7 @@ impl<'a, 'p> ShiftedEnds<'a, 'p> {
         }
     }
 
-    /// The counts so far.
+    /// The counters so far.
     pub fn met(&self) -> Met {
         self.met
     }

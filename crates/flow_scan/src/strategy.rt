@@ -255,7 +255,7 @@ impl Strategy {
         self.begin();
     }
 
-    /// Sets the counts to 0.
+    /// Sets the counters to 0.
     fn begin(&mut self) {
         self.passed = 0;
         self.spent = 0;

@@ -5,8 +5,8 @@
 
 // Literals.
 
-/// Literals. A list of at most this length has no finder: two or three bytes of each leave few false positives. Not
-/// varied.
+/// Literals. A list of at most this length has no finder: two or three bytes of each leave few false positives.
+/// Not varied.
 pub(crate) const MOST_WITHOUT_FINDER: usize = 3;
 
 /// Literals. A list of at most this length is tuned by the smaller sample, which shows its rare factors. Not varied.
@@ -33,8 +33,8 @@ pub(crate) const SPAN: usize = SAMPLE;
 /// Parts of the first span; a scan in memory may tune after each. Not varied.
 pub(crate) const FIRST_SPANS: usize = 4;
 
-/// Bytes. The plan searches shorter texts, such as the boundary of two pieces, since factors probe each byte there. Not
-/// varied.
+/// Bytes. The plan searches shorter texts, such as the boundary of two pieces, since factors probe each byte there.
+/// Not varied.
 pub(crate) const LEAST_CHOSEN: usize = 64;
 
 /// Bytes. The plan searches shorter texts instead of the automaton, which starts slowly. Measured: with 512, frequent

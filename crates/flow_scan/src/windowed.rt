@@ -186,7 +186,7 @@ impl<'a, 'p> WindowedEnds<'a, 'p> {
         }
     }
 
-    /// The counts so far.
+    /// The counters so far.
     pub fn met(&self) -> Met {
         self.met
     }
