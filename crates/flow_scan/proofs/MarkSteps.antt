@@ -37,7 +37,7 @@ module _ (P : ℕ → Type 0) (back rest : ℕ) (left : (other : ℕ) → P othe
       let place : low + 1 + (other - (back + low + 1)) ≡ other - back = omega (arith, behind) in
       (omega (arith, behind), shifted_bit rest low (other - (back + low + 1)) ∙ ap (bit_at rest) place ∙ (left other here).1)
 
--- likewise where the places of interest are those at which a literal ends
+-- likewise where the positions of interest are the ends
 module _ (l : Literals) (text : List ℕ) (seen count back rest : ℕ) (marked : (other : ℕ) → other < count → HasEnd l text (seen + 1 + other) → (back ≤ other) × (bit_at rest (other - back) ≡ 1))
     (low : ℕ) (quiet : (i : ℕ) → i < low → bit_at rest i ≡ 0) where
   abbrev ends_within : ℕ → Type 0

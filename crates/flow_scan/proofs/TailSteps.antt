@@ -53,7 +53,7 @@ last_of_last most text piece =
     omega (arith, length-append text piece, length-append (last_bytes most text) piece, last_len most text) in
     ap (drop more) (sym front) ∙ drop-drop more skip (text ++ piece) ∙ ap (λ n. drop n (text ++ piece)) count
 
--- of a text that is no longer, they are the text
+-- the last bytes of a text that is no longer are the text
 pub last_of_short : (most : ℕ) (text : List ℕ) → length text ≤ most → last_bytes most text ≡ text
 last_of_short most text short = let none : length text - most ≡ 0 = omega arith in rw none refl
 

@@ -40,7 +40,7 @@ advanced r piece = record r { place = r.place + length piece; tail = last_bytes 
 abbrev pub scanning : Plan → Reached → Scanning
 scanning plan r = record { plan = plan; base = r.base; place = r.place; tail = r.tail }
 
--- what the fields keep: the tail has as many bytes as were fed, up to the carry, and the position is a u64
+-- the invariant of the fields: the tail has as many bytes as were fed, up to the overlap, and the position is a u64
 pub record IsProgress (base count : ℕ) (seam : Seaming) : Type 0 where
   pub tail : length seam.tail ≡ min count seam.carry
   pub place : base + count < 2 ^ 64

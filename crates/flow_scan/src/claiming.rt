@@ -178,7 +178,7 @@ fn stride_over(windows: &Windows<'_>, text: &[u8], seen: usize, marks: u64, has_
 }
 
 /// The next block from `seen` on in which an end may be pending, or the last block. Returns the position before the
-/// block and its pending ends, as `claims_behind` gives them. No literal ends between `seen` and this position.
+/// block and its pending ends, as `claims_behind` gives them. No literal ends after `seen` and up to this position.
 #[inline(always)]
 pub(crate) fn next_claims(
     windows: &Windows<'_>,

@@ -94,7 +94,7 @@ impl Compiled {
     }
 
     /// The literal of a hit of this plan, as it stands in the list. `None` if the list has no literal with the hit's
-    /// number, which a hit of another plan may have.
+    /// number; this happens only with a hit of another plan.
     pub fn literal_of(&self, hit: Hit) -> Option<&[u8]>
         ensures literal { MatchOption result (slice_get self.now.literals.texts hit.0 ≡ None)
             (λ literal. slice_get self.now.literals.texts hit.0 ≡ Some literal.now) }

@@ -29,9 +29,9 @@ use text_automaton::Automaton;
 use text_windows::{EndRate, ShiftOr, Windows};
 
 /// A search through the texts of one run for the literals of a plan. It begins as `next_end` does. When false positives
-/// of the plan have cost enough, it tunes itself to a sample of the text. It then compares the estimates of factors,
-/// shift-or and, for scans, the automaton, and uses the cheapest. Its results do not depend on this. It takes all its
-/// memory when it is made.
+/// and ends have cost too much, it tunes itself to a sample of the text. It then compares the estimates of factors,
+/// shift-or and, for scans, the automaton, and changes to the cheapest if this promises a gain. Its results do not
+/// depend on this. It takes all its memory when it is made.
 #[derive(Debug, Drop)]
 pub struct EndFinder<'p> {
     compiled: &'p Compiled,

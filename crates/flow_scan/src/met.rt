@@ -1,6 +1,7 @@
 //! The counters of a search.
 
-/// Counts positions that passed the prefilter, false positives among the pending ends, and ends of literals.
+/// Counters of positions that passed the prefilter, of false positives among pending ends, and of ends. A search by the
+/// plan counts only the passed positions at which nothing ends.
 #[derive(Clone, Copy, Debug)]
 pub(crate) struct Met {
     pub passed: usize,

@@ -265,8 +265,8 @@ impl Strategy {
         self.trial = TRIAL;
     }
 
-    /// Takes the three estimates for 1,024 bytes, and changes to the engine with the lowest if that is better than
-    /// before. An engine that was not prepared has the estimate `usize::MAX`.
+    /// Takes the three estimates for 1,024 bytes, and changes to the engine with the lowest, unless the plan is in use
+    /// and this is not clearly better. An engine that was not prepared has the estimate `usize::MAX`.
     pub fn choose(&mut self, by_windows: usize, by_shift_or: usize, by_automaton: usize) {
         let windows = Estimate {
             engine: Engine::Windows,

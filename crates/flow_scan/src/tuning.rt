@@ -93,5 +93,6 @@ pub(crate) const LEAST_LOSS: usize = 1_500_000;
 /// The largest multiple of the least loss for which a finder waits, if tuning gains little. Not varied.
 pub(crate) const MOST_WAIT: usize = 128;
 
-/// A finder tunes at once if the rest of a text in memory promises this multiple of the loss. Not varied.
+/// A finder tunes at once if the loss expected in the rest of a text in memory is this multiple of the loss that it
+/// waits for. Not varied.
 pub(crate) const SURE: usize = 10;

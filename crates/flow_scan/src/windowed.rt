@@ -68,8 +68,8 @@ impl Claims {
         }
     }
 
-    /// Returns the next end after `seen`, with the first literal that ends there, and moves `seen` to this end. Adds
-    /// the pending ends of each new block to `met`. It takes no memory.
+    /// Returns the next end after `seen`, with the first literal that ends there, or `None`. Moves `seen` to this end.
+    /// Adds the pending ends of each new block to `met`. It takes no memory.
     #[inline(never)]
     pub fn next_end(
         &mut self,

@@ -14,7 +14,8 @@ use std::simd::prelude::*;
 /// Positions of a group, which four words cover.
 pub(crate) const GROUP: usize = 32;
 
-/// Groups of a block. Measured in C: 16 took longer, a whole text at once hardly less.
+/// Groups of a block. Measured in C: with 16, ends that are not ruled out cost more; with a whole text at once, hardly
+/// less.
 pub(crate) const GROUPS: usize = 32;
 
 /// The result of probing a block.

@@ -38,8 +38,8 @@ pub const START_COST: usize = 500;
 /// frequent literals took 1.3 times as long in English text and log lines.
 const SIEVE_START_COST: usize = 400;
 
-/// Factor of the hash bits of a sample in an estimate. The chosen factors are rare in the sample by chance too, so a
-/// text has more of them.
+/// An estimate counts each hash bit of a sample this many times. The chosen factors are rare in the sample by chance
+/// too, so a text has more of them.
 const BIAS: usize = 2;
 
 /// The longest list for the masks: with more literals most positions pass.

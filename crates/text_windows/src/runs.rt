@@ -6,8 +6,9 @@ use lit_base::LitList;
 /// Buckets, each with a bit in a byte.
 const BUCKETS: usize = 8;
 
-/// The weight of a bucket by the length of its shortest literal, from 0 bytes on. It falls by a factor of five for each
-/// byte, which is one more probe that may rule an end out, up to the number of probes.
+/// By the length of a bucket's shortest literal, from 0 bytes on. The bucket's weight is this, times the cube of its
+/// number of literals. It falls by a factor of five for each byte, which is one more probe that may rule an end out, up
+/// to the number of probes.
 const WEIGHTS: [usize; 10] = [
     1_953_125, 390_625, 78_125, 15_625, 3_125, 625, 125, 25, 5, 1,
 ];

@@ -167,7 +167,7 @@ fn ends_by_automaton(
     Some((from, told))
 }
 
-/// A piece of a text from an offset on.
+/// A sample of a text from a random offset on.
 fn sample_of<'t>(draws: &mut Draws, text: &'t [u8]) -> Option<&'t [u8]> {
     let (_, behind) = text.split_at_checked(draws.below(text.len()))?;
     let (sample, _) = behind.split_at_checked(SAMPLE.min(behind.len()))?;
@@ -219,7 +219,7 @@ pub(super) fn changes_the_same(
     Some(changing_in(alloc, compiled, finder, &mut draws, text)? == wanted)
 }
 
-/// Whether it does in a text whose halves consist of the given words. Some of the words are its literals.
+/// Whether it does in a text whose halves consist of the given words, with pieces of the text as literals.
 fn agree(
     alloc: Global,
     fold: Fold,

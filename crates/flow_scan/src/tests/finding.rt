@@ -147,7 +147,7 @@ fn add_learned(told: Told, finder: &mut EndFinder<'_>, text: &[u8]) -> Told {
     told
 }
 
-/// The ends that the plan alone finds.
+/// The ends that the plan alone finds in a text, one after another.
 fn add_plain(told: Told, compiled: &Compiled, text: &[u8]) -> Told {
     let mut told = told;
     let mut from = 0;
@@ -170,7 +170,7 @@ fn learned_in(finder: &mut EndFinder<'_>, text: &[u8], size: usize) -> Told {
     told
 }
 
-/// The ends that the plan alone finds.
+/// The ends that the plan alone finds in the pieces of a text.
 pub(super) fn plain_in(compiled: &Compiled, text: &[u8], size: usize) -> Told {
     let mut told = (0, 0);
     for piece in text.chunks(size.max(1)) {
@@ -195,7 +195,7 @@ pub(super) fn find_the_same(
     learned_in(finder, text, size) == plain_in(compiled, text, size)
 }
 
-/// Whether they do for forty pieces of a text whose halves consist of the given words.
+/// Whether they do with forty pieces of a text as literals. The halves of the text consist of the given words.
 fn agree(
     alloc: Global,
     fold: Fold,

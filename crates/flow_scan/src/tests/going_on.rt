@@ -8,7 +8,7 @@ use crate::text_search::TextSearch;
 use lit_base::Fold;
 use std::alloc::Global;
 
-/// The ends that one search of a text by a finder finds, each at least `distance` bytes after the one before.
+/// The ends that one search of a text by a finder finds, each more than `skip` bytes after the one before.
 fn by_finder(finder: &mut EndFinder<'_>, text: &[u8], skip: usize) -> Told {
     let (mut told, mut from) = ((0, 0), 0);
     let mut search = TextSearch::new(finder.compiled(), text);
@@ -60,7 +60,7 @@ pub(super) fn go_on_the_same(compiled: &Compiled, finder: &mut EndFinder<'_>, te
     true
 }
 
-/// Whether they do for forty pieces of a text whose halves consist of the given words.
+/// Whether they do with forty pieces of a text as literals. The halves of the text consist of the given words.
 fn agree(alloc: Global, fold: Fold, halves: [&[&[u8]]; 2], least: usize) -> Option<bool> {
     let [first, second] = halves;
     let mut draws = Draws { state: 3 };

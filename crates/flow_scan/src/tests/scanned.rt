@@ -28,7 +28,8 @@ fn are_found(
     Some(hits.as_slice() == behind && hits.len() == count_behind(wanted, from))
 }
 
-/// Whether a finder gives the hits of a text four times, and then the hits after a position.
+/// Whether a finder gives the hits of a text four times, and then the hits after a position. There have to be more than
+/// 100.
 pub(super) fn scans_the_same(
     alloc: Global,
     compiled: &Compiled,
@@ -58,7 +59,7 @@ fn has_no_finder_for_three_literals(rt: HostRuntime) {
     assert_eq!(rt; has_finder(rt.alloc(), &WORDS), Some(true));
 }
 
-/// Whether it does for forty pieces of a text whose halves consist of the given words.
+/// Whether it does with forty pieces of a text as literals. The halves of the text consist of the given words.
 fn agree(alloc: Global, fold: Fold, halves: [&[&[u8]]; 2], least: usize) -> Option<bool> {
     let [first, second] = halves;
     let mut draws = Draws { state: 7 };

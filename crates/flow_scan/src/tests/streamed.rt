@@ -49,7 +49,7 @@ fn are_fed(
 }
 
 /// Whether streams of one text, in pieces of all these lengths and one after another by the same finder, have the
-/// text's hits.
+/// text's hits. There have to be more than 100.
 pub(super) fn feed_the_same(
     alloc: Global,
     compiled: &Compiled,
@@ -68,7 +68,7 @@ pub(super) fn feed_the_same(
     Some(wanted.len() > 100)
 }
 
-/// Whether they do for forty pieces of a text whose halves consist of the given words.
+/// Whether they do with forty pieces of a text as literals. The halves of the text consist of the given words.
 fn agree(alloc: Global, fold: Fold, halves: [&[&[u8]]; 2], least: usize) -> Option<bool> {
     let [first, second] = halves;
     let mut draws = Draws { state: 11 };

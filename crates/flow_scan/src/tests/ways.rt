@@ -19,7 +19,7 @@ fn promised_three(by_windows: usize, by_shift_or: usize, by_automaton: usize) ->
     strategy
 }
 
-/// Its engines after the first bytes, at this cost for 1,024, and after as many more.
+/// The engines in use after `BYTES` bytes at the cost `first` for 1,024, and after as many more at the cost `second`.
 fn ways_behind(mut strategy: Strategy, first: usize, second: usize) -> [Engine; 2] {
     strategy.note(
         BYTES,
