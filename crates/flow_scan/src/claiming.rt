@@ -1,8 +1,8 @@
 //! Pending ends: the positions at which a literal may end, found by probes of a block of a text.
 //!
-//! A probe at a position returns hash bits. They mark the position and the seven after it where a literal may end that
-//! has a factor ending at the probe. The bits of all probes of a block are combined in one word, without a branch on
-//! the result.
+//! A probe at a position returns hash bits. If bit k is set, a literal with a factor that ends at the probe may end k
+//! positions further on, with k from 0 to 7. The bits of all probes of a block are combined in one word, without a
+//! branch on the result.
 ghost use Rattle.std.specs.Prelude.{◌≡◌, ℕ, ◌+◌, ◌-◌, ◌<◌, ◌≤◌, length, min};
 ghost use Rattle.nib_mask.specs.Fronts.{CoversFronts};
 ghost use Rattle.nib_mask.specs.Halves.{widened};

@@ -52,7 +52,7 @@ const HASHES: usize = 1 << HASH_BITS;
 const SPARSE: usize = 31;
 
 /// Whether a list uses masks, its stride otherwise, and the estimate in tenths of a nanosecond for 1,024 bytes. `marks`
-/// is the share of hash bits in the estimate, if nothing ends at any.
+/// is the part of the estimate for hash bits, if nothing ends at any.
 #[derive(Clone, Copy, Debug)]
 pub(crate) struct Choice {
     pub is_sieved: bool,

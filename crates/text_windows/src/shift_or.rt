@@ -1,4 +1,5 @@
-//! Shift-or over buckets of literals, as in Hyperscan's FDR: the bytes before an end rule it out.
+//! Shift-or over buckets of literals, as in Hyperscan's FDR: the bytes before an end rule it out. Costs are in tenths
+//! of a nanosecond.
 ghost use Rattle.std.specs.Prelude.{◌≡◌, ℕ, ◌+◌, ◌-◌, ◌*◌, ◌<◌, ◌≤◌, ◌⊎◌, IfOk, IfSome, MatchOption, length, max, slice_index, false};
 ghost use Rattle.text_windows.specs.Blocks.{AreNoted};
 ghost use Rattle.lit_base.specs.NextEnds.{Finds, IsFirstFound, NoEndUpTo};
@@ -38,8 +39,8 @@ const LEFT_COST: usize = 190;
 const LEFT_IN_BLOCK_COST: usize = 100;
 
 /// The extra cost of an end in a scan, compared with factors. Chosen by forcing either engine for 26 lists of 30 to
-/// 1,000 frequent literals. The lower estimate was the faster engine for 23 of them, and at most 1.19 times as slow for
-/// the others.
+/// 1,000 frequent literals. The engine with the lower estimate was faster for 23 of them, and took at most 1.19 times
+/// as long for the others.
 const HIT_COST: usize = 300;
 
 /// A new start after an end.
