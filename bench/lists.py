@@ -444,8 +444,8 @@ HEAD = """# litgrep beside other greps, with lists of a text's own words
 Seed %d, %d lists of each kind and length, %d turns in each of %d rounds; the source code is the standard library of Python %s.
 The greatest memory in MiB: %s.
 
-`ahead` is the processor time of the best other grep by litgrep's, each the least of the turns, and the median over the lists:
-above 1, litgrep is ahead. `least` is that of one list."""
+`ahead` is the processor time of the best other grep divided by litgrep's, each the least of the turns, and the median over
+the lists. Above 1, litgrep is ahead. `least` is the least ratio of a list."""
 READING = "Reading is that of `dd` in blocks of 128 KiB, in milliseconds; the others are times of it."
 EACH = "Processor time in milliseconds (user and system), the least of the turns and the median of the lists."
 

@@ -1,15 +1,15 @@
--- The next place at which a literal ends, seen from a place before the one that a search has come to.
+-- The next end, seen from a position before the one that a search has reached.
 use Rattle.std.proofs.Common.{ℕ, ◌≤◌, List, inl, inr, arith}
 use Rattle.std.proofs.lemmas.Bool.{cases_lt}
 use Rattle.lit_base.specs.NextEnds.{IsNextEnd, NoEndAfter, NoEndUpTo}
 use Rattle.lit_base.specs.Literals.{Literals}
 
 module _ (l : Literals) (text : List ℕ) (from seen : ℕ) (none : NoEndUpTo l text from seen) where
-  -- nor then further on, if not behind the second one
+  -- then no literal ends further on, if none does after the second position
   pub none_further : NoEndAfter l text seen → NoEndAfter l text from
   none_further ends end after here = elim (cases_lt seen end) [ inl later ↦ ends end later here | inr sooner ↦ none end after sooner here ]
 
-  -- and where one ends first behind the second, one ends first behind the first
+  -- and the next end after the second position is the next after the first
   pub next_further : (end : ℕ) → from ≤ seen → IsNextEnd l text seen end → IsNextEnd l text from end
   next_further end ahead next = record {
     after = omega (arith, next.after);

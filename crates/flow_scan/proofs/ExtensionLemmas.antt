@@ -1,4 +1,4 @@
--- Where two literals end together the shorter one is a suffix of the longer one; and the walk along those that extend one.
+-- Where two literals end together the shorter is a suffix of the longer; and the walk along the literals that extend one.
 use Rattle.std.proofs.Common.{◌≡◌, ℕ, zero, suc, replicate, set, ◌+◌, ◌-◌, ◌<◌, ◌≤◌, List, [], Some, All, MatchOption, Option, None, inl, inr, length, drop, get_or, slice_range, sym, ap, ◌∙◌, subst, arith}
 use Rattle.std.specs.Prelude.{◌⊎◌}
 use Rattle.std.specs.List.{slice_get}
@@ -28,7 +28,7 @@ chained_none value count room links = record {
   link = λ i low high. absurd (omega (arith, low, high));
 }
 
--- the number before those that are chained is chained with them
+-- the number before the chained numbers is chained with them
 pub chained_more : (value : ℕ → ℕ) (count low : ℕ) (heads links : List ℕ) → low < count → value low < length heads → low < length links → IsChained value count (low + 1) heads links
     → IsChained value count low (set heads (value low) low) (set links low (get_or heads (value low) 0))
 chained_more value count low heads links inside room links_room old = record {
@@ -108,7 +108,7 @@ ends_with_literal l text short long end normal p o =
           ∙ o.bytes;
     }
 
--- the last of the suffixes that were found is the longest, if none from a place on is one that stands before the literal
+-- the last suffix found is the longest, if no later suffix stands before the literal
 pub longest_of_last : (l : Literals) (literal : List ℕ) (place suffix from : ℕ) → literal ≡ literal_at l place
     → (suffix < place) ⊎ (suffix ≡ MOST_LITERALS) → (suffix < place → Occurs l literal suffix (length literal))
     → ((other : ℕ) → other < from → Occurs l literal other (length literal) → (suffix < place) × (other ≤ suffix))
@@ -125,7 +125,7 @@ longest_of_last l literal place suffix from is before ends found none = record {
       ];
 }
 
--- where a literal ends, it is the longest suffix of the next one that ends there
+-- where a literal ends, it is the longest suffix of the next literal that ends there
 suffix_of_next : (l : Literals) (text : List ℕ) (place next end suffix : ℕ) → IsNonDecreasing (lengths l) → All (λ t. folded_text l.folding t ≡ t) l.texts
     → Occurs l text place end → IsFirstEnding l text (place + 1) end next → IsLongestSuffix l next suffix → suffix ≡ place
 suffix_of_next l text place next end suffix rising normal o first longest =
@@ -143,7 +143,7 @@ suffix_of_next l text place next end suffix rising normal o first longest =
     ]
 
 module _ (l : Literals) (text : List ℕ) (end last : ℕ) (rising : IsNonDecreasing (lengths l)) (o : Occurs l text last end) (heads links : List ℕ) (are : AreExtensions l heads links) where
-  -- none of the literals behind one ends where it does, up to a place, if none of those does that extend it
+  -- no literal after this one ends where it does, up to a place, if none that extends it does
   none_up_to : (stop : ℕ) → ((place : ℕ) → last < place → place < stop → get_or are.suffixes place 0 ≡ last → ¬ Occurs l text place end)
       → (place : ℕ) → last + 1 ≤ place → place < stop → ¬ Occurs l text place end
   none_up_to zero none place low high p = omega (arith, high)
@@ -162,7 +162,7 @@ module _ (l : Literals) (text : List ℕ) (end last : ℕ) (rising : IsNonDecrea
             (suffix_of_next l text last place end (get_or are.suffixes place 0) rising are.normal.folded o first (are.longest place (slice_get_within l.texts place p.literal p.stands))) p
       ]
 
--- a walk along those that extend a literal has come to one, and none that it passed ends there
+-- a walk along the literals that extend a literal has reached one, and it passed none that ends there
 pub record Walks (l : Literals) (text : List ℕ) (end last : ℕ) (heads links : List ℕ) (next : ℕ) : Type 0 where
   pub are : AreExtensions l heads links
   pub here : Occurs l text last end
@@ -183,7 +183,7 @@ walks_first l text end last heads links are o room =
       has = head.has;
     }
 
--- and goes on to the next, where one does not end there
+-- and continues with the next, where one does not end there
 pub walks_on : (l : Literals) (text : List ℕ) (end last : ℕ) (heads links : List ℕ) (next : ℕ) → next < length l.texts → ¬ Occurs l text next end
     → Walks l text end last heads links next → Walks l text end last heads links (get_or links next 0)
 walks_on l text end last heads links next inside apart walk =
@@ -204,12 +204,12 @@ walks_on l text end last heads links next inside apart walk =
       has = λ within. step.has within ∙ has;
     }
 
--- none before the one that it has come to ends there
+-- none before the one reached ends there
 none_passed : (l : Literals) (text : List ℕ) (end last : ℕ) (heads links : List ℕ) (next : ℕ) → IsNonDecreasing (lengths l) → Walks l text end last heads links next
     → (place : ℕ) → last + 1 ≤ place → place < next → ¬ Occurs l text place end
 none_passed l text end last heads links next rising walk = none_up_to l text end last rising walk.here heads links walk.are next walk.passed
 
--- one that extends a literal stands behind it
+-- a literal that extends another stands after it
 behind_suffix : (l : Literals) (text : List ℕ) (end last : ℕ) (heads links : List ℕ) (next : ℕ) → next < length l.texts → Walks l text end last heads links next → last < next
 behind_suffix l text end last heads links next inside walk =
     let has : get_or walk.are.suffixes next 0 ≡ last = walk.has inside in
@@ -219,13 +219,13 @@ behind_suffix l text end last heads links next inside walk =
       | inr none ↦ absurd (omega (arith, none, has, here, walk.are.few))
     ]
 
--- where the walk is at its end, none behind the literal ends there
+-- at the end of the walk, no literal after the first ends there
 pub none_behind : (l : Literals) (text : List ℕ) (end last : ℕ) (heads links : List ℕ) (next : ℕ) → IsNonDecreasing (lengths l) → length l.texts ≤ next → Walks l text end last heads links next
     → NoneEnds l text (last + 1) end
 none_behind l text end last heads links next rising ended walk = λ place low p.
     none_passed l text end last heads links next rising walk place low (omega (arith, ended, slice_get_within l.texts place p.literal p.stands)) p
 
--- what the walk has come to is the first behind the literal, if it ends there
+-- the literal reached is the first after the literal, if it ends there
 pub first_behind : (l : Literals) (text : List ℕ) (end last : ℕ) (heads links : List ℕ) (next : ℕ) → IsNonDecreasing (lengths l) → next < length l.texts → Occurs l text next end
     → Walks l text end last heads links next → IsFirstEnding l text (last + 1) end next
 first_behind l text end last heads links next rising inside p walk = record {
@@ -234,7 +234,7 @@ first_behind l text end last heads links next rising inside p walk = record {
   first = λ other low before. none_passed l text end last heads links next rising walk other low before;
 }
 
--- and the first from there on is the first behind the literal
+-- and the first from there on is the first after the literal
 pub first_from_there : (l : Literals) (text : List ℕ) (end last : ℕ) (heads links : List ℕ) (next : ℕ) (found : Option ℕ) → IsNonDecreasing (lengths l) → next < length l.texts
     → Walks l text end last heads links next → MatchOption found (NoneEnds l text next end) (λ place. IsFirstEnding l text next end place)
     → MatchOption found (NoneEnds l text (last + 1) end) (λ place. IsFirstEnding l text (last + 1) end place)

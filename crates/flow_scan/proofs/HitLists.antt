@@ -27,7 +27,7 @@ sorted_joined R (x ∷ xs) ys s t below = (
   sorted_joined R xs ys s.1 t (λ z y inside there. below z y (Contains-append_right (x ∷ []) xs z inside) there),
 )
 
--- a hit that ends earlier is below one that ends later
+-- a hit with an earlier end is below a hit with a later end
 first_decides : (b : Bool) (o p : Ordering) → b ≡ true → ordering_then (cond b Less o) p ≡ Less
 first_decides true o p e = refl
 first_decides false o p e = (cc)
@@ -35,11 +35,11 @@ first_decides false o p e = (cc)
 earlier_below : (h i : ℕ × ℕ) → h.1 < i.1 → hit_cmp h i ≡ Less
 earlier_below h i earlier = first_decides (ltb h.1 i.1) _ _ ((Decides-ltb h.1 i.1).1 earlier)
 
--- an occurrence at an end that is told in another way
+-- an occurrence at an end that is written otherwise
 at_end : (l : Literals) (text : List ℕ) (place e f : ℕ) → e ≡ f → Occurs l text place e → Occurs l text place f
 at_end l text place e f same o = subst (λ x. Occurs l text place x) same o
 
--- an occurrence in a front is one in the text, and one that ends in the front is one in it
+-- an occurrence in a prefix is an occurrence in the text; an occurrence in the text that ends in the prefix is one in the prefix
 from_front : (l : Literals) (text : List ℕ) (m place e : ℕ) → Occurs l (take m text) place e → Occurs l text place e
 from_front l text m place e o = subst (λ t. Occurs l t place e) (take-append-drop m text) (occurs_of_front l (take m text) (drop m text) place e o)
 
@@ -47,7 +47,7 @@ to_front : (l : Literals) (text : List ℕ) (m place e : ℕ) → e ≤ length (
 to_front l text m place e within o =
     occurs_in_front l (take m text) (drop m text) place e within (subst (λ t. Occurs l t place e) (sym (take-append-drop m text)) o)
 
--- the hits up to a place of a text and those behind it are all hits
+-- the hits up to a position of a text and those after it are all hits
 pub hits_joined : (l : Literals) (text : List ℕ) (from m at : ℕ) (found rest : List (ℕ × ℕ)) → from ≤ m → m ≤ length text → AreHitsBehind l (take m text) from at found → AreHitsBehind l text m (at + (m - from)) rest → AreHitsBehind l text from at (found ++ rest)
 hits_joined l text from m at found rest starts within early late = record {
   rising = sorted_joined hit_cmp found rest early.rising late.rising
@@ -82,11 +82,11 @@ hits_none l text from at none = record {
 pub none_past : (l : Literals) (text : List ℕ) (from : ℕ) → length text ≤ from → NoEndAfter l text from
 none_past l text from past = λ end after here. omega (arith, after, here.1.ends)
 
--- where nothing ends in a text behind a place, nothing does in a front of it behind a place further on
+-- where nothing ends in a text after a position, nothing ends in a prefix of it after a later position
 pub none_in_front : (l : Literals) (text : List ℕ) (from m stop : ℕ) → from ≤ m → NoEndAfter l text from → NoEndAfter l (take stop text) m
 none_in_front l text from m stop further none = λ end after here. none end (omega (arith, after, further)) (here.0, from_front l text stop here.0 end here.1)
 
--- the hits at a place of the text, where nothing ends between another one and it
+-- the hits at a position of the text, where nothing ends between another position and it
 pub hits_here : (l : Literals) (text : List ℕ) (m end at : ℕ) (here : List (ℕ × ℕ)) → m < end → end ≤ length text → ((other : ℕ) → m < other → other < end → ¬ HasEnd l text other) → AreHitsAt l text end (at + (end - m)) here → AreHitsBehind l (take end text) m at here
 hits_here l text m end at here after within first hits = record {
   rising = hits.rising;
@@ -102,7 +102,7 @@ hits_here l text m end at here after within first hits = record {
   );
 }
 
--- the hits up to a place, and those at the next place at which something ends, are the hits up to there
+-- the hits up to a position, and those at the next end, are the hits up to there
 pub hits_further : (l : Literals) (text : List ℕ) (from m end at : ℕ) (found here : List (ℕ × ℕ)) → from ≤ m → m < end → end ≤ length text → ((other : ℕ) → m < other → other < end → ¬ HasEnd l text other) → AreHitsBehind l (take m text) from at found → AreHitsAt l text end (at + (end - from)) here → AreHitsBehind l (take end text) from at (found ++ here)
 hits_further l text from m end at found here starts after within first early hits =
     let same : at + (end - from) ≡ at + (m - from) + (end - m) = omega (arith, starts, after) in
@@ -111,12 +111,12 @@ hits_further l text from m end at found here starts after within first early hit
     (subst (λ t. AreHitsBehind l t from at found) (sym front) early)
     (hits_here l text m end (at + (m - from)) here after within first (subst (λ x. AreHitsAt l text end x here) same hits))
 
--- the hits up to a place behind which nothing ends are all hits
+-- the hits up to a position after which nothing ends are all hits
 pub hits_ended : (l : Literals) (text : List ℕ) (from m at : ℕ) (found : List (ℕ × ℕ)) → from ≤ m → m ≤ length text → NoEndAfter l text m → AreHitsBehind l (take m text) from at found → AreHitsBehind l text from at found
 hits_ended l text from m at found starts within none early =
     subst (AreHitsBehind l text from at) (append-nil found) (hits_joined l text from m at found [] starts within early (hits_none l text m (at + (m - from)) none))
 
--- of two hits that end together, that of the earlier literal is below the other
+-- of two hits that end together, the hit of the earlier literal is below the other
 second_decides : (b c d : Bool) (o : Ordering) → c ≡ true → d ≡ true → ordering_then (cond b Less (cond c Equal Greater)) (cond d Less o) ≡ Less
 second_decides true c d o e f = refl
 second_decides false true true o e f = refl
@@ -133,11 +133,11 @@ same_pair h i e f =
     let second : ℕ → ℕ × ℕ = λ a. (i.0, a) in
     ap first e ∙ ap second f
 
--- what a list of one has
+-- the elements of a list of one
 only_one : (h i : ℕ × ℕ) → Contains (h ∷ []) i → h ≡ i
 only_one h i inside = elim (Contains-push_cases [] h i inside) [ inl none ↦ absurd (omega (arith, none.1)) | inr same ↦ same ]
 
--- the hits at one place of the text, which is counted as `at`, of the literals before a place of the list
+-- the hits at one position of the text, which counts as `at`, of the literals before a place of the list
 pub record AreHitsAtBefore (l : Literals) (text : List ℕ) (end at limit : ℕ) (found : List (ℕ × ℕ)) : Type 0 where
   pub rising : IsStrictlySortedBy hit_cmp found
   pub members : (place told : ℕ) → Contains found (place, told) ↔ ((told ≡ at) × (place < limit) × Occurs l text place end)
@@ -192,7 +192,7 @@ hits_at_ended l text end at limit found early none = record {
 pub gained_both : (old middle new found more : List (ℕ × ℕ)) → middle ≡ old ++ found → new ≡ middle ++ more → new ≡ old ++ (found ++ more)
 gained_both old middle new found more first second = second ∙ ap (λ hs. hs ++ more) first ∙ append_assoc old found more
 
--- one that gained a hit told in another way gained the hit
+-- a list that gained a hit in another form gained the hit
 pub gained_one : (old new : List (ℕ × ℕ)) (told hit : ℕ × ℕ) → new ≡ old ++ told ∷ [] → told ≡ hit → new ≡ old ++ hit ∷ []
 gained_one old new told hit gained same = subst (λ h. new ≡ old ++ h ∷ []) same gained
 

@@ -1,4 +1,4 @@
--- Marks that a search meets: which places they leave.
+-- Bits that a search visits, and the positions that remain.
 use Rattle.std.proofs.Common.{◌≡◌, ℕ, suc, ◌+◌, ◌-◌, ◌*◌, ◌/◌, ◌%◌, ◌^◌, ◌<◌, ◌≤◌, List, inl, inr, sym, ap, ◌∙◌, subst, arith, shr-shr}
 use Rattle.std.specs.Int.{bit_at}
 use Rattle.std.specs.Int.RustNames.{bit_or}
@@ -14,10 +14,10 @@ shifted_bit n by i =
     let sum : by + suc i ≡ by + 1 + i = omega arith in
     sym (bit_at-suc (n / 2 ^ by) i) ∙ ap (λ x. x % 2) (shr-shr n by (suc i)) ∙ ap (bit_at n) sum
 
--- a search has come to a mark: of the places that are left, those of interest are marked
+-- a search has reached a bit: each remaining position of interest has one
 module _ (P : ℕ → Type 0) (back rest : ℕ) (left : (other : ℕ) → P other → (back ≤ other) × (bit_at rest (other - back) ≡ 1))
     (low : ℕ) (quiet : (i : ℕ) → i < low → bit_at rest i ≡ 0) where
-  -- before the lowest mark there is none
+  -- before the lowest bit there is none
   pub first_left : (other : ℕ) → P other → back + low ≤ other
   first_left other here =
       let at = left other here in
@@ -26,7 +26,7 @@ module _ (P : ℕ → Type 0) (back rest : ℕ) (left : (other : ℕ) → P othe
         | inr later ↦ later
       ]
 
-  -- if there is none there either, the marks above are left
+  -- if there is none there either, the bits above remain
   pub left_behind : ¬ P (back + low) → (other : ℕ) → P other → (back + low + 1 ≤ other) × (bit_at (rest / 2 ^ low / 2) (other - (back + low + 1)) ≡ 1)
   left_behind none other here =
       let ahead = first_left other here in
@@ -37,7 +37,7 @@ module _ (P : ℕ → Type 0) (back rest : ℕ) (left : (other : ℕ) → P othe
       let place : low + 1 + (other - (back + low + 1)) ≡ other - back = omega (arith, behind) in
       (omega (arith, behind), shifted_bit rest low (other - (back + low + 1)) ∙ ap (bit_at rest) place ∙ (left other here).1)
 
--- likewise where the places of interest are those at which a literal ends
+-- likewise where the positions of interest are the ends
 module _ (l : Literals) (text : List ℕ) (seen count back rest : ℕ) (marked : (other : ℕ) → other < count → HasEnd l text (seen + 1 + other) → (back ≤ other) × (bit_at rest (other - back) ≡ 1))
     (low : ℕ) (quiet : (i : ℕ) → i < low → bit_at rest i ≡ 0) where
   abbrev ends_within : ℕ → Type 0
@@ -50,16 +50,16 @@ module _ (l : Literals) (text : List ℕ) (seen count back rest : ℕ) (marked :
       → (back + low + 1 ≤ other) × (bit_at (rest / 2 ^ low / 2) (other - (back + low + 1)) ≡ 1)
   marked_behind none other near here = left_behind ends_within back rest (λ o is. marked o is.0 is.1) low quiet (λ is. none is.1) other (near, here)
 
--- marks are joined with others that are shifted above them, in a word
+-- bits are combined with others that are shifted above them, in a word
 module _ (marks more at back : ℕ) (short : back < 64) where
   abbrev joined_marks : ℕ
   joined_marks = bit_or marks (more * 2 ^ at % 2 ^ 64)
 
-  -- the marks below stay
+  -- the bits below stay
   pub marked_below : bit_at marks back ≡ 1 → bit_at joined_marks back ≡ 1
   marked_below set = omega (arith, bit_at_or marks (more * 2 ^ at % 2 ^ 64) back, set, bit_at-lt (more * 2 ^ at % 2 ^ 64) back)
 
-  -- and each mark above stands so much higher
+  -- and each bit above is shifted up
   pub marked_above : at ≤ back → bit_at more (back - at) ≡ 1 → bit_at joined_marks back ≡ 1
   marked_above above set =
       let shifted : ℕ = more * 2 ^ at in

@@ -38,7 +38,7 @@ occurs_behind l a b place e o = record {
   bytes = ap (folded_text l.folding) (range_behind a b (length o.literal) e o.begins) ∙ o.bytes;
 }
 
--- and the other way round, where the literal is no longer than what it ends in
+-- and the other way round, where the literal is no longer than the text in which it ends
 pub occurs_in_rest : (l : Literals) (a b : List ℕ) (place e : ℕ) (o : Occurs l (a ++ b) place (length a + e)) → length o.literal ≤ e → Occurs l b place e
 occurs_in_rest l a b place e o fits = record {
   literal = o.literal;
@@ -48,7 +48,7 @@ occurs_in_rest l a b place e o fits = record {
   bytes = ap (folded_text l.folding) (sym (range_behind a b (length o.literal) e fits)) ∙ o.bytes;
 }
 
--- an occurrence that ends within a front is one in the front
+-- an occurrence that ends within a prefix is one in the prefix
 pub occurs_in_front : (l : Literals) (a b : List ℕ) (place e : ℕ) → e ≤ length a → Occurs l (a ++ b) place e → Occurs l a place e
 occurs_in_front l a b place e within o = record {
   literal = o.literal;
@@ -68,11 +68,11 @@ occurs_of_front l a b place e o = record {
   bytes = ap (folded_text l.folding) (range_before a b (e - length o.literal) e (omega arith) o.ends) ∙ o.bytes;
 }
 
--- the bytes before the last ones of a text
+-- a text without its last bytes
 pub before_last : ℕ → List ℕ → List ℕ
 before_last carry text = take (length text - carry) text
 
--- a text and a piece are what comes before the last bytes, and then these and the piece
+-- a text and a piece are the bytes before the last ones, then the last bytes, then the piece
 regrouped : (carry : ℕ) (text piece : List ℕ) → text ++ piece ≡ before_last carry text ++ (last_bytes carry text ++ piece)
 unfolding before_last
 regrouped carry text piece =
@@ -85,7 +85,7 @@ before_len carry text = omega (arith, length-take (length text - carry) text)
 pub last_len : (carry : ℕ) (text : List ℕ) → length (last_bytes carry text) ≡ length text - (length text - carry)
 last_len carry text = length-drop (length text - carry) text
 
--- what ends in a piece behind a text ends there behind the text's last bytes
+-- a literal that ends in a piece after a text ends there after the text's last bytes
 pub occurs_behind_last : (l : Literals) (text piece : List ℕ) (place d : ℕ) → HasBounds l → 0 < d → Occurs l (text ++ piece) place (length text + d) → Occurs l (last_bytes (carry_of l) text ++ piece) place (length (last_bytes (carry_of l) text) + d)
 occurs_behind_last l text piece place d f some o =
     let carry = carry_of l in

@@ -1,4 +1,4 @@
--- Parts of the room of a seam, before and after a write.
+-- Parts of a boundary's room, before and after a write.
 use Rattle.std.proofs.Common.{◌≡◌, ℕ, ◌+◌, ◌-◌, ◌≤◌, List, ◌++◌, length, take, drop, inl, inr, refl, sym, ap, ◌∙◌, subst, arith}
 use Rattle.std.specs.List.{copy_within}
 use Rattle.std.proofs.Math.Seq.{drop-append-add, take-add, take-append-add}
@@ -9,11 +9,11 @@ use Rattle.flow_scan.specs.Tails.{last_bytes}
 use Rattle.flow_scan.proofs.Occurring.{last_len}
 use Rattle.flow_scan.proofs.TailSteps.{last_of_short}
 
--- two seams with the same parts are one
+-- two boundaries with the same parts are equal
 pub same_seaming : (s t : Seaming) → s.carry ≡ t.carry → s.tail ≡ t.tail → s.front ≡ t.front → s ≡ t
 same_seaming s t p q r = λ i. record { carry = p i; tail = q i; front = r i }
 
--- a slice from before a place to behind it
+-- a slice across a position
 part_two : (start held ahead : ℕ) (xs : List ℕ) → start ≤ held → take (held + ahead - start) (drop start xs) ≡ drop start (take held xs) ++ take ahead (drop held xs)
 part_two start held ahead xs before =
     let m = held - start in
@@ -24,7 +24,7 @@ part_two start held ahead xs before =
     ap (λ n. take n (drop start xs)) count ∙ take-add m ahead (drop start xs)
     ∙ ap (λ ys. ys ++ take ahead (drop m (drop start xs))) front ∙ ap (λ ys. drop start (take held xs) ++ take ahead ys) rest
 
--- the slice from the tail on is the tail and what is offered
+-- the slice from the tail on is the tail and the offered bytes
 pub text_of : (carry held ahead len : ℕ) (xs : List ℕ) → held ≤ length xs → len ≡ length (last_bytes carry (take held xs)) → take (held + ahead - (held - len)) (drop (held - len) xs) ≡ last_bytes carry (take held xs) ++ take ahead (drop held xs)
 text_of carry held ahead len xs fits is_len =
     let front = length-take-le held xs fits in
@@ -32,7 +32,7 @@ text_of carry held ahead len xs fits is_len =
     ap (λ n. take (held + ahead - n) (drop n xs)) start
     ∙ part_two (length (take held xs) - carry) held ahead xs (omega (arith, front))
 
--- the tail, moved to the front
+-- the tail, moved to the start
 pub tail_moved : (carry held : ℕ) (xs : List ℕ) → carry ≤ held → held ≤ length xs → last_bytes carry (take carry (copy_within xs (held - carry) held 0)) ≡ last_bytes carry (take held xs)
 tail_moved carry held xs more fits =
     let start = held - carry in
@@ -47,13 +47,13 @@ tail_moved carry held xs more fits =
     ap (λ n. drop (n - carry) (take held xs)) (length-take-le held xs fits) ∙ ap (λ n. drop start (take n xs)) (sym all) ∙ drop-take start carry xs in
     ap (last_bytes carry) here ∙ last_of_short carry moved (omega (arith, len)) ∙ sym there
 
--- a piece that fits the carry stands whole behind what is held
+-- a piece that fits the overlap stands whole after the held bytes
 pub kept_short : (carry held : ℕ) (xs piece : List ℕ) → length piece ≤ carry → take (length (take carry piece)) (drop held xs) ≡ take carry piece → take (held + length piece) xs ≡ take held xs ++ piece
 kept_short carry held xs piece short front =
     let whole : take carry piece ≡ piece = take_all carry piece short in
     take-add held (length piece) xs ∙ ap (λ ys. take held xs ++ ys) (subst (λ p. take (length p) (drop held xs) ≡ p) whole front)
 
--- of one that is longer, the last bytes alone count
+-- of a longer piece, only the last bytes count
 pub kept_long : (carry : ℕ) (xs rest piece : List ℕ) → carry ≤ length piece → last_bytes carry (take carry (last_bytes carry piece ++ rest)) ≡ last_bytes carry (xs ++ piece)
 kept_long carry xs rest piece long =
     let last = last_bytes carry piece in
@@ -62,7 +62,7 @@ kept_long carry xs rest piece long =
     ap (last_bytes carry) (take_at last rest carry len) ∙ last_of_short carry last (omega (arith, len))
     ∙ sym (ap (λ n. drop n (xs ++ piece)) skip ∙ drop-append-add xs piece (length piece - carry))
 
--- of a piece whose first bytes stand behind what is held, so do those of its first bytes
+-- if the first bytes of a piece stand after the held bytes, so do those of its prefix
 pub offered_front : (carry count ahead : ℕ) (held piece : List ℕ) → take ahead held ≡ take carry piece → take (length (take carry (take count piece))) held ≡ take carry (take count piece)
 offered_front carry count ahead held piece offered =
     let front : take carry (take count piece) ≡ take count (take carry piece) = elim (cases_lt carry count) [
@@ -76,7 +76,7 @@ offered_front carry count ahead held piece offered =
     ∙ ap (λ xs. xs ++ drop ahead held) (take-append-drop count (take ahead held)) ∙ take-append-drop ahead held in
     ap (take (length (take carry (take count piece)))) (sym whole) ∙ take_at (take carry (take count piece)) rest (length (take carry (take count piece))) refl
 
--- of a text that begins with a tail, the bytes up to a place behind it
+-- the prefix of a text that begins with a tail
 pub front_behind : (tail piece : List ℕ) (carry stop : ℕ) → length tail ≤ stop → stop ≤ length (tail ++ take carry piece) → take stop (tail ++ take carry piece) ≡ tail ++ take (stop - length tail) piece
 front_behind tail piece carry stop behind within =
     let count = stop - length tail in

@@ -10,7 +10,7 @@ use Rattle.flow_scan.proofs.HitLists.{gained_both, gained_more, hits_ended, hits
 use Rattle.flow_scan.proofs.SeamLemmas.{front_behind}
 use Rattle.flow_scan.proofs.TailSteps.{added_in_place}
 
--- a search that stopped in the first bytes of a piece, behind a tail
+-- a search that stopped in the first bytes of a piece, after a tail
 pub stopped_in_front : (l : Literals) (tail piece : List ℕ) (carry at most stop : ℕ) (old new : List (ℕ × ℕ)) → StopsAt l (tail ++ take carry piece) (length tail) at most stop old new
     → (stop - length tail < length piece → length old + most ≤ length new) → StopsIn l tail piece at most (stop - length tail) old new
 stopped_in_front l tail piece carry at most stop old new search enough = record {
@@ -20,14 +20,14 @@ stopped_in_front l tail piece carry at most stop old new search enough = record 
   few = search.few;
 }
 
--- a search that gained too few to stop came to the text's end
+-- a search that gained fewer hits than it asked for reached the text's end
 to_end : (l : Literals) (text : List ℕ) (from at most stop : ℕ) (old new : List (ℕ × ℕ)) → StopsAt l text from at most stop old new → length new < length old + most → stop ≡ length text
 to_end l text from at most stop old new search few = elim (cases_lt stop (length text)) [
   | inl sooner ↦ absurd (omega (arith, search.enough sooner, few))
   | inr there ↦ omega (arith, there, search.within)
 ]
 
--- one that came to the end of these first bytes, and stopped in the piece in place
+-- a search that reached the end of the first bytes, and stopped in the piece in place
 pub stopped_in_place : (l : Literals) (tail piece : List ℕ) (at most stop count : ℕ) (old middle new : List (ℕ × ℕ)) → HasBounds l
     → StopsAt l (tail ++ take (carry_of l) piece) (length tail) at most stop old middle → length middle - length old < most
     → StopsAt l piece (carry_of l) (at + carry_of l) (most - (length middle - length old)) count middle new → StopsIn l tail piece at most count old new
@@ -52,20 +52,20 @@ stopped_in_place l tail piece at most stop count old middle new bounds first few
       few = omega (arith, second.few, few, more);
     }
 
--- where more is asked for than a list can hold, all is searched
+-- where a search wants more hits than a list can hold, it covers the whole text
 pub all_searched : (l : Literals) (text : List ℕ) (from at most stop : ℕ) (old new : List (ℕ × ℕ)) → length new < most → StopsAt l text from at most stop old new → GainsHitsBehind l text from at old new
 all_searched l text from at most stop old new small search =
     let there : stop ≡ length text = to_end l text from at most stop old new search (omega (arith, small)) in
     subst (λ t. GainsHitsBehind l t from at old new) (take_all stop text (omega (arith, there))) search.gained
 
--- and all is fed
+-- and the whole piece is fed
 pub all_fed : (l : Literals) (tail piece : List ℕ) (at most count : ℕ) (old new : List (ℕ × ℕ)) → length new < most → StopsIn l tail piece at most count old new → take count piece ≡ piece
 all_fed l tail piece at most count old new small search = elim (cases_lt count (length piece)) [
   | inl sooner ↦ absurd (omega (arith, search.enough sooner, small))
   | inr there ↦ take_all count piece there
 ]
 
--- what a list gained up to a place of a text, and then behind it, it gained in the text
+-- a list that gained the hits up to a position of a text, and then those after it, gained the text's
 pub gained_joined : (l : Literals) (text : List ℕ) (from m at : ℕ) (old middle new : List (ℕ × ℕ)) → from ≤ m → m ≤ length text
     → GainsHitsBehind l (take m text) from at old middle → GainsHitsBehind l text m (at + (m - from)) middle new → GainsHitsBehind l text from at old new
 gained_joined l text from m at old middle new starts within early late = record {
@@ -92,7 +92,7 @@ gained_nothing l text from at old = record {
   added = hits_none l (take from text) from at (none_past l (take from text) from (omega (arith, length-take from text)));
 }
 
--- the hits up to a place and those at the next one are the hits up to there
+-- the hits up to a position and those at the next one are the hits up to there
 pub gained_here : (l : Literals) (text : List ℕ) (from m end at : ℕ) (old middle new : List (ℕ × ℕ)) → from ≤ m → IsNextEnd l text m end
     → GainsHitsBehind l (take m text) from at old middle → GainsHitsAt l text end (at + (end - from)) middle new → GainsHitsBehind l (take end text) from at old new
 gained_here l text from m end at old middle new starts next early late = record {
@@ -101,7 +101,7 @@ gained_here l text from m end at old middle new starts next early late = record 
   added = hits_further l text from m end at early.found late.found starts next.after next.within next.first early.added late.added;
 }
 
--- those up to a place behind which nothing ends are all
+-- the hits up to a position after which nothing ends are all hits
 pub gained_ended : (l : Literals) (text : List ℕ) (from m at : ℕ) (old new : List (ℕ × ℕ)) → from ≤ m → m ≤ length text → NoEndAfter l text m
     → GainsHitsBehind l (take m text) from at old new → GainsHitsBehind l text from at old new
 gained_ended l text from m at old new starts within none early = record {

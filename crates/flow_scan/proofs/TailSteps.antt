@@ -1,4 +1,4 @@
--- The last bytes of a text are enough to tell what a piece behind it adds, piece by piece.
+-- The last bytes of a text determine the hits that a piece after it adds, piece by piece.
 use Rattle.std.proofs.Common.{◌≡◌, ℕ, ◌+◌, ◌-◌, ◌≤◌, List, [], ◌∷◌, ◌++◌, length, take, drop, refl, sym, ap, ◌∙◌, subst, arith}
 use Rattle.std.specs.List.{concat}
 use Rattle.std.proofs.lemmas.List.Folds.{concat-append}
@@ -10,7 +10,7 @@ use Rattle.flow_scan.specs.Tails.{AreAdded, AreHitsBehind, AreSteps, Continues, 
 use Rattle.flow_scan.proofs.Occurring.{last_len, occurs_behind, occurs_behind_all, occurs_behind_last, occurs_of_front}
 use Rattle.flow_scan.proofs.HitLists.{hits_joined, hits_none, none_past}
 
--- what a piece adds behind the last bytes of a text, it adds behind the text
+-- the hits that a piece adds after the last bytes of a text are those that it adds after the text
 pub added_behind_all : (l : Literals) (text piece : List ℕ) (at : ℕ) (found : List (ℕ × ℕ)) → HasBounds l → AreAdded l (last_bytes (carry_of l) text) piece at found → AreAdded l text piece at found
 added_behind_all l text piece at found b added = record {
   rising = added.rising;
@@ -30,7 +30,7 @@ added_behind_last l text piece at found b added = record {
   );
 }
 
--- what two pieces add is what the first adds, and then what the second adds behind both
+-- two pieces add the hits of the first, and then the hits of the second after both
 pub added_joined : (l : Literals) (text first second : List ℕ) (at : ℕ) (found rest : List (ℕ × ℕ)) → AreAdded l text first at found → AreAdded l (text ++ first) second (at + length first) rest → AreAdded l text (first ++ second) at (found ++ rest)
 added_joined l text first second at found rest early late =
     let whole : List ℕ = text ++ first ++ second in
@@ -43,7 +43,7 @@ added_joined l text first second at found rest early late =
     (subst (λ x. AreHitsBehind l whole m x rest) told late) in
     subst (λ t. AreHitsBehind l t (length text) at (found ++ rest)) (append_assoc text first second) all
 
--- the last bytes of a text and a piece are those of the text's last bytes and the piece
+-- the last bytes of a text and a piece depend on the text's last bytes and the piece alone
 pub last_of_last : (most : ℕ) (text piece : List ℕ) → last_bytes most (last_bytes most text ++ piece) ≡ last_bytes most (text ++ piece)
 last_of_last most text piece =
     let skip = length text - most in
@@ -53,15 +53,15 @@ last_of_last most text piece =
     omega (arith, length-append text piece, length-append (last_bytes most text) piece, last_len most text) in
     ap (drop more) (sym front) ∙ drop-drop more skip (text ++ piece) ∙ ap (λ n. drop n (text ++ piece)) count
 
--- of a text that is no longer, they are the text
+-- the last bytes of a text that is no longer are the text
 pub last_of_short : (most : ℕ) (text : List ℕ) → length text ≤ most → last_bytes most text ≡ text
 last_of_short most text short = let none : length text - most ≡ 0 = omega arith in rw none refl
 
--- nothing behind which a text ends
+-- a text after nothing
 pub added_nothing : (l : Literals) (text : List ℕ) (at : ℕ) → AreAdded l text [] at []
 added_nothing l text at = hits_none l (text ++ []) (length text) at (none_past l (text ++ []) (length text) (omega (arith, length-append text [])))
 
--- steps from the last bytes of a text on give what the pieces joined add behind the text
+-- steps from the last bytes of a text on give the hits that the joined pieces add after the text
 pub steps_behind : (l : Literals) (text : List ℕ) (at : ℕ) (pieces : List (List ℕ)) (hits : List (ℕ × ℕ)) → HasBounds l → AreSteps l (last_bytes (carry_of l) text) at pieces hits → AreAdded l text (concat pieces) at hits
 steps_behind l text at [] hits b none = subst (AreAdded l text [] at) (sym none) (added_nothing l text at)
 steps_behind l text at (piece ∷ pieces) hits b s =
@@ -84,7 +84,7 @@ hits_from_start l text hits b all = record {
   );
 }
 
--- of a longer piece, what its first bytes add behind a tail, and then what the piece alone has behind them
+-- of a longer piece: the hits that its first bytes add after a tail, and then the hits of the piece alone after them
 pub added_in_place : (l : Literals) (tail piece : List ℕ) (at : ℕ) (found rest : List (ℕ × ℕ)) → HasBounds l → carry_of l ≤ length piece → AreAdded l tail (take (carry_of l) piece) at found → AreHitsBehind l piece (carry_of l) (at + carry_of l) rest → AreAdded l tail piece at (found ++ rest)
 added_in_place l tail piece at found rest b long early late =
     let carry = carry_of l in
@@ -117,7 +117,7 @@ gained_all l text from at old new none gains =
     let same : gains.found ≡ new = sym (gains.grown ∙ ap (λ hs. hs ++ gains.found) none) in
     subst (AreHitsBehind l text from at) same gains.added
 
--- the hits of a text are those behind its start
+-- the hits of a text are those after its start
 hits_to_start : (l : Literals) (text : List ℕ) (hits : List (ℕ × ℕ)) → HasBounds l → IsHits l text hits → AreHitsBehind l text 0 0 hits
 hits_to_start l text hits b all = record {
   rising = all.rising;
@@ -128,14 +128,14 @@ hits_to_start l text hits b all = record {
   );
 }
 
--- the hits behind a place go on where those up to there end
+-- the hits after a position continue the hits up to there
 pub hits_continued : (l : Literals) (text : List ℕ) (from : ℕ) (hits : List (ℕ × ℕ)) → HasBounds l → from ≤ length text → AreHitsBehind l text from from hits → Continues l text from hits
 hits_continued l text from hits b within later front early =
     let told : from ≡ 0 + (from - 0) = omega arith in
     hits_from_start l text (front ++ hits) b
     (hits_joined l text 0 from 0 front hits (omega arith) within (hits_to_start l (take from text) front b early) (subst (λ x. AreHitsBehind l text from x hits) told later))
 
--- the hits of a text, and those that a piece adds behind its last bytes, are the hits of both
+-- the hits of a text, and those that a piece adds after its last bytes, are the hits of both
 pub hits_fed : (l : Literals) (text piece : List ℕ) (place : ℕ) (old new : List (ℕ × ℕ)) → HasBounds l → place ≡ length text → AreHitsBehind l text 0 0 old → GainsHits l (last_bytes (carry_of l) text) piece place old new → AreHitsBehind l (text ++ piece) 0 0 new
 hits_fed l text piece place old new b reached before gains =
     let whole : List ℕ = text ++ piece in

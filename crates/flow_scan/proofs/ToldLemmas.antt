@@ -1,4 +1,4 @@
--- The literals that a state tells, one after the other.
+-- The output of a state, literal by literal.
 use Rattle.std.proofs.Common.{◌≡◌, ℕ, ◌<◌, ◌≤◌, List, inl, inr, length, slice_index, sym, ◌∙◌, arith}
 use Rattle.std.proofs.lemmas.Bool.{cases_lt}
 use Rattle.std.proofs.lemmas.Grind.{get_or_default_zero}
@@ -10,7 +10,7 @@ use Rattle.lit_base.specs.Literals.{Literals}
 use Rattle.lit_base.specs.Occurrences.{IsFirstEnding, NoneEnds, Occurs}
 use Rattle.text_automaton.specs.Automata.{AreEnding}
 
--- a literal stands before those behind it
+-- the literals are in order
 pub told_below : (l : Literals) (text : List ℕ) (end : ℕ) (told : List ℕ) (i j : ℕ) → AreEnding l text end told → i < j → j < length told → slice_index told i < slice_index told j
 told_below l text end told i j are before within = below_from_sorted told i j 0 (sorted_from_strictly_increasing told are.rising) before within
 
@@ -22,7 +22,7 @@ told_ends l text end told i are within = (are.members (slice_index told i)).0 (C
 pub told_within : (l : Literals) (text : List ℕ) (end : ℕ) (told : List ℕ) (i : ℕ) → AreEnding l text end told → i < length told → slice_index told i < length l.texts
 told_within l text end told i are within = let o = told_ends l text end told i are within in slice_get_within l.texts (slice_index told i) o.literal o.stands
 
--- the next one is the first that ends there of those behind the others
+-- the next literal is the first that ends there, after the others
 pub told_next : (l : Literals) (text : List ℕ) (end : ℕ) (told : List ℕ) (i from : ℕ) → AreEnding l text end told → i < length told → ((k : ℕ) → k < i → slice_index told k < from) → from ≤ slice_index told i
     → IsFirstEnding l text from end (slice_index told i)
 told_next l text end told i from are within passed further = record {
@@ -44,7 +44,7 @@ told_next l text end told i from are within passed further = record {
       ];
 }
 
--- behind all of them none does
+-- after all of them no literal ends there
 pub told_none : (l : Literals) (text : List ℕ) (end : ℕ) (told : List ℕ) (from : ℕ) → AreEnding l text end told → ((k : ℕ) → k < length told → slice_index told k < from) → NoneEnds l text from end
 told_none l text end told from are passed other low o =
     let there = (are.members other).1 o in

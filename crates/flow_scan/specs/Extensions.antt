@@ -1,15 +1,15 @@
--- Literals that extend others of their list at their fronts.
+-- Output links: literals of a list that end with other literals of it.
 use Rattle.std.specs.Prelude.{◌≡◌, ℕ, ◌<◌, ◌≤◌, ◌⊎◌, List, length, slice_index}
 use Rattle.lit_base.specs.Chains.{IsChained, literal_at}
 use Rattle.lit_base.specs.Literals.{IsNormal, Literals}
 use Rattle.lit_base.specs.Occurrences.{Occurs}
 use Rattle.flow_scan.specs.declared.extensions.TheConstants.{MOST_LITERALS}
 
--- the literal at one place of the list is a suffix of that at another: it ends where this ends, taken as a text
+-- the literal at one place of the list is a suffix of the literal at another: it ends where this ends, taken as a text
 abbrev pub IsSuffix : Literals → ℕ → ℕ → Type 0
 IsSuffix l place longer = Occurs l (literal_at l longer) place (length (literal_at l longer))
 
--- of the literals before a place the longest that is a suffix of the one there, or a number that stands for none
+-- the longest literal before a place that is a suffix of the literal there, or a number that stands for none
 pub record IsLongestSuffix (l : Literals) (place suffix : ℕ) : Type 0 where
   pub before : (suffix < place) ⊎ (suffix ≡ MOST_LITERALS)
   pub ends : suffix < place → IsSuffix l suffix place

@@ -1,10 +1,10 @@
--- The hits at a place of a text at which some literal ends.
+-- The hits at a position of a text at which some literal ends.
 use Rattle.std.specs.Prelude.{◌≡◌, ℕ, ◌↔◌, List, ◌++◌, Contains}
 use Rattle.std.specs.List.Sorted.{IsStrictlySortedBy}
 use Rattle.lit_base.specs.Literals.{Literals}
 use Rattle.lit_base.specs.Occurrences.{Occurs, hit_cmp}
 
--- the hits at one place of the text, which is counted as `at`
+-- the hits at one position of the text, which counts as `at`
 pub record AreHitsAt (l : Literals) (text : List ℕ) (end at : ℕ) (found : List (ℕ × ℕ)) : Type 0 where
   pub rising : IsStrictlySortedBy hit_cmp found
   pub members : (place told : ℕ) → Contains found (place, told) ↔ ((told ≡ at) × Occurs l text place end)

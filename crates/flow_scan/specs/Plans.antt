@@ -17,14 +17,14 @@ pub record Plan : Type 0 where
   pub literals : Literals
   pub certificate : CertificateParts
 
--- what its fields keep: the certificate holds, the sieve is the one of its runs, no occurrence goes past it, and the extensions, where they are told, are the list's
+-- the invariant of its fields: the certificate holds, the prefilter belongs to its runs, no occurrence passes it unseen, and the output links, if any, are the list's
 pub record IsCompiled (list : Literals) (certificate : CertificateParts) (sieve : Sieve) (extensions : Option Extensions) : Type 0 where
   pub certified : IsCertified list certificate
   pub sieved : IsSieveOf list certificate.ends sieve
   pub covers : CoversBy list (Passes sieve)
   pub extended : IfSome extensions (λ found. AreExtensions list found.heads found.links)
 
--- the answer where a list and a certificate are no plan: the first condition that fails, and both as they were
+-- the refusal of a list and a certificate: the first condition that fails, and both unchanged
 pub record IsRefusalOf (list : Literals) (certificate : CertificateParts) (fault : Fault) (old_list : Literals) (old_certificate : CertificateParts) : Type 0 where
   pub reason : Reason
   pub told : fault ≡ NotCertified reason

@@ -4,7 +4,7 @@ use Rattle.flow_scan.specs.Plans.{Plan}
 use Rattle.flow_scan.specs.Seams.{Seaming}
 use Rattle.flow_scan.specs.Tails.{last_bytes, tail_after}
 
--- a plan, the place that counting began with, the place reached, and the last bytes fed, as many as a hit in the next piece may need
+-- a plan, the base, the position reached, and the last bytes fed, as many as a hit in the next piece may need
 pub record Scanning : Type 0 where
   pub plan : Plan
   pub base : ℕ
@@ -19,9 +19,9 @@ started plan base = record { plan = plan; base = base; place = base; tail = [] }
 abbrev pub fed : Scanning → List ℕ → Scanning
 fed s piece = record s { place = s.place + length piece; tail = tail_after s.plan.literals s.tail piece }
 
--- ---- inside the crate: what a scan keeps beside its plan
+-- ---- inside the crate: the state of a scan without its plan
 
--- the position that counting began with, the position reached, how many of the last bytes are kept, and these bytes
+-- the base, the position reached, how many of the last bytes are kept, and these bytes
 pub record Reached : Type 0 where
   pub base : ℕ
   pub place : ℕ
@@ -40,7 +40,7 @@ advanced r piece = record r { place = r.place + length piece; tail = last_bytes 
 abbrev pub scanning : Plan → Reached → Scanning
 scanning plan r = record { plan = plan; base = r.base; place = r.place; tail = r.tail }
 
--- what the fields keep: the tail has as many bytes as were fed, up to the carry, and the position is a u64
+-- the invariant of the fields: the tail has as many bytes as were fed, up to the overlap, and the position is a u64
 pub record IsProgress (base count : ℕ) (seam : Seaming) : Type 0 where
   pub tail : length seam.tail ≡ min count seam.carry
   pub place : base + count < 2 ^ 64

@@ -6,40 +6,40 @@ use Rattle.std.specs.List.Sorted.{IsStrictlySortedBy}
 use Rattle.lit_base.specs.Literals.{Literals, lengths}
 use Rattle.lit_base.specs.Occurrences.{IsHits, Occurs, hit_cmp}
 
--- the last bytes of a text, at most so many
+-- the last bytes of a text, at most `most`
 abbrev pub last_bytes : ℕ → List ℕ → List ℕ
 last_bytes most text = drop (length text - most) text
 
--- how many bytes a literal may have before a piece in which it ends: one fewer than the longest, which is the last
+-- how many bytes of a literal may precede a piece in which it ends: one less than the longest has, which is the last
 abbrev pub carry_of : Literals → ℕ
 carry_of l = slice_index (lengths l) (length l.texts - 1) - 1
 
--- no literal is null, nor longer than the carry and one byte
+-- no literal is empty, or longer than the overlap and one byte
 pub record HasBounds (l : Literals) : Type 0 where
   pub some : (place : ℕ) (literal : List ℕ) → slice_get l.texts place ≡ Some literal → 0 < length literal
   pub fits : (place : ℕ) (literal : List ℕ) → slice_get l.texts place ≡ Some literal → length literal ≤ carry_of l + 1
 
--- the tail behind a piece: the last bytes of the tail before it and the piece
+-- the tail after a piece: the last bytes of the previous tail and the piece
 abbrev pub tail_after : Literals → List ℕ → List ℕ → List ℕ
 tail_after l tail piece = last_bytes (carry_of l) (tail ++ piece)
 
--- the hits that end in a text behind the place `from`, which is counted as `at`
+-- the hits that end in a text after the position `from`, which counts as `at`
 pub record AreHitsBehind (l : Literals) (text : List ℕ) (from at : ℕ) (found : List (ℕ × ℕ)) : Type 0 where
   pub rising : IsStrictlySortedBy hit_cmp found
   pub members : (place end : ℕ) → Contains found (place, end) ↔ ((at < end) × Occurs l text place (from + (end - at)))
 
--- the hits that a piece adds behind a tail, where the piece begins at place `at` of the stream
+-- the hits that a piece adds after a tail, where the piece begins at position `at` of the stream
 abbrev pub AreAdded : Literals → List ℕ → List ℕ → ℕ → List (ℕ × ℕ) → Type 0
 AreAdded l tail piece at found = AreHitsBehind l (tail ++ piece) (length tail) at found
 
--- the hits that pieces add one after the other, the first of them behind a tail
+-- the hits that pieces add one after the other, the first of them after a tail
 abbrev pub AreSteps : Literals → List ℕ → ℕ → List (List ℕ) → List (ℕ × ℕ) → Type 0
 AreSteps l tail at [] hits = hits ≡ []
 AreSteps l tail at (piece ∷ pieces) hits =
     (found : List (ℕ × ℕ)) × (rest : List (ℕ × ℕ)) × (hits ≡ found ++ rest) × AreAdded l tail piece at found
     × AreSteps l (tail_after l tail piece) (at + length piece) pieces rest
 
--- a list of hits has gained those that end in a text behind a place, at its end
+-- a list of hits has gained, at its end, those that end in a text after a position
 pub record GainsHitsBehind (l : Literals) (text : List ℕ) (from at : ℕ) (old new : List (ℕ × ℕ)) : Type 0 where
   pub found : List (ℕ × ℕ)
   pub grown : new ≡ old ++ found
@@ -49,7 +49,7 @@ pub record GainsHitsBehind (l : Literals) (text : List ℕ) (from at : ℕ) (old
 abbrev pub GainsHits : Literals → List ℕ → List ℕ → ℕ → List (ℕ × ℕ) → List (ℕ × ℕ) → Type 0
 GainsHits l tail piece at = GainsHitsBehind l (tail ++ piece) (length tail) at
 
--- a search through a text has stopped at a place: a list of hits has gained those up to there, and did not stop before the text's end until it had gained so many
+-- a search through a text has stopped at a position: a list of hits has gained those up to there, and it stopped before the text's end only after it had gained `most`
 pub record StopsAt (l : Literals) (text : List ℕ) (from at most stop : ℕ) (old new : List (ℕ × ℕ)) : Type 0 where
   pub after : from ≤ stop
   pub within : stop ≤ length text
@@ -57,18 +57,18 @@ pub record StopsAt (l : Literals) (text : List ℕ) (from at most stop : ℕ) (o
   pub enough : stop < length text → length old + most ≤ length new
   pub few : length new < length old + most + length l.texts + 1
 
--- likewise of so many bytes of a piece behind a tail
+-- as above, for the first `count` bytes of a piece after a tail
 pub record StopsIn (l : Literals) (tail piece : List ℕ) (at most count : ℕ) (old new : List (ℕ × ℕ)) : Type 0 where
   pub within : count ≤ length piece
   pub gained : GainsHits l tail (take count piece) at old new
   pub enough : count < length piece → length old + most ≤ length new
   pub few : length new < length old + most + length l.texts + 1
 
--- hits that go on behind a place of a text: whatever the hits up to there are, these and then those are the hits of the text
+-- hits that continue the hits up to a position: both together are the hits of the text
 abbrev pub Continues : Literals → List ℕ → ℕ → List (ℕ × ℕ) → Type 0
 Continues l text from hits = (front : List (ℕ × ℕ)) → IsHits l (take from text) front → IsHits l text (front ++ hits)
 
--- steps from no bytes on give the hits of the pieces joined, counted from where the steps begin; from 0 on, these are the text's hits
+-- steps from no bytes on give the hits of the joined pieces, counted from the base; from 0 on, they are the text's hits
 pub record PiecesLaw (l : Literals) (pieces : List (List ℕ)) : Type 0 where
   pub counted : (base : ℕ) (hits : List (ℕ × ℕ)) → AreSteps l [] base pieces hits → AreHitsBehind l (concat pieces) 0 base hits
   pub hits : (hits : List (ℕ × ℕ)) → AreSteps l [] 0 pieces hits → IsHits l (concat pieces) hits

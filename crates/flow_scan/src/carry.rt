@@ -5,8 +5,7 @@ ghost use Rattle.flow_scan.specs.Tails.{HasBounds, carry_of};
 
 use lit_base::LitList;
 
-/// How many bytes a literal may have before a piece in which it ends: one fewer than the longest
-/// literal has.
+/// How many bytes of a literal may precede a piece in which it ends: one less than the longest literal has.
 pub(crate) fn carry(list: &LitList) -> usize
     requires { 0 < length list.now.texts }
     ensures value { result ≡ carry_of list.now }

@@ -1,7 +1,8 @@
-//! Ends that are claimed by looks at a block of a text.
+//! Pending ends: the positions at which a literal may end, found by probes of a block of a text.
 //!
-//! A look at the marks of a place claims the ends, up to seven places further on, at which a literal may end that has one
-//! of its windows before that place. The claims of all looks of a block are joined in one word, without a jump on what is found.
+//! A probe at a position returns hash bits. If bit k is set, a literal with a factor that ends at the probe may end k
+//! positions further on, with k from 0 to 7. The bits of all probes of a block are combined in one word, without a
+//! branch on the result.
 ghost use Rattle.std.specs.Prelude.{◌≡◌, ℕ, ◌+◌, ◌-◌, ◌<◌, ◌≤◌, length, min};
 ghost use Rattle.nib_mask.specs.Fronts.{CoversFronts};
 ghost use Rattle.nib_mask.specs.Halves.{widened};
@@ -14,19 +15,20 @@ use lane_filter::{BlockFilter, split_lowest};
 use nib_mask::ByteMasks;
 use text_windows::Windows;
 
-/// So many places are looked at together: the marks of the last of them have room above it in a word.
+/// Positions in a block. A probe at the last of them has seven more bits, for which a word has room.
 pub(crate) const BLOCK: usize = 56;
 
-/// The bits of as many places.
+/// The bits of the positions of a block.
 const PLACES: u64 = 0x00ff_ffff_ffff_ffff;
 
-/// So many places are told by one step of the filter.
+/// Positions for which one step of the filter decides.
 const STEP: usize = 64;
 
-/// The bytes of a window, but for one: a place with no more before it is looked at by itself.
+/// One byte less than a factor has. A position with fewer bytes before it is probed singly.
 const FRONT: usize = 3;
 
-/// The claims of the ends behind a place, with those of the next `BLOCK` places, or of all that are left of the text.
+/// Adds to the pending ends after `seen` those of the next `BLOCK` positions, or of the rest of the text if it is
+/// shorter.
 #[inline(always)]
 pub(crate) fn claims_behind(
     windows: &Windows<'_>,
@@ -47,7 +49,7 @@ pub(crate) fn claims_behind(
     look_at_block(windows, text, seen, marks, met)
 }
 
-/// The same near the front or the end of a text, for so many places: each is looked at by itself.
+/// As `claims_behind` for `count` positions near the start or the end of a text: each is probed singly.
 #[inline(never)]
 fn look_at_each(windows: &Windows<'_>, text: &[u8], seen: usize, count: usize, marks: u64) -> u64
     requires few { count ≤ BLOCK }
@@ -67,8 +69,8 @@ fn look_at_each(windows: &Windows<'_>, text: &[u8], seen: usize, count: usize, m
     found
 }
 
-/// The same for a whole block within the text: sieved literals are looked for at the places that pass, strided ones at places
-/// that are a stride apart.
+/// As `claims_behind` for a whole block within the text. With masks it probes the positions that pass, otherwise every
+/// position that is a multiple of the stride into the block.
 #[inline(always)]
 fn look_at_block(windows: &Windows<'_>, text: &[u8], seen: usize, marks: u64, met: &mut Met) -> u64
     requires behind { 3 ≤ seen }
@@ -83,7 +85,7 @@ fn look_at_block(windows: &Windows<'_>, text: &[u8], seen: usize, marks: u64, me
     }
 }
 
-/// The claims of a block by the masks that sieve the literals.
+/// The pending ends of a block, by probes where the masks pass.
 #[inline(always)]
 fn sieve_block(
     windows: &Windows<'_>,
@@ -106,7 +108,7 @@ fn sieve_block(
     sieve(windows, text, seen, marks, passing)
 }
 
-/// The claims of a block by looks at the places of it that pass.
+/// The pending ends of a block, by probes at the positions in `passing`.
 #[inline(always)]
 fn sieve(windows: &Windows<'_>, text: &[u8], seen: usize, marks: u64, passing: u64) -> u64
     requires behind { 3 ≤ seen }
@@ -128,7 +130,7 @@ fn sieve(windows: &Windows<'_>, text: &[u8], seen: usize, marks: u64, passing: u
     found
 }
 
-/// The claims of a block by looks at strides, by a loop for lists that have short literals or by one for those that have not.
+/// The pending ends of a block, by probes that are a stride apart. Lists with short literals have a loop of their own.
 #[inline(always)]
 fn stride(windows: &Windows<'_>, text: &[u8], seen: usize, marks: u64) -> u64
     requires behind { 3 ≤ seen }
@@ -143,7 +145,7 @@ fn stride(windows: &Windows<'_>, text: &[u8], seen: usize, marks: u64) -> u64
     stride_over(windows, text, seen, marks, false)
 }
 
-/// The claims of `stride` for lists that have short literals.
+/// As `stride`, for lists with short literals.
 #[inline(never)]
 fn stride_by_all_widths(windows: &Windows<'_>, text: &[u8], seen: usize, marks: u64) -> u64
     requires behind { 3 ≤ seen }
@@ -155,7 +157,7 @@ fn stride_by_all_widths(windows: &Windows<'_>, text: &[u8], seen: usize, marks: 
     stride_over(windows, text, seen, marks, true)
 }
 
-/// The claims of `stride`, by looks that are a stride apart, the first of them at the block's first place.
+/// As `stride`, by probes that are a stride apart, the first of them at the block's first position.
 #[inline(always)]
 fn stride_over(windows: &Windows<'_>, text: &[u8], seen: usize, marks: u64, has_short: bool) -> u64
     requires behind { 3 ≤ seen }
@@ -175,8 +177,8 @@ fn stride_over(windows: &Windows<'_>, text: &[u8], seen: usize, marks: u64, has_
     found
 }
 
-/// The next block from `seen` on that claims an end, or may, or the last one: how much of the text lies before it, where nothing
-/// ends, and its claims as `claims_behind` gives them.
+/// The next block from `seen` on in which an end may be pending, or the last block. Returns the position before the
+/// block and its pending ends, as `claims_behind` gives them. No literal ends after `seen` and up to this position.
 #[inline(always)]
 pub(crate) fn next_claims(
     windows: &Windows<'_>,
@@ -202,7 +204,7 @@ pub(crate) fn next_claims(
     }
 }
 
-/// The same where literals are sieved: blocks of which no place passes are skipped, if no end is claimed in them.
+/// As `next_claims`, with masks. While no end is pending, it skips blocks in which no position passes.
 #[inline(always)]
 fn sieve_ahead(
     windows: &Windows<'_>,
@@ -237,7 +239,7 @@ fn sieve_ahead(
     (at, look_at_each(windows, text, at, count, marks))
 }
 
-/// The same where literals are strided: strides whose looks have no mark are skipped, if no end is claimed.
+/// As `next_claims`, without masks. While no end is pending, it skips probes without hash bits.
 #[inline(always)]
 fn stride_ahead(
     windows: &Windows<'_>,
@@ -259,7 +261,7 @@ fn stride_ahead(
     (at, claims_behind(windows, text, at, marks, met))
 }
 
-/// A place from `seen` on up to which nothing ends: where no end is claimed, strides are skipped whose looks have no mark.
+/// A position from `seen` on up to which nothing ends. While no end is pending, it skips probes without hash bits.
 #[inline(always)]
 fn skip_quiet(windows: &Windows<'_>, text: &[u8], seen: usize, marks: u64) -> usize
     requires behind { 3 ≤ seen }
@@ -277,7 +279,7 @@ fn skip_quiet(windows: &Windows<'_>, text: &[u8], seen: usize, marks: u64) -> us
     skip_strides(windows, text, seen)
 }
 
-/// A place from `seen` on up to which no look has a mark.
+/// A position from `seen` on up to which no probe has hash bits.
 #[inline(always)]
 fn skip_strides(windows: &Windows<'_>, text: &[u8], seen: usize) -> usize
     requires behind { 3 ≤ seen }
@@ -294,7 +296,7 @@ fn skip_strides(windows: &Windows<'_>, text: &[u8], seen: usize) -> usize
     skip_unmarked(windows, text, seen, false)
 }
 
-/// The place of `skip_unmarked` for lists that have short literals.
+/// As `skip_unmarked`, for lists with short literals.
 #[inline(never)]
 fn skip_by_all_widths(windows: &Windows<'_>, text: &[u8], seen: usize) -> usize
     requires behind { 3 ≤ seen }
@@ -308,7 +310,7 @@ fn skip_by_all_widths(windows: &Windows<'_>, text: &[u8], seen: usize) -> usize
     skip_unmarked(windows, text, seen, true)
 }
 
-/// A place from `seen` on up to which no look has a mark, two of them at a time.
+/// A position from `seen` on up to which no probe has hash bits, by two probes a turn.
 #[inline(always)]
 fn skip_unmarked(windows: &Windows<'_>, text: &[u8], seen: usize, has_short: bool) -> usize
     requires behind { 3 ≤ seen }
@@ -324,7 +326,7 @@ fn skip_unmarked(windows: &Windows<'_>, text: &[u8], seen: usize, has_short: boo
     if seen == last {
         return seen;
     }
-    // The four bytes of each look are read at once if the loop goes by the place itself, and not by the one before.
+    // The loop counts the probed position, so that the compiler reads the four bytes of a probe at once.
     let mut at = seen + 1;
     'strides: while last - at >= 2 * stride {
         let near = windows.marks_behind_front(text, at, has_short);

@@ -24,7 +24,7 @@ use lit_base::LitList;
 use lit_cert::{Certificate, certified_law, check};
 use std::marker::Model;
 
-/// Literals with a certified plan: who holds one needs no check.
+/// Literals with a certified plan. Code that holds one needs no check.
 #[derive(Debug, Drop)]
 pub struct Compiled {
     list: LitList,
@@ -44,9 +44,9 @@ impl Model for Compiled {
 }
 
 impl Compiled {
-    /// The plan, if the certificate shows that no assignment of the literals to at most eight
-    /// buckets is cheaper. Else `NotCertified` with the first condition that fails, and list and
-    /// certificate as they were. It takes no memory.
+    /// The plan, if the certificate shows that no assignment of the literals to at most eight buckets is cheaper.
+    /// Otherwise `NotCertified` with the first condition that fails, and the list and the certificate unchanged. It
+    /// takes no memory.
     pub fn new(
         list: LitList,
         certificate: Certificate,
@@ -62,7 +62,8 @@ impl Compiled {
         }
     }
 
-    /// The plan of a certificate that is known to hold, as one that was just made: it is not checked again. It takes no memory.
+    /// The plan of a certificate that is known to hold, such as a new one of the planner. It is not checked again. It
+    /// takes no memory.
     pub fn certified(list: LitList, certificate: Certificate) -> Compiled
         requires { IsCertified list certificate }
         ensures { result ≡ record { literals = list; certificate = certificate } }
@@ -92,8 +93,8 @@ impl Compiled {
         &self.certificate
     }
 
-    /// The literal of a hit that a scan by this plan found, as it stands in the list. A hit of another plan
-    /// may have none here.
+    /// The literal of a hit of this plan, as it stands in the list. `None` if the list has no literal with the hit's
+    /// number; this happens only with a hit of another plan.
     pub fn literal_of(&self, hit: Hit) -> Option<&[u8]>
         ensures literal { MatchOption result (slice_get self.now.literals.texts hit.0 ≡ None)
             (λ literal. slice_get self.now.literals.texts hit.0 ≡ Some literal.now) }
@@ -106,8 +107,8 @@ impl Compiled {
         }
     }
 
-    /// Where the occurrence starts that a scan by this plan found: how many bytes the stream has before it,
-    /// which are those up to its end but for the literal's. A hit of another plan may start nowhere.
+    /// How many bytes the stream has before the occurrence of a hit of this plan: its end less the literal's length.
+    /// `None` if no start fits, which is possible for a hit of another plan.
     pub fn start_of(&self, hit: Hit) -> Option<u64>
         ensures start { MatchOption result ((start : ℕ) → ¬ StartsAt self.now.literals hit.0 hit.1 start)
             (StartsAt self.now.literals hit.0 hit.1) }
@@ -119,14 +120,14 @@ impl Compiled {
         hit.end_at.checked_sub(literal.len() as u64)
     }
 
-    /// The sieve that suits the literals, which lets each occurrence through.
+    /// The prefilter for the literals, which passes each occurrence.
     pub(crate) fn sieve(&self) -> &Sieve
         ensures { CoversBy self.now.literals (Passes result.now) }
     {
         &self.sieve
     }
 
-    /// The literals that extend others at their fronts, if they are told.
+    /// The output links of the list, if it has them.
     #[inline]
     pub(crate) fn extensions(&self) -> Option<&Extensions>
         ensures { IfSome result (λ found. AreExtensions self.now.literals found.now.heads found.now.links) }
@@ -134,7 +135,7 @@ impl Compiled {
         self.extensions.as_ref()
     }
 
-    /// How many bytes a literal may have before a piece in which it ends.
+    /// How many bytes of a literal may precede a piece in which it ends.
     pub(crate) fn carry(&self) -> usize
         ensures value { result ≡ carry_of self.now.literals }
         ensures small { result < MAX_LITERAL_LEN }
@@ -144,8 +145,8 @@ impl Compiled {
     }
 }
 
-/// The law that a plan is the cheapest: no assignment of its literals to at most as many buckets as its profile has costs
-/// less than its certificate says, and its runs, read as an assignment, cost exactly that.
+/// The law that a plan is the cheapest. No assignment of its literals to at most as many buckets as its profile has
+/// costs less than its certificate says. Its runs, read as an assignment, cost exactly this.
 pub fn least_law(compiled: &Compiled)
     ensures certified { IsCertified compiled.now.literals compiled.now.certificate }
     ensures least { NoAssignmentBelow (buckets compiled.now.certificate.profile) compiled.now.literals compiled.now.certificate.cost }

@@ -1,4 +1,4 @@
-//! A search through texts that learns from them.
+//! A search through texts that tunes itself to them.
 ghost use Rattle.std.specs.Prelude.{◌≡◌, ◌+◌, ◌-◌, ◌^◌, ◌<◌, ◌≤◌, IfOk, IfSome, IsOk, IsOkUnless, MatchOption, length};
 ghost use Rattle.std.specs.Option.{IfNone};
 ghost use Rattle.flow_scan.specs.declared.fault.Fault.TheVariants.{OutOfMemory};
@@ -28,17 +28,17 @@ use std::marker::Model;
 use text_automaton::Automaton;
 use text_windows::{EndRate, ShiftOr, Windows};
 
-/// A search through the texts of one run for the literals of a plan. It begins as `next_end` does; where what
-/// it meets in a text ends nothing too often, it learns which windows of the literals are rare there, what shift-or would
-/// leave, and for a scan whether the literals end so often that their automaton takes less, and goes on by what promises to take least.
-/// What it finds does not depend on that. All memory is taken when it is made.
+/// A search through the texts of one run for the literals of a plan. It begins as `next_end` does. When false positives
+/// and ends have cost too much, it tunes itself to a sample of the text. It then compares the estimates of factors,
+/// shift-or and, for scans, the automaton, and changes to the cheapest if this promises a gain. Its results do not
+/// depend on this. It takes all its memory when it is made.
 #[derive(Debug, Drop)]
 pub struct EndFinder<'p> {
     compiled: &'p Compiled,
     windows: Windows<'p>,
     shift_or: ShiftOr<'p>,
     automaton: Automaton<'p>,
-    /// What is gathered of a stream in small pieces. It is taken out while it is learned from.
+    /// Bytes gathered from short pieces of a stream. The finder takes the sample out while it tunes.
     sample: Option<Sample>,
     strategy: Strategy,
 }
@@ -74,7 +74,8 @@ impl<'p> EndFinder<'p> {
         })
     }
 
-    /// Such a search, unless the plan has at most three literals: these are searched for by two or three bytes of each, whatever the text.
+    /// As `new`, or `None` if the plan has at most three literals. They are searched for by two or three bytes of each,
+    /// whatever the text.
     pub fn new_unless_few(
         alloc: Global,
         compiled: &'p Compiled,
@@ -102,8 +103,8 @@ impl<'p> EndFinder<'p> {
         self.strategy.engine()
     }
 
-    /// The first place of the text behind `from` at which some literal ends, wherever it begins, if
-    /// there is one. It takes no memory.
+    /// The first position of the text after `from` at which some literal ends, wherever it begins, or `None`. It takes
+    /// no memory.
     pub fn next_end(&mut self, text: &[u8], from: usize) -> Option<usize>
         ensures same { self.new ≡ self.old }
         ensures next { MatchOption result
@@ -114,8 +115,8 @@ impl<'p> EndFinder<'p> {
         self.next_end_of(&mut TextSearch::new(compiled, text), from)
     }
 
-    /// The first place of a search's text behind `from` at which some literal ends, wherever it begins, if
-    /// there is one: as `next_end` of the text, and sooner where one end after the other is looked for. It takes no memory.
+    /// The first position of a search's text after `from` at which some literal ends, wherever it begins, or `None`. As
+    /// `next_end` of the text, but faster for one end after another. It takes no memory.
     pub fn next_end_of(&mut self, search: &mut TextSearch<'_>, from: usize) -> Option<usize>
         requires { search.old.plan ≡ self.old }
         ensures same { self.new ≡ self.old }
@@ -136,7 +137,7 @@ impl<'p> EndFinder<'p> {
         }
     }
 
-    /// The search of `next_end_of` by the engine that was chosen.
+    /// As `next_end_of`, by the engine in use.
     fn next_behind(&mut self, search: &mut TextSearch<'_>, from: usize) -> Option<(usize, usize)>
         requires plan { search.old.plan ≡ self.old }
         requires inside { from < length search.old.text }
@@ -153,7 +154,7 @@ impl<'p> EndFinder<'p> {
         }
     }
 
-    /// The search of `next_end_of` by the plan.
+    /// As `next_end_of`, by the plan.
     fn next_by_plan(&mut self, search: &mut TextSearch<'_>, from: usize) -> Option<(usize, usize)>
         requires plan { search.old.plan ≡ self.old }
         requires inside { from ≤ length search.old.text }
@@ -172,7 +173,7 @@ impl<'p> EndFinder<'p> {
         found
     }
 
-    /// The hits of a text that end behind a place of it, as `scan_behind` gives them: it learns on the way, before each span of
+    /// The hits of a text that end after `from`, as `scan_behind` gives them. It may tune itself before each span of
     /// the text. The only refusal is `OutOfMemory`.
     pub fn scan_behind(
         &mut self,
@@ -186,7 +187,7 @@ impl<'p> EndFinder<'p> {
         ensures continues { IfOk result (λ hits. Continues self.old.literals text.now from hits.items) }
         ensures refused { IsOkUnless result OutOfMemory }
 
-        // Where nothing ends behind the place, it takes no memory.
+        // Where nothing ends after the position, it takes no memory.
         ensures quiet { NoEndAfter self.old.literals text.now from → IsOk result }
     {
         let _carry = self.compiled.carry();
@@ -229,7 +230,7 @@ impl<'p> EndFinder<'p> {
         Ok(stop)
     }
 
-    /// Adds hits by windows, as `add_hits` does.
+    /// Adds hits by factors, as `add_hits` does.
     fn add_hits_windowed(
         &mut self,
         text: &[u8],
@@ -254,7 +255,7 @@ impl<'p> EndFinder<'p> {
         Ok(stop)
     }
 
-    /// The search of `next_end` by windows.
+    /// As `next_end`, by factors.
     fn next_windowed(&mut self, text: &[u8], from: usize) -> Option<(usize, usize)>
         requires { from < length text.now }
         ensures same { self.new ≡ self.old }
@@ -296,7 +297,7 @@ impl<'p> EndFinder<'p> {
         Ok(stop)
     }
 
-    /// The search of `next_end` by shift-or.
+    /// As `next_end`, by shift-or.
     fn next_shifted(&mut self, text: &[u8], from: usize) -> Option<(usize, usize)>
         requires { from < length text.now }
         ensures same { self.new ≡ self.old }
@@ -313,7 +314,7 @@ impl<'p> EndFinder<'p> {
         found
     }
 
-    /// Adds hits by the automaton, as `add_hits` does, or by the plan where it is not made or little is to be read.
+    /// Adds hits by the automaton, as `add_hits` does, or by the plan if the automaton is not made.
     fn add_hits_told(
         &mut self,
         text: &[u8],
@@ -341,7 +342,7 @@ impl<'p> EndFinder<'p> {
         Ok(stop)
     }
 
-    /// Learns from the text at hand behind a place, where what is left of it is likely to gain by that.
+    /// Tunes itself to the text after `from`, if the rest is expected to gain by that.
     fn learn_if_sure(&mut self, text: &[u8], from: usize)
         requires { from ≤ length text.now }
         ensures { self.new ≡ self.old }
@@ -351,8 +352,8 @@ impl<'p> EndFinder<'p> {
         }
     }
 
-    /// Learns from the text behind a place, where that is worth while and enough of it is left. Of a shorter piece of a stream it gathers what
-    /// is left.
+    /// Tunes itself to the text after `from`, if it is due and the text is long enough for a sample. A search for hits
+    /// gathers a shorter text.
     #[inline(always)]
     fn learn_if_due(&mut self, text: &[u8], from: usize, wanted: Wanted)
         requires { from ≤ length text.now }
@@ -365,7 +366,7 @@ impl<'p> EndFinder<'p> {
         }
     }
 
-    /// Gathers what a piece of a stream has behind a place, unless that is too short, and learns once enough is gathered.
+    /// Gathers the bytes of a piece after `from`, unless they are too short, and tunes itself once the sample is full.
     #[inline(never)]
     fn gather(&mut self, text: &[u8], from: usize)
         requires { from ≤ length text.now }
@@ -385,7 +386,7 @@ impl<'p> EndFinder<'p> {
         self.sample = Some(sample);
     }
 
-    /// Learns from the text behind a place.
+    /// Tunes itself to a sample of the text after `from`.
     #[inline(never)]
     fn learn(&mut self, text: &[u8], from: usize, wanted: Wanted)
         requires { from ≤ length text.now }
@@ -413,7 +414,7 @@ impl<'p> EndFinder<'p> {
         self.strategy.choose(by_windows, by_shift_or, by_automaton);
     }
 
-    /// Whether the automaton is wanted and its tables are made: they are, if that is possible.
+    /// Builds the tables of the automaton if it is wanted. Returns whether they are built.
     fn makes_automaton(&mut self, is_wanted: bool) -> bool
         ensures { self.new ≡ self.old }
     {
@@ -423,7 +424,8 @@ impl<'p> EndFinder<'p> {
         self.automaton.learn()
     }
 
-    /// What a scan by the automaton is likely to take for 1,024 bytes in which literals end so often. Single ends are not looked for by it.
+    /// The estimate of a scan by the automaton for 1,024 bytes with ends at this rate; `usize::MAX` for single ends,
+    /// which the automaton does not search for.
     fn cost_if_told(&self, wanted: Wanted, rate: EndRate) -> usize {
         match wanted {
             Wanted::Hits => self.cost_to_tell(1024, rate.ends),
@@ -431,7 +433,7 @@ impl<'p> EndFinder<'p> {
         }
     }
 
-    /// What a scan by the automaton takes for so many bytes with so many ends.
+    /// The cost of a scan by the automaton for `count` bytes with `ends` ends.
     fn cost_to_tell(&self, count: usize, ends: usize) -> usize {
         cost_by_automaton(self.automaton.room(), self.compiled.carry(), count, ends)
     }
@@ -458,12 +460,12 @@ impl<'p> HitSearch for EndFinder<'p> {
     }
 }
 
-/// What a search for one end adds to how often literals end.
+/// The rate that a search for one end adds.
 fn rate_of(found: Option<(usize, usize)>) -> EndRate {
     EndRate::of_searches(usize::from(found.is_some()))
 }
 
-/// How many bytes behind a place a search has passed.
+/// How many bytes after `from` a search has passed.
 fn passed(text: &[u8], from: usize, found: Option<(usize, usize)>) -> usize {
     match found {
         Some((end, _)) => end.saturating_sub(from),

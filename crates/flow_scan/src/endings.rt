@@ -1,4 +1,4 @@
-//! The places of a text at which literals end, one after the other.
+//! The positions of a text at which literals end, one after another, found by the plan alone.
 ghost use Rattle.std.specs.Prelude.{◌≡◌, ◌≤◌, IfSome, MatchOption, length};
 ghost use Rattle.lit_base.specs.Occurrences.{IsFirstEnding};
 ghost use Rattle.nib_mask.specs.Candidates.{CoversBy};
@@ -15,7 +15,7 @@ use lit_base::LitList;
 use std::alloc::AllocError;
 use std::marker::Model;
 
-/// The ends of a text by the plan alone.
+/// The ends in a text, found by the plan alone.
 #[derive(Drop)]
 pub(crate) struct SievedEnds<'a> {
     compiled: &'a Compiled,
@@ -39,7 +39,7 @@ impl<'a> Model for SievedEnds<'a> {
 }
 
 impl<'a> SievedEnds<'a> {
-    /// Those behind a place. It looks at nothing yet.
+    /// The ends after a position. It reads nothing yet.
     pub fn behind(compiled: &'a Compiled, text: &'a [u8], from: usize) -> SievedEnds<'a>
         requires { from ≤ length text.now }
         ensures { result ≡ record { literals = compiled.now.literals; text = text.now; from = from } }
@@ -53,7 +53,7 @@ impl<'a> SievedEnds<'a> {
         }
     }
 
-    /// What was met so far.
+    /// The counters so far.
     pub fn met(&self) -> Met {
         self.met
     }
@@ -88,9 +88,9 @@ impl<'a> Ends for SievedEnds<'a> {
     }
 }
 
-/// The first place behind the last candidate handed out at which some literal ends, with the first
-/// of these literals. The candidates are those of the text, by a sieve for the literals. Adds to `met` those at which nothing
-/// ends. It takes no memory.
+/// The first position after the last returned candidate at which some literal ends, with the first such literal. The
+/// candidates come from a prefilter for the literals. Counts candidates at which nothing ends in `met`. It takes no
+/// memory.
 pub(crate) fn next_verified(
     list: &LitList,
     text: &[u8],

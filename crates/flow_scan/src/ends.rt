@@ -1,4 +1,4 @@
-//! The loop over the ends of a text that adds the hits at each of them, whatever finds the ends.
+//! The loop over the ends in a text, which adds the hits at each. It works with every engine.
 ghost use Rattle.std.specs.Prelude.{◌≡◌, ℕ, ◌+◌, ◌-◌, ◌^◌, ◌<◌, ◌≤◌, IfOk, IfSome, IsOk, MatchOption, OnOk, length};
 ghost use Rattle.lit_base.specs.NextEnds.{IsNextEnd, NoEndAfter};
 ghost use Rattle.flow_scan.specs.HitsAt.{Extends, GainsHitsAt};
@@ -8,14 +8,16 @@ ghost use Rattle.flow_scan.specs.Walks.{Walk};
 use crate::hit::Hit;
 use std::alloc::AllocError;
 
-/// A walk over the places of one text at which some literal ends.
+/// A walk over the positions of one text at which some literal ends.
 pub(crate) trait Ends {
     ghost walk: { Self → Walk };
 
-    /// A number tells the literals that end at a place that was found: the first of them, or a state of an automaton.
+    /// The number that comes with an end identifies the literals there: it is the first of them, or a state of an
+    /// automaton.
     ghost tells: { Self → ℕ → ℕ → Type 0 };
 
-    /// The next place at which some literal ends, with what tells the literals there: the walk goes on behind it. It takes no memory.
+    /// The next position at which some literal ends, with the number that identifies the literals there. The walk moves
+    /// to this position. It takes no memory.
     fn next_end(&mut self) -> Option<(usize, usize)>
         ensures next { let before = walk self.old in MatchOption result
             (NoEndAfter before.literals before.text before.from)
@@ -23,7 +25,7 @@ pub(crate) trait Ends {
         ensures tells { IfSome result (λ found. tells self.new found.0 found.1) }
         ensures moved { IfSome result (λ found. walk self.new ≡ record (walk self.old) { from = found.0 }) };
 
-    /// Adds the hits at a place that was found, which counts as `at`. Where memory is refused the hits before were added.
+    /// Adds the hits at an end that was found, counted as `at`. When memory is refused, earlier hits stay added.
     fn add_hits_at(
         &self,
         end: usize,
@@ -37,9 +39,9 @@ pub(crate) trait Ends {
         ensures kept { Extends out.old.items out.new.items };
 }
 
-/// Adds the hits that end in the text of a walk behind `from`, where it begins and which counts as `at`, up to the first
-/// end by which `out` gained at least `most` of them. The answer is that end, or the text's length.
-/// Memory is refused only after a hit was found, and then the hits before it were added.
+/// Adds the hits that end in the text after `from`, up to the first end by which `out` gained at least `most` hits. The
+/// walk starts at `from`, which counts as `at`. Returns this end, or the text's length. Memory is refused only after a
+/// hit was found; earlier hits then stay added.
 pub(crate) fn add_hits_of<E: Ends>(
     ends: &mut E,
     text: &[u8],

@@ -1,8 +1,8 @@
-//! Which literals of a list extend others at their fronts.
+//! Output links: which literals of a list end with which others.
 //!
-//! Literals that end together are suffixes of each other. So each extends the longest of the others that is a suffix of it,
-//! what Aho and Corasick's automaton reaches by its output links, and where a literal ends, at most one of those that extend
-//! it does.
+//! Literals that end together are suffixes of each other. Each extends the longest other literal that is a suffix of
+//! it; the Aho-Corasick automaton follows its output links to that literal. Where a literal ends, at most one literal
+//! that extends it directly ends too.
 ghost use Rattle.std.specs.Prelude.{◌≡◌, ℕ, ◌+◌, ◌<◌, ◌≤◌, IfSome, MatchOption, length, slice_index};
 ghost use Rattle.lit_base.specs.Chains.{IsChained};
 ghost use Rattle.lit_base.specs.Occurrences.{IsFirstEnding, NoneEnds, Occurs};
@@ -11,12 +11,12 @@ ghost use Rattle.flow_scan.specs.Extensions.{AreExtensions, IsLongestSuffix};
 
 use lit_base::LitList;
 
-/// A list in which one literal has this many suffixes among the others has no output links: a list of literals each of which is
-/// a suffix of the next would take long. In lists of words a literal has one or two.
+/// A list has no output links if one of its literals has this many suffixes among the others. Otherwise a list of
+/// literals that are suffixes of the next would take long. In lists of words a literal has one or two.
 const MOST_SUFFIXES: usize = 16;
 
-/// So many of the literals that extend one are compared with a text; the others are looked for as literals are that
-/// begin anywhere. In lists of 1,000 of a text's own words a literal is extended by up to nine.
+/// How many literals that extend one are compared with a text. The general search finds the others. In lists of 1,000
+/// of a text's own words at most nine extend one literal.
 const MOST_COMPARED: usize = 16;
 
 /// Longer lists have no output links, so that a plan stays small.
@@ -25,20 +25,21 @@ const MOST_LITERALS: usize = 1024;
 /// Stands for no literal.
 const NONE: usize = MOST_LITERALS;
 
-/// A place for each literal, and one for none.
+/// A place for each literal, and one for `NONE`.
 const PLACES: usize = MOST_LITERALS + 1;
 
-/// The literals that extend each literal, in order. The number of literals stands for no more.
+/// For each literal, the chain of literals that extend it, in order. The number of literals ends a chain.
 #[derive(Debug, Drop)]
 pub(crate) struct Extensions {
-    /// The first that extends a literal, and behind these the first that extends none.
+    /// The first literal that extends each; after them, the first that extends none.
     pub heads: [u16; PLACES],
-    /// The next that extends the same as a literal does.
+    /// The next literal that extends the same as this one.
     pub links: [u16; MOST_LITERALS],
 }
 
 impl Extensions {
-    /// Those of a list, unless a literal has too many suffixes in it.
+    /// The output links of a list, or `None` if it has more than `MOST_LITERALS` literals or one of them has too many
+    /// suffixes.
     pub(crate) fn of(list: &LitList) -> Option<Extensions>
         ensures { IfSome result (λ found. AreExtensions list.now found.heads found.links) }
     {
@@ -54,7 +55,7 @@ impl Extensions {
         Some(Extensions::chained(&suffixes, count))
     }
 
-    /// The chains of so many literals that extend these, made from the last to the first.
+    /// The chains of `count` literals with the longest suffixes `suffixes`, made from the last to the first.
     fn chained(suffixes: &[u16; MOST_LITERALS], count: usize) -> Extensions
         requires few { count ≤ MOST_LITERALS }
         requires within { (place : ℕ) → place < count → slice_index suffixes.now place ≤ MOST_LITERALS }
@@ -73,7 +74,8 @@ impl Extensions {
         Extensions { heads, links }
     }
 
-    /// The first of the literals behind the one at a place, which ends at `end` in the text, that ends there too, if there is one.
+    /// The first literal after the one at `place` that ends at `end` in the text too, or `None`. The literal at `place`
+    /// ends there.
     #[inline]
     pub(crate) fn next_ending(
         &self,
@@ -106,7 +108,8 @@ impl Extensions {
     }
 }
 
-/// The longest of the literals before a place that is a suffix of the one there, or `NONE`, unless it has too many.
+/// The longest literal before `place` that is a suffix of the literal there, or `NONE`. Returns `None` if it has too
+/// many.
 fn longest_suffix(list: &LitList, place: usize) -> Option<usize>
     requires within { place < length list.now.texts }
     requires few { place < MOST_LITERALS }

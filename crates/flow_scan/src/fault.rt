@@ -15,7 +15,7 @@ pub enum Fault {
     /// The certificate does not show that its grouping is the cheapest.
     #[error("the plan is not certified: {reason}")]
     NotCertified { reason: Reason },
-    /// The place in the stream would pass 2^64 - 1.
+    /// The position in the stream would pass 2^64 - 1.
     #[error("the stream is too long")]
     StreamTooLong,
 }

@@ -1,8 +1,8 @@
 //! What a scan finds.
 use std::marker::Model;
 
-/// A literal that ends at a place of a stream. Hits stand in order of their ends, and by literal
-/// where they end together.
+/// A literal that ends at a position of a stream. Hits are ordered by their ends, and by literal where they end
+/// together.
 #[derive(Clone, Copy, Debug, PartialEq, Eq)]
 pub struct Hit {
     /// The literal's place in the normal form.

@@ -1,4 +1,4 @@
-//! What finds the hits of a text: a search by a plan, or one that learns.
+//! Searches for the hits of a text: by a plan alone, or by a finder.
 ghost use Rattle.std.specs.Prelude.{◌≡◌, ◌+◌, ◌-◌, ◌^◌, ◌<◌, ◌≤◌, IfOk, IsOk, length};
 ghost use Rattle.flow_scan.specs.HitsAt.{Extends};
 ghost use Rattle.lit_base.specs.NextEnds.{NoEndAfter};
@@ -11,14 +11,14 @@ use crate::ends::add_hits_of;
 use crate::hit::Hit;
 use std::alloc::AllocError;
 
-/// What finds the hits of a text by a plan.
+/// A search for the hits of a text by a plan.
 pub(crate) trait HitSearch {
     /// The plan.
     ghost plan: { Self → Plan };
 
-    /// Adds the hits that end in the text behind `from`, where this place counts as `at`, up to the first
-    /// end by which `out` gained at least `most` of them. The answer is that end, or the text's length.
-    /// Memory is refused only after a hit was found, and then the hits before it were added.
+    /// Adds the hits that end in the text after `from`, which counts as `at`, up to the first end by which `out` gained
+    /// at least `most` hits. Returns this end, or the text's length. Memory is refused only after a hit was found;
+    /// earlier hits then stay added.
     fn add_hits(
         &mut self,
         text: &[u8],

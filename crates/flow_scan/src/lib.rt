@@ -1,5 +1,5 @@
-//! Scanning of byte streams for many literals at once: every occurrence, each once and in order, in
-//! whatever pieces the stream comes.
+//! Scans byte streams for many literals at once. A scan gives every occurrence, each once and in order, however the
+//! stream is cut.
 #![tactic(auto)]
 
 mod carry;

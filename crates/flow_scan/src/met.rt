@@ -1,6 +1,7 @@
-//! What a search met.
+//! The counters of a search.
 
-/// Places that passed the sieve, and ends that marks claimed, at which nothing ended; and ends at which a literal did.
+/// Counters of positions that passed the prefilter, of false positives among pending ends, and of ends. A search by the
+/// plan counts only the passed positions at which nothing ends.
 #[derive(Clone, Copy, Debug)]
 pub(crate) struct Met {
     pub passed: usize,
@@ -9,7 +10,7 @@ pub(crate) struct Met {
 }
 
 impl Met {
-    /// Nothing yet.
+    /// All counters 0.
     pub fn nothing() -> Met {
         Met {
             passed: 0,
@@ -18,43 +19,43 @@ impl Met {
         }
     }
 
-    /// It met so many places more that passed the sieve.
+    /// Counts the positions in `mask`, which passed the prefilter.
     #[inline(always)]
     pub fn pass(&mut self, mask: u64) {
         self.passed = self.passed.saturating_add(mask.count_ones() as usize);
     }
 
-    /// It met one place more that passed the sieve.
+    /// Counts one position that passed the prefilter.
     #[inline(always)]
     pub fn pass_one(&mut self) {
         self.passed = self.passed.saturating_add(1);
     }
 
-    /// It met an end for each bit that is claimed.
+    /// Counts a pending end for each bit of `marks`.
     #[inline(always)]
     pub fn claim(&mut self, marks: u64) {
         self.marked = self.marked.saturating_add(marks.count_ones() as usize);
     }
 
-    /// It met so many ends at which nothing ends.
+    /// Counts `count` false positives.
     pub fn miss(&mut self, count: usize) {
         self.marked = self.marked.saturating_add(count);
     }
 
-    /// A literal did end at one of them.
+    /// Counts a literal that ends at a pending end: this one is no false positive.
     #[inline(always)]
     pub fn hit(&mut self) {
         self.marked = self.marked.saturating_sub(1);
         self.end();
     }
 
-    /// A literal ended somewhere.
+    /// Counts one end.
     #[inline(always)]
     pub fn end(&mut self) {
         self.count_ends(1);
     }
 
-    /// Literals ended at so many places.
+    /// Counts `count` ends.
     #[inline(always)]
     pub fn count_ends(&mut self, count: usize) {
         self.ends = self.ends.saturating_add(count);

@@ -1,4 +1,4 @@
-//! What searches took, and what they are expected to take, in tenths of a nanosecond.
+//! Measured and estimated costs of searches, in tenths of a nanosecond.
 
 use crate::met::Met;
 use crate::tuning::{
@@ -8,14 +8,14 @@ use text_windows::{
     EndRate, LOOK_COST, MARK_COST, SIEVE_COST, START_COST, Windows, cost_of_blocks,
 };
 
-/// What a search by the plan took beside the sieve that met so many candidates at which nothing ended, and so many ends of a scan: these take
-/// longer than by windows, where they stand apart.
+/// The cost of a search by the plan without its prefilter: `missed` false positives, and `ends` ends of a scan. Ends
+/// that stand apart cost more than by factors.
 pub(crate) fn cost_by_plan(missed: usize, ends: usize) -> usize {
     let misses = missed.saturating_mul(CANDIDATE_COST);
     misses.saturating_add(ends.saturating_mul(PLAIN_END_COST))
 }
 
-/// What ends that are as frequent as that take longer by windows than where they stand apart, for 1,024 bytes.
+/// The extra cost of dense ends by factors, for 1,024 bytes. It is 0 if they stand apart.
 pub(crate) fn cost_of_dense_ends(rate: EndRate) -> usize {
     if rate.starts == 0 && rate.ends >= 1024 / DENSE {
         rate.ends.saturating_mul(PLAIN_END_COST)
@@ -24,8 +24,8 @@ pub(crate) fn cost_of_dense_ends(rate: EndRate) -> usize {
     }
 }
 
-/// What an automaton with room for so many states, whose lanes begin so many bytes before their first places, takes for so many bytes with
-/// so many ends, less what these gain by it.
+/// The cost of an automaton with room for `room` states, for `count` bytes with `ends` ends, less its gain at the ends.
+/// Its lanes begin `before` bytes before their first positions.
 pub(crate) fn cost_by_automaton(room: usize, before: usize, count: usize, ends: usize) -> usize {
     let step = AUTOMATON_COST
         .saturating_add(room.saturating_sub(NEAR_STATES) / 2)
@@ -34,12 +34,12 @@ pub(crate) fn cost_by_automaton(room: usize, before: usize, count: usize, ends: 
     steps.saturating_sub(ends.saturating_mul(TOLD_GAIN))
 }
 
-/// What `count` bytes take by looks that are a stride apart.
+/// The cost of probes that are a stride apart, for `count` bytes.
 fn cost_of_looks(stride: usize, count: usize) -> usize {
     count.saturating_mul(LOOK_COST) / stride.max(1)
 }
 
-/// What a search by windows took that passed so many bytes, met so much, and found so many ends.
+/// The cost of a search by factors that passed `count` bytes, with the counters `met` and the ends `found`.
 pub(crate) fn cost_by_windows(
     windows: &Windows<'_>,
     count: usize,
@@ -55,13 +55,13 @@ pub(crate) fn cost_by_windows(
         .saturating_add(found.starts.saturating_mul(START_COST))
 }
 
-/// What it took to sieve so many bytes, of which so many places passed.
+/// The cost of the masks for `count` bytes, in which `passed` positions passed.
 fn cost_of_sieve(windows: &Windows<'_>, count: usize, passed: usize) -> usize {
     let sieve = count.saturating_mul(SIEVE_COST) / 1024;
     sieve.saturating_add(windows.cost_of_passes(passed, count))
 }
 
-/// What looks at strides took.
+/// The cost of probes a stride apart.
 fn cost_of_strides(windows: &Windows<'_>, count: usize, found: EndRate) -> usize {
     let stride = windows.stride();
     let widths = windows.widths();

@@ -1,4 +1,4 @@
-//! What a scan of a stream keeps beside its plan.
+//! The state of a scan of a stream, without its plan.
 ghost use Rattle.std.specs.Prelude.{◌≡◌, ◌↔◌, ◌+◌, ◌-◌, ◌^◌, ◌<◌, ◌≤◌, ◌⊎◌, ◌++◌, [], IfErr, IfOk, IsErrOf, IsOk, IsOkUnless, OnErr, length, min, take};
 ghost use Rattle.flow_scan.specs.declared.fault.Fault.TheVariants.{OutOfMemory, StreamTooLong};
 ghost use Rattle.lit_base.specs.NextEnds.{NoEndAfter};
@@ -40,7 +40,7 @@ impl Model for Progress {
 }
 
 impl Progress {
-    /// That of a scan that was fed nothing and counts positions from `base`. It keeps at most `carry` bytes.
+    /// The state of a scan that was fed nothing and counts positions from `base`. It keeps at most `carry` bytes.
     pub(crate) fn new(alloc: Global, carry: usize, base: u64) -> Result<Progress, AllocError>
         requires { carry < 2 ^ 32 }
         ensures { IfOk result (λ p. p ≡ started_at carry base) }
@@ -61,10 +61,11 @@ impl Progress {
         self.base + self.count
     }
 
-    /// Feeds the next piece up to the first end in it by which `out` gained at least `most` hits, or all of it, and adds the
-    /// hits that the search finds in what was fed. It returns how many bytes were fed.
+    /// Feeds the next piece up to the first end by which `out` gained at least `most` hits, or all of it. Adds the hits
+    /// that the search finds in the fed bytes, and returns how many bytes were fed.
     ///
-    /// Refusals: `StreamTooLong` where the whole piece would pass 2^64 - 1, and `OutOfMemory`.
+    /// Refusals: `StreamTooLong` if the position would pass 2^64 - 1 with the whole piece, and `OutOfMemory`. They
+    /// leave this state and `out` unchanged.
     pub(crate) fn feed_by<S: HitSearch>(
         &mut self,
         search: &mut S,
@@ -104,7 +105,7 @@ impl Progress {
         }
     }
 
-    /// An equal one.
+    /// An equal state.
     pub(crate) fn copy(&self) -> Result<Progress, AllocError>
         ensures { IfOk result (λ p. p ≡ self.now) }
     {
@@ -126,10 +127,9 @@ impl Progress {
     }
 }
 
-/// Adds the hits that end in a piece by a search, where its first bytes stand at the seam: those in its first bytes
-/// from there, and the others from the piece in place, up to the first end by which `out` gained at
-/// least `most` of them. The answer is how many bytes of the piece lie up to there, or its length.
-/// Where memory is refused, hits before were added.
+/// Adds the hits that end in a piece, up to the first end by which `out` gained at least `most` hits. It searches the
+/// first bytes of the piece at the boundary, after the tail, and then the rest in place. Returns how many bytes of the
+/// piece lie up to this end, or its length. When memory is refused, earlier hits stay added.
 fn add_piece<S: HitSearch>(
     search: &mut S,
     compiled: &Compiled,

@@ -3,21 +3,21 @@
 use crate::tuning::LEAST_SAMPLE;
 use std::alloc::{AllocError, Global};
 
-/// Bytes of pieces that are too short to learn from, behind each other. All memory is taken when it is made.
+/// Bytes of pieces that are too short to tune by, one after the other. It takes all its memory when it is made.
 #[derive(Debug, Drop)]
 pub(crate) struct Sample {
     bytes: Vec<u8>,
 }
 
 impl Sample {
-    /// No bytes, and room for as many as are learned from.
+    /// No bytes, and room for `LEAST_SAMPLE`.
     pub fn new(alloc: Global) -> Result<Sample, AllocError> {
         Ok(Sample {
             bytes: Vec::with_capacity(alloc, LEAST_SAMPLE)?,
         })
     }
 
-    /// Adds the bytes of a piece, as far as there is room. The answer is whether there is none left: then they are enough to learn from.
+    /// Adds the bytes of a piece, up to the room. Returns whether the sample is full, and so long enough to tune by.
     pub fn add(&mut self, piece: &[u8]) -> bool {
         let room = LEAST_SAMPLE.saturating_sub(self.bytes.len());
         let (front, _) = piece.split_at(room.min(piece.len()));
@@ -29,7 +29,7 @@ impl Sample {
         self.bytes.as_slice()
     }
 
-    /// Forgets them.
+    /// Forgets the bytes.
     pub fn clear(&mut self) {
         self.bytes.clear();
     }

@@ -1,4 +1,4 @@
-//! Scanning a stream that comes in pieces.
+//! Scans a stream that comes in pieces.
 ghost use Rattle.std.specs.Prelude.{◌≡◌, ◌↔◌, ◌+◌, ◌-◌, ◌^◌, ◌≤◌, ◌⊎◌, ◌++◌, IfErr, IfOk, IsErrOf, IsOkUnless, OnErr, OnOk, length, min, take};
 ghost use Rattle.flow_scan.specs.declared.fault.Fault.TheVariants.{OutOfMemory, StreamTooLong};
 ghost use Rattle.lit_base.specs.NextEnds.{NoEndAfter};
@@ -14,9 +14,9 @@ use crate::progress::Progress;
 use std::alloc::Global;
 use std::marker::Model;
 
-/// A scan of one stream by a plan. It is fed the stream in pieces, cut anywhere, and gives every hit
-/// once and in order. Between pieces it keeps the last bytes alone, fewer than the longest literal
-/// has, in memory that it takes when it is made.
+/// A scan of one stream by a plan. The stream comes in pieces, cut anywhere. The scan gives every hit once and in
+/// order. Between pieces it keeps only the last bytes, fewer than the longest literal has. It takes this memory when it
+/// is made.
 #[derive(Drop)]
 pub struct Scanner<'p> {
     compiled: &'p Compiled,
@@ -36,7 +36,7 @@ impl<'p> Model for Scanner<'p> {
 }
 
 impl<'p> Scanner<'p> {
-    /// A scan that counts its places from 0. The only refusal is `OutOfMemory`.
+    /// A scan that counts positions from 0. The only refusal is `OutOfMemory`.
     pub fn new(alloc: Global, compiled: &'p Compiled) -> Result<Scanner<'p>, Fault>
         ensures ok { IfOk result (λ s. s ≡ started compiled.now 0) }
         ensures refused { IsOkUnless result OutOfMemory }
@@ -44,7 +44,7 @@ impl<'p> Scanner<'p> {
         Scanner::new_at(alloc, compiled, 0)
     }
 
-    /// A scan that counts its places from `base`. The only refusal is `OutOfMemory`.
+    /// A scan that counts positions from `base`. The only refusal is `OutOfMemory`.
     pub fn new_at(alloc: Global, compiled: &'p Compiled, base: u64) -> Result<Scanner<'p>, Fault>
         ensures ok { IfOk result (λ s. s ≡ started compiled.now base) }
         ensures refused { IsOkUnless result OutOfMemory }
@@ -53,11 +53,11 @@ impl<'p> Scanner<'p> {
         Ok(Scanner { compiled, progress })
     }
 
-    /// Feeds the next piece, and adds the hits that end in it to `out`: in order, each once, their
-    /// ends counted from the scan's base.
+    /// Feeds the next piece, and adds the hits that end in it to `out`: in order, each once, their ends counted from
+    /// the scan's base.
     ///
-    /// Refusals: `StreamTooLong` where the place would pass 2^64 - 1, and `OutOfMemory`, which comes
-    /// only where a literal ends in the piece. Scan and `out` are then as they were.
+    /// Refusals: `StreamTooLong` if the position would pass 2^64 - 1, and `OutOfMemory`, which comes only if a literal
+    /// ends in the piece. A refusal leaves the scan and `out` unchanged.
     pub fn feed(&mut self, piece: &[u8], out: &mut Vec<Hit>) -> Result<(), Fault>
         ensures ok { OnOk result (self.new ≡ fed self.old piece.now) }
         ensures hits { OnOk result (GainsHits self.old.plan.literals self.old.tail piece.now self.old.place out.old.items out.new.items) }
@@ -75,11 +75,11 @@ impl<'p> Scanner<'p> {
         Ok(())
     }
 
-    /// Feeds the next piece up to the first end in it by which `out` gained at least `most` hits, or
-    /// all of it, and adds the hits that end in what was fed. The answer is how many bytes were fed.
-    /// So `out` never gains more than `most` hits and one for each literal.
+    /// Feeds the next piece up to the first end by which `out` gained at least `most` hits, or all of it. Adds the hits
+    /// that end in the fed bytes, and returns how many bytes were fed. So `out` gains at most `most` hits and one for
+    /// each literal.
     ///
-    /// Refusals as those of `feed`, for the whole piece: once a piece is not too long, no rest of it is.
+    /// Refusals as for `feed`, for the whole piece. Once a piece is not too long, no rest of it is.
     pub fn feed_until(
         &mut self,
         piece: &[u8],
@@ -105,10 +105,10 @@ impl<'p> Scanner<'p> {
             .feed_by(&mut search, self.compiled, piece, most, out)
     }
 
-    /// Feeds the next piece as `feed_until` does, by a search that learns from it: the finder is one by the scan's plan, and may
-    /// serve any number of scans by it. What is found does not depend on what it learned.
+    /// Feeds the next piece as `feed_until` does, by a finder that tunes itself to it. The finder has the scan's plan,
+    /// and may serve any number of scans by this plan. The hits do not depend on the tuning.
     ///
-    /// Refusals as those of `feed`, for the whole piece.
+    /// Refusals as for `feed`, for the whole piece.
     pub fn feed_learning(
         &mut self,
         finder: &mut EndFinder<'_>,
@@ -134,7 +134,7 @@ impl<'p> Scanner<'p> {
             .feed_by(finder, self.compiled, piece, most, out)
     }
 
-    /// The place reached: the base and how many bytes were fed.
+    /// The position reached: the base and the number of bytes fed.
     pub fn place(&self) -> u64
         ensures place { result ≡ self.now.place }
         ensures tail { length self.now.tail ≡ min (result - self.now.base) (carry_of self.now.plan.literals) }

@@ -1,4 +1,4 @@
-//! Scans of whole texts, and the law on which scans in pieces stand.
+//! Scans of whole texts, and the law on scans in pieces.
 ghost use Rattle.std.specs.Prelude.{◌≡◌, ◌^◌, ◌<◌, ◌≤◌, ◌⊎◌, IfErr, IfOk, IsErr, IsOk, IsOkUnless, length};
 ghost use Rattle.std.specs.List.{concat};
 ghost use Rattle.lit_base.specs.Assignments.{NoAssignmentBelow};
@@ -31,8 +31,8 @@ pub fn scan_all(alloc: Global, compiled: &Compiled, text: &[u8]) -> Result<Vec<H
     Ok(hits)
 }
 
-/// The hits of a text that end behind a place of it, in order: they go on where the hits of its
-/// bytes up to there end. The only refusal is `OutOfMemory`.
+/// The hits of a text that end after `from`, in order. Together with the hits of the first `from` bytes they are the
+/// hits of the text. The only refusal is `OutOfMemory`.
 pub fn scan_behind(
     alloc: Global,
     compiled: &Compiled,
@@ -44,7 +44,7 @@ pub fn scan_behind(
     ensures continues { IfOk result (λ hits. Continues compiled.now.literals text.now from hits.items) }
     ensures refused { IsOkUnless result OutOfMemory }
 
-    // Where nothing ends behind the place, it takes no memory.
+    // Where nothing ends after the position, it takes no memory.
     ensures quiet { NoEndAfter compiled.now.literals text.now from → IsOk result }
 {
     let _carry = compiled.carry();
@@ -55,12 +55,11 @@ pub fn scan_behind(
     Ok(hits)
 }
 
-/// What the plan and a scan by it promise, on one call that feeds a scanner any pieces. No
-/// assignment of the literals to at most eight buckets costs less than the plan's certificate says.
-/// The hits handed out are exactly the literals and ends that occur in the pieces joined, each once
-/// and in order.
+/// The guarantees of a plan and its scan, on one call that feeds a scanner any pieces. No assignment of the literals to
+/// at most eight buckets costs less than the plan's certificate says. The returned hits are exactly the literals and
+/// ends that occur in the joined pieces, each once and in order.
 ///
-/// Refusals: `StreamTooLong` where the pieces together have 2^64 bytes or more, and `OutOfMemory`.
+/// Refusals: `StreamTooLong` if the pieces together have 2^64 bytes or more, and `OutOfMemory`.
 pub fn scan_pieces(
     alloc: Global,
     compiled: &Compiled,
@@ -82,8 +81,8 @@ pub fn scan_pieces(
     Ok(hits)
 }
 
-/// The law that a stream may come in any pieces: from no bytes on, the steps of `feed` over the
-/// pieces give exactly the hits of the pieces joined, counted from wherever the scan begins.
+/// The law that a stream may be cut anywhere. Starting with no bytes, the steps of `feed` over the pieces give exactly
+/// the hits of the joined pieces, counted from the base of the scan.
 pub fn pieces_law(list: &LitList, pieces: &[Vec<u8>])
     requires { 0 < length list.now.texts }
     ensures { PiecesLaw list.now (bytes_of pieces.now) }

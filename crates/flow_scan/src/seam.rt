@@ -1,4 +1,4 @@
-//! The bytes at the seam of two pieces of a stream.
+//! The bytes at the boundary of two pieces of a stream.
 ghost use Rattle.std.specs.Prelude.{◌≡◌, ◌+◌, ◌*◌, ◌^◌, ◌<◌, ◌≤◌, ◌++◌, [], IfOk, drop, length, take, vec_len};
 ghost use Rattle.flow_scan.specs.Seams.{Seaming};
 ghost use Rattle.flow_scan.specs.Tails.{last_bytes};
@@ -6,16 +6,16 @@ ghost use Rattle.flow_scan.specs.Tails.{last_bytes};
 use std::alloc::{AllocError, Global};
 use std::marker::Model;
 
-/// The last bytes of a stream, at most `carry` of them, and behind them the first bytes of the
-/// piece that comes next. All memory that it needs is taken when it is made.
+/// The last bytes of a stream, at most `carry`, followed by the first bytes of the next piece. It takes all its memory
+/// when it is made.
 #[derive(Drop)]
 pub(crate) struct Seam {
-    /// Room for twice the carry, so that bytes are rarely moved to its front.
+    /// Room for twice the overlap, so that bytes are rarely moved to the start.
     room: Vec<u8>,
     carry: usize,
-    /// How many bytes of the stream it holds, the last of them at the end.
+    /// How many bytes of the stream it holds; the last of them count.
     held: usize,
-    /// How many bytes of the next piece stand behind these.
+    /// How many bytes of the next piece follow them.
     ahead: usize,
 }
 
@@ -36,7 +36,7 @@ impl Model for Seam {
 }
 
 impl Seam {
-    /// A seam of no bytes.
+    /// A boundary without bytes.
     pub(crate) fn new(alloc: Global, carry: usize) -> Result<Seam, AllocError>
         requires { carry < 2 ^ 32 }
         ensures { IfOk result (λ s. s ≡ record { carry = carry; tail = []; front = [] }) }
@@ -56,14 +56,14 @@ impl Seam {
         self.held.min(self.carry)
     }
 
-    /// The tail, and the bytes of the next piece behind it.
+    /// The tail, followed by the first bytes of the next piece.
     pub(crate) fn text(&self) -> &[u8]
         ensures { result.now ≡ self.now.tail ++ self.now.front }
     {
         &self.room[self.held - self.tail_len()..self.held + self.ahead]
     }
 
-    /// Writes the first bytes of the next piece behind the tail, as many as the carry.
+    /// Writes the first bytes of the next piece after the tail, at most `carry`.
     pub(crate) fn offer(&mut self, piece: &[u8])
         ensures { self.new ≡ record self.old { front = take self.old.carry piece.now } }
     {
@@ -73,7 +73,7 @@ impl Seam {
         self.ahead = front;
     }
 
-    /// Takes so many bytes of the piece that was offered as a part of the stream.
+    /// Adds the first `count` bytes of the offered piece to the stream.
     pub(crate) fn commit(&mut self, piece: &[u8], count: usize)
         requires offered { self.old.front ≡ take self.old.carry piece.now }
         requires within { count ≤ length piece.now }
@@ -92,7 +92,7 @@ impl Seam {
         self.ahead = 0;
     }
 
-    /// An equal seam.
+    /// An equal boundary.
     pub(crate) fn copy(&self) -> Result<Seam, AllocError>
         ensures { IfOk result (λ s. s ≡ self.now) }
     {
@@ -105,8 +105,8 @@ impl Seam {
     }
 }
 
-/// Makes room for some more bytes behind those held: where they would not fit, only the tail is
-/// kept, at the front. The answer is how many bytes are held then.
+/// Makes room for `more` bytes after the held bytes. If they would not fit, it keeps only the tail, at the start.
+/// Returns how many bytes it then holds.
 fn make_room(room: &mut Vec<u8>, carry: usize, held: usize, more: usize) -> usize
     requires small { carry < 2 ^ 32 }
     requires room { vec_len room.old ≡ 2 * carry }
@@ -123,8 +123,8 @@ fn make_room(room: &mut Vec<u8>, carry: usize, held: usize, more: usize) -> usiz
     carry
 }
 
-/// Keeps the last bytes of those held and a piece, whose first bytes stand behind those held
-/// already. The answer is how many bytes are held then.
+/// Keeps the last bytes of the held bytes and a piece. The first bytes of the piece already follow the held bytes.
+/// Returns how many bytes it then holds.
 fn keep_last(room: &mut Vec<u8>, carry: usize, held: usize, piece: &[u8]) -> usize
     requires small { carry < 2 ^ 32 }
     requires room { vec_len room.old ≡ 2 * carry }
@@ -141,7 +141,7 @@ fn keep_last(room: &mut Vec<u8>, carry: usize, held: usize, piece: &[u8]) -> usi
     carry
 }
 
-/// Writes the bytes into the room at a place.
+/// Writes the bytes into the room at an offset.
 fn write(room: &mut Vec<u8>, at: usize, bytes: &[u8])
     requires { at + length bytes.now ≤ vec_len room.old }
     ensures items { room.new.items ≡ take at room.old.items ++ bytes.now ++ drop (at + length bytes.now) room.old.items }

@@ -14,8 +14,8 @@ use lane_filter::Candidates;
 use lit_base::LitList;
 use std::alloc::AllocError;
 
-/// The first place of the text behind `from` at which some literal ends, wherever it begins, if
-/// there is one. It takes no memory.
+/// The first position of the text after `from` at which some literal ends, wherever it begins, or `None`. It takes no
+/// memory.
 pub fn next_end(compiled: &Compiled, text: &[u8], from: usize) -> Option<usize>
     ensures { MatchOption result
         (NoEndAfter compiled.now.literals text.now from)
@@ -32,8 +32,8 @@ pub fn next_end(compiled: &Compiled, text: &[u8], from: usize) -> Option<usize>
     }
 }
 
-/// The first place of the text behind `from` at which some literal ends, with the first literal that ends there, by
-/// the plan alone.
+/// The first position of the text after `from` at which some literal ends, with the first such literal, by the plan
+/// alone.
 #[inline]
 pub(crate) fn next_plainly(
     compiled: &Compiled,
@@ -50,8 +50,8 @@ pub(crate) fn next_plainly(
     next_verified(compiled.list(), text, &mut candidates, met)
 }
 
-/// A place from `from` on up to which no literal can end, as each is longer. A search that begins
-/// there need not look at places so near to a text's start one by one.
+/// A position from `from` on up to which no literal can end, since each is longer. A search that begins there skips the
+/// single probes near the start of a text.
 pub(crate) fn skip_short_ends(list: &LitList, from: usize) -> usize
     ensures ahead { from ≤ result }
     ensures none { (text : List ℕ) → NoEndUpTo list.now text from result }
@@ -62,8 +62,8 @@ pub(crate) fn skip_short_ends(list: &LitList, from: usize) -> usize
     from.max(list.shortest().saturating_sub(1))
 }
 
-/// Adds the hits at one place of the text, which counts as `at`, `first` being the first literal
-/// that ends there. Where memory is refused the hits before were added.
+/// Adds the hits at `end`, counted as `at`. The first literal that ends there is `first`. When memory is refused,
+/// earlier hits stay added.
 #[inline]
 pub(crate) fn add_hits_at(
     compiled: &Compiled,
@@ -86,7 +86,7 @@ pub(crate) fn add_hits_at(
     }
 }
 
-/// The same by what is told of literals that extend others.
+/// As `add_hits_at`, by the output links.
 #[inline]
 fn add_extending(
     list: &LitList,
@@ -113,7 +113,7 @@ fn add_extending(
     Ok(())
 }
 
-/// The same where that is not told.
+/// As `add_hits_at`, without output links.
 #[inline(never)]
 fn add_all_at(
     list: &LitList,
@@ -137,7 +137,7 @@ fn add_all_at(
     Ok(())
 }
 
-/// The hit of the literal at a place of the list.
+/// The hit of the literal at `place`.
 pub(crate) fn hit_of(list: &LitList, place: usize, at: u64) -> Hit
     requires { place < length list.now.texts }
     ensures { result ≡ (place, at) }

@@ -1,4 +1,4 @@
-//! The search for ends by shift-or over buckets of literals.
+//! Searches for ends by shift-or over buckets of literals.
 ghost use Rattle.std.specs.Prelude.{◌≡◌, IfSome, MatchOption};
 ghost use Rattle.lit_base.specs.Occurrences.{IsFirstEnding};
 ghost use Rattle.lit_base.specs.NextEnds.{IsNextEnd, NoEndAfter};
@@ -14,9 +14,9 @@ use std::alloc::AllocError;
 use std::marker::Model;
 use text_windows::{Looks, ShiftOr};
 
-/// The first place of the text behind `from` at which some literal ends, wherever it begins, with the first
-/// literal that ends there, if there is one: by the looks of a search behind `from`, which then are those of one behind the end that is
-/// found. Adds to `met` the ends at which none does that were not ruled out. It takes no memory.
+/// The first position of the text after `from` at which some literal ends, wherever it begins, with the first such
+/// literal. `looks` is the state of the search after `from`, and then its state after the end that was found. Counts
+/// false positives in `met`. It takes no memory.
 #[inline(always)]
 fn next_end_by_looks(
     shift_or: &ShiftOr<'_>,
@@ -40,7 +40,7 @@ fn next_end_by_looks(
     found
 }
 
-/// The ends of a text by shift-or.
+/// The ends in a text, found by shift-or.
 #[derive(Drop)]
 pub(crate) struct ShiftedEnds<'a, 'p> {
     compiled: &'a Compiled,
@@ -65,7 +65,7 @@ impl<'a, 'p> Model for ShiftedEnds<'a, 'p> {
 }
 
 impl<'a, 'p> ShiftedEnds<'a, 'p> {
-    /// Those behind a place.
+    /// The ends after a position.
     pub fn behind(
         compiled: &'a Compiled,
         shift_or: &'a ShiftOr<'p>,
@@ -86,7 +86,7 @@ impl<'a, 'p> ShiftedEnds<'a, 'p> {
         }
     }
 
-    /// What was met so far.
+    /// The counters so far.
     pub fn met(&self) -> Met {
         self.met
     }

@@ -1,11 +1,11 @@
-//! The one place that chooses an engine. Nothing here decides what is found, only how soon.
+//! The only module that chooses an engine. A choice changes the time of a search, never its result.
 //!
-//! | question | asked | decided by | answer |
+//! | question | when | depends on | function |
 //! |---|---|---|---|
-//! | Has a finder a use for a list? | once | the number of literals | [`has_use`] |
-//! | Which engine searches the next bytes? | before a span or a piece | the engine in use, the bytes at hand | [`Strategy::engine_for`] |
-//! | Tune now, or gather bytes first? | before each search | the loss, the bytes at hand | [`Strategy::step`], [`Strategy::tunes_before`] |
-//! | Which engines are worth learning, and from how much text? | when it tunes | the number of literals, the estimates so far | [`sample_len`], [`wants_shift_or`], [`wants_automaton`] |
+//! | Does a list need a finder? | once | the number of literals | [`has_use`] |
+//! | Which engine searches the next bytes? | before a span or a piece | the engine in use, the bytes available | [`Strategy::engine_for`] |
+//! | Tune now, or gather bytes first? | before each search | the loss, the bytes available | [`Strategy::step`], [`Strategy::tunes_before`] |
+//! | Which engines are worth preparing, and from how much text? | when it tunes | the number of literals, the estimates so far | [`sample_len`], [`wants_shift_or`], [`wants_automaton`] |
 //! | Which engine is best, and which is next? | after tuning | the estimates | [`Strategy::choose`] |
 //! | Change to the next best? | every 64 KiB | the measured cost, the estimate of the other | `Strategy::reconsider` |
 
@@ -31,12 +31,12 @@ pub(crate) enum Engine {
     Automaton,
 }
 
-/// What a search is asked for.
+/// The result that a search has to give.
 #[derive(Clone, Copy)]
 pub(crate) enum Wanted {
     /// One end after the other.
     Ends,
-    /// All hits behind a place.
+    /// All hits after a position.
     Hits,
 }
 
@@ -47,23 +47,24 @@ pub(crate) enum Step {
     GoOn,
     /// It gathers a piece that is too short for a sample.
     Gather,
-    /// It tunes itself to the text at hand.
+    /// It tunes itself to the given text.
     Tune,
 }
 
-/// Whether a finder has a use for a list of so many literals. Fewer are searched for by two or three bytes of each, whatever the text.
+/// Whether a list of `len` literals gains by a finder. A shorter list is searched for by two or three bytes of each
+/// literal, whatever the text.
 pub(crate) fn has_use(len: usize) -> bool
     ensures { IsTrue result ↔ (3 < len) }
 {
     len > MOST_WITHOUT_FINDER
 }
 
-/// How many bytes of a text are learned from at most, for a list of so many literals.
+/// The longest sample, in bytes, for a list of `len` literals.
 pub(crate) fn sample_len(len: usize) -> usize {
     if len <= FEW { SAMPLE_OF_FEW } else { SAMPLE }
 }
 
-/// How many bytes a piece has at least, behind those at its boundary, that is gathered for a list of so many literals.
+/// The shortest piece, in bytes after those at its boundary, that is gathered for a list of `len` literals.
 pub(crate) fn least_gathered(len: usize) -> usize {
     if len <= FEW_BY_MASKS {
         LEAST_GATHERED_OF_FEW
@@ -72,7 +73,7 @@ pub(crate) fn least_gathered(len: usize) -> usize {
     }
 }
 
-/// How many bytes of a text in memory are scanned by one engine behind so many that were.
+/// How many bytes of a text in memory one engine scans next, after `passed` bytes.
 pub(crate) fn span_behind(passed: usize) -> usize
     ensures { 0 < result }
 {
@@ -83,34 +84,35 @@ pub(crate) fn span_behind(passed: usize) -> usize
     }
 }
 
-/// The automaton is worth making before shift-or is tried if it is likely to take less than factors do, and than shift-or at its best.
+/// Whether to build the automaton before shift-or is tried: its estimate is below the estimate of factors and the least
+/// cost of shift-or.
 pub(crate) fn wants_automaton_first(by_automaton: usize, by_windows: usize) -> bool {
     wants_automaton(by_automaton, by_windows, SHIFT_OR_COST)
 }
 
-/// Shift-or is worth trying on the sample if factors are likely to take more than it takes at its best.
+/// Whether to try shift-or on the sample: the estimate of factors is above its least cost.
 pub(crate) fn wants_shift_or(by_windows: usize) -> bool {
     SHIFT_OR_COST < by_windows
 }
 
-/// The automaton is worth making if it is likely to take less than both others.
+/// Whether to build the automaton: its estimate is below both others.
 pub(crate) fn wants_automaton(by_automaton: usize, by_windows: usize, by_shift_or: usize) -> bool {
     by_automaton < by_windows.min(by_shift_or)
 }
 
-/// What an engine may take for 1,024 bytes that are likely to take so long.
+/// What an engine may take for 1,024 bytes, given its estimate.
 fn allowed_for(cost: usize) -> usize {
     cost.saturating_add(cost / 2).saturating_add(LEARNED_COST)
 }
 
-/// An engine, and what 1,024 bytes are likely to take by it, in tenths of a nanosecond.
+/// An engine, and its estimate for 1,024 bytes in tenths of a nanosecond.
 #[derive(Clone, Copy, Debug)]
 struct Estimate {
     engine: Engine,
     cost: usize,
 }
 
-/// The estimate of no engine, which none is worse than.
+/// The estimate of no engine: the highest.
 const NO_ENGINE: Estimate = Estimate {
     engine: Engine::Plan,
     cost: usize::MAX,
@@ -125,8 +127,8 @@ fn in_order(one: Estimate, other: Estimate) -> (Estimate, Estimate) {
     }
 }
 
-/// How a finder has fared since it chose its engine: what it took for how many bytes, and how much more that was than
-/// it may take.
+/// What a finder has measured since it chose its engine: the bytes, their cost, and by how much the cost exceeds the
+/// allowance.
 #[derive(Clone, Copy, Debug)]
 pub(crate) struct Strategy {
     engine: Engine,
@@ -136,17 +138,17 @@ pub(crate) struct Strategy {
     spent: usize,
     ends: usize,
     starts: usize,
-    /// Once so many bytes have passed, the next best engine is asked for.
+    /// The engine is reconsidered after this many bytes.
     trial: usize,
-    /// What it may take for 1,024 bytes.
+    /// The allowance for 1,024 bytes.
     allowed: usize,
     lost: usize,
-    /// The loss at which it learns.
+    /// The loss at which it tunes.
     most_lost: usize,
 }
 
 impl Strategy {
-    /// That of a search before any text.
+    /// The state before any text.
     pub fn new() -> Strategy {
         Strategy {
             engine: Engine::Plan,
@@ -168,7 +170,7 @@ impl Strategy {
         self.engine
     }
 
-    /// The engine for the next `rest` bytes of a scan: the plan, where these are few.
+    /// The engine for the next `rest` bytes of a scan. A short rest goes to the plan.
     #[inline(always)]
     pub fn engine_for(&self, rest: usize) -> Engine {
         match self.engine {
@@ -178,7 +180,7 @@ impl Strategy {
         }
     }
 
-    /// What to do before the next search of a text of which so many bytes are at hand.
+    /// What to do before the next search, of `at_hand` bytes.
     #[inline(always)]
     pub fn step(&self, at_hand: usize, wanted: Wanted) -> Step {
         if !self.is_due() {
@@ -191,12 +193,12 @@ impl Strategy {
         }
     }
 
-    /// Whether to tune before the next span of a text in memory, of which so many bytes are left.
+    /// Whether to tune before the next span of a text in memory, with `rest` bytes to go.
     pub fn tunes_before(&self, rest: usize) -> bool {
         rest >= LEAST_SAMPLE && self.is_due_before(rest)
     }
 
-    /// Whether it goes by what was learned.
+    /// Whether the engine in use was tuned.
     fn has_learned(&self) -> bool {
         match self.engine {
             Engine::Plan => false,
@@ -204,19 +206,19 @@ impl Strategy {
         }
     }
 
-    /// Whether it has lost as much as to learn takes.
+    /// Whether the loss has reached the limit.
     #[inline(always)]
     fn is_due(&self) -> bool {
         self.lost >= self.most_lost
     }
 
-    /// The same in a text at hand of which so many bytes are left: while it goes by the plan, what these are likely to lose counts too.
+    /// As `is_due`, in a text with `rest` bytes to go. Under the plan, the loss expected in the rest counts too.
     fn is_due_before(&self, rest: usize) -> bool {
         let likely = self.lost.saturating_mul(rest / self.passed.max(1));
         self.is_due() || !self.has_learned() && likely >= self.most_lost.saturating_mul(SURE)
     }
 
-    /// Adds what so many bytes took, and how many ends were found in them. The engine may be another one then.
+    /// Adds `spent`, the cost of `passed` bytes, and the ends found in them. This may change the engine.
     #[inline]
     pub fn note(&mut self, passed: usize, spent: usize, found: EndRate) {
         self.passed = self.passed.saturating_add(passed);
@@ -231,8 +233,8 @@ impl Strategy {
         }
     }
 
-    /// Changes to the next best engine if it is likely to take an eighth less than this one took. Both estimates
-    /// come from a small sample; what an engine took replaces its estimate.
+    /// Changes to the next best engine if its estimate is an eighth below the measured cost of this engine. Both
+    /// estimates come from a small sample; the measured cost then replaces this engine's estimate.
     #[inline(never)]
     fn reconsider(&mut self) {
         let taken = self.taken();
@@ -246,14 +248,14 @@ impl Strategy {
         }
     }
 
-    /// Goes on with an engine.
+    /// Changes to an engine.
     fn go(&mut self, estimate: Estimate) {
         self.engine = estimate.engine;
         self.allowed = allowed_for(estimate.cost);
         self.begin();
     }
 
-    /// Counts from here on.
+    /// Sets the counters to 0.
     fn begin(&mut self) {
         self.passed = 0;
         self.spent = 0;
@@ -263,8 +265,8 @@ impl Strategy {
         self.trial = TRIAL;
     }
 
-    /// It has learned some ways, in which 1,024 bytes are likely to take so long: it goes on in the one that takes least if that is less
-    /// than they took. A way that was not learned takes `usize::MAX`.
+    /// Takes the three estimates for 1,024 bytes, and changes to the engine with the lowest, unless the plan is in use
+    /// and this is not clearly better. An engine that was not prepared has the estimate `usize::MAX`.
     pub fn choose(&mut self, by_windows: usize, by_shift_or: usize, by_automaton: usize) {
         let windows = Estimate {
             engine: Engine::Windows,
@@ -287,7 +289,7 @@ impl Strategy {
         }
     }
 
-    /// The same of two ways of which the first is likely to take less.
+    /// As `choose`, given the best and the next best estimate.
     fn choose_first(&mut self, best: Estimate, other: Estimate) {
         let is_better = self.is_better(best.cost, allowed_for(best.cost));
         self.most_lost = if is_better {
@@ -303,9 +305,9 @@ impl Strategy {
         }
     }
 
-    /// Whether what was learned is likely to take less by a good part: than the plan took, or than what was learned before
-    /// was to take, or less than half of what that took. An estimate may be too low again and again: of frequent
-    /// literals windows cost more than a sample tells.
+    /// Whether an estimate is clearly better. Under the plan it has to be an eighth below the measured cost. Under
+    /// another engine its allowance has to be an eighth below the allowance in use, or below half of the measured cost.
+    /// Estimates are often too low: frequent literals cost factors more than a sample shows.
     fn is_better(&self, cost: usize, allowed: usize) -> bool {
         let taken = self.taken();
         if self.has_learned() {
@@ -315,8 +317,7 @@ impl Strategy {
         }
     }
 
-    /// How often literals ended since the last choice, and how often the search began anew behind them, for 1,024 of the bytes that
-    /// were noted.
+    /// The ends since the last choice, and the starts of a search after them, for 1,024 bytes.
     pub fn rate(&self) -> EndRate {
         let passed = self.passed.max(1);
         EndRate {
@@ -325,7 +326,7 @@ impl Strategy {
         }
     }
 
-    /// What 1,024 bytes took since the last choice.
+    /// The measured cost of 1,024 bytes since the last choice.
     fn taken(&self) -> usize {
         let taken = self.spent.saturating_mul(1024) / self.passed.max(1);
         if self.has_learned() {

@@ -15,7 +15,7 @@ use std::alloc::Global;
 use std::marker::Model;
 use std::sync::Arc;
 
-/// A scan of one stream, as a `Scanner` makes it, that owns a share of its plan. So it may outlive all other owners.
+/// A scan of one stream like a `Scanner`, with a share of its plan. So it may outlive all other owners of the plan.
 #[derive(Drop)]
 pub struct Stream {
     plan: Arc<Compiled>,
@@ -51,12 +51,12 @@ impl Stream {
         &self.plan
     }
 
-    /// Feeds the next piece up to the first end in it by which `out` gained at least `most` hits, or all of it, and adds the
-    /// hits that end in what was fed: in order, each once, their ends counted from the scan's base. It returns how many bytes
+    /// Feeds the next piece up to the first end by which `out` gained at least `most` hits, or all of it. Adds the hits
+    /// that end in the fed bytes: in order, each once, their ends counted from the scan's base. Returns how many bytes
     /// were fed.
     ///
-    /// Refusals: `StreamTooLong` where the position would pass 2^64 - 1 with the whole piece, and `OutOfMemory`, which comes
-    /// only where a literal ends in the piece. Scan and `out` are then as they were.
+    /// Refusals: `StreamTooLong` if the position would pass 2^64 - 1 with the whole piece, and `OutOfMemory`, which
+    /// comes only if a literal ends in the piece. A refusal leaves the scan and `out` unchanged.
     pub fn feed_until(
         &mut self,
         piece: &[u8],

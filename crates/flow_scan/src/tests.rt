@@ -1,5 +1,4 @@
-//! Searches and scans that learn from the text, beside those by the plan alone, and the choice of a way. Worked scans stand
-//! in `search_tests`.
+//! Searches and scans by a finder give the same as by the plan alone; and a finder's choice of an engine.
 mod choosing;
 mod finding;
 mod going_on;

@@ -1,4 +1,4 @@
-//! A search of one text for one end after the other.
+//! A search of one text, for one end after another.
 ghost use Rattle.std.specs.Prelude.{◌≡◌, ◌≤◌, MatchOption, length};
 ghost use Rattle.lit_base.specs.NextEnds.{IsNextEnd, NoEndAfter};
 
@@ -9,8 +9,8 @@ use crate::searching::skip_short_ends;
 use lane_filter::Candidates;
 use std::marker::Model;
 
-/// A search of one text for the literals of a plan, for one end after the other. Where the next end is looked for from a
-/// place further on, what was told of the places behind that is not told anew.
+/// A search of one text for the literals of a plan, for one end after another. A search from a later position uses the
+/// filter results that it already has.
 #[derive(Drop)]
 pub struct TextSearch<'a> {
     compiled: &'a Compiled,
@@ -35,7 +35,7 @@ impl<'a> Model for TextSearch<'a> {
 }
 
 impl<'a> TextSearch<'a> {
-    /// A search of the text by a plan. It looks at nothing yet, and takes no memory.
+    /// A search of the text by a plan. It reads nothing yet, and takes no memory.
     pub fn new(compiled: &'a Compiled, text: &'a [u8]) -> TextSearch<'a>
         ensures { result ≡ record { plan = compiled.now; text = text.now } }
     {
@@ -48,8 +48,8 @@ impl<'a> TextSearch<'a> {
         }
     }
 
-    /// The first place of the text behind `from` at which some literal ends, wherever it begins, if
-    /// there is one. It takes no memory.
+    /// The first position of the text after `from` at which some literal ends, wherever it begins, or `None`. It takes
+    /// no memory.
     pub fn next_end(&mut self, from: usize) -> Option<usize>
         ensures same { self.new ≡ self.old }
         ensures next { MatchOption result
@@ -66,7 +66,7 @@ impl<'a> TextSearch<'a> {
         }
     }
 
-    /// The search of `next_end` after a place within the text, with the first literal that ends at the place found.
+    /// As `next_end`, after a position within the text, with the first literal that ends at the position found.
     #[inline]
     pub(crate) fn next_after(&mut self, from: usize) -> Option<(usize, usize)>
         requires { from ≤ length self.old.text }
@@ -91,7 +91,7 @@ impl<'a> TextSearch<'a> {
         self.text
     }
 
-    /// How many candidates the search met so far at which nothing ended.
+    /// How many false positives the search has found so far.
     pub(crate) fn missed(&self) -> usize {
         self.met.passed
     }

@@ -1,4 +1,4 @@
-//! The search for ends by the automaton of the literals.
+//! Searches for ends by the automaton of the literals.
 ghost use Rattle.std.specs.Prelude.{◌≡◌, ◌+◌, ◌≤◌, OnOk, length, true};
 ghost use Rattle.flow_scan.specs.HitsAt.{Extends, GainsHitsAt};
 ghost use Rattle.text_automaton.specs.Automata.{AreEnding, IsReading, IsStateAt, place_of};
@@ -12,7 +12,7 @@ use std::alloc::AllocError;
 use std::marker::Model;
 use text_automaton::{Automaton, Reading};
 
-/// The ends of a text by the automaton.
+/// The ends in a text, found by the automaton.
 #[derive(Drop)]
 pub(crate) struct ToldEnds<'a, 'p> {
     compiled: &'a Compiled,
@@ -39,7 +39,7 @@ impl<'a, 'p> Model for ToldEnds<'a, 'p> {
 }
 
 impl<'a, 'p> ToldEnds<'a, 'p> {
-    /// Those behind a place, from which on the text is read.
+    /// The ends after the position that `reading` has reached.
     pub fn of(
         compiled: &'a Compiled,
         automaton: &'a Automaton<'p>,
@@ -91,8 +91,8 @@ impl<'a, 'p> Ends for ToldEnds<'a, 'p> {
     }
 }
 
-/// Adds the hits at one place of the text, which counts as `at`: the literals that end there are known. Where memory is refused the hits
-/// before were added.
+/// Adds a hit for each literal of `told`; all end at `end`, which counts as `at`. When memory is refused, earlier hits
+/// stay added.
 #[inline(always)]
 fn add_told(
     list: &LitList,

@@ -1,4 +1,4 @@
-//! Scans of a text that stop once enough was found, and go on from there.
+//! Scans of a text that stop after enough hits.
 ghost use Rattle.std.specs.Prelude.{◌≤◌, IfOk, IsOk, IsOkUnless, length};
 ghost use Rattle.flow_scan.specs.declared.fault.Fault.TheVariants.{OutOfMemory};
 ghost use Rattle.flow_scan.specs.HitsAt.{Extends};
@@ -11,11 +11,11 @@ use crate::ends::add_hits_of;
 use crate::fault::Fault;
 use crate::hit::Hit;
 
-/// Adds to `out` the hits of a text that end after `from`, up to the first end by which `out` gained at least `most` of them.
-/// It returns that end, or the text's length. A scan from there on goes on with the next hit. So `out` never gains more than
+/// Adds to `out` the hits of a text that end after `from`, up to the first end by which `out` gained at least `most`
+/// hits. Returns this end, or the text's length. A scan from there continues with the next hit. So `out` gains at most
 /// `most` hits and one for each literal.
 ///
-/// The only refusal is `OutOfMemory`, and `out` may then have gained some.
+/// The only refusal is `OutOfMemory`, and `out` may then have gained some hits.
 pub fn scan_until(
     compiled: &Compiled,
     text: &[u8],

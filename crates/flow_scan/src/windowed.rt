@@ -1,4 +1,4 @@
-//! The search for ends by windows that were chosen from a text.
+//! Searches for ends by factors that were chosen from a sample.
 ghost use Rattle.std.specs.Prelude.{◌≡◌, ℕ, ◌+◌, ◌-◌, ◌^◌, ◌<◌, ◌≤◌, IfSome, MatchOption, length, min};
 ghost use Rattle.std.specs.Int.{bit_at};
 ghost use Rattle.lit_base.specs.Occurrences.{HasEnd, IsFirstEnding};
@@ -17,22 +17,22 @@ use std::alloc::AllocError;
 use std::marker::Model;
 use text_windows::Windows;
 
-/// Marks tell ends that stand at most so many places behind them.
+/// Positions from a probe to the last end that its hash bits mark.
 const REACH: usize = 7;
 
-/// The ends behind a place that are claimed: a search by windows that goes on behind each end that it finds.
+/// The pending ends after a position. A search continues with them after each end that it finds.
 #[derive(Clone, Copy)]
 pub(crate) struct Claims {
-    /// What ends up to here is left behind.
+    /// The search has passed the ends up to this position.
     pub seen: usize,
-    /// So many ends behind it are claimed if a literal ends there.
+    /// How many positions after it are covered: a literal ends at one of them only if its bit is set.
     pub count: usize,
-    /// Bit k stands for the end k + 1 places behind.
+    /// Bit k stands for the end k + 1 positions after `seen`.
     pub marks: u64,
 }
 
 impl Claims {
-    /// Those of a search behind a place of a text. It takes no memory.
+    /// The pending ends of a search after `from`. It takes no memory.
     pub fn behind(windows: &Windows<'_>, text: &[u8], from: usize, met: &mut Met) -> Claims
         requires { from ≤ length text.now }
         ensures claims { AreClaims windows.now text.now result }
@@ -51,7 +51,7 @@ impl Claims {
         rest
     }
 
-    /// Those behind so many of the ends.
+    /// The pending ends without the first `count` positions.
     #[inline(always)]
     fn but_first(self, count: usize) -> Claims
         requires within { count ≤ self.count }
@@ -68,8 +68,8 @@ impl Claims {
         }
     }
 
-    /// The next end that is claimed and at which some literal ends, with the first literal that ends there, if there is one: the
-    /// search goes on behind it. Adds to `met` what is claimed besides. It takes no memory.
+    /// Returns the next end after `seen`, with the first literal that ends there, or `None`. Moves `seen` to this end.
+    /// Adds the pending ends of each new block to `met`. It takes no memory.
     #[inline(never)]
     pub fn next_end(
         &mut self,
@@ -102,7 +102,7 @@ impl Claims {
         }
     }
 
-    /// The first of the claimed ends at which some literal ends, with the first literal that ends there, if there is one.
+    /// The first pending end at which some literal ends, with the first such literal.
     #[inline(always)]
     fn first_end(self, windows: &Windows<'_>, list: &LitList, text: &[u8]) -> Option<(usize, usize)>
         requires list { windows.now.literals ≡ list.now }
@@ -119,7 +119,7 @@ impl Claims {
         first_marked(list, text, self.seen, self.count, self.marks)
     }
 
-    /// Those of the next block, where nothing ends in this one.
+    /// The pending ends of the next block, after a block in which nothing ends.
     #[inline(always)]
     fn next_block(self, windows: &Windows<'_>, text: &[u8], met: &mut Met) -> Claims
         requires claims { AreClaims windows.now text.now self }
@@ -140,7 +140,7 @@ impl Claims {
     }
 }
 
-/// The ends of a text by windows.
+/// The ends in a text, found by factors.
 #[derive(Drop)]
 pub(crate) struct WindowedEnds<'a, 'p> {
     compiled: &'a Compiled,
@@ -164,7 +164,7 @@ impl<'a, 'p> Model for WindowedEnds<'a, 'p> {
 }
 
 impl<'a, 'p> WindowedEnds<'a, 'p> {
-    /// Those behind a place.
+    /// The ends after a position.
     pub fn behind(
         compiled: &'a Compiled,
         windows: &'a Windows<'p>,
@@ -186,7 +186,7 @@ impl<'a, 'p> WindowedEnds<'a, 'p> {
         }
     }
 
-    /// What was met so far.
+    /// The counters so far.
     pub fn met(&self) -> Met {
         self.met
     }
@@ -216,8 +216,8 @@ impl<'a, 'p> Ends for WindowedEnds<'a, 'p> {
     }
 }
 
-/// Of so many places behind `seen`, the first at which some literal ends, if there is one. The
-/// places where one ends are marked.
+/// The first of the `count` positions after `seen` at which some literal ends, with the first such literal. Only
+/// positions with a bit in `marks` are tried.
 #[inline(never)]
 fn first_marked(
     list: &LitList,

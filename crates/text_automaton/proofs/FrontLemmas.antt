@@ -1,5 +1,4 @@
--- Fronts of literals, and the states that they lead to. Fronts and texts stand with their last byte first, so that what ends a text
--- begins it here.
+-- Prefixes ("fronts") of literals, and the states to which they lead. Prefixes and texts stand with their last byte first, so the end of a text begins it here.
 use Rattle.std.proofs.Common.{◌≡◌, ℕ, zero, suc, ◌+◌, ◌*◌, ◌<◌, ◌≤◌, List, [], ◌∷◌, inl, inr, length, slice_index, refl, sym, ap, ◌∙◌, subst, arith}
 use Rattle.std.proofs.lemmas.Bool.{cases_lt}
 use Rattle.text_automaton.specs.Fronts.{Begins, IsNextShorter, IsPath, Leads}
@@ -91,7 +90,7 @@ module _ (t : Tables) (sized : AreSized t) (steps : (state class : ℕ) → stat
       not (subst (λ x. IsChild t (state_of t s) (slice_index t.classes x) (step t (state_of t s) (slice_index t.classes x))) same
       (subst (λ y. IsChild t (state_of t y) (slice_index t.classes c) (step t (state_of t y) (slice_index t.classes c))) whole path.2))
 
-  -- from the next shorter path, where no front is longer by the byte
+  -- from the next shorter path, where no prefix is longer by the byte
   goes_shorter : (s f : List ℕ) (b : ℕ) (to : List ℕ) → (IsChild t (state_of t s) (slice_index t.classes b) (step t (state_of t s) (slice_index t.classes b)) → ⊥)
       → IsNextShorter t s f → Leads t (b ∷ f) to → Leads t (b ∷ s) to
   goes_shorter s f b to not falls leads = record {
@@ -107,7 +106,7 @@ module _ (t : Tables) (sized : AreSized t) (steps : (state class : ℕ) → stat
         | inr long ↦ absurd (apart s b c w not path ends.0 ends.1 long)
       ]
 
-  -- from the empty path, where no front begins with the byte
+  -- from the empty path, where no prefix begins with the byte
   goes_nowhere : (b : ℕ) → (IsChild t 0 (slice_index t.classes b) (step t 0 (slice_index t.classes b)) → ⊥) → Leads t (b ∷ []) []
   goes_nowhere b not = record { path = tt; ends = tt; longest = λ w path ends. further w path ends }
     where

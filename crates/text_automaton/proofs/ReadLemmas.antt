@@ -1,4 +1,4 @@
--- The states of places one after the other.
+-- The states of positions, one after the other.
 use Rattle.std.proofs.Common.{◌≡◌, ℕ, suc, ◌+◌, ◌*◌, ◌<◌, ◌≤◌, ◌⊎◌, List, inl, inr, length, get_or, set, slice_index, sym, ap, ◌∙◌, subst, arith}
 use Rattle.std.proofs.lemmas.Bool.{cases_eq, cases_lt}
 use Rattle.std.proofs.lemmas.List.{get_or-set_other, get_or-set_same}
@@ -6,7 +6,7 @@ use Rattle.text_automaton.specs.Fronts.{IsRead, state_behind}
 use Rattle.text_automaton.specs.Tables.{count_of, step}
 use Rattle.text_automaton.specs.declared.tables.Tables.{Tables}
 
--- a place's state leads to the next one's
+-- the state of a position leads to the state of the next
 pub read_on : (t : Tables) (text : List ℕ) (longest place at next state to : ℕ) → IsRead t text longest place state → at ≡ place → next ≡ place + 1 → to ≡ step t state (slice_index t.classes (slice_index text at)) → to < count_of t
     → IsRead t text longest next to
 read_on t text longest place at next state to old here there led known = record {
@@ -41,7 +41,7 @@ set_more P D xs at value room old new k which = elim (cases_eq k at) [
 abbrev pub AreDone : ℕ → ℕ → ℕ → Type 0
 AreDone lane count k = ((k < count) ⊎ ((lane ≤ k) × (k < lane + count))) ⊎ (((2 * lane ≤ k) × (k < 2 * lane + count)) ⊎ ((3 * lane ≤ k) × (k < 3 * lane + count)))
 
--- no place is at first
+-- no position is finished at first
 pub done_none : (lane k : ℕ) → AreDone lane 0 k → ⊥
 done_none lane k (inl (inl p)) = omega (arith, p)
 done_none lane k (inl (inr p)) = omega (arith, p.0, p.1)
@@ -61,7 +61,7 @@ done_all lane k small = elim (cases_lt k lane) [
   ]
 ]
 
--- one more of each lane are those before, and four places
+-- one more of each lane: the positions before, and four more
 pub done_more : (lane count k : ℕ) → AreDone lane (count + 1) k → (((AreDone lane count k ⊎ (k ≡ count)) ⊎ (k ≡ lane + count)) ⊎ (k ≡ 2 * lane + count)) ⊎ (k ≡ 3 * lane + count)
 done_more lane count k (inl (inl p)) = elim (cases_lt k count) [
   | inl sooner ↦ inl (inl (inl (inl (inl (inl sooner)))))

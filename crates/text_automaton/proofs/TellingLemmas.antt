@@ -19,13 +19,13 @@ use Rattle.text_automaton.specs.Tables.{AreRight, IsKnown, front_of, state_of, s
 use Rattle.text_automaton.specs.declared.tables.Tables.{Tables}
 use Rattle.text_automaton.proofs.FrontLemmas.{begins_refl, begins_short, begins_trans, begins_whole, falls_to, goes_on, leads_none, leads_on, one_path, state_small}
 
--- a literal's fronts are as long as they are
+-- a literal's prefix of `count` bytes has this length
 front_length : (text : List ℕ) (count : ℕ) → length (front_of text count) ≡ count
 front_length text zero = refl
 front_length text (suc count) = let rest = front_length text count in omega (arith, rest)
 
 module _ (t : Tables) (l : Literals) (right : AreRight t l) where
-  -- a byte of a text, folded, is the one of its class
+  -- a byte of a text, folded, is the byte of its class
   known_byte : (byte : ℕ) → byte < 256 → IsKnown t (folded l.folding byte)
   known_byte byte small =
       let is = right.classes byte small in
@@ -34,7 +34,7 @@ module _ (t : Tables) (l : Literals) (right : AreRight t l) where
         own = λ some. ap (slice_index t.bytes) (sym is.1) ∙ is.2 (subst (λ k. 0 < k) (sym is.1) some);
       }
 
-  -- the bytes read lead to the state of the longest front that ends there
+  -- the bytes read lead to the state of the longest prefix that ends there
   pub read_leads : (text : List ℕ) → ((i : ℕ) → slice_index text i < 256) → (from count : ℕ)
       → (s : List ℕ) × (state_of t s ≡ state_behind t text from count) × Leads t (read_of l.folding text from count) s
   read_leads text small from zero = ([], refl, leads_none t)
@@ -48,7 +48,7 @@ module _ (t : Tables) (l : Literals) (right : AreRight t l) where
         leads_on t byte (read_of l.folding text from count) before.0 to.0 before.2 to.2,
       )
 
-  -- a literal's fronts are paths
+  -- a literal's prefixes are paths
   literal_path : (place : ℕ) → place < length l.texts → (count : ℕ) → count ≤ length (literal_at l place) → IsPath t (front_of (literal_at l place) count)
   literal_path place within zero few = tt
   literal_path place within (suc count) few =
@@ -131,7 +131,7 @@ module _ (t : Tables) (l : Literals) (right : AreRight t l) where
     pub tells : (s : List ℕ) → IsPath t s → Tells s
     tells s path = tells_all (length s) s (omega arith) path
 
--- the last bytes that were read, from a front that ends them
+-- the last bytes that were read, from a prefix that ends them
 bytes_of_begins : (fold : Fold) (literal text : List ℕ) (from : ℕ) (len count : ℕ) → Begins (front_of literal len) (read_of fold text from count)
     → (len ≤ count) × ((i : ℕ) → i < len → slice_index literal i ≡ folded fold (slice_index text (from + (count - len) + i)))
 bytes_of_begins fold literal text from zero count begins = (omega arith, λ i low. absurd (omega (arith, low)))
@@ -254,13 +254,13 @@ stage_made Unmade other = (cc)
 stage_made Refused other = (cc)
 stage_made Made is = refl
 
--- at a place whose state is quiet nothing ends
+-- at a position with a quiet state nothing ends
 no_end : (a : Telling) (text : List ℕ) (end state : ℕ) → IsStateAt a text end state → state < a.quiet → ¬ HasEnd a.literals text end
 no_end a text end state is low here =
     let inside : Contains [] here.0 = subst (λ xs. Contains xs here.0) (is.quiet low) ((is.ending.members here.0).1 here.1) in
     omega (arith, inside.1)
 
--- nothing ends up to a place if nothing did before and the states from there on are quiet
+-- nothing ends up to a position if nothing did before and the states from there on are quiet
 pub none_further : (a : Telling) (text : List ℕ) (r : Reading) (from at : ℕ) → IsReading a text r → at ≤ r.count → ((end : ℕ) → from < end → end ≤ place_of r → ¬ HasEnd a.literals text end)
     → ((k : ℕ) → r.next ≤ k → k < at → slice_index r.states k < a.quiet) → (end : ℕ) → from < end → end ≤ r.start + at → ¬ HasEnd a.literals text end
 none_further a text r from at reading within none quiet end after low = elim (cases_lt (place_of r) end) [
@@ -272,6 +272,6 @@ none_further a text r from at reading within none quiet end after low = elim (ca
   | inr not ↦ none end after not
 ]
 
--- where a state tells some literals, one ends there
+-- where a state has an output, a literal ends
 pub ends_where_told : (a : Telling) (text : List ℕ) (end state : ℕ) → IsStateAt a text end state → 0 < length (told_by a state) → HasEnd a.literals text end
 ends_where_told a text end state is some = (slice_index (told_by a state) 0, (is.ending.members (slice_index (told_by a state) 0)).0 (Contains-get_or (told_by a state) 0 0 some))

@@ -55,7 +55,7 @@ pub record IsReading (a : Telling) (text : List ℕ) (r : Reading) : Type 0 wher
 abbrev pub place_of : Reading → ℕ
 place_of r = r.start + r.next
 
--- an end, and a state: the next end behind a place, and the state there
+-- an end, and a state: the next end after a position, and the state there
 pub record IsNextTold (a : Telling) (text : List ℕ) (from : ℕ) (found : ℕ × ℕ) : Type 0 where
   pub next : IsNextEnd a.literals text from found.0
   pub state : IsStateAt a text found.0 found.1

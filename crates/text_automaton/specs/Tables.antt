@@ -85,7 +85,7 @@ pub record IsKnown (t : Tables) (byte : ℕ) : Type 0 where
   pub class : slice_index t.classes byte < CLASSES
   pub own : 0 < slice_index t.classes byte → slice_index t.bytes (slice_index t.classes byte) ≡ byte
 
--- a byte leads from where some bytes lead to the state of a longer front
+-- a byte leads from the state of some bytes to the state of a longer prefix
 abbrev pub IsLonger : Tables → List ℕ → ℕ → Type 0
 IsLonger t before byte = IsKnown t byte × IsChild t (state_of t before) (slice_index t.classes byte) (state_of t (byte ∷ before))
 

@@ -1,4 +1,4 @@
--- Blocks: one group more that was looked at, and where nothing ends once all that are noted were verified.
+-- Blocks: one more group is probed; and where nothing ends after all noted words were verified.
 use Rattle.std.proofs.Common.{◌≡◌, ℕ, ◌+◌, ◌-◌, ◌*◌, ◌/◌, ◌<◌, ◌≤◌, ◌⊎◌, List, length, slice_index, slice_set, get_or, inl, inr, sym, ap, ◌∙◌, subst, arith, get_or-set_other, get_or-set_same}
 use Rattle.std.proofs.lemmas.Bool.{cases_lt}
 use Rattle.std.proofs.lemmas.Simd.{get_or-put_chunk_at, get_or-put_chunk_below}
@@ -8,7 +8,7 @@ use Rattle.lit_base.specs.NextEnds.{NoEndUpTo}
 use Rattle.text_windows.specs.ShiftOr.{Bucketing, RulesOut, RulesOutWords}
 use Rattle.text_windows.proofs.ShiftOrLemmas.{none_of_word, none_of_words}
 
--- behind the groups of a block one more is looked at: four words say what is ruled out there, and it is noted, or nothing ends there
+-- after the groups of a block one more is probed: four words say which ends are ruled out, and it is noted, or nothing ends there
 pub one_more : (b : Bucketing) (text : List ℕ) (at group count more : ℕ) (words four numbers : List ℕ) → length four ≡ 4 → 4 * group + 4 ≤ length words → count < length numbers → more ≤ 1
     → RulesOutWords b text (at + 32 * group) four → (more ≡ 1) ⊎ NoEndUpTo b.literals text (at + 32 * group - 1) (at + 32 * group + 31) → IsBlock b text at group words numbers count
     → IsBlock b text at (group + 1) (put_chunk (4 * group) words four) (slice_set numbers count group) (count + more)
@@ -44,7 +44,7 @@ one_more b text at group count more words four numbers long room place upto rule
   ];
 }
 
--- what is noted stays noted behind more
+-- a noted group stays noted
 pub noted_still : (old new : List ℕ) (before after number : ℕ) → before ≤ after → ((slot : ℕ) → slot < before → slice_index new slot ≡ slice_index old slot) → IsNoted old before number → IsNoted new after number
 noted_still old new before after number more kept noted = record { slot = noted.slot; below = omega (arith, noted.below, more); is = kept noted.slot noted.below ∙ noted.is }
 
@@ -53,7 +53,7 @@ pub word_still : (words old new : List ℕ) (before after word : ℕ) → before
 word_still words old new before after word more kept (inl full) = inl full
 word_still words old new before after word more kept (inr noted) = inr (noted_still old new before after word more kept noted)
 
--- the words that are noted of the groups of a block are those at whose places a literal may end
+-- the noted words of the groups of a block are those at whose positions a literal may end
 pub words_noted : (b : Bucketing) (text : List ℕ) (at groups : ℕ) (words numbers noted : List ℕ) (count found : ℕ) → 8 ≤ at → IsBlock b text at groups words numbers count
     → ((slot : ℕ) → slot < found → slice_index noted slot < 4 * groups) → ((slot i : ℕ) → slot < count → i < 4 → IsNotedUnlessFull words noted found (4 * slice_index numbers slot + i))
     → AreNoted b text at groups words noted found
@@ -77,7 +77,7 @@ words_noted b text at groups words numbers noted count found some block inside t
       ];
 }
 
--- where nothing ends at the places of the words that are noted, nothing ends in the block
+-- where nothing ends at the positions of the noted words, nothing ends in the block
 pub none_of_block : (b : Bucketing) (text : List ℕ) (at groups : ℕ) (words numbers : List ℕ) (count : ℕ) → 8 ≤ at → AreNoted b text at groups words numbers count
     → ((slot : ℕ) → slot < count → NoEndUpTo b.literals text (at + 8 * slice_index numbers slot - 1) (at + 8 * slice_index numbers slot + 7))
     → NoEndUpTo b.literals text (at - 1) (at + 8 * (4 * groups) - 1)

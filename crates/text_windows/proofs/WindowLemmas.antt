@@ -1,4 +1,4 @@
--- Windows: a text has the marks of each literal that ends in it, so far before its end.
+-- Factors: a text has the hash bits of each literal that ends in it, at the literal's offset.
 use Rattle.std.proofs.Common.{◌≡◌, ℕ, ◌+◌, ◌-◌, ◌^◌, ◌++◌, ◌<◌, ◌≤◌, List, [], drop, length, replicate, sym, ap, ◌∙◌, subst, arith}
 use Rattle.std.specs.Int.{bit_at}
 use Rattle.std.specs.Int.RustNames.{bit_and, bit_or}
@@ -27,7 +27,7 @@ use Rattle.text_windows.specs.Windows.{AreMarks, AreWindowed, IsWindowed, Window
 pub literal_is : (l : Literals) (text : List ℕ) (place end : ℕ) (occurs : Occurs l text place end) → occurs.literal ≡ literal_at l place
 literal_is l text place end occurs = sym (ap (λ o. unwrap_or o []) occurs.stands) ∙ unwrap_or-slice_get l.texts place []
 
--- where a literal ends, the bytes of the text so far before have the mark of its window there, and there are as many
+-- where a literal ends, the bytes of the text at its offset have the hash bit of its factor there, and there are enough of them
 module _ (l : Literals) (marks text : List ℕ) (place at back width offset stride : ℕ) (is : IsWindowed l marks place width offset stride) (counted : offset ≤ back) (near : back < offset + stride) (occurs : Occurs l text place (at + back)) where
   pub window_begins : width ≤ at
   window_begins = omega (arith, is.wide, near, occurs.begins, ap (λ (t : List ℕ). length t) (literal_is l text place (at + back) occurs))
@@ -40,7 +40,7 @@ module _ (l : Literals) (marks text : List ℕ) (place at back width offset stri
       ∙ key-occurs_inside l text place (at + back) width back bytes narrow (omega (arith, is.wide, near)) occurs in
       subst (λ k. IsMarked marks (hash_of HASH_BITS k) back) (sym key) (is.marked back counted near)
 
--- the key of the bytes before a place, of which four were read as a word behind zeros
+-- the key of the bytes before a position, four of which were read as a word after zeros
 pub word_key : (fold : Fold) (text : List ℕ) (at width word bits : ℕ) → AreBytes text → width ≤ 4 → 4 ≤ at → at ≤ length text → word ≡ spelled (replicate 4 0 ++ slice_range text (at - 4) at) → bits ≡ case_bits fold
     → bit_or (bit_and word (last_bits width)) bits ≡ suffix_key fold text at width
 unfolding suffix_key
@@ -63,14 +63,14 @@ word_key fold text at width word bits bytes narrow room inside is case =
     ∙ drop-range text (at - 4) (at - width) (4 - width) at (omega (arith, narrow, room)) in
     λ i. bit_or ((masks ∙ ap (λ s. spelled (replicate (8 - width) 0 ++ s)) part) i) (case i)
 
--- a mark stays beside others
+-- a hash bit stays when others are added
 pub marked_left : (a b back : ℕ) → bit_at a back ≡ 1 → bit_at (bit_or a b) back ≡ 1
 marked_left a b back marked = omega (arith, bit_at_or a b back, marked, bit_at-lt b back)
 
 pub marked_right : (a b back : ℕ) → bit_at b back ≡ 1 → bit_at (bit_or a b) back ≡ 1
 marked_right a b back marked = omega (arith, bit_at_or a b back, marked, bit_at-lt a back)
 
--- marks of a place are those of the literals, if they hold what is marked for the bytes before it, by all widths from the least of these on
+-- the hash bits of a position are complete if they include the bits for the bytes before it by all widths from the least on
 pub marks_are : (w : Windowing) (shape : Shape) (marks text : List ℕ) (at result : ℕ) → IsShapeOf w.literals shape → AreWindowed w.literals w.stride w.offsets marks (length w.literals.texts) → AreBytes text
     → ((width back : ℕ) → shape.least_width ≤ width → width ≤ WIDTH → width ≤ at → IsMarked marks (hash_of HASH_BITS (suffix_key w.literals.folding text at width)) back → bit_at result back ≡ 1)
     → AreMarks w text at result
@@ -83,11 +83,11 @@ marks_are w shape marks text at result fits are bytes told place back counted ne
     (window_begins l marks text place at back (width_at l place) (offset_at w place) w.stride is counted near occurs)
     (window_marked l marks text place at back (width_at l place) (offset_at w place) w.stride is counted near occurs bytes (omega (arith, narrow)))
 
--- a mark that was looked at by a key is there
+-- a hash bit that was found by a key is set
 pub read_mark : (marks : List ℕ) (key other found back : ℕ) → found ≡ slice_index marks (hash_of HASH_BITS key) → key ≡ other → IsMarked marks (hash_of HASH_BITS other) back → bit_at found back ≡ 1
 read_mark marks key other found back is same marked = ap (λ m. bit_at m back) (is ∙ ap (λ k. slice_index marks (hash_of HASH_BITS k)) same) ∙ marked
 
--- and so is one by the last bytes of a word
+-- and so is one found by the last bytes of a word
 pub read_width : (marks : List ℕ) (word bits n width found back : ℕ) → found ≡ slice_index marks (hash_of HASH_BITS (bit_or (bit_and word (last_bits n)) bits)) → n ≡ width
     → IsMarked marks (hash_of HASH_BITS (bit_or (bit_and word (last_bits width)) bits)) back → bit_at found back ≡ 1
 read_width marks word bits n width found back is same marked = read_mark marks _ _ found back is (ap (λ k. bit_or (bit_and word (last_bits k)) bits) same) marked

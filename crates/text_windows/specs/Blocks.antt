@@ -1,15 +1,15 @@
--- Blocks of a text: what looks rule out at their places, and which of them are noted.
+-- Blocks of a text: the ends that probes rule out, and which groups and words are noted.
 use Rattle.std.specs.Prelude.{◌≡◌, ℕ, ◌+◌, ◌-◌, ◌*◌, ◌<◌, ◌^◌, ◌⊎◌, List, slice_index}
 use Rattle.lit_base.specs.NextEnds.{NoEndUpTo}
 use Rattle.text_windows.specs.ShiftOr.{Bucketing, RulesOut}
 
--- a number stands among the first so many
+-- a number is one of the first `count`
 pub record IsNoted (numbers : List ℕ) (count number : ℕ) : Type 0 where
   pub slot : ℕ
   pub below : slot < count
   pub is : slice_index numbers slot ≡ number
 
--- so many groups of thirty-two places: words rule ends out, each at eight of them, and where a literal ends in a group, its number is noted
+-- `passed` groups of 32 positions: each word rules out ends at eight positions, and if a literal ends in a group, its number is noted
 pub record IsBlock (b : Bucketing) (text : List ℕ) (at passed : ℕ) (words numbers : List ℕ) (count : ℕ) : Type 0 where
   pub rules : (word : ℕ) → word < 4 * passed → RulesOut b text (at + 8 * word) (slice_index words word)
   pub numbered : (slot : ℕ) → slot < count → slice_index numbers slot < passed
@@ -19,7 +19,7 @@ pub record IsBlock (b : Bucketing) (text : List ℕ) (at passed : ℕ) (words nu
 abbrev pub IsNotedUnlessFull : List ℕ → List ℕ → ℕ → ℕ → Type 0
 IsNotedUnlessFull words numbers count word = (slice_index words word ≡ 2 ^ 64 - 1) ⊎ IsNoted numbers count word
 
--- so many groups: their words rule ends out, and where a literal ends at one of the eight places of a word, its number is noted
+-- `groups` groups: their words rule out ends, and if a literal ends at one of the eight positions of a word, its number is noted
 pub record AreNoted (b : Bucketing) (text : List ℕ) (at groups : ℕ) (words numbers : List ℕ) (count : ℕ) : Type 0 where
   pub rules : (word : ℕ) → word < 4 * groups → RulesOut b text (at + 8 * word) (slice_index words word)
   pub inside : (slot : ℕ) → slot < count → slice_index numbers slot < 4 * groups

@@ -1,15 +1,15 @@
--- How the literals of a list are marked by windows: of four bytes, or of all that a shorter literal has.
+-- The widths of a list's factors: four bytes, or the whole of a shorter literal.
 use Rattle.std.specs.Prelude.{ℕ, ◌+◌, ◌<◌, ◌≤◌, length, min}
 use Rattle.lit_base.specs.Chains.{literal_at}
 use Rattle.lit_base.specs.Literals.{Literals}
 use Rattle.text_windows.specs.declared.shape.Shape.{Shape}
 use Rattle.text_windows.specs.declared.shape.TheConstants.{WIDTH}
 
--- how many bytes the windows of a literal have
+-- how many bytes the factors of a literal have
 abbrev pub width_at : Literals → ℕ → ℕ
 width_at l place = min WIDTH (length (literal_at l place))
 
--- no window has fewer bytes than the least, and each literal has room for one at each of the places that the longest stride asks for
+-- no factor is shorter than the least width, and each literal has room for a factor at each position of the longest stride
 pub record IsShapeOf (l : Literals) (shape : Shape) : Type 0 where
   pub some : 0 < shape.most_stride
   pub few : shape.most_stride ≤ 8

@@ -1,4 +1,4 @@
--- Windows of literals: the bytes, so far before a literal's end, that it is marked by.
+-- Factors of literals, which have hash bits.
 use Rattle.std.specs.Prelude.{◌≡◌, ℕ, ◌+◌, ◌^◌, ◌<◌, ◌≤◌, List, length, slice_index}
 use Rattle.std.specs.Int.{bit_at}
 use Rattle.lit_base.specs.Chains.{literal_at}
@@ -8,7 +8,7 @@ use Rattle.lit_base.specs.Occurrences.{Occurs}
 use Rattle.lit_base.specs.declared.suffixes.marks.TheConstants.{HASH_BITS}
 use Rattle.text_windows.specs.Shapes.{width_at}
 
--- what a contract sees of `Windows`: the literals, how many windows each has, and how far before its end each has the last of them
+-- the value of a `Windows` in contracts: the literals, how many factors each has, and how far before its end the last of them ends
 pub record Windowing : Type 0 where
   pub literals : Literals
   pub stride : ℕ
@@ -18,31 +18,31 @@ pub record Windowing : Type 0 where
 abbrev pub offset_at : Windowing → ℕ → ℕ
 offset_at w place = slice_index w.offsets place
 
--- a literal's windows, as many as a stride has places, lie within it, and no further back than a byte of marks tells
+-- a literal's factors, as many as the stride has positions, lie within it, and within the reach of a byte of hash bits
 pub record IsWithin (w : Windowing) (place : ℕ) : Type 0 where
   pub near : offset_at w place + w.stride ≤ 8
   pub within : offset_at w place + w.stride ≤ length (literal_at w.literals place)
 
--- so do those of all
+-- so do the factors of all literals
 pub record AreWithin (w : Windowing) : Type 0 where
   pub some : 0 < w.stride
   pub all : (place : ℕ) → place < length w.literals.texts → IsWithin w place
 
--- marks at a place of a text tell each end of a literal that has one of so many windows before that place, by how far it is ahead
+-- the hash bits at a position include each end of a literal with one of `count` factors that ends there; the bit is the distance to the end
 abbrev pub AreMarksOf : ℕ → Windowing → List ℕ → ℕ → ℕ → Type 0
 AreMarksOf count w text at marks = (place back : ℕ) → offset_at w place ≤ back → back < offset_at w place + count → Occurs w.literals text place (at + back) → bit_at marks back ≡ 1
 
--- one of all its windows
+-- as above, for all its factors
 abbrev pub AreMarks : Windowing → List ℕ → ℕ → ℕ → Type 0
 AreMarks w = AreMarksOf w.stride w
 
--- a literal is marked by its windows of so many bytes at an offset
+-- a literal has the hash bits of its factors of `width` bytes at an offset
 pub record IsWindowed (l : Literals) (marks : List ℕ) (place width offset stride : ℕ) : Type 0 where
   pub near : offset + stride ≤ 8
   pub wide : width + offset + stride ≤ length (literal_at l place) + 1
   pub marked : IsMarkedFor marks l.folding (literal_at l place) width offset stride
 
--- each literal before a place is marked
+-- each literal before a place has its hash bits
 pub record AreWindowed (l : Literals) (stride : ℕ) (offsets marks : List ℕ) (count : ℕ) : Type 0 where
   pub offsets_len : length offsets ≡ length l.texts
   pub marks_len : length marks ≡ 2 ^ HASH_BITS

@@ -1,4 +1,5 @@
-//! Blocks of a text: all of one is looked at before any end in it is verified, so that no jump depends on what looks leave.
+//! Blocks of a text. A whole block is probed before any end in it is verified, so that no branch depends on the result
+//! of a probe.
 ghost use Rattle.std.specs.Prelude.{◌≡◌, ℕ, ◌+◌, ◌-◌, ◌*◌, ◌<◌, ◌≤◌, length, slice_index};
 ghost use Rattle.std.specs.Simd.Lanes.{put_chunk};
 ghost use Rattle.text_windows.specs.Blocks.{IsBlock, IsNotedUnlessFull};
@@ -10,23 +11,25 @@ use crate::joining::lacking;
 use crate::looking::four_looks;
 use std::simd::prelude::*;
 
-/// So many places are looked at by four words.
+/// Positions of a group, which four words cover.
 pub(crate) const GROUP: usize = 32;
 
-/// A block has so many times as many. With 16 ends that are left took longer, with all of a text at once hardly less (in C).
+/// Groups of a block. Measured in C: with 16, ends that are not ruled out cost more; with a whole text at once, hardly
+/// less.
 pub(crate) const GROUPS: usize = 32;
 
-/// What looks at a block have come to.
+/// The result of probing a block.
 #[derive(Clone, Copy)]
 pub(crate) struct Noted {
-    /// What the last of them rule out behind their own places.
+    /// What its last probes rule out after the block.
     pub behind: u64x4,
-    /// How many of the block's groups are noted: those of which not all ends are ruled out, and maybe others.
+    /// How many of the block's groups are noted: each with an end that is not ruled out, and maybe others.
     pub count: usize,
 }
 
-/// Looks at the places of a block, or at every second one, behind looks that rule out `before` behind their own. Writes the words
-/// that say what is ruled out, four for each group, and in front of `groups` the numbers of the groups that are noted.
+/// Probes a block at each position or at every second one; `before` is what the probes before it rule out in it. Writes
+/// the words that say which ends are ruled out, four for each group. Writes the numbers of the noted groups at the
+/// start of `groups`.
 #[inline(always)]
 pub(crate) fn look_at_block<const STEP: usize>(
     entries: &[u64],
@@ -66,7 +69,8 @@ pub(crate) fn look_at_block<const STEP: usize>(
     Noted { behind, count }
 }
 
-/// Writes in front of `numbers` which words of the noted groups lack a bit, and answers how many they are.
+/// Writes the numbers of the words of the noted groups that lack a bit to the start of `numbers`. Returns how many they
+/// are.
 #[inline(always)]
 pub(crate) fn note_words(
     words: &[u64],
@@ -91,7 +95,7 @@ pub(crate) fn note_words(
     noted
 }
 
-/// The same of four words from one on, behind so many that are noted.
+/// As `note_words`, for four words from `first` on, after `noted` numbers.
 #[inline(always)]
 fn note_four(words: &[u64], first: usize, numbers: &mut [usize], noted: usize) -> usize
     requires words { first + 4 ≤ length words.now }
@@ -115,7 +119,7 @@ fn note_four(words: &[u64], first: usize, numbers: &mut [usize], noted: usize) -
     count
 }
 
-/// Writes four words from a place on.
+/// Writes four words from an index on.
 #[inline(always)]
 fn store_words(four: u64x4, words: &mut [u64], at: usize)
     requires { at + 4 ≤ length words.old }

@@ -1,4 +1,5 @@
-//! Which windows are likely to cost least. Nothing here decides what is found, only how soon.
+//! Chooses the factors with the lowest estimate. Costs are in tenths of a nanosecond. A choice changes the time of a
+//! search, never its result.
 ghost use Rattle.std.specs.Prelude.{◌≡◌, ◌^◌, ◌<◌, ◌≤◌, length, vec_len};
 ghost use Rattle.lit_base.specs.declared.suffixes.marks.TheConstants.{HASH_BITS};
 
@@ -9,50 +10,49 @@ use crate::shape::{Shape, WIDTH};
 use lit_base::{HASH_BITS, LitList};
 use nib_mask::ByteMasks;
 
-/// A look at the marks of a place takes so many tenths of a nanosecond.
+/// A probe, in tenths of a nanosecond.
 pub const LOOK_COST: usize = 8;
 
-/// A mark at which nothing ends takes so many.
+/// A hash bit at which nothing ends.
 pub const MARK_COST: usize = 250;
 
-/// To sieve 1,024 bytes takes so many, where no place passes.
+/// The masks for 1,024 bytes, if no position passes.
 pub const SIEVE_COST: usize = 1536;
 
-/// A place that passes the sieve, and has no mark, takes so many, and half as many for each width that it is looked up by.
+/// A position that passes the masks and has no hash bit. Each width of its probe adds half of this.
 const PASS_COST: usize = 20;
 
-/// A block of places of which some pass takes so many beside these: it is looked at as a whole, and how many pass is not foreseen.
-/// With it thirty rare literals are estimated at 0.8 to 1.1 of what they took, in log lines, English, JSON and source code; with
-/// three times as much at 1.1 to 1.8. Other numbers were not tried.
+/// A block with a position that passes, in addition: it is probed as a whole, and the number of passes is hard to
+/// predict. Measured for 30 rare literals in log lines, English, JSON and source code: estimates are 0.8 to 1.1 of the
+/// cost. With three times this value they are 1.1 to 1.8; others were not tried.
 const BLOCK_COST: usize = 60;
 
-/// A block has so many places.
+/// Positions of a block.
 const BLOCK: usize = 56;
 
-/// To begin anew behind an end takes so many: a block is looked at from there on, whose last looks are mostly in vain. With -c 100 to 1,000
-/// frequent literals of English text and source code took 0.6 to 0.85 of the time by shift-or, which begins with eight looks. The number
-/// was not varied.
+/// A new start after an end: a block is probed from there on, and its last probes are mostly wasted. Shift-or starts
+/// with eight probes. Not varied.
 pub const START_COST: usize = 500;
 
-/// To begin to sieve takes so many more, where looks at strides begin at once: a hundred frequent literals took 1.3 times as
-/// long in English text and log lines where all were sieved.
+/// A start with masks, in addition. Without masks probes begin at once. Measured: with masks for all lists, 100
+/// frequent literals took 1.3 times as long in English text and log lines.
 const SIEVE_START_COST: usize = 400;
 
-/// An estimate takes so many marks for each that a sample had: windows are chosen that the sample happens to lack,
-/// and so a text has more of them.
+/// An estimate counts each hash bit of a sample this many times. The chosen factors are rare in the sample by chance
+/// too, so a text has more of them.
 const BIAS: usize = 2;
 
-/// So many literals at most are sieved: with more, most places pass.
+/// The longest list for the masks: with more literals most positions pass.
 const MOST_SIEVED: usize = 128;
 
-/// So many hashes may be marked.
+/// Number of hashes.
 const HASHES: usize = 1 << HASH_BITS;
 
-/// One place of so many tells how many of a sample pass.
+/// One position of this many is counted in a sample.
 const SPARSE: usize = 31;
 
-/// Whether the literals of a list are sieved, how far apart a search for them looks where they are strided, and what it
-/// takes, in tenths of a nanosecond for 1,024 bytes: with what marks take of it, if nothing ends at any.
+/// Whether a list uses masks, its stride otherwise, and the estimate in tenths of a nanosecond for 1,024 bytes. `marks`
+/// is the part of the estimate for hash bits, if nothing ends at any.
 #[derive(Clone, Copy, Debug)]
 pub(crate) struct Choice {
     pub is_sieved: bool,
@@ -61,7 +61,7 @@ pub(crate) struct Choice {
     pub marks: usize,
 }
 
-/// The choice that is likely to cost least, where literals end so often. It leaves offsets and buckets as they come.
+/// The choice with the lowest estimate, where literals end at this rate. It may change offsets and buckets.
 pub(crate) fn best_choice(
     list: &LitList,
     counts: &Counts,
@@ -96,8 +96,8 @@ pub(crate) fn best_choice(
     }
 }
 
-/// A choice with what it takes where literals end so often. It was made as if nothing ended at any mark, since each end has a mark by every
-/// choice.
+/// A choice with the cost of ends at this rate. Without it the estimate assumes that nothing ends at any hash bit,
+/// although each end has one.
 fn with_ends(list: &LitList, choice: Choice, rate: EndRate) -> Choice {
     let at_ends = rate.ends.saturating_mul(MARK_COST * BIAS);
     let blocks = if choice.is_sieved {
@@ -114,14 +114,14 @@ fn with_ends(list: &LitList, choice: Choice, rate: EndRate) -> Choice {
     Choice { cost, ..choice }
 }
 
-/// What looks take more in `count` bytes of a text in which so many literals end: a block with an end is looked at as a whole, at half as
-/// much again for each look, and not passed two looks at a time.
+/// The extra cost of probes in `count` bytes with `ends` ends. A block with an end is probed as a whole, at half the
+/// cost again for each probe, and not skipped by two probes a turn.
 pub fn cost_of_blocks(ends: usize, count: usize, stride: usize, widths: usize) -> usize {
     let looks = ends.min(count / BLOCK).saturating_mul(BLOCK) / stride.max(1);
     looks.saturating_mul(LOOK_COST / 2).saturating_mul(widths)
 }
 
-/// What it takes to sieve the literals of a list, by the windows that suit them.
+/// The estimate for masks, with the factors that suit them.
 fn cost_of_sieve(
     list: &LitList,
     counts: &Counts,
@@ -145,7 +145,7 @@ fn cost_of_sieve(
     SIEVE_COST.saturating_add(passes)
 }
 
-/// What so many places of a text of `count` bytes take that pass, and are looked up by so many widths.
+/// The cost of `passed` positions that pass in `count` bytes, each probed by `widths` widths.
 pub(crate) fn cost_of_passes(passed: usize, count: usize, widths: usize) -> usize {
     let price = PASS_COST.saturating_add((PASS_COST / 2).saturating_mul(widths));
     let blocks = passed.min(count / BLOCK);
@@ -154,7 +154,7 @@ pub(crate) fn cost_of_passes(passed: usize, count: usize, widths: usize) -> usiz
         .saturating_add(blocks.saturating_mul(BLOCK_COST))
 }
 
-/// How many of some places of a sample pass the masks, and how many these are.
+/// How many of some positions of a sample pass the masks, and how many positions these are.
 fn count_passed(masks: &ByteMasks, sample: &[u8]) -> (usize, usize) {
     let (mut passed, mut all) = (0usize, 0usize);
     for stretch in sample.chunks(SPARSE) {
@@ -168,7 +168,7 @@ fn count_passed(masks: &ByteMasks, sample: &[u8]) -> (usize, usize) {
     (passed, all)
 }
 
-/// The stride for which a search for the literals of a list is likely to cost least.
+/// The stride with the lowest estimate.
 fn best_stride(list: &LitList, counts: &Counts) -> Choice
     requires { vec_len counts.now.fours ≡ 2 ^ HASH_BITS }
 {
@@ -189,14 +189,14 @@ fn best_stride(list: &LitList, counts: &Counts) -> Choice
     best
 }
 
-/// How often the best windows of the literals occurred: for the longest stride, and for the half of each.
+/// How often the best factors of the literals occurred: for the longest stride, then for half of each stride.
 fn totals(list: &LitList, most_stride: usize, counts: &Counts) -> [usize; 4]
     requires { vec_len counts.now.fours ≡ 2 ^ HASH_BITS }
 {
     let mut totals = [0usize; 4];
     for place in 0..list.len() {
         if list.get(place).len() < WIDTH {
-            // All of it is its window: none is to be chosen.
+            // The whole literal is its factor, so there is no choice.
             continue;
         }
         let windows = counts.of_literal(list, place);
@@ -210,13 +210,13 @@ fn totals(list: &LitList, most_stride: usize, counts: &Counts) -> [usize; 4]
     totals
 }
 
-/// What the marks that so many of the places counted have take in 1,024 bytes, if at none of them a literal ends.
+/// The cost of hash bits for 1,024 bytes, if `marked` of the counted positions have one and no literal ends there.
 fn cost_of_marks(marked: usize, counts: &Counts) -> usize {
     (MARK_COST * BIAS * 1024).saturating_mul(marked) / counts.all.max(1)
 }
 
-/// The choice to look at every `stride`-th place, by so many widths, where the marks of all places take so long, and others have the
-/// hash of a window of one of `count` literals.
+/// The choice of a stride, with probes by `widths` widths. `marked` is the cost of hash bits at all positions. Other
+/// positions share a hash with a factor of one of `count` literals by chance.
 fn strided(stride: usize, widths: usize, marked: usize, count: usize) -> Choice {
     let alike = MARK_COST.saturating_mul(count).saturating_mul(stride) / HASHES;
     let looks = LOOK_COST
@@ -231,7 +231,7 @@ fn strided(stride: usize, widths: usize, marked: usize, count: usize) -> Choice 
     }
 }
 
-/// How far before its end a literal has the windows for a stride that occurred least, and how often they did.
+/// The offset before a literal's end with the rarest factors for a stride, and how often they occurred.
 fn best_offset(windows: [u32; 8], stride: usize) -> (usize, usize)
     ensures { result.0 < 8 }
 {
@@ -245,7 +245,7 @@ fn best_offset(windows: [u32; 8], stride: usize) -> (usize, usize)
     best
 }
 
-/// Chooses for each literal the windows that occurred least: for the sieve, or for a stride.
+/// Chooses the rarest factors of each literal: for the masks, or for a stride.
 pub(crate) fn choose_offsets(
     list: &LitList,
     counts: &Counts,
@@ -265,7 +265,7 @@ pub(crate) fn choose_offsets(
     }
 }
 
-/// Chooses for each literal the windows that occurred least, as many as a stride has.
+/// Chooses the rarest factors of each literal, as many as a stride has positions.
 fn choose_strided(list: &LitList, counts: &Counts, stride: usize, offsets: &mut Vec<u8>)
     requires fours { vec_len counts.now.fours ≡ 2 ^ HASH_BITS }
     requires offsets { vec_len offsets.old ≡ length list.now.texts }
@@ -277,8 +277,8 @@ fn choose_strided(list: &LitList, counts: &Counts, stride: usize, offsets: &mut 
     }
 }
 
-/// Chooses for each literal the window whose last three bytes occurred least. Lists of ten of a text's own
-/// words have up to sixty times fewer candidates so than by the windows that occurred least as a whole.
+/// Chooses for each literal the factor with the rarest last three bytes. Measured: lists of ten words of a text have up
+/// to sixty times fewer candidates than with the rarest whole factors.
 fn choose_sieved(list: &LitList, counts: &Counts, offsets: &mut Vec<u8>)
     requires fours { vec_len counts.now.fours ≡ 2 ^ HASH_BITS }
     requires threes { vec_len counts.now.threes ≡ 2 ^ HASH_BITS }
@@ -291,7 +291,7 @@ fn choose_sieved(list: &LitList, counts: &Counts, offsets: &mut Vec<u8>)
     }
 }
 
-/// How often the windows from one place on occurred, as many as a stride has.
+/// How often the factors from one offset on occurred, as many as a stride has positions.
 fn cost_at(windows: [u32; 8], offset: usize, stride: usize) -> usize {
     let mut cost = 0usize;
     for step in 0..stride.min(PLACES) {

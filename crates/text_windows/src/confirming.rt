@@ -1,4 +1,4 @@
-//! By how many bytes each bucket of shift-or is told once more, before any chain of literals is walked.
+//! A second check of shift-or, bucket by bucket, before any chain of literals is walked.
 ghost use Rattle.std.specs.Prelude.{◌≡◌, ℕ, ◌^◌, ◌<◌, ◌≤◌, IfOk, length, slice_index, vec_len};
 ghost use Rattle.lit_base.specs.Chains.{literal_at};
 ghost use Rattle.lit_base.specs.Marks.{IsMarked};
@@ -9,23 +9,24 @@ use crate::entries::{BUCKETS, bucket_of};
 use lit_base::{Fold, LitList, case_bits, hash_of, mark, suffix_key};
 use std::alloc::{AllocError, Global};
 
-/// How many bits a hash has here: a byte for each takes 8 KiB, which stay in a processor's first cache.
+/// Bits of a hash here. A byte for each takes 8 KiB, which stay in the first-level cache.
 pub(crate) const CONFIRM_BITS: usize = 13;
 
-/// A byte for each hash. Bit `bucket` is set where some literal of the bucket has last bytes of that hash, as many as the
-/// shortest literal of its bucket has, up to eight: buckets are told by more bytes than the whole list could be.
+/// A byte for each hash. Bit `bucket` is set if the key of some literal of the bucket has this hash. A key is the
+/// literal's last bytes, as many as the bucket's shortest literal has, up to eight. So most buckets have longer keys
+/// than the whole list could have.
 #[derive(Debug, Drop)]
 pub(crate) struct Confirms {
-    /// By how many bytes each bucket is told.
+    /// The key length of each bucket in bytes.
     pub widths: Vec<usize>,
-    /// The bits of case that are left out.
+    /// The bits of case, which a key sets.
     pub case_bits: u64,
     /// The buckets of each hash.
     pub table: Vec<u8>,
 }
 
 impl Confirms {
-    /// Those of a list whose literals have such buckets.
+    /// The check for a list with these buckets.
     pub fn new(alloc: Global, list: &LitList, buckets: &Vec<u8>) -> Result<Confirms, AllocError>
         requires { vec_len buckets.now ≡ length list.now.texts }
         ensures { IfOk result (AreConfirmsOf list.now buckets.now.items) }
@@ -42,7 +43,7 @@ impl Confirms {
     }
 }
 
-/// Narrows each bucket's width to what its shortest literal has.
+/// Reduces each bucket's key length to the length of its shortest literal.
 fn narrow_all(list: &LitList, buckets: &Vec<u8>, widths: &mut Vec<usize>)
     requires buckets { vec_len buckets.now ≡ length list.now.texts }
     requires eight { vec_len widths.old ≡ 8 }
@@ -58,7 +59,7 @@ fn narrow_all(list: &LitList, buckets: &Vec<u8>, widths: &mut Vec<usize>)
     }
 }
 
-/// Narrows the width of one bucket.
+/// Reduces the key length of one bucket.
 fn narrow(widths: &mut Vec<usize>, bucket: usize, len: usize)
     requires bucket { bucket < vec_len widths.old }
     requires some { 0 < len }

@@ -1,4 +1,4 @@
-//! How often windows occur in texts, by their hashes.
+//! Counts how often factors occur in texts, by their hashes.
 ghost use Rattle.std.specs.Prelude.{◌≡◌, ◌^◌, ◌<◌, ◌≤◌, IfOk, length, vec_capacity, vec_len};
 ghost use Rattle.lit_base.specs.declared.suffixes.marks.TheConstants.{HASH_BITS};
 
@@ -6,28 +6,29 @@ use crate::shape::WIDTH;
 use lit_base::{HASH_BITS, LitList, case_bits, hash_of, last_bits, last_word, suffix_key};
 use std::alloc::{AllocError, Global};
 
-/// As many windows of a literal as may be chosen from: those that end so far before its end.
+/// The factors of a literal to choose from: the last of them ends at the literal's end, each other a byte before the
+/// next.
 pub(crate) const PLACES: usize = 8;
 
-/// What stands for a window that a literal has not.
+/// The count of a factor that a literal does not have.
 pub(crate) const NEVER: u32 = 1 << 28;
 
-/// So many bytes of a window are sieved.
+/// The masks see this many bytes of a factor.
 const SIEVED: usize = 3;
 
-/// How often windows of four bytes, and the last three bytes of windows, occurred in samples of texts, older ones
-/// counted half for each later sample. There is room for all counts from the first on, and they are written only when it first
-/// counts.
+/// How often factors of four bytes, and the last three bytes of factors, occurred in samples of texts. Each new sample
+/// halves the older counts. There is room for all counts from the start, but they are written only with the first
+/// sample.
 #[derive(Debug, Drop)]
 pub(crate) struct Counts {
     pub fours: Vec<u16>,
     pub threes: Vec<u16>,
-    /// How many windows were counted.
+    /// How many factors were counted.
     pub all: usize,
 }
 
 impl Counts {
-    /// Those of no text.
+    /// The counts of no text.
     pub fn new(alloc: Global) -> Result<Counts, AllocError>
         ensures fours { IfOk result (λ counts. 2 ^ HASH_BITS ≤ vec_capacity counts.fours) }
         ensures threes { IfOk result (λ counts. 2 ^ HASH_BITS ≤ vec_capacity counts.threes) }
@@ -41,7 +42,7 @@ impl Counts {
         })
     }
 
-    /// Halves what was counted, and counts the windows of a sample.
+    /// Halves the counts, and counts the factors of a sample.
     pub fn count(&mut self, list: &LitList, sample: &[u8])
         requires fours { 2 ^ HASH_BITS ≤ vec_capacity self.old.fours }
         requires threes { 2 ^ HASH_BITS ≤ vec_capacity self.old.threes }
@@ -56,7 +57,7 @@ impl Counts {
         self.all = (self.all / 2).saturating_add(sample.len());
     }
 
-    /// How often each of the last windows of a literal occurred.
+    /// How often each of the last factors of a literal occurred.
     pub fn of_literal(&self, list: &LitList, place: usize) -> [u32; 8]
         requires room { vec_len self.now.fours ≡ 2 ^ HASH_BITS }
         requires within { place < length list.now.texts }
@@ -72,8 +73,8 @@ impl Counts {
         found
     }
 
-    /// How often the last three bytes of each of these windows occurred. Of windows that are alike in that, one counts
-    /// for less that itself occurred less.
+    /// How often the last three bytes of each of the last factors occurred. The count of the whole factor decides
+    /// between equals.
     pub fn of_sieved(&self, list: &LitList, place: usize) -> [u32; 8]
         requires fours { vec_len self.now.fours ≡ 2 ^ HASH_BITS }
         requires threes { vec_len self.now.threes ≡ 2 ^ HASH_BITS }
@@ -93,7 +94,7 @@ impl Counts {
     }
 }
 
-/// Halves each count. Those that were not written are nothing.
+/// Halves each count. Unwritten counts become 0.
 fn halve(counts: &mut Vec<u16>)
     requires { 2 ^ HASH_BITS ≤ vec_capacity counts.old }
     ensures { vec_len counts.new ≡ 2 ^ HASH_BITS }
@@ -105,7 +106,7 @@ fn halve(counts: &mut Vec<u16>)
     }
 }
 
-/// Counts each window of a sample that has so many bytes, and eight bytes up to its end.
+/// Counts each factor of `width` bytes in a sample that has at least eight bytes up to its end.
 fn count_windows(counts: &mut Vec<u16>, width: usize, case_bits: u64, sample: &[u8])
     requires room { vec_len counts.old ≡ 2 ^ HASH_BITS }
     requires some { 0 < width }

@@ -1,4 +1,4 @@
-//! The entries of shift-or: which ends the two bytes before a place rule out.
+//! The entries of shift-or: which ends the two bytes before a position rule out.
 ghost use Rattle.std.specs.Prelude.{◌≡◌, ℕ, ◌+◌, ◌-◌, ◌*◌, ◌/◌, ◌^◌, ◌<◌, ◌≤◌, IsTrue, bit_or, length, slice_index, vec_capacity, vec_len};
 ghost use Rattle.std.specs.Int.{bit_at};
 ghost use Rattle.lit_base.specs.Chains.{literal_at};
@@ -7,14 +7,14 @@ ghost use Rattle.text_windows.specs.declared.entries.TheConstants.{ENTRIES};
 
 use lit_base::{Fold, LitList, case_bits, suffix_key};
 
-/// So many entries there are, one for each two bytes: 512 KiB, of which a text uses few. A hash of three bytes spreads them, and
-/// its looks took 1.6 times as long in C.
+/// Number of entries, one for each pair of bytes: 512 KiB, of which a text uses few. Measured in C: a hash of three
+/// bytes spreads the entries, and its probes took 1.6 times as long.
 pub(crate) const ENTRIES: usize = 65536;
 
-/// An entry speaks of the ends of so many places, its own the first.
+/// Positions that an entry covers, its own the first.
 pub(crate) const PLACES: usize = 8;
 
-/// A byte has a bit for each of so many buckets.
+/// Buckets, each with a bit in a byte.
 pub(crate) const BUCKETS: usize = 8;
 
 /// An entry with the bits of all ends and buckets.
@@ -28,7 +28,7 @@ pub(crate) fn bucket_of(buckets: &Vec<u8>, place: usize) -> usize
     usize::from(buckets[place]) % BUCKETS
 }
 
-/// Makes the entries that let the literals of a list through, and rule out all else, in room that is there.
+/// Makes the entries that pass the literals of a list and rule out all else, in existing room.
 pub(crate) fn fill_all(list: &LitList, buckets: &Vec<u8>, entries: &mut Vec<u64>)
     requires buckets { vec_len buckets.now ≡ length list.now.texts }
     requires none { vec_len entries.old ≡ 0 }
@@ -40,7 +40,7 @@ pub(crate) fn fill_all(list: &LitList, buckets: &Vec<u8>, entries: &mut Vec<u64>
     leave_case_out(entries, (case_bits(list.fold()) >> 48) as usize);
 }
 
-/// Lets the literals of a list through where they reach.
+/// Clears the bits that would rule out a literal of the list.
 fn let_all_through(list: &LitList, buckets: &Vec<u8>, entries: &mut Vec<u64>)
     requires buckets { vec_len buckets.now ≡ length list.now.texts }
     requires room { vec_len entries.old ≡ ENTRIES }
@@ -54,7 +54,7 @@ fn let_all_through(list: &LitList, buckets: &Vec<u8>, entries: &mut Vec<u64>)
     }
 }
 
-/// Makes each entry that of its two bytes without the bits of case, so that looks need not leave these out.
+/// Copies each entry from its two bytes without the bits of case, so that a probe can use the bytes as they stand.
 fn leave_case_out(entries: &mut Vec<u64>, case_bits: usize)
     requires room { vec_len entries.old ≡ ENTRIES }
     requires small { case_bits < ENTRIES }
@@ -68,7 +68,7 @@ fn leave_case_out(entries: &mut Vec<u64>, case_bits: usize)
     }
 }
 
-/// The entry that lets through what no bytes tell: ends of literals that do not reach so far before them.
+/// The entry that passes ends for which two bytes say nothing: ends too far ahead of them for the literal's length.
 fn base_of(list: &LitList, buckets: &Vec<u8>) -> u64
     requires { vec_len buckets.now ≡ length list.now.texts }
     ensures { (place ahead : ℕ) → place < length list.now.texts → ahead < 8 → length (literal_at list.now place) ≤ ahead → bit_at result (8 * ahead + bucket_at buckets.now.items place) ≡ 0 }
@@ -81,7 +81,7 @@ fn base_of(list: &LitList, buckets: &Vec<u8>) -> u64
     base
 }
 
-/// An entry that lets through what is not told of a literal of so many bytes.
+/// Clears the bits of a bucket at which a literal of `len` bytes does not reach back to the entry's bytes.
 fn without_short(entry: u64, len: usize, bucket: usize) -> u64
     requires { bucket < 8 }
     ensures short { (ahead : ℕ) → ahead < 8 → len ≤ ahead → bit_at result (8 * ahead + bucket) ≡ 0 }
@@ -94,7 +94,7 @@ fn without_short(entry: u64, len: usize, bucket: usize) -> u64
     found
 }
 
-/// An entry without a bit, if that is asked for.
+/// An entry without a bit, if asked.
 fn without_if(entry: u64, is_asked: bool, bit: usize) -> u64
     requires { bit < 64 }
     ensures cleared { IsTrue is_asked → bit_at result bit ≡ 0 }
@@ -112,7 +112,7 @@ fn without(entry: u64, bit: usize) -> u64
     entry & !(1 << bit)
 }
 
-/// Makes all entries alike.
+/// Sets all entries to one value.
 fn fill_with(entries: &mut Vec<u64>, entry: u64)
     requires none { vec_len entries.old ≡ 0 }
     requires room { ENTRIES ≤ vec_capacity entries.old }
@@ -123,7 +123,7 @@ fn fill_with(entries: &mut Vec<u64>, entry: u64)
     let _is_done = entries.resize(ENTRIES, entry);
 }
 
-/// Lets a literal of a bucket through where two of its bytes stand, and where its first one does behind any other byte.
+/// Passes a literal of a bucket: at each pair of its bytes, and at its first byte after any other byte.
 fn let_through(entries: &mut Vec<u64>, fold: Fold, literal: &[u8], bucket: usize)
     requires some { 0 < length literal.now }
     requires room { vec_len entries.old ≡ ENTRIES }
@@ -139,7 +139,7 @@ fn let_through(entries: &mut Vec<u64>, fold: Fold, literal: &[u8], bucket: usize
     }
 }
 
-/// Lets it through where two of its bytes stand.
+/// Passes a literal at each pair of its bytes.
 fn let_pairs_through(entries: &mut Vec<u64>, fold: Fold, literal: &[u8], bucket: usize)
     requires room { vec_len entries.old ≡ ENTRIES }
     requires bucket { bucket < 8 }
@@ -153,7 +153,7 @@ fn let_pairs_through(entries: &mut Vec<u64>, fold: Fold, literal: &[u8], bucket:
     }
 }
 
-/// Lets it through by the two bytes that stand so far before its end.
+/// Passes a literal at its two bytes that stand `ahead` bytes before its end.
 fn let_pair_through(entries: &mut Vec<u64>, fold: Fold, literal: &[u8], ahead: usize, bucket: usize)
     requires room { vec_len entries.old ≡ ENTRIES }
     requires near { ahead < 8 }
@@ -167,7 +167,8 @@ fn let_pair_through(entries: &mut Vec<u64>, fold: Fold, literal: &[u8], ahead: u
     clear(entries, (key >> 48) as usize, 8 * ahead + bucket);
 }
 
-/// Lets it through by its first byte behind each other one: the entry of the place behind its first byte is the last to tell it.
+/// Passes a literal at its first byte after any other byte. The entry at the position after its first byte is the last
+/// that covers its end.
 fn let_first_through(entries: &mut Vec<u64>, fold: Fold, literal: &[u8], bucket: usize)
     requires some { 0 < length literal.now }
     requires short { length literal.now ≤ 8 }

@@ -1,15 +1,16 @@
-//! Which sieved literals share a bucket of the masks. Nothing here decides what is found, only how soon.
+//! Which literals share a bucket of the masks. The choice changes the time of a search, never its result.
 ghost use Rattle.std.specs.Prelude.{◌≡◌, ◌≤◌, length, vec_len};
 
 use lit_base::LitList;
 
-/// So many buckets have a bit in a byte.
+/// Buckets, each with a bit in a byte.
 const BUCKETS: usize = 8;
 
-/// The masks tell the last bytes of a front by their halves, so many of them.
+/// The masks see this many of the last bytes of a prefix, by their halves.
 const POSITIONS: usize = 3;
 
-/// Which halves of bytes the fronts of a bucket have at the last three positions: bit v of a set stands for the half v.
+/// The halves of bytes that the prefixes of a bucket have at the last three positions. Bit v of a set stands for the
+/// half v.
 #[derive(Clone, Copy)]
 struct Halves {
     low: [u16; 3],
@@ -17,7 +18,7 @@ struct Halves {
 }
 
 impl Halves {
-    /// Those of no front.
+    /// The halves of no prefix.
     fn none() -> Halves {
         Halves {
             low: [0; 3],
@@ -25,7 +26,7 @@ impl Halves {
         }
     }
 
-    /// Those with the ones of a front. One that does not reach a position has all there.
+    /// Adds the halves of a prefix. A prefix that does not reach a position has all halves there.
     fn with(self, front: &[u8]) -> Halves {
         let mut more = self;
         for back in 0..POSITIONS {
@@ -52,9 +53,9 @@ impl Halves {
     }
 }
 
-/// Gives each literal of a list the bucket that lets the fewest more triples of bytes pass.
-/// With text of four kinds, lists of ten to a hundred literals of its own words have 0.5 to 0.9 times the candidates
-/// that runs of an order by their last bytes have.
+/// Gives each literal of a list the bucket that then passes the fewest additional triples of bytes. Measured on texts
+/// of four kinds: lists of 10 to 100 words of a text have 0.5 to 0.9 times the candidates of runs in an order by last
+/// bytes.
 pub(crate) fn group(list: &LitList, offsets: &Vec<u8>, buckets: &mut Vec<u8>)
     requires offsets { vec_len offsets.now ≡ length list.now.texts }
     requires buckets { vec_len buckets.old ≡ length list.now.texts }
@@ -71,7 +72,7 @@ pub(crate) fn group(list: &LitList, offsets: &Vec<u8>, buckets: &mut Vec<u8>)
     }
 }
 
-/// The bucket that lets the fewest more triples pass with a front.
+/// The bucket that passes the fewest additional triples with a prefix.
 fn best_bucket(groups: [Halves; 8], front: &[u8]) -> usize
     ensures { result ≤ 7 }
 {

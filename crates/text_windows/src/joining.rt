@@ -1,12 +1,12 @@
-//! What looks rule out, moved and joined: in one word of eight bytes, or in four words in a row.
+//! The ends that probes rule out, shifted and combined: in one word of eight bytes, or in four words in a row.
 ghost use Rattle.std.specs.Prelude.{◌≡◌, ℕ, ◌+◌, ◌-◌, ◌*◌, ◌/◌, ◌%◌, ◌^◌, ◌<◌, ◌≤◌, List, bit_or, slice_index};
 ghost use Rattle.std.specs.Int.{bit_at};
 ghost use Rattle.text_windows.specs.ShiftOr.{AreRuled, Bucketing, IsRuled, RulesOut, RulesOutWords};
 
 use std::simd::prelude::*;
 
-/// What looks rule out of the ends at eight places in a row, and at the eight behind these: byte k of a word speaks of the place k
-/// places further on.
+/// The ends that probes rule out, at eight positions in a row and at the eight after them. Byte k of a word stands for
+/// the position k further on.
 #[derive(Clone, Copy)]
 pub(crate) struct Ruled {
     pub here: u64,
@@ -14,7 +14,7 @@ pub(crate) struct Ruled {
 }
 
 impl Ruled {
-    /// What the entry of the first of the places does.
+    /// What the entry of the first position rules out.
     #[inline(always)]
     pub fn by(entry: u64) -> Ruled
         ensures { (b : Bucketing) (text : List ℕ) (at : ℕ) → RulesOut b text at entry → IsRuled b text at result }
@@ -25,7 +25,7 @@ impl Ruled {
         }
     }
 
-    /// What that of another one, so many places further on, does besides.
+    /// Adds what the entry of the position `ahead` further on rules out.
     #[inline(always)]
     pub fn and_by(self, entry: u64, ahead: u64) -> Ruled
         requires some { 0 < ahead }
@@ -39,7 +39,7 @@ impl Ruled {
     }
 }
 
-/// The same of four words in a row, each of which speaks of eight places.
+/// As `Ruled`, for four words in a row with eight positions each.
 #[derive(Clone, Copy)]
 pub(crate) struct FourRuled {
     pub here: u64x4,
@@ -47,7 +47,7 @@ pub(crate) struct FourRuled {
 }
 
 impl FourRuled {
-    /// What the entries of the first places of the words do.
+    /// What the entries of the first position of each word rule out.
     #[inline(always)]
     pub fn by(entries: u64x4) -> FourRuled
         ensures { (b : Bucketing) (text : List ℕ) (at : ℕ) → RulesOutWords b text at entries → AreRuled b text at result }
@@ -58,7 +58,7 @@ impl FourRuled {
         }
     }
 
-    /// What those of others, so many places further on, do besides.
+    /// Adds what the entries of the positions `ahead` further on rule out.
     #[inline(always)]
     pub fn and_by(self, entries: u64x4, ahead: u64) -> FourRuled
         requires some { 0 < ahead }
@@ -71,8 +71,8 @@ impl FourRuled {
         }
     }
 
-    /// What they rule out at their own places, each joined with what the word before it rules out behind its own, and the first one
-    /// with the last word of those before.
+    /// What the words rule out at their own positions. Each is combined with what the word before it rules out after
+    /// its own positions; the first with the last word of `before`.
     #[inline(always)]
     pub fn with_those_before(self, before: u64x4) -> u64x4
         ensures { (b : Bucketing) (text : List ℕ) (at : ℕ) → AreRuled b text at self → RulesOut b text at (slice_index before 3) → RulesOutWords b text at result }
@@ -81,7 +81,7 @@ impl FourRuled {
     }
 }
 
-/// The bits that either has.
+/// The bits of either.
 #[inline(always)]
 fn joined(words: u64x4, others: u64x4) -> u64x4
     ensures { (i : ℕ) → i < 4 → slice_index result i ≡ bit_or (slice_index words i) (slice_index others i) }
@@ -89,7 +89,7 @@ fn joined(words: u64x4, others: u64x4) -> u64x4
     words | others
 }
 
-/// Each word with its bits moved up by so many places.
+/// Each word shifted up by `count` bits.
 #[inline(always)]
 fn moved_on(words: u64x4, count: u64) -> u64x4
     requires { count < 64 }
@@ -98,7 +98,7 @@ fn moved_on(words: u64x4, count: u64) -> u64x4
     words << u64x4::splat(count)
 }
 
-/// Each word with its bits moved down by so many places.
+/// Each word shifted down by `count` bits.
 #[inline(always)]
 fn moved_back(words: u64x4, count: u64) -> u64x4
     requires { count < 64 }
@@ -107,7 +107,7 @@ fn moved_back(words: u64x4, count: u64) -> u64x4
     words >> u64x4::splat(count)
 }
 
-/// The last of four words in front of the first three of others.
+/// The last of four words, then the first three of `words`.
 #[inline(always)]
 fn next_of(before: u64x4, words: u64x4) -> u64x4
     ensures first { slice_index result 0 ≡ slice_index before 3 }
@@ -116,7 +116,7 @@ fn next_of(before: u64x4, words: u64x4) -> u64x4
     before.shuffle(words, [3, 4, 5, 6])
 }
 
-/// Four words of which the last one is this, and the others are zeros.
+/// Three zeros, then this word.
 #[inline(always)]
 pub(crate) fn last_alone(word: u64) -> u64x4
     ensures { slice_index result 3 ≡ word }
@@ -133,7 +133,7 @@ pub(crate) fn last_of(words: u64x4) -> u64
     last
 }
 
-/// Which of four words lack a bit: bit k stands for word k.
+/// The words that lack a bit: bit k stands for word k.
 #[inline(always)]
 pub(crate) fn lacking(words: u64x4) -> u64
     ensures few { result < 16 }

@@ -1,4 +1,4 @@
-//! Marks of literals by windows of their bytes, chosen so that they are rare in a text at hand.
+//! Hash bits of literals by factors that are rare in a given text, and shift-or over buckets of literals.
 #![tactic(auto)]
 
 mod blocks;

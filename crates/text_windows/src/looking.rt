@@ -1,4 +1,4 @@
-//! Looks at pairs of bytes of a text: what their entries rule out, at eight places or at four times as many.
+//! Probes by pairs of bytes of a text: which ends their entries rule out, at eight positions or at 32.
 ghost use Rattle.std.specs.Prelude.{◌≡◌, ℕ, ◌+◌, ◌-◌, ◌*◌, ◌≤◌, length, slice_index};
 ghost use Rattle.text_windows.specs.ShiftOr.{AreEntriesOf, AreRuled, Bucketing, IsRuled, RulesOut, RulesOutWords};
 ghost use Rattle.text_windows.specs.declared.entries.TheConstants.{ENTRIES};
@@ -6,15 +6,15 @@ ghost use Rattle.text_windows.specs.declared.entries.TheConstants.{ENTRIES};
 use crate::joining::{FourRuled, Ruled};
 use std::simd::prelude::*;
 
-/// How far apart the places are at which a search looks.
+/// The distance of the positions that a search probes.
 #[derive(Clone, Copy, Debug)]
 pub(crate) enum Stride {
     One,
     Two,
 }
 
-/// The number that the two bytes before a place spell, the last one the greater. It is read as a vector, which the compiler loads at once:
-/// two bytes that are put together are loaded each by itself.
+/// The number that the two bytes before a position spell, with the last byte as the high one. It is read as a vector,
+/// since the compiler then loads both bytes at once.
 #[inline(always)]
 fn pair_before(text: &[u8], at: usize) -> u16
     requires two { 2 ≤ at }
@@ -25,7 +25,7 @@ fn pair_before(text: &[u8], at: usize) -> u16
     pair
 }
 
-/// The entry of the two bytes before a place.
+/// The entry of the two bytes before a position.
 #[inline(always)]
 fn entry_at(entries: &[u64], text: &[u8], at: usize) -> u64
     requires all { length entries.now ≡ ENTRIES }
@@ -36,7 +36,7 @@ fn entry_at(entries: &[u64], text: &[u8], at: usize) -> u64
     entries[usize::from(pair_before(text, at))]
 }
 
-/// Those of the two bytes before a place and before those eight, sixteen and twenty-four places further on.
+/// The entries of the two bytes before a position, and before the positions 8, 16 and 24 further on.
 #[inline(always)]
 fn four_entries_at(entries: &[u64], text: &[u8], at: usize) -> u64x4
     requires all { length entries.now ≡ ENTRIES }
@@ -52,7 +52,7 @@ fn four_entries_at(entries: &[u64], text: &[u8], at: usize) -> u64x4
     ])
 }
 
-/// What looks so far apart at the eight places from one on rule out.
+/// What probes at this stride rule out, at the eight positions from `at` on.
 #[inline(always)]
 pub(crate) fn looks_by(entries: &[u64], text: &[u8], at: usize, stride: Stride) -> Ruled
     requires all { length entries.now ≡ ENTRIES }
@@ -66,7 +66,7 @@ pub(crate) fn looks_by(entries: &[u64], text: &[u8], at: usize, stride: Stride) 
     }
 }
 
-/// Those at every second one of them.
+/// As above, at every second position.
 #[inline(always)]
 fn every_second_look(entries: &[u64], text: &[u8], at: usize) -> Ruled
     requires all { length entries.now ≡ ENTRIES }
@@ -80,7 +80,7 @@ fn every_second_look(entries: &[u64], text: &[u8], at: usize) -> Ruled
     third.and_by(entry_at(entries, text, at + 6), 6)
 }
 
-/// Those at each of them.
+/// As above, at each position.
 #[inline(always)]
 fn each_look(entries: &[u64], text: &[u8], at: usize) -> Ruled
     requires all { length entries.now ≡ ENTRIES }
@@ -95,8 +95,8 @@ fn each_look(entries: &[u64], text: &[u8], at: usize) -> Ruled
     third.and_by(entry_at(entries, text, at + 7), 7)
 }
 
-/// What looks at each of the thirty-two places from one on rule out, or at every second one, as the step says: a number that is known
-/// when a program is built, so that each search has a loop of its own.
+/// What probes at the 32 positions from `at` on rule out, at each position or at every second one. The step is a
+/// constant, so that each search has a loop of its own.
 #[inline(always)]
 pub(crate) fn four_looks<const STEP: usize>(entries: &[u64], text: &[u8], at: usize) -> FourRuled
     requires all { length entries.now ≡ ENTRIES }
@@ -111,7 +111,7 @@ pub(crate) fn four_looks<const STEP: usize>(entries: &[u64], text: &[u8], at: us
     }
 }
 
-/// Those at every second one of them.
+/// As above, at every second position.
 #[inline(always)]
 fn four_second_looks(entries: &[u64], text: &[u8], at: usize) -> FourRuled
     requires all { length entries.now ≡ ENTRIES }
@@ -125,7 +125,7 @@ fn four_second_looks(entries: &[u64], text: &[u8], at: usize) -> FourRuled
     third.and_by(four_entries_at(entries, text, at + 6), 6)
 }
 
-/// Those at each of them.
+/// As above, at each position.
 #[inline(always)]
 fn four_each_looks(entries: &[u64], text: &[u8], at: usize) -> FourRuled
     requires all { length entries.now ≡ ENTRIES }

@@ -1,12 +1,13 @@
-//! Where a search by shift-or has got to.
+//! The state of a search by shift-or.
 
 ghost use Rattle.std.specs.Prelude.{◌≡◌, ◌↔◌, ℕ, ◌+◌, ◌*◌, ◌<◌, ◌≤◌};
 ghost use Rattle.std.specs.Int.{bit_at};
 
 use lane_filter::from_bit;
 
-/// The looks at eight places in a row: what they leave of the ends there, and what they rule out of the eight behind them.
-/// Bit `8 * ahead + bucket` stands for the ends of a bucket so many places behind the first.
+/// The result of probes at eight positions in a row: which ends are not ruled out there, and which are ruled out at the
+/// eight positions after them. Bit `8 * ahead + bucket` stands for an end of the bucket `ahead` positions after the
+/// first.
 #[derive(Clone, Copy, Debug)]
 pub struct Looks {
     pub(crate) at: usize,
@@ -14,7 +15,7 @@ pub struct Looks {
     pub(crate) carried: u64,
 }
 
-/// An end, the first literal that ends there, and the looks of a search that goes on behind it.
+/// An end, the first literal that ends there, and the state of a search after it.
 #[derive(Clone, Copy)]
 pub(crate) struct Verified {
     pub end: usize,
@@ -22,7 +23,7 @@ pub(crate) struct Verified {
     pub looks: Looks,
 }
 
-/// The bits of ends that stand further ahead.
+/// The bits of ends more than `ahead` positions after the first.
 pub(crate) fn bits_behind(bits: u64, ahead: usize) -> u64
     requires { ahead < 8 }
     ensures { (k : ℕ) → (bit_at result k ≡ 1) ↔ ((8 * ahead + 8 ≤ k) × (bit_at bits k ≡ 1)) }

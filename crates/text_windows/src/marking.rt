@@ -1,4 +1,4 @@
-//! Marks of literals, each by its windows.
+//! Sets the hash bits of literals, each by its factors.
 ghost use Rattle.std.specs.Prelude.{◌≡◌, ◌≢◌, ℕ, ◌+◌, ◌^◌, ◌<◌, ◌≤◌, length, slice_index, vec_len};
 ghost use Rattle.lit_base.specs.Chains.{literal_at};
 ghost use Rattle.lit_base.specs.Marks.{IsMarked};
@@ -10,8 +10,8 @@ ghost use Rattle.text_windows.specs.declared.shape.TheConstants.{WIDTH};
 use crate::shape::width_of;
 use lit_base::{LitList, mark_literal};
 
-/// Marks each literal anew at its offset, or nearer to its end where there is no room for it, by as many windows as the stride has
-/// places.
+/// Sets the hash bits of each literal anew, by as many factors as the stride has positions. They end at its offset
+/// before the literal's end, or nearer to its end if there is no room.
 pub(crate) fn mark_all(list: &LitList, stride: usize, offsets: &mut Vec<u8>, marks: &mut Vec<u8>)
     requires some { 0 < stride }
     requires few { stride ≤ 8 }
@@ -26,7 +26,7 @@ pub(crate) fn mark_all(list: &LitList, stride: usize, offsets: &mut Vec<u8>, mar
     }
 }
 
-/// Marks a literal at its offset, or nearer to its end where there is no room for it, by so many windows.
+/// Sets the hash bits of a literal by `count` factors at its offset, or nearer to its end if there is no room.
 fn mark_one(list: &LitList, place: usize, count: usize, offsets: &mut Vec<u8>, marks: &mut Vec<u8>)
     requires some { 0 < count }
     requires few { count ≤ 8 }
@@ -48,7 +48,7 @@ fn mark_one(list: &LitList, place: usize, count: usize, offsets: &mut Vec<u8>, m
     mark_literal(marks, list.fold(), literal, width, offset, count);
 }
 
-/// Takes all marks away.
+/// Clears all hash bits.
 fn clear(marks: &mut Vec<u8>)
     ensures { vec_len marks.new ≡ vec_len marks.old }
 {

@@ -1,8 +1,8 @@
 //! How often literals end in a text.
 ghost use Rattle.std.specs.Prelude.{◌≡◌};
 
-/// How many literals ended in some bytes of a text, and behind how many of these ends the search began anew: behind each, if one end is
-/// looked for after the other, and behind none in a scan.
+/// How many literals ended in some bytes of a text, and after how many of the ends a new search began. A search for
+/// single ends begins anew after each, a scan after none.
 #[derive(Clone, Copy, Debug)]
 pub struct EndRate {
     pub ends: usize,
@@ -10,7 +10,7 @@ pub struct EndRate {
 }
 
 impl EndRate {
-    /// That of a text of which nothing is known.
+    /// The rate of an unknown text.
     pub fn nothing() -> EndRate
         ensures ends { result.ends ≡ 0 }
         ensures starts { result.starts ≡ 0 }
@@ -18,7 +18,7 @@ impl EndRate {
         EndRate { ends: 0, starts: 0 }
     }
 
-    /// That of a scan that found so many.
+    /// The rate of a scan that found `ends` ends.
     pub fn of_scan(ends: usize) -> EndRate
         ensures ends { result.ends ≡ ends }
         ensures starts { result.starts ≡ 0 }
@@ -26,7 +26,7 @@ impl EndRate {
         EndRate { ends, starts: 0 }
     }
 
-    /// That of searches that found so many, each begun anew.
+    /// The rate of searches that found `ends` ends, each search begun anew.
     pub fn of_searches(ends: usize) -> EndRate
         ensures ends { result.ends ≡ ends }
         ensures starts { result.starts ≡ ends }

@@ -1,22 +1,22 @@
-//! How many bytes literals are marked by, and how far apart a search for them may look.
+//! The widths of factors, and the longest stride for them.
 ghost use Rattle.std.specs.Prelude.{◌≡◌, ◌<◌, ◌≤◌, length};
 ghost use Rattle.text_windows.specs.Shapes.{IsShapeOf, width_at};
 ghost use Rattle.text_windows.specs.declared.shape.TheConstants.{WIDTH};
 
 use lit_base::LitList;
 
-/// A window has so many bytes, where the literal does.
+/// Bytes of a factor, unless the literal is shorter.
 pub(crate) const WIDTH: usize = 4;
 
-/// As many places may be told by a byte of marks.
+/// Positions that a byte of hash bits covers.
 const MOST_STRIDE: usize = 8;
 
-/// How literals of a list are marked: each by windows of four bytes, or of all that it has where it is shorter.
+/// The widths of a list's factors: four bytes, or the whole of a shorter literal.
 #[derive(Clone, Copy, Debug)]
 pub(crate) struct Shape {
-    /// No window has fewer bytes; four at most.
+    /// The least width of a factor; four at most.
     pub least_width: usize,
-    /// The longest stride at which each literal has a window for each place.
+    /// The longest stride for which each literal has a factor for each position.
     pub most_stride: usize,
 }
 
@@ -40,13 +40,13 @@ impl Shape {
         }
     }
 
-    /// How many widths windows may have.
+    /// How many widths factors may have.
     pub fn widths(self) -> usize {
         (WIDTH + 1).saturating_sub(self.least_width)
     }
 }
 
-/// How many bytes the windows of the literal at a place have.
+/// How many bytes the factors of a literal have.
 pub(crate) fn width_of(list: &LitList, place: usize) -> usize
     requires { place < length list.now.texts }
     ensures value { result ≡ width_at list.now place }

@@ -1,4 +1,5 @@
-//! Shift-or over buckets of literals, as Hyperscan's FDR has it: which ends are ruled out by the bytes before them.
+//! Shift-or over buckets of literals, as in Hyperscan's FDR: the bytes before an end rule it out. Costs are in tenths
+//! of a nanosecond.
 ghost use Rattle.std.specs.Prelude.{◌≡◌, ℕ, ◌+◌, ◌-◌, ◌*◌, ◌<◌, ◌≤◌, ◌⊎◌, IfOk, IfSome, MatchOption, length, max, slice_index, false};
 ghost use Rattle.text_windows.specs.Blocks.{AreNoted};
 ghost use Rattle.lit_base.specs.NextEnds.{Finds, IsFirstFound, NoEndUpTo};
@@ -21,42 +22,43 @@ use std::alloc::{AllocError, Global};
 use std::marker::Model;
 use std::simd::prelude::*;
 
-/// To look at each place of 1,024 takes so many tenths of a nanosecond, where all ends are ruled out.
+/// Probes at each of 1,024 positions, in tenths of a nanosecond, if all ends are ruled out.
 const EACH_COST: usize = 4300;
 
-/// What looks at every second place of 1,024 are taken to cost, in tenths of a nanosecond, where all ends are ruled out: no search by
-/// shift-or is estimated at less. They take some 0.28 ns a byte, but windows take more than is estimated too: of twenty lists of 30 rare
-/// literals of two seeds six take 0.69 to 0.91 of the time that they take by 2,900, and the others as long.
+/// Probes at every second of 1,024 positions, in tenths of a nanosecond, if all ends are ruled out. No estimate of
+/// shift-or is below it. Probes take about 0.28 ns a byte, but factors too cost more than their estimate. Measured with
+/// twenty lists of 30 rare literals: six take 0.69 to 0.91 of the time that a value of 2,900 gives, and the others as
+/// long.
 pub const SHIFT_OR_COST: usize = 2100;
 
-/// An end that is not ruled out takes so many, once for each bucket, if nothing ends there.
+/// A false positive, for each bucket.
 const LEFT_COST: usize = 190;
 
-/// And so many where literals end so seldom that most of a text is gone through by blocks. By 90 and 120 the same lists went by looks at
-/// every second place but for one of twenty-four, and took 0.74 to 1.02 of the time that they took by 190.
+/// A false positive in a text with so few ends that most of it is searched by blocks. Measured: with 90 and with 120
+/// all but one of 24 lists use the same stride, and they take 0.74 to 1.02 of the time that 190 gives.
 const LEFT_IN_BLOCK_COST: usize = 100;
 
-/// A scan takes so much longer for an end at which a literal does end than by windows, in tenths of a nanosecond. Chosen with either way
-/// forced for 26 lists of 30 to 1,000 frequent literals of log lines, English, JSON and source code, of two seeds: so what is estimated
-/// at less takes less for 23 of them, and 1.03 to 1.19 times as long for three; with 160 for 21. Of 13 lists of a third seed it does for 11.
+/// The extra cost of an end in a scan, compared with factors. Chosen by forcing either engine for 26 lists of 30 to
+/// 1,000 frequent literals. The engine with the lower estimate was faster for 23 of them, and took at most 1.19 times
+/// as long for the others.
 const HIT_COST: usize = 300;
 
-/// To begin anew behind an end takes so many.
+/// A new start after an end.
 const START_COST: usize = 190;
 
-/// One place of so many tells how often an end of a sample is not ruled out.
+/// One position of this many is counted in a sample.
 const SPARSE: usize = 31;
 
-/// So many bytes of a text are gone through without looks: behind them there are eight places to look at before the first end that
-/// is sought, and eight bytes before each of these.
+/// Bytes at the start of a text that are searched without probes. After them, eight positions can be probed before the
+/// first end, with eight bytes before each.
 const FRONT: usize = 15;
 
-/// A search goes on by blocks behind so many bytes, where of so many two groups were left with an end. An end that is nearer is found
-/// without, since the block of one that is found by blocks is looked at twice. To leave the loop takes some 20 ns, and to note what is left
-/// some 16 ns for a block: where fewer groups were left, searches by blocks took 1.03 to 1.06 times as long.
+/// Bytes. At a group with an end that was not ruled out, a search tries blocks if it has gone this far and the last
+/// such group is nearer than this. A nearer end is found without blocks, since a block with an end is probed twice.
+/// Measured: with fewer such groups, blocks took 1.03 to 1.06 times as long.
 const NEAR: usize = 1024;
 
-/// A place up to which nothing ends, what the last looks rule out behind it, and from where on blocks may be tried.
+/// A position up to which nothing ends, what the last probes rule out after it, and from where on blocks may be tried.
 #[derive(Clone, Copy)]
 struct Quiet {
     at: usize,
@@ -64,18 +66,23 @@ struct Quiet {
     far: usize,
 }
 
-/// For the two bytes before a place, in either case where case does not count, an entry that tells which ends they rule out: bit `8 * ahead + bucket` is set if no literal of
-/// a bucket ends `ahead` places behind such bytes. The entries of all or of every second place, each shifted by how far it stands
-/// before an end, leave few ends that are not ruled out. All memory is taken when it is made, but the entries are written only
-/// when it first learns: a search that never learns need not write half a megabyte.
+/// Shift-or over the buckets of a list.
+///
+/// There is an entry for each pair of bytes, in either case if case is ignored. It says which ends the pair rules out:
+/// bit `8 * ahead + bucket` is set if no literal of the bucket ends `ahead` positions after the pair. The entries of
+/// all positions, or of every second one, are shifted by their distance to an end and combined. Few ends are then not
+/// ruled out.
+///
+/// It takes all its memory when it is made, but writes the entries only when it is first tuned. So a search that is
+/// never tuned need not write half a megabyte.
 #[derive(Debug, Drop)]
 pub struct ShiftOr<'p> {
     list: &'p LitList,
     /// The bucket of each literal.
     buckets: Vec<u8>,
-    /// By what the buckets of an end are told once more.
+    /// The second check of the buckets of an end.
     confirms: Confirms,
-    /// None, with room for all, until it has learned.
+    /// Empty, with room for all, until it is first tuned.
     entries: Vec<u64>,
     stride: Stride,
 }
@@ -96,7 +103,7 @@ impl<'p> Model for ShiftOr<'p> {
 }
 
 impl<'p> ShiftOr<'p> {
-    /// That of a list, by which nothing is ruled out before it has learned.
+    /// Shift-or for a list. It rules out nothing before it is tuned.
     pub fn new(alloc: Global, list: &'p LitList) -> Result<ShiftOr<'p>, AllocError>
         ensures { IfOk result (λ made. made.literals ≡ list.now) }
     {
@@ -113,15 +120,15 @@ impl<'p> ShiftOr<'p> {
         })
     }
 
-    /// Makes the entries, unless they are made, chooses how far apart it looks, and answers what a search is likely to take for
-    /// 1,024 bytes of a text with such a sample, in tenths of a nanosecond, if literals end so often in these: beside what is
-    /// done at each of the ends by windows too.
+    /// Makes the entries, if they are missing, and chooses the stride. Returns the estimate of a search for 1,024 bytes
+    /// of a text like the sample, in tenths of a nanosecond, with ends at this rate. The work that factors also do at
+    /// each end is not included.
     pub fn learn(&mut self, sample: &[u8], rate: EndRate) -> usize
         ensures { self.new ≡ self.old }
     {
         self.fill();
         let Some(entries) = self.made_entries() else {
-            // It does not come to this: they are made.
+            // Unreachable: the entries are made.
             return usize::MAX;
         };
         let by_one = self.cost(entries, sample, Stride::One, rate);
@@ -134,7 +141,7 @@ impl<'p> ShiftOr<'p> {
         by_one.min(by_two)
     }
 
-    /// Makes the entries, unless they are made.
+    /// Makes the entries, if they are missing.
     fn fill(&mut self)
         ensures { self.new ≡ self.old }
     {
@@ -154,14 +161,13 @@ impl<'p> ShiftOr<'p> {
         Some(self.entries.as_slice())
     }
 
-    /// What a search takes for so many bytes, in which it left so many ends in vain and found so many, in tenths of a nanosecond:
-    /// beside what is done at each of these by windows too.
+    /// The cost of a search of `count` bytes with `left` false positives and the ends `found`, in tenths of a
+    /// nanosecond. The work that factors also do at each end is not included.
     pub fn cost_of(&self, count: usize, left: usize, found: EndRate) -> usize {
         cost_of(count, left, found, self.stride)
     }
 
-    /// What a search by looks that are so far apart is likely to take for 1,024 bytes of a text with such a sample, where literals end
-    /// so often in these.
+    /// The estimate of a search at this stride for 1,024 bytes of a text like the sample, with ends at this rate.
     fn cost(&self, entries: &[u64], sample: &[u8], stride: Stride, rate: EndRate) -> usize
         requires entries { AreEntriesOf self.now.literals self.now.buckets entries.now }
     {
@@ -170,8 +176,8 @@ impl<'p> ShiftOr<'p> {
         cost_of(1024, ends.saturating_sub(rate.ends), rate, stride)
     }
 
-    /// How many of some ends in a sample are not ruled out by looks that are so far apart, once for each bucket, and how many ends
-    /// these are: the last ones of eight, of which each look has spoken that speaks of them.
+    /// How many of some ends in a sample are not ruled out at this stride, counted for each bucket, and how many ends
+    /// these are. They are the last of eight ends, which all probes that cover them have judged.
     fn count_left(&self, entries: &[u64], sample: &[u8], stride: Stride) -> (usize, usize)
         requires entries { AreEntriesOf self.now.literals self.now.buckets entries.now }
     {
@@ -192,7 +198,7 @@ impl<'p> ShiftOr<'p> {
         (left, all)
     }
 
-    /// The looks with which a search for ends behind a place begins.
+    /// The state of a search after a position.
     #[inline]
     pub fn looks_behind(&self, text: &[u8], from: usize) -> Looks
         ensures { AreLooksBehind self.now text.now from result }
@@ -210,7 +216,7 @@ impl<'p> ShiftOr<'p> {
         }
     }
 
-    /// What the looks at the eight places before one rule out from it on: nothing where no entries are made.
+    /// What the probes at the eight positions before `at` rule out from `at` on. Nothing without entries.
     fn carried_to(&self, text: &[u8], at: usize) -> u64
         requires behind { 12 ≤ at }
         requires inside { at ≤ length text.now + 1 }
@@ -222,9 +228,9 @@ impl<'p> ShiftOr<'p> {
         looks_by(entries, text, at - PLACES, self.stride).behind
     }
 
-    /// The first place of the text behind `from` at which some literal ends, wherever it begins, with the first literal
-    /// that ends there, if there is one: by the looks of a search behind `from`, which then are those of one behind that end.
-    /// Adds to `left` how many ends were not ruled out, once for each bucket, at which none does. It takes no memory.
+    /// The first position of the text after `from` at which some literal ends, wherever it begins, with the first such
+    /// literal. `looks` is the state of a search after `from`, and then its state after this end. Adds the false
+    /// positives, counted for each bucket, to `left`. It takes no memory.
     #[inline(never)]
     pub fn next_by(
         &self,
@@ -246,7 +252,7 @@ impl<'p> ShiftOr<'p> {
         }
     }
 
-    /// The same where no entries are made, by which nothing is ruled out.
+    /// As `next_by`, without entries, which rules out nothing.
     #[inline(never)]
     fn next_plainly(&self, text: &[u8], from: usize, looks: &mut Looks) -> Option<(usize, usize)>
         ensures next { Finds self.now.literals text.now from (length text.now) result }
@@ -259,7 +265,7 @@ impl<'p> ShiftOr<'p> {
         found
     }
 
-    /// The same by looks that are so many places apart, by thirty-two places at a time.
+    /// As `next_by`, at stride `STEP`, by 32 positions a turn.
     #[inline(always)]
     fn next_by_step<const STEP: usize>(
         &self,
@@ -281,11 +287,11 @@ impl<'p> ShiftOr<'p> {
             *looks = found.looks;
             return Some((found.end, found.first));
         }
-        // The looks are held by single variables, and handed on as new ones: else they are stored at each turn.
+        // Single variables hold the state, and functions return new ones. Otherwise it is stored at each turn.
         let mut at = looks.at;
         let mut before = last_alone(looks.carried);
         let (mut far, mut opened) = (at.saturating_add(NEAR), at);
-        // Behind a block of eight places there are to be four more, for one turn.
+        // A turn needs 32 more positions after a block of eight.
         let last_four = text.len().saturating_sub(5 * PLACES - 1);
         'fours: while at <= last_four {
             let ahead = at + PLACES;
@@ -315,7 +321,8 @@ impl<'p> ShiftOr<'p> {
         self.next_by_eights(entries, text, from, rest, looks, left)
     }
 
-    /// Goes on as `skip_blocks` does, if it may be tried here and the last group that was left with an end is near.
+    /// Continues as `skip_blocks` does, if blocks may be tried here and the last group with an end that was not ruled
+    /// out is near.
     #[inline(always)]
     fn skip_if_open<const STEP: usize>(
         &self,
@@ -338,7 +345,7 @@ impl<'p> ShiftOr<'p> {
         self.skip_blocks::<STEP>(entries, text, here.at, here.carried, left)
     }
 
-    /// Goes on block by block as long as nothing ends in one and some groups are noted, behind a place up to which nothing ends.
+    /// Continues block by block while nothing ends in a block and some groups are noted. Nothing ends up to the start.
     #[inline(never)]
     fn skip_blocks<const STEP: usize>(
         &self,
@@ -385,13 +392,13 @@ impl<'p> ShiftOr<'p> {
         Quiet {
             at,
             carried: last_of(before),
-            // Where an end stopped the blocks, it is found before they are tried again.
+            // If an end stopped the blocks, the search finds it before it tries blocks again.
             far: at.saturating_add(NEAR),
         }
     }
 
-    /// Whether a literal ends at a place of a block, by the words that are noted. Adds to `vain` how many ends were not ruled out, once
-    /// for each bucket, at which none does.
+    /// Whether a literal ends in a block, by the words that are noted. Adds the false positives, counted for each
+    /// bucket, to `vain`.
     #[inline(always)]
     fn has_end(
         &self,
@@ -423,7 +430,7 @@ impl<'p> ShiftOr<'p> {
         false
     }
 
-    /// The same behind such looks, of whose ends none is left, by eight places at a time: the last ones of a text.
+    /// As `next_by`, after probes that left no end, by eight positions a turn: the last positions of a text.
     #[inline(never)]
     fn next_by_eights(
         &self,
@@ -468,7 +475,7 @@ impl<'p> ShiftOr<'p> {
         found
     }
 
-    /// The first end behind a place that is gone through without looks.
+    /// The first end after a position among those that are searched without probes.
     #[inline(always)]
     fn end_in_front(&self, text: &[u8], from: usize) -> Option<(usize, usize)>
         ensures { MatchOption result
@@ -481,7 +488,7 @@ impl<'p> ShiftOr<'p> {
         self.first_between(text, from, text.len().min(FRONT))
     }
 
-    /// The first of the ends that looks leave at which a literal does end, with the first one that does, if there is one.
+    /// The first end that probes did not rule out and at which some literal ends, with the first such literal.
     #[inline(always)]
     fn end_left(&self, text: &[u8], looks: Looks, left: &mut usize) -> Option<Verified>
         requires eight { 8 ≤ looks.at }
@@ -496,7 +503,7 @@ impl<'p> ShiftOr<'p> {
         self.verify(text, looks, left)
     }
 
-    /// The search of `first_verified`, in a function of its own.
+    /// As `first_verified`, in a call.
     #[inline(never)]
     fn verify(&self, text: &[u8], looks: Looks, left: &mut usize) -> Option<Verified>
         requires eight { 8 ≤ looks.at }
@@ -508,7 +515,8 @@ impl<'p> ShiftOr<'p> {
         self.first_verified(text, looks, left)
     }
 
-    /// The first of the ends that looks leave at eight places at which a literal does end, with the first one that does, if there is one.
+    /// The first of eight ends that probes did not rule out and at which some literal ends, with the first such
+    /// literal.
     #[inline(always)]
     fn first_verified(&self, text: &[u8], looks: Looks, left: &mut usize) -> Option<Verified>
         requires eight { 8 ≤ looks.at }
@@ -537,8 +545,8 @@ impl<'p> ShiftOr<'p> {
         None
     }
 
-    /// The same among the ends that four words in a row leave, each at eight places: `ruled` has the bits that are ruled out there, and
-    /// `behind` those behind the last of them.
+    /// As `first_verified`, for four words in a row with eight positions each. `ruled` has the bits that are ruled out
+    /// there, and `behind` the bits after the last word.
     #[inline(never)]
     fn verify_four(
         &self,
@@ -574,7 +582,7 @@ impl<'p> ShiftOr<'p> {
         None
     }
 
-    /// Whether a literal of a bucket may end at a place, by a hash of as many bytes before it as each of them has.
+    /// Whether a literal of a bucket may end at a position, by a hash of the key before it.
     #[inline(always)]
     fn may_end(&self, text: &[u8], end: usize, bucket: usize) -> bool
         requires bucket { bucket < 8 }
@@ -587,7 +595,7 @@ impl<'p> ShiftOr<'p> {
         is_marked(self.confirms.table[hash_of(CONFIRM_BITS, key)], bucket)
     }
 
-    /// The first end behind a place and up to another one, with the first literal that ends there, if there is one: without looks.
+    /// The first end after `from` and up to `last`, with the first literal that ends there, without probes.
     fn first_between(&self, text: &[u8], from: usize, last: usize) -> Option<(usize, usize)>
         requires { last ≤ length text.now }
         ensures first { Finds self.now.literals text.now from last result }
@@ -602,7 +610,7 @@ impl<'p> ShiftOr<'p> {
     }
 }
 
-/// What a search by looks that are so far apart takes for so many bytes, in which it left so many ends in vain and found so many.
+/// The cost of a search at this stride of `count` bytes, with `left` false positives and the ends `found`.
 fn cost_of(count: usize, left: usize, found: EndRate, stride: Stride) -> usize {
     let cost = match stride {
         Stride::One => EACH_COST,

@@ -1,4 +1,4 @@
-//! The windows that literals are searched for by.
+//! The factors by which literals are searched for.
 ghost use Rattle.std.specs.Prelude.{◌≡◌, ℕ, ◌+◌, ◌^◌, ◌<◌, ◌≤◌, ◌++◌, ◌-◌, IfOk, IfSome, length, replicate, slice_index, slice_range, vec_len};
 ghost use Rattle.std.specs.Int.{bit_at};
 ghost use Rattle.std.specs.Int.RustNames.{bit_and, bit_or};
@@ -21,21 +21,20 @@ use nib_mask::ByteMasks;
 use std::alloc::{AllocError, Global};
 use std::marker::Model;
 
-/// The literals of a list, marked by windows of their bytes: of each literal those that are rare in a text at hand.
+/// The literals of a list, with hash bits for some of their factors: those that are rare in a given text.
 ///
-/// Where there are masks, the literals are sieved: whoever looks at each place that the masks let pass misses no end. Else
-/// they are strided: whoever looks at every `stride`-th place of a text misses none.
-/// All memory is taken when it is made.
+/// With masks, probes at each position that the masks pass miss no end. Without masks, probes at every `stride`-th
+/// position of a text miss none. It takes all its memory when it is made.
 #[derive(Debug, Drop)]
 pub struct Windows<'p> {
     list: &'p LitList,
     stride: usize,
     shape: Shape,
-    /// How far before its end each literal has the last of its windows.
+    /// The distance from the end of each literal to the end of its last factor.
     offsets: Vec<u8>,
-    /// The bucket of the masks that each literal has.
+    /// The bucket of each literal in the masks.
     buckets: Vec<u8>,
-    /// A byte for each hash. Bit `back` says that some literal has a window of this hash `back` places before its end.
+    /// A byte for each hash. Bit `back` says that some literal has a factor with this hash `back` bytes before its end.
     marks: Vec<u8>,
     masks: Option<ByteMasks>,
     counts: Counts,
@@ -62,7 +61,7 @@ impl<'p> Model for Windows<'p> {
 }
 
 impl<'p> Windows<'p> {
-    /// The literals of a list, strided, and marked by their last bytes at every place.
+    /// The literals of a list without masks, at stride 1, with hash bits for their last bytes.
     pub fn new(alloc: Global, list: &'p LitList) -> Result<Windows<'p>, AllocError>
         ensures { IfOk result (λ windows. windows.literals ≡ list.now) }
     {
@@ -84,9 +83,9 @@ impl<'p> Windows<'p> {
         })
     }
 
-    /// Chooses windows that are rare in a sample of the text to come, and whether the literals are sieved, and answers what a
-    /// search by them is likely to take, in tenths of a nanosecond for 1,024 bytes, if literals end so often in these: beside
-    /// what is done at each of the ends. Earlier samples count half as much.
+    /// Chooses factors that are rare in a sample of the coming text, and whether to use masks. Returns the estimate of
+    /// a search by them, in tenths of a nanosecond for 1,024 bytes with ends at this rate, without the work at the ends
+    /// themselves. Earlier samples count half as much.
     pub fn learn(&mut self, sample: &[u8], rate: EndRate) -> usize
         ensures { self.new.literals ≡ self.old.literals }
     {
@@ -118,7 +117,8 @@ impl<'p> Windows<'p> {
         choice.cost
     }
 
-    /// The masks that sieve, where the literals are sieved: where one ends in a text, a candidate stands so far before as its offset says.
+    /// The masks, if they are used. Where a literal ends in a text, a candidate stands as far before as its offset
+    /// says.
     #[inline(always)]
     pub fn masks(&self) -> Option<&ByteMasks>
         ensures { IfSome result (λ masks. CoversFronts self.now.literals (length self.now.literals.texts) self.now.offsets (widened masks.now)) }
@@ -126,7 +126,7 @@ impl<'p> Windows<'p> {
         self.masks.as_ref()
     }
 
-    /// How far apart the places are at which a search for strided literals has to look.
+    /// The distance of the positions that a search without masks probes.
     #[inline(always)]
     pub fn stride(&self) -> usize
         ensures value { result ≡ self.now.stride }
@@ -136,8 +136,8 @@ impl<'p> Windows<'p> {
         self.stride
     }
 
-    /// Marks of the places from `at` on by the bytes before it: bit `back` is set where a literal ends at
-    /// `at + back` that has one of its windows before `at`, and rarely elsewhere.
+    /// The hash bits at a position: bit `back` is set if a literal ends at `at + back` that has a factor ending at
+    /// `at`, and rarely otherwise.
     #[inline(always)]
     pub fn marks_at(&self, text: &[u8], at: usize) -> u8
         requires { at ≤ length text.now }
@@ -150,14 +150,14 @@ impl<'p> Windows<'p> {
         self.marks_by_widths(text, at)
     }
 
-    /// Whether some literal is so short that windows of fewer than four bytes have to be looked at.
+    /// Whether some literal is so short that probes need factors of fewer than four bytes.
     #[inline(always)]
     pub fn has_short(&self) -> bool {
         self.shape.least_width < WIDTH
     }
 
-    /// The marks of `marks_at` for a place that has as many bytes before it as a window. `has_short` is what the windows say of
-    /// that: a loop for which it is settled is made for the one case or the other.
+    /// As `marks_at`, for a position with at least four bytes before it. `has_short` repeats `has_short()`; a caller
+    /// that passes a constant gets a loop for one case.
     #[inline(always)]
     pub fn marks_behind_front(&self, text: &[u8], at: usize, has_short: bool) -> u8
         requires four { 4 ≤ at }
@@ -173,7 +173,7 @@ impl<'p> Windows<'p> {
         self.marks_by_widths(text, at)
     }
 
-    /// The same, by all widths from the least on.
+    /// As `marks_at`, for a position with at least four bytes before it, by all widths from the least on.
     #[inline(always)]
     pub fn marks_by_widths(&self, text: &[u8], at: usize) -> u8
         requires four { 4 ≤ at }
@@ -184,7 +184,7 @@ impl<'p> Windows<'p> {
         marks_of_widths(&self.marks, self.list.fold(), least, text, at)
     }
 
-    /// The same, apart from the loop that asks it.
+    /// As `marks_by_widths`, in a call, which keeps it out of the caller's loop.
     #[inline(never)]
     fn marks_by_call(&self, text: &[u8], at: usize) -> u8
         requires four { 4 ≤ at }
@@ -194,20 +194,21 @@ impl<'p> Windows<'p> {
         self.marks_by_widths(text, at)
     }
 
-    /// How many times as long a look takes as one for windows of one width.
+    /// The number of widths of factors, and so the cost of a probe relative to one width.
     #[inline]
     pub fn widths(&self) -> usize {
         self.shape.widths()
     }
 
-    /// What so many places of a text of `count` bytes take that pass the masks and have no mark, in tenths of a nanosecond.
+    /// The cost of `passed` positions that pass the masks in `count` bytes and have no hash bit, in tenths of a
+    /// nanosecond.
     #[inline]
     pub fn cost_of_passes(&self, passed: usize, count: usize) -> usize {
         cost_of_passes(passed, count, self.shape.widths())
     }
 }
 
-/// The masks that sieve the literals of a list by the windows before their offsets, if they are to be sieved: it gives each a bucket.
+/// The masks for the factors at the offsets, if they are used. Gives each literal a bucket.
 fn masks_if(
     is_sieved: bool,
     list: &LitList,
@@ -227,7 +228,7 @@ fn masks_if(
     Some(ByteMasks::of_fronts(list, count, offsets, buckets))
 }
 
-/// The marks of a place that has as many bytes before it as a window, by all widths from the least on.
+/// The hash bits of a position with at least four bytes before it, by all widths from the least on.
 #[inline(always)]
 fn marks_of_widths(marks: &Vec<u8>, fold: Fold, least: usize, text: &[u8], at: usize) -> u8
     requires room { vec_len marks.now ≡ 2 ^ HASH_BITS }
@@ -247,7 +248,7 @@ fn marks_of_widths(marks: &Vec<u8>, fold: Fold, least: usize, text: &[u8], at: u
     long | short
 }
 
-/// What the four bytes before a place spell, behind four zeros.
+/// What the four bytes before a position spell, after four zeros.
 #[inline(always)]
 fn last_four(text: &[u8], at: usize) -> u64
     requires four { 4 ≤ at }
@@ -258,7 +259,7 @@ fn last_four(text: &[u8], at: usize) -> u64
     u64::from(four) << 32
 }
 
-/// The marks of the last `width` of eight bytes.
+/// The hash bits of the last `width` of eight bytes.
 #[inline(always)]
 fn marks_of(marks: &Vec<u8>, word: u64, width: usize, case_bits: u64) -> u8
     requires room { vec_len marks.now ≡ 2 ^ HASH_BITS }
@@ -269,7 +270,7 @@ fn marks_of(marks: &Vec<u8>, word: u64, width: usize, case_bits: u64) -> u8
     marks[hash_of(HASH_BITS, (word & last_bits(width)) | case_bits)]
 }
 
-/// The marks of the last of eight bytes, which hardly any list asks for.
+/// The hash bits of the last of eight bytes. Few lists need it.
 #[inline(never)]
 fn marks_of_one(marks: &Vec<u8>, word: u64, case_bits: u64) -> u8
     requires { vec_len marks.now ≡ 2 ^ HASH_BITS }
@@ -278,7 +279,7 @@ fn marks_of_one(marks: &Vec<u8>, word: u64, case_bits: u64) -> u8
     marks_of(marks, word, 1, case_bits)
 }
 
-/// The marks of the last bytes of a word by all widths from the least to three.
+/// The hash bits of the last bytes of a word, by all widths from the least to three.
 #[inline(always)]
 fn short_marks(marks: &Vec<u8>, word: u64, least: usize, case_bits: u64) -> u8
     requires room { vec_len marks.now ≡ 2 ^ HASH_BITS }
@@ -298,7 +299,7 @@ fn short_marks(marks: &Vec<u8>, word: u64, least: usize, case_bits: u64) -> u8
     one | (two | three)
 }
 
-/// The marks of a place that has fewer bytes before it than a window: those of short literals.
+/// The hash bits of a position with fewer bytes before it than a factor has: those of short literals.
 #[inline(never)]
 fn marks_near_front(marks: &Vec<u8>, fold: Fold, least: usize, text: &[u8], at: usize) -> u8
     requires room { vec_len marks.now ≡ 2 ^ HASH_BITS }
@@ -315,7 +316,7 @@ fn marks_near_front(marks: &Vec<u8>, fold: Fold, least: usize, text: &[u8], at: 
     found
 }
 
-/// The marks of the `width` bytes before a place.
+/// The hash bits of the `width` bytes before a position.
 fn marks_before(marks: &Vec<u8>, fold: Fold, text: &[u8], at: usize, width: usize) -> u8
     requires room { vec_len marks.now ≡ 2 ^ HASH_BITS }
     requires some { 0 < width }

@@ -1,5 +1,5 @@
-//! Searches that change their way at places drawn by chance in the middle of a text: by the plan alone, by windows that
-//! some piece of the text chooses, by shift-or, by the automaton, by a search that learns. What they find together is what the plan alone finds.
+//! Searches that change their engine at random positions of a text: the plan alone, factors that a piece of the text
+//! chooses, shift-or, the automaton, a finder. Together they find what the plan alone finds.
 ghost use Rattle.std.specs.Prelude.{◌≡◌};
 
 use crate::compiled::Compiled;
@@ -17,13 +17,13 @@ use std::alloc::Global;
 use text_automaton::Automaton;
 use text_windows::{EndRate, ShiftOr, Windows};
 
-/// How far a search has come in a text, and what it has found up to there.
+/// The position that a search has reached, and its ends so far.
 type Progress = (usize, Told);
 
-/// How many bytes windows are chosen by.
+/// The length in bytes of the samples.
 const SAMPLE: usize = 20_000;
 
-/// So many more ends at most, by the plan alone.
+/// At most `count` more ends, by the plan alone.
 fn by_plan(compiled: &Compiled, text: &[u8], progress: Progress, count: usize) -> Progress {
     let (mut from, mut told) = progress;
     for _ in 0..count {
@@ -36,7 +36,7 @@ fn by_plan(compiled: &Compiled, text: &[u8], progress: Progress, count: usize) -
     (from, told)
 }
 
-/// So many, by a search that learns.
+/// At most `count` more ends, by a finder.
 fn by_learning(
     finder: &mut EndFinder<'_>,
     text: &[u8],
@@ -54,7 +54,7 @@ fn by_learning(
     (from, told)
 }
 
-/// So many, by windows that a sample chooses.
+/// At most `count` more ends, by factors that a sample chooses.
 fn by_windows(
     alloc: Global,
     compiled: &Compiled,
@@ -68,7 +68,7 @@ fn by_windows(
     Some(ends_by_windows(&windows, compiled, text, progress, count))
 }
 
-/// Those that these windows find.
+/// The ends that these factors find.
 fn ends_by_windows<'a>(
     windows: &'a Windows<'_>,
     compiled: &'a Compiled,
@@ -93,7 +93,7 @@ fn ends_by_windows<'a>(
     (from, told)
 }
 
-/// So many, by shift-or whose looks a sample chooses.
+/// At most `count` more ends, by shift-or with a stride that a sample chooses.
 fn by_shift_or(
     alloc: Global,
     compiled: &Compiled,
@@ -107,7 +107,7 @@ fn by_shift_or(
     Some(ends_by_shift_or(&shift_or, compiled, text, progress, count))
 }
 
-/// Those that this shift-or finds.
+/// The ends that this shift-or finds.
 fn ends_by_shift_or<'a>(
     shift_or: &'a ShiftOr<'_>,
     compiled: &'a Compiled,
@@ -129,7 +129,7 @@ fn ends_by_shift_or<'a>(
     (from, told)
 }
 
-/// So many, by the automaton, by which the text is read anew behind each.
+/// At most `count` more ends, by the automaton, which reads the text anew after each.
 fn by_automaton(
     alloc: Global,
     compiled: &Compiled,
@@ -145,7 +145,7 @@ fn by_automaton(
     }
 }
 
-/// Those that this automaton finds.
+/// The ends that this automaton finds.
 fn ends_by_automaton(
     automaton: &Automaton<'_>,
     text: &[u8],
@@ -167,14 +167,14 @@ fn ends_by_automaton(
     Some((from, told))
 }
 
-/// A piece of a text from somewhere on.
+/// A sample of a text from a random offset on.
 fn sample_of<'t>(draws: &mut Draws, text: &'t [u8]) -> Option<&'t [u8]> {
     let (_, behind) = text.split_at_checked(draws.below(text.len()))?;
     let (sample, _) = behind.split_at_checked(SAMPLE.min(behind.len()))?;
     Some(sample)
 }
 
-/// The ends that such a search finds in a text.
+/// The ends that a search with changes finds in a text.
 fn changing_in(
     alloc: Global,
     compiled: &Compiled,
@@ -206,7 +206,7 @@ fn changing_in(
     None
 }
 
-/// Whether such a search, with changes drawn from a seed on, finds what the plan alone finds.
+/// Whether a search with changes, drawn from a seed, finds what the plan alone finds.
 pub(super) fn changes_the_same(
     alloc: Global,
     compiled: &Compiled,
@@ -219,7 +219,7 @@ pub(super) fn changes_the_same(
     Some(changing_in(alloc, compiled, finder, &mut draws, text)? == wanted)
 }
 
-/// Whether it does in a text whose halves are of these words, some of which are its literals.
+/// Whether it does in a text whose halves consist of the given words, with pieces of the text as literals.
 fn agree(
     alloc: Global,
     fold: Fold,

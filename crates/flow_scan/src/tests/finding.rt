@@ -1,5 +1,5 @@
-//! Searches that learn from the text, beside those that do not, in texts of words drawn by chance: what they find is
-//! the same. The literals are pieces of the text, so that much in it looks like them.
+//! Searches by a finder and by the plan alone, in random texts of words: both find the same. The literals are pieces of
+//! the text, so that it has many near-misses.
 use crate::compiled::Compiled;
 use crate::end_finder::EndFinder;
 use crate::searching::next_end;
@@ -8,25 +8,25 @@ use lit_base::{Fold, LitList, Profile, RawList};
 use run_planner::plan;
 use std::alloc::Global;
 
-/// What texts are made of.
+/// The words of texts.
 pub(super) const WORDS: [&[u8]; 12] = [
     b"con", b"nect", b"ion ", b"sess", b"the ", b"plan", b"ner ", b"of ", b"it", b"ation",
     b"search", b"ed ",
 ];
 
-/// The same, some in capitals.
+/// The same words, some in capitals.
 pub(super) const CAPITALS: [&[u8]; 6] = [b"CON", b"nect", b"Ion ", b"sEss", b"the ", b"PLAN"];
 
-/// What texts of another kind are made of.
+/// The words of texts of another kind.
 pub(super) const FIGURES: [&[u8]; 6] = [b"0x", b"1f", b"07", b", ", b"00", b"\xff\xfe"];
 
-/// How many bytes a text has at least.
+/// The least length of a text in bytes.
 const LEN: usize = 200_000;
 
-/// How many its first half has.
+/// The length of its first half in bytes.
 const HALF_LEN: usize = 100_000;
 
-/// Numbers drawn by chance, the same ones each time.
+/// Random numbers, the same each time.
 #[derive(Drop)]
 pub(super) struct Draws {
     pub(super) state: u64,
@@ -43,7 +43,7 @@ impl Draws {
     }
 }
 
-/// Adds words drawn by chance, until a text has so many bytes.
+/// Adds random words, until a text has this many bytes.
 fn add_words(text: &mut Vec<u8>, draws: &mut Draws, words: &[&[u8]], len: usize) -> Option<()> {
     for _ in 0..len {
         if text.len() >= len {
@@ -55,7 +55,7 @@ fn add_words(text: &mut Vec<u8>, draws: &mut Draws, words: &[&[u8]], len: usize)
     Some(())
 }
 
-/// A text whose halves are of these words.
+/// A text whose halves consist of the given words.
 pub(super) fn text_of(
     alloc: Global,
     draws: &mut Draws,
@@ -68,7 +68,7 @@ pub(super) fn text_of(
     Some(text)
 }
 
-/// So many bytes of a text from somewhere on, one of them spoilt so.
+/// A piece of a text from a random position on, with one byte changed by `spoilt`.
 fn piece_of(
     alloc: Global,
     draws: &mut Draws,
@@ -85,7 +85,8 @@ fn piece_of(
     Some(copy)
 }
 
-/// Forty such pieces, the shortest of so many bytes, each second one spoilt.
+/// Forty pieces of a text with at least `least` bytes, if the text has as many there; every second one has a changed
+/// byte.
 pub(super) fn pieces_of(
     alloc: Global,
     draws: &mut Draws,
@@ -104,14 +105,14 @@ pub(super) fn pieces_of(
     Some(raw)
 }
 
-/// The plan of these literals.
+/// The plan of the literals.
 pub(super) fn plan_of_pieces(alloc: Global, raw: &RawList, fold: Fold) -> Option<Compiled> {
     let (list, _) = LitList::normal(alloc, raw, fold).ok()?;
     let certificate = plan(alloc, &list, Profile::Eight).ok()?;
     Compiled::new(list, certificate).ok()
 }
 
-/// The plan of these literals, in which case counts.
+/// The plan of the literals, in which case counts.
 pub(super) fn plan_of(alloc: Global, literals: &[&[u8]]) -> Option<Compiled> {
     let mut raw = RawList::new(alloc);
     for literal in literals {
@@ -120,10 +121,10 @@ pub(super) fn plan_of(alloc: Global, literals: &[&[u8]]) -> Option<Compiled> {
     plan_of_pieces(alloc, &raw, Fold::No)
 }
 
-/// How many ends there are, and a sum that tells their places.
+/// The number of ends, and a sum that depends on their positions.
 pub(super) type Told = (usize, u64);
 
-/// That with one end more.
+/// With one end more.
 pub(super) fn with_end(told: Told, end: usize) -> Told {
     let (count, sum) = told;
     (
@@ -132,7 +133,7 @@ pub(super) fn with_end(told: Told, end: usize) -> Told {
     )
 }
 
-/// The ends that a search that learns finds in a text, behind others.
+/// The ends that a finder finds in a text, one after another.
 fn add_learned(told: Told, finder: &mut EndFinder<'_>, text: &[u8]) -> Told {
     let mut told = told;
     let mut from = 0;
@@ -146,7 +147,7 @@ fn add_learned(told: Told, finder: &mut EndFinder<'_>, text: &[u8]) -> Told {
     told
 }
 
-/// Those that a search by the plan alone finds.
+/// The ends that the plan alone finds in a text, one after another.
 fn add_plain(told: Told, compiled: &Compiled, text: &[u8]) -> Told {
     let mut told = told;
     let mut from = 0;
@@ -160,7 +161,7 @@ fn add_plain(told: Told, compiled: &Compiled, text: &[u8]) -> Told {
     told
 }
 
-/// The ends that a search that learns finds in the pieces of a text, each of them a text of its own.
+/// The ends that a finder finds in the pieces of a text, each a text of its own.
 fn learned_in(finder: &mut EndFinder<'_>, text: &[u8], size: usize) -> Told {
     let mut told = (0, 0);
     for piece in text.chunks(size.max(1)) {
@@ -169,7 +170,7 @@ fn learned_in(finder: &mut EndFinder<'_>, text: &[u8], size: usize) -> Told {
     told
 }
 
-/// Those that a search by the plan alone finds.
+/// The ends that the plan alone finds in the pieces of a text.
 pub(super) fn plain_in(compiled: &Compiled, text: &[u8], size: usize) -> Told {
     let mut told = (0, 0);
     for piece in text.chunks(size.max(1)) {
@@ -178,7 +179,7 @@ pub(super) fn plain_in(compiled: &Compiled, text: &[u8], size: usize) -> Told {
     told
 }
 
-/// Whether both find the same in a text as a whole, four times, and then in pieces of so many bytes.
+/// Whether both find the same in a whole text, four times, and then in pieces of this length.
 pub(super) fn find_the_same(
     compiled: &Compiled,
     finder: &mut EndFinder<'_>,
@@ -194,7 +195,7 @@ pub(super) fn find_the_same(
     learned_in(finder, text, size) == plain_in(compiled, text, size)
 }
 
-/// Whether they do for forty pieces of a text whose halves are of these words.
+/// Whether they do with forty pieces of a text as literals. The halves of the text consist of the given words.
 fn agree(
     alloc: Global,
     fold: Fold,

@@ -1,4 +1,4 @@
-//! Searches of one text that go on behind each end that they find, beside searches that begin anew.
+//! Searches of one text that continue after each end, compared with searches that begin anew.
 use super::finding::{CAPITALS, Draws, Told, WORDS, pieces_of, plan_of_pieces, text_of, with_end};
 use crate::compiled::Compiled;
 use crate::end_finder::EndFinder;
@@ -8,7 +8,7 @@ use crate::text_search::TextSearch;
 use lit_base::Fold;
 use std::alloc::Global;
 
-/// The ends that one search of a text by a finder finds, each so many bytes or more behind the one before.
+/// The ends that one search of a text by a finder finds, each more than `skip` bytes after the one before.
 fn by_finder(finder: &mut EndFinder<'_>, text: &[u8], skip: usize) -> Told {
     let (mut told, mut from) = ((0, 0), 0);
     let mut search = TextSearch::new(finder.compiled(), text);
@@ -22,7 +22,7 @@ fn by_finder(finder: &mut EndFinder<'_>, text: &[u8], skip: usize) -> Told {
     told
 }
 
-/// Those that one search by the plan alone finds.
+/// The ends that one search by the plan alone finds.
 fn by_plan(compiled: &Compiled, text: &[u8], skip: usize) -> Told {
     let (mut told, mut from) = ((0, 0), 0);
     let mut search = TextSearch::new(compiled, text);
@@ -36,7 +36,7 @@ fn by_plan(compiled: &Compiled, text: &[u8], skip: usize) -> Told {
     told
 }
 
-/// Those that a search finds which begins anew behind each.
+/// The ends that a new search after each end finds.
 fn anew(compiled: &Compiled, text: &[u8], skip: usize) -> Told {
     let (mut told, mut from) = ((0, 0), 0);
     for _ in 0..=text.len() {
@@ -49,7 +49,7 @@ fn anew(compiled: &Compiled, text: &[u8], skip: usize) -> Told {
     told
 }
 
-/// Whether all three find the same at each of these distances.
+/// Whether all three find the same at each distance.
 pub(super) fn go_on_the_same(compiled: &Compiled, finder: &mut EndFinder<'_>, text: &[u8]) -> bool {
     for skip in [0, 1, 7, 31, 61, 62, 63, 64, 65, 66, 127, 128, 129, 1000] {
         let wanted = anew(compiled, text, skip);
@@ -60,7 +60,7 @@ pub(super) fn go_on_the_same(compiled: &Compiled, finder: &mut EndFinder<'_>, te
     true
 }
 
-/// Whether they do for forty pieces of a text whose halves are of these words, the shortest of so many bytes.
+/// Whether they do with forty pieces of a text as literals. The halves of the text consist of the given words.
 fn agree(alloc: Global, fold: Fold, halves: [&[&[u8]]; 2], least: usize) -> Option<bool> {
     let [first, second] = halves;
     let mut draws = Draws { state: 3 };

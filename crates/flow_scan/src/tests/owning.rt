@@ -1,5 +1,5 @@
-//! The one place in which these tests own a finder: each function that does has to show at each of its ends that all of
-//! the finder may be let go, which takes long to prove.
+//! The only function in the tests that owns a finder. Each owner has to prove at each of its exits that the whole
+//! finder may be dropped, which takes long.
 ghost use Rattle.std.specs.Prelude.{◌≡◌};
 
 use crate::compiled::Compiled;
@@ -11,20 +11,20 @@ use crate::tests::scanned::scans_the_same;
 use crate::tests::streamed::{feed_the_same, learns_in_pieces};
 use std::alloc::Global;
 
-/// How a finder is tried.
+/// How a finder is tested.
 #[derive(Clone, Copy)]
 pub(super) enum How {
-    /// End after end, at last in pieces of so many bytes.
+    /// End after end, at last in pieces of this length.
     Ends(usize),
-    /// One search that goes on behind each end.
+    /// One search that continues after each end.
     EndsGoingOn,
     /// All hits.
     Hits,
     /// As streams.
     Stream,
-    /// As a stream in pieces of so many bytes, of which it must learn.
+    /// As a stream in pieces of this length, with tuning.
     StreamTuned(usize),
-    /// With changes of the engine drawn from a seed on.
+    /// With changes of the engine, drawn from a seed.
     Changing(u64),
 }
 
@@ -34,7 +34,7 @@ pub(super) fn agrees(alloc: Global, compiled: &Compiled, text: &[u8], how: How) 
     agrees_by(alloc, compiled, &mut finder, text, how)
 }
 
-/// The same of this one.
+/// As above, for this finder.
 fn agrees_by(
     alloc: Global,
     compiled: &Compiled,

@@ -1,4 +1,4 @@
-//! Scans that learn from the text, beside those by the plan alone: the hits are the same.
+//! Scans by a finder and by the plan alone give the same hits.
 use crate::compiled::Compiled;
 use crate::end_finder::EndFinder;
 use crate::hit::Hit;
@@ -10,12 +10,12 @@ use crate::tests::owning::{How, agrees};
 use lit_base::Fold;
 use std::alloc::Global;
 
-/// How many of the text's hits end behind a place.
+/// How many of the text's hits end after a position.
 fn count_behind(hits: &[Hit], from: usize) -> usize {
     hits.iter().filter(|hit| hit.end_at > from as u64).count()
 }
 
-/// Whether a scan that learns finds those of a text's hits that end behind a place, and no other.
+/// Whether a scan by a finder gives exactly the hits of a text that end after a position.
 fn are_found(
     alloc: Global,
     finder: &mut EndFinder<'_>,
@@ -28,7 +28,8 @@ fn are_found(
     Some(hits.as_slice() == behind && hits.len() == count_behind(wanted, from))
 }
 
-/// Whether a finder that is asked four times finds the hits of a text, and then those behind a place of it.
+/// Whether a finder gives the hits of a text four times, and then the hits after a position. There have to be more than
+/// 100.
 pub(super) fn scans_the_same(
     alloc: Global,
     compiled: &Compiled,
@@ -45,7 +46,7 @@ pub(super) fn scans_the_same(
     Some(wanted.len() > 100 && are_behind)
 }
 
-/// Whether so many literals have a finder unless they are few.
+/// Whether a list of this length has a finder, unless it is short.
 fn has_finder(alloc: Global, literals: &[&[u8]]) -> Option<bool> {
     let compiled = plan_of(alloc, literals)?;
     Some(EndFinder::new_unless_few(alloc, &compiled).ok()?.is_some())
@@ -58,7 +59,7 @@ fn has_no_finder_for_three_literals(rt: HostRuntime) {
     assert_eq!(rt; has_finder(rt.alloc(), &WORDS), Some(true));
 }
 
-/// Whether it does for forty pieces of a text whose halves are of these words.
+/// Whether it does with forty pieces of a text as literals. The halves of the text consist of the given words.
 fn agree(alloc: Global, fold: Fold, halves: [&[&[u8]]; 2], least: usize) -> Option<bool> {
     let [first, second] = halves;
     let mut draws = Draws { state: 7 };

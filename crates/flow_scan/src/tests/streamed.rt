@@ -1,4 +1,4 @@
-//! Streams that are searched by what learns from them, beside the hits of the whole text: they are the same.
+//! Streams that are searched by a finder have the hits of the whole text.
 ghost use Rattle.std.specs.Prelude.{◌≡◌};
 
 use super::finding::{CAPITALS, Draws, FIGURES, WORDS, pieces_of, plan_of_pieces, text_of};
@@ -12,7 +12,7 @@ use crate::tests::owning::{How, agrees};
 use lit_base::Fold;
 use std::alloc::Global;
 
-/// Feeds a piece in two: up to the first end by which a hundred hits were gained, and what is left.
+/// Feeds a piece in two: up to the first end by which a hundred hits were gained, and the rest.
 fn feed(
     scanner: &mut Scanner<'_>,
     finder: &mut EndFinder<'_>,
@@ -29,7 +29,7 @@ fn feed(
     Some(())
 }
 
-/// Whether a text that comes in pieces of so many bytes has these hits.
+/// Whether a text in pieces of this length has these hits.
 fn are_fed(
     scanner: Scanner<'_>,
     finder: &mut EndFinder<'_>,
@@ -48,7 +48,8 @@ fn are_fed(
     Some(hits.as_slice() == wanted)
 }
 
-/// Whether streams of one text, in pieces of all these sizes and one after the other by the same finder, have the text's hits.
+/// Whether streams of one text, in pieces of all these lengths and one after another by the same finder, have the
+/// text's hits. There have to be more than 100.
 pub(super) fn feed_the_same(
     alloc: Global,
     compiled: &Compiled,
@@ -67,7 +68,7 @@ pub(super) fn feed_the_same(
     Some(wanted.len() > 100)
 }
 
-/// Whether they do for forty pieces of a text whose halves are of these words.
+/// Whether they do with forty pieces of a text as literals. The halves of the text consist of the given words.
 fn agree(alloc: Global, fold: Fold, halves: [&[&[u8]]; 2], least: usize) -> Option<bool> {
     let [first, second] = halves;
     let mut draws = Draws { state: 11 };
@@ -93,7 +94,7 @@ fn finds_short_hits_of_a_stream_in_either_case(rt: HostRuntime) {
     );
 }
 
-/// Whether a search learns from a text that comes in pieces of so many bytes, and finds the text's hits.
+/// Whether a finder tunes itself to a text in pieces of this length, and finds the text's hits.
 pub(super) fn learns_in_pieces(
     alloc: Global,
     compiled: &Compiled,

@@ -1,17 +1,17 @@
-//! In which way a search goes on that has learned some.
+//! The engine that a tuned search uses next.
 use crate::prices::{cost_by_automaton, cost_by_plan, cost_of_dense_ends};
 use crate::strategy::{Engine, Strategy};
 use text_windows::EndRate;
 
-/// Bytes of a text in which a search may change its way.
+/// Bytes after which a search may change its engine.
 const BYTES: usize = 65536;
 
-/// A search that has learned, and was promised so much for 1,024 bytes by windows and by shift-or, where the plan took far more.
+/// A tuned search with these estimates for factors and shift-or, after the plan took far more.
 fn promised(by_windows: usize, by_shift_or: usize) -> Strategy {
     promised_three(by_windows, by_shift_or, usize::MAX)
 }
 
-/// The same that was promised so much by the automaton too.
+/// The same with an estimate for the automaton too.
 fn promised_three(by_windows: usize, by_shift_or: usize, by_automaton: usize) -> Strategy {
     let mut strategy = Strategy::new();
     strategy.note(BYTES, 1 << 30, EndRate::nothing());
@@ -19,7 +19,7 @@ fn promised_three(by_windows: usize, by_shift_or: usize, by_automaton: usize) ->
     strategy
 }
 
-/// Its ways behind the first bytes, which took so long each 1,024, and behind as many more.
+/// The engines in use after `BYTES` bytes at the cost `first` for 1,024, and after as many more at the cost `second`.
 fn ways_behind(mut strategy: Strategy, first: usize, second: usize) -> [Engine; 2] {
     strategy.note(
         BYTES,

@@ -1,4 +1,4 @@
--- A block has as many places, or all that are left.
+-- A block has `BLOCK` positions, or the rest of the text.
 use Rattle.std.proofs.Common.{arith}
 use Rattle.flow_scan.proofs.claiming.claims_behind.Goals as goal
 

@@ -1,4 +1,4 @@
--- One place after the other is looked at.
+-- One position after the other is probed.
 use Rattle.std.proofs.Common.{◌+◌, arith}
 use Rattle.flow_scan.proofs.ClaimSteps.{claims_further, marks_of_last}
 use Rattle.flow_scan.proofs.claiming.look_at_each.Goals as goal

@@ -2,7 +2,7 @@ use Rattle.std.proofs.Common.{ℕ, ◌+◌, ◌-◌, ◌≤◌}
 use Rattle.flow_scan.specs.Windowed.{AreClaimed}
 use Rattle.flow_scan.proofs.claiming.look_at_each.Given as goal
 
--- the ends are claimed that have windows before the place reached
+-- the ends are pending whose factors end before the position reached
 abbrev pub invariant-places : goal.invariant-places
 invariant-places l = record {
   few : l.back ≤ l.count;

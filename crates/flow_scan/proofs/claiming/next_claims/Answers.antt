@@ -1,4 +1,4 @@
--- Near the front nothing is skipped.
+-- Near the start nothing is skipped.
 use Rattle.std.proofs.Common.{arith}
 use Rattle.flow_scan.proofs.claiming.next_claims.Goals as goal
 

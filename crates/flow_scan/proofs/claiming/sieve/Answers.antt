@@ -1,4 +1,4 @@
--- The places that pass are looked at one after the other, the lowest first.
+-- The positions that pass are probed one after the other, the lowest first.
 use Rattle.std.proofs.Common.{ℕ, ◌-◌, ◌+◌, ap, ◌∙◌, inl, inr, arith}
 use Rattle.std.specs.Int.{bit_at}
 use Rattle.std.proofs.lemmas.Bool.{cases_lt}

@@ -3,7 +3,7 @@ use Rattle.std.specs.Int.{bit_at}
 use Rattle.flow_scan.proofs.ClaimSteps.{AreLeft}
 use Rattle.flow_scan.proofs.claiming.sieve.Given as goal
 
--- a literal that has its last window in the block is claimed, or its place is left, and the places left are the block's
+-- a literal whose last factor ends in the block is pending, or its position remains, and the remaining positions are in the block
 abbrev pub invariant-places : goal.invariant-places
 invariant-places l = record {
   left : AreLeft l.windows l.text l.seen l.found l.rest;

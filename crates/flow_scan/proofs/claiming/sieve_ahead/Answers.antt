@@ -1,4 +1,4 @@
--- A block of which no place passes, and in which nothing is claimed, holds no end.
+-- A block in which no position passes and no end is pending holds no end.
 use Rattle.std.proofs.Common.{◌≡◌, ℕ, ◌+◌, sym, subst, arith}
 use Rattle.std.proofs.lemmas.Nat.{le_or_l, le_or_r}
 use Rattle.flow_scan.specs.Windowed.{AreClaimed}

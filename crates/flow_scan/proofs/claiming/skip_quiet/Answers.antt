@@ -1,4 +1,4 @@
--- Where nothing is claimed, looks without a mark claim nothing either.
+-- Where nothing is pending, probes without hash bits add nothing either.
 use Rattle.std.proofs.Common.{◌≡◌, ℕ, ◌+◌, ◌≤◌, List, sym, subst, arith}
 use Rattle.lit_base.specs.NextEnds.{NoEndUpTo}
 use Rattle.flow_scan.specs.Windowed.{AreClaimed}
@@ -6,7 +6,7 @@ use Rattle.flow_scan.proofs.ClaimSteps.{none_further, unclaimed}
 use Rattle.text_windows.specs.Windows.{Windowing}
 use Rattle.flow_scan.proofs.claiming.skip_quiet.Goals as goal
 
--- what is skipped holds no end
+-- the skipped positions hold no end
 module _ (w : Windowing) (text : List ℕ) (seen last marks : ℕ) (ahead : seen ≤ last) (none : marks ≡ 0) (skipped : AreClaimed w text seen seen (seen + 1) 0 → AreClaimed w text seen seen (last + 1) 0)
     (first : AreClaimed w text seen seen (seen + 1) marks) where
   passed : AreClaimed w text seen seen (last + 1) 0

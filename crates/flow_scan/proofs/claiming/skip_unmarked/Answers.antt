@@ -1,4 +1,4 @@
--- Two looks without a mark claim nothing.
+-- Two probes without hash bits add no pending end.
 use Rattle.std.proofs.Common.{◌≡◌, ℕ, ◌+◌, subst, arith}
 use Rattle.std.proofs.lemmas.Nat.{le_or_l, le_or_r}
 use Rattle.text_windows.specs.Windows.{AreMarksOf}

@@ -2,7 +2,7 @@ use Rattle.std.proofs.Common.{ℕ, ◌+◌, ◌-◌, ◌<◌, ◌≤◌, length}
 use Rattle.flow_scan.specs.Windowed.{AreClaimed}
 use Rattle.flow_scan.proofs.claiming.skip_unmarked.Given as goal
 
--- no end is claimed by the looks passed
+-- no end is pending by the probes passed
 abbrev pub invariant-strides : goal.invariant-strides
 invariant-strides l = record {
   ahead : l.seen < l.at;

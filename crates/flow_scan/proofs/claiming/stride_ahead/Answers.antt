@@ -1,4 +1,4 @@
--- What is skipped claims nothing.
+-- The skipped probes add no pending end.
 use Rattle.flow_scan.proofs.claiming.stride_ahead.Goals as goal
 
 pub returns-clause-claimed : goal.returns-clause-claimed

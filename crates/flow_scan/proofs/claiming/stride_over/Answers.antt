@@ -1,4 +1,4 @@
--- One look after the other joins its claims.
+-- One probe after the other adds its pending ends.
 use Rattle.std.proofs.Common.{ℕ, ◌+◌, ◌*◌, ◌%◌, ◌^◌, sym, subst, arith}
 use Rattle.std.specs.Int.RustNames.{bit_or}
 use Rattle.flow_scan.specs.Windowed.{AreClaimed}

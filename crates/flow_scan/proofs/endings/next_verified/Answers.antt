@@ -1,4 +1,4 @@
--- Nothing ends between two candidates, nor at one that was looked at.
+-- Nothing ends between two candidates, nor at a false positive.
 use Rattle.std.proofs.Common.{◌≡◌, ℕ, ◌+◌, ◌<◌, length, inl, inr, sym, ◌∙◌, subst, arith}
 use Rattle.std.proofs.lemmas.Bool.{cases_lt}
 use Rattle.lit_base.specs.NextEnds.{NoEndUpTo}

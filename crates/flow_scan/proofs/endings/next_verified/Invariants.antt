@@ -2,7 +2,7 @@ use Rattle.std.proofs.Common.{◌≡◌, ℕ, ◌-◌, ◌<◌, ◌≤◌, lengt
 use Rattle.lit_base.specs.Occurrences.{HasEnd}
 use Rattle.flow_scan.proofs.endings.next_verified.Given as goal
 
--- no literal ends at the places passed
+-- no literal ends at the positions passed
 abbrev pub invariant-loop-end : goal.invariant-loop-end
 invariant-loop-end l = record {
   sieve : l.candidates.sieve ≡ l.fn.candidates.sieve;

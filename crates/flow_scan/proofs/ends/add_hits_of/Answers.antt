@@ -1,4 +1,4 @@
--- One place after the other is gone to, until nothing ends behind it.
+-- The walk visits one end after the other, until nothing ends after its position.
 use Rattle.std.proofs.Common.{◌≡◌, ◌+◌, ◌-◌, ◌≤◌, ℕ, length, take, sym, ap, ◌∙◌, refl, subst, arith}
 use Rattle.std.proofs.Math.Seq.{take-length}
 use Rattle.lit_base.specs.Literals.{Literals}
@@ -19,7 +19,7 @@ first g c = g.E.Ends.walk c.args.ends.now
 abbrev here : (g : Over) → In_ok-add_hits_at g → Walk
 here g c = g.E.Ends.walk c.loop-end.ends
 
--- where it goes to
+-- the position that it reaches
 next_end : (g : Over) (c : In_ok-add_hits_at g) → IsNextEnd (first g c).literals c.args.text.now (here g c).from c.in-Some.end
 next_end g c = rw (c.loop-end.invariant.literals, c.loop-end.invariant.text) at c.in-Some.ensures.next
 
@@ -33,11 +33,11 @@ same_literals g c = ap (λ (w : Walk). w.literals) (moved g c) ∙ c.loop-end.in
 same_text : (g : Over) (c : In_ok-add_hits_at g) → (g.E.Ends.walk c.next_end.new.self).text ≡ c.args.text.now
 same_text g c = ap (λ (w : Walk). w.text) (moved g c) ∙ c.loop-end.invariant.text
 
--- what the list gains there
+-- the hits that the list gains there
 gained : (g : Over) (c : In_ok-add_hits_at g) → GainsHitsAt (first g c).literals c.args.text.now c.in-Some.end (c.args.at + (c.in-Some.end - c.args.from)) c.loop-end.out.items c.add_hits_at.new.out.items
 gained g c = rw (same_literals g c, same_text g c) at c.in_ok-add_hits_at.ensures.ok
 
--- the hits up to the end that was gone to
+-- the hits up to the end reached
 further : (g : Over) (c : In_ok-add_hits_at g) → GainsHitsBehind (first g c).literals (take c.in-Some.end c.args.text.now) c.args.from c.args.at c.args.out.now.items c.add_hits_at.new.out.items
 further g c =
     let before = c.loop-end.invariant in

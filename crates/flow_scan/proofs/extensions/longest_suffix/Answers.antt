@@ -1,4 +1,4 @@
--- Of the suffixes that were found the last is the longest, if there is none behind it.
+-- The last suffix found is the longest, if no other follows.
 use Rattle.std.proofs.Common.{[], inl, inr, refl, arith}
 use Rattle.std.proofs.lemmas.List.{get_or_read}
 use Rattle.flow_scan.proofs.ExtensionLemmas.{longest_of_last}

@@ -1,4 +1,4 @@
--- The hits at the seam, and behind them those of the piece in place.
+-- The hits at the boundary, and then the hits of the piece in place.
 use Rattle.std.proofs.Common.{◌≡◌, ◌+◌, ◌-◌, ◌++◌, length, take, ap, ◌∙◌, arith}
 use Rattle.std.proofs.lemmas.Bool.{false≢true}
 use Rattle.std.proofs.lemmas.List.{length-append, length-take}

@@ -1,4 +1,4 @@
--- Behind its start are all hits of a text.
+-- All hits of a text end after its start.
 use Rattle.flow_scan.proofs.TailSteps.{hits_from_start}
 use Rattle.flow_scan.proofs.scanning.scan_all.Goals as goal
 

@@ -1,4 +1,4 @@
--- All hits behind the place were added to none.
+-- All hits after the position were added to an empty list.
 use Rattle.std.proofs.Common.{◌≡◌, ◌<◌, length, ap, arith}
 use Rattle.std.proofs.lemmas.Bool.{false≢true}
 use Rattle.flow_scan.specs.Walks.{Walk}

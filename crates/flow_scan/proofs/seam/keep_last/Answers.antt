@@ -9,7 +9,7 @@ pub returns-then-piece-carry-clause-tail : goal.returns-then-piece-carry-clause-
 returns-then-piece-carry-clause-tail c =
     ap (last_bytes c.args.carry) (kept_short c.args.carry c.args.held c.args.room.now.items c.args.piece.now c.if-piece-carry.true c.requires.front)
 
--- of a longer one its last bytes are enough
+-- of a longer piece the last bytes are enough
 pub returns-clause-tail : goal.returns-clause-tail
 returns-clause-tail c =
     ap (λ (xs : List ℕ). last_bytes c.args.carry (take c.args.carry xs)) c.write.ensures.items

@@ -1,4 +1,4 @@
--- What is moved is the tail, since more than it is held.
+-- The tail is moved, since more bytes are held.
 use Rattle.std.proofs.Common.{ℕ, List, take, ap, ◌∙◌, arith}
 use Rattle.flow_scan.specs.Tails.{last_bytes}
 use Rattle.flow_scan.proofs.SeamLemmas.{tail_moved}

@@ -2,7 +2,7 @@ use Rattle.std.proofs.Common.{◌≡◌, ℕ, ◌-◌, ◌≤◌, ◌++◌, List
 use Rattle.flow_scan.proofs.HitLists.{AreHitsAtBefore}
 use Rattle.flow_scan.proofs.searching.add_all_at.Given as goal
 
--- the hits added are those of the literals passed
+-- exactly the hits of the literals passed were added
 abbrev pub invariant-loop-place : goal.invariant-loop-place
 invariant-loop-place l = record {
   literals : l.endings.literals ≡ l.list;

@@ -3,7 +3,7 @@ use Rattle.lit_base.specs.Occurrences.{Occurs}
 use Rattle.flow_scan.proofs.HitLists.{AreHitsAtBefore}
 use Rattle.flow_scan.proofs.searching.add_extending.Given as goal
 
--- the hits added are those of the literals up to the last one
+-- exactly the hits of the literals up to the last one were added
 abbrev pub invariant-loop-place : goal.invariant-loop-place
 invariant-loop-place l = record {
   here : Occurs l.list l.text l.last l.end;

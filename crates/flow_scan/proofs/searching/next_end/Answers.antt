@@ -1,4 +1,4 @@
--- The walk is one over this text, behind a place up to which nothing ends.
+-- The walk covers this text, after a position up to which nothing ends.
 use Rattle.std.proofs.Common.{arith}
 use Rattle.flow_scan.proofs.EndLemmas.{next_further, none_further}
 use Rattle.flow_scan.proofs.searching.next_end.Goals as goal

@@ -1,4 +1,4 @@
--- The candidates are those of this text by the plan's sieve.
+-- The candidates in the text come from the plan's prefilter.
 use Rattle.flow_scan.proofs.searching.next_plainly.Goals as goal
 
 pub next_verified-requires-clause-covers : goal.next_verified-requires-clause-covers

@@ -2,7 +2,7 @@ use Rattle.std.proofs.Common.{◌≡◌, ℕ, ◌<◌, ◌≤◌, ◌++◌, List
 use Rattle.flow_scan.proofs.HitLists.{AreHitsAtBefore}
 use Rattle.flow_scan.proofs.told.add_told.Given as goal
 
--- the hits added are those of the literals passed, which stand before the others
+-- exactly the hits of the literals passed were added; they stand before the others
 abbrev pub invariant-loop-place : goal.invariant-loop-place
 invariant-loop-place l = record {
   from : ℕ;

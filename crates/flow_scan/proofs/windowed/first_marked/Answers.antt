@@ -1,4 +1,4 @@
--- Up to the lowest mark that is left, and behind the text, no literal ends.
+-- Up to the lowest remaining bit, and after the text, no literal ends.
 use Rattle.std.proofs.Common.{◌≡◌, ◌+◌, ◌-◌, ap, sym, ◌∙◌, subst, arith, w64}
 use Rattle.std.specs.Int.{bit_at}
 use Rattle.std.proofs.lemmas.Nat.Bits.{bit_at-trailing_zeros, bit_at-zero}

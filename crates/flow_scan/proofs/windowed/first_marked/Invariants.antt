@@ -3,7 +3,7 @@ use Rattle.std.specs.Int.{bit_at}
 use Rattle.lit_base.specs.Occurrences.{HasEnd}
 use Rattle.flow_scan.proofs.windowed.first_marked.Given as goal
 
--- where a literal ends, a mark is left, and no mark that is left stands for a place passed
+-- where a literal ends, a bit remains, and no remaining bit stands for a passed position
 abbrev pub invariant-loop-rest : goal.invariant-loop-rest
 invariant-loop-rest l = record {
   near : l.back ≤ l.count;

@@ -1,4 +1,4 @@
--- One group more is looked at: it is noted unless its words rule out all.
+-- One more group is probed: it is noted unless its words rule out all ends.
 use Rattle.std.proofs.Common.{◌≡◌, ℕ, ◌+◌, ◌-◌, ◌*◌, ◌≤◌, ◌⊎◌, length, slice_index, slice_set, inl, inr, sym, ap, ◌∙◌, subst, arith}
 use Rattle.std.specs.Int.{bit_at}
 use Rattle.std.proofs.lemmas.List.{length-set}

@@ -4,7 +4,7 @@ use Rattle.text_windows.specs.ShiftOr.{AreEntriesOf, Bucketing, RulesOut}
 use Rattle.text_windows.specs.declared.blocks.TheConstants.{GROUPS}
 use Rattle.text_windows.proofs.blocks.look_at_block.Given as goal
 
--- the groups passed are a block, and what the last looks rule out behind them is ruled out
+-- the groups passed are a block, and the last probes rule out ends after them
 abbrev pub invariant-loop-group : goal.invariant-loop-group
 invariant-loop-group g l = record {
   words : length l.words ≡ 4 * GROUPS;

@@ -1,4 +1,4 @@
--- An entry is taken from where it stands or from further behind, where none has been written yet.
+-- An entry is copied from its own place or a later one, which is not yet written.
 use Rattle.std.proofs.Common.{◌≡◌, ◌<◌, bit_or, slice_index, inl, inr, sym, ap, ◌∙◌, arith, get_or-set_other, get_or-set_same}
 use Rattle.std.proofs.lemmas.Bool.{cases_lt}
 use Rattle.std.proofs.lemmas.Grind.{get_or_default_zero}

@@ -2,7 +2,7 @@ use Rattle.std.proofs.Common.{◌≡◌, ℕ, ◌<◌, ◌≤◌, bit_or, slice_
 use Rattle.text_windows.specs.declared.entries.TheConstants.{ENTRIES}
 use Rattle.text_windows.proofs.entries.leave_case_out.Given as goal
 
--- the entries passed are those without case, which stand no further in front, and the others are as they were
+-- the entries passed are those without case, which stand no earlier, and the others are unchanged
 abbrev pub invariant-loop-number : goal.invariant-loop-number
 invariant-loop-number l = record {
   len : vec_len l.entries ≡ ENTRIES;

@@ -3,7 +3,7 @@ use Rattle.std.specs.Int.{bit_at}
 use Rattle.text_windows.specs.ShiftOr.{number_at}
 use Rattle.text_windows.proofs.entries.let_pairs_through.Given as goal
 
--- the literal is let through at the places passed
+-- the literal passes at the positions so far
 abbrev pub invariant-loop-ahead : goal.invariant-loop-ahead
 invariant-loop-ahead l = record {
   len : vec_len l.entries ≡ vec_len l.fn.entries;

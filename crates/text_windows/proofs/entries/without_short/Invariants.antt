@@ -2,7 +2,7 @@ use Rattle.std.proofs.Common.{◌≡◌, ℕ, ◌+◌, ◌*◌, ◌<◌, ◌≤�
 use Rattle.std.specs.Int.{bit_at}
 use Rattle.text_windows.proofs.entries.without_short.Given as goal
 
--- the bits of the places passed are cleared where they are to be
+-- the bits of the positions so far are cleared where they have to be
 abbrev pub invariant-loop-ahead : goal.invariant-loop-ahead
 invariant-loop-ahead l = record {
   short : (other : ℕ) → other < l.ahead → l.len ≤ other → bit_at l.found (8 * other + l.bucket) ≡ 0;

@@ -1,4 +1,4 @@
--- The bits are those of the words' tests.
+-- The bits are the words' tests.
 use Rattle.text_windows.proofs.JoiningLemmas.{lacking_few, lacking_full}
 use Rattle.text_windows.proofs.joining.lacking.Goals as goal
 

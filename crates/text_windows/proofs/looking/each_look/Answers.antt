@@ -1,4 +1,4 @@
--- One look after the other, behind those at every second place.
+-- One probe after the other, after those at every second position.
 use Rattle.text_windows.proofs.looking.each_look.Goals as goal
 
 pub returns : goal.returns

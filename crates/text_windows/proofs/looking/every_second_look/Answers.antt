@@ -1,4 +1,4 @@
--- One look after the other.
+-- One probe after the other.
 use Rattle.text_windows.proofs.looking.every_second_look.Goals as goal
 
 pub returns : goal.returns

@@ -1,4 +1,4 @@
--- Behind the last place there is no bit.
+-- After the last position there is no bit.
 use Rattle.std.proofs.Common.{arith}
 use Rattle.std.proofs.lemmas.Nat.Bits.{bit_at-zero, bit_at_above}
 use Rattle.text_windows.proofs.looks.bits_behind.Goals as goal

@@ -1,4 +1,4 @@
--- One width after the other is looked at.
+-- One width after the other is probed.
 use Rattle.std.proofs.Common.{◌≡◌, inl, inr, ap, arith}
 use Rattle.std.proofs.lemmas.Bool.{cases_lt}
 use Rattle.lit_base.specs.Suffixes.{suffix_key}

@@ -5,7 +5,7 @@ use Rattle.lit_base.specs.Suffixes.{hash_of, suffix_key}
 use Rattle.lit_base.specs.declared.suffixes.marks.TheConstants.{HASH_BITS}
 use Rattle.text_windows.proofs.windows.marks_near_front.Given as goal
 
--- the marks by the widths passed are found
+-- the hash bits by the widths passed are found
 abbrev pub invariant-loop-width : goal.invariant-loop-width
 invariant-loop-width l = record {
   some : 0 < l.width;

@@ -1,4 +1,4 @@
--- What is looked at has the marks of the bytes before the place, whatever their width.
+-- The probe has the hash bits of the bytes before the position, whatever their width.
 use Rattle.std.proofs.Common.{ℕ, ◌≤◌, inl, inr, sym, subst, arith}
 use Rattle.std.specs.Int.RustNames.{bit_and, bit_or}
 use Rattle.std.proofs.lemmas.Bool.{cases_lt}
@@ -11,7 +11,7 @@ use Rattle.text_windows.proofs.WindowLemmas.{marked_left, marked_right, read_wid
 use Rattle.text_windows.proofs.windows.marks_of_widths.Goals as goal
 use Rattle.text_windows.proofs.windows.marks_of_widths.Goals.{After-marks_of-long}
 
--- a mark by the text's last bytes is one by those of the word that was read
+-- a hash bit by the text's last bytes is one by those of the word that was read
 marked_word : (c : After-marks_of-long) (width back : ℕ) → width ≤ WIDTH
     → IsMarked c.args.marks.now.items (hash_of HASH_BITS (suffix_key c.args.fold c.args.text.now c.args.at width)) back
     → IsMarked c.args.marks.now.items (hash_of HASH_BITS (bit_or (bit_and c.last_four-word.result (last_bits width)) c.case_bits-case_bits.result)) back

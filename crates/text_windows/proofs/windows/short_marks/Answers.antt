@@ -1,4 +1,4 @@
--- Each width from the least to three is looked at.
+-- Each width from the least to three is probed.
 use Rattle.std.proofs.Common.{inl, inr, arith}
 use Rattle.std.specs.Int.RustNames.{bit_or}
 use Rattle.std.proofs.lemmas.Bool.{cases_lt}

@@ -5,6 +5,6 @@ use Rattle.lane_filter.specs.Sieves.{Passes}
 use Rattle.flow_scan.specs.Plans.{Plan}
 use Rattle.flow_scan.proofs.compiled.Compiled.sieve.Goals as goal
 
--- the plan's literals are those of the list
+-- the plan's literals are the list's
 pub returns : goal.returns
 returns c = subst (λ (l : Literals). CoversBy l (Passes c.self.inside.sieve)) (ap (λ (p : Plan). p.literals) c.self.view_is) c.self.invariant.covers

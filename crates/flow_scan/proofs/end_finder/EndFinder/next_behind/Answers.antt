@@ -1,4 +1,4 @@
--- Each way goes through the text of the search.
+-- Each engine searches the text of the search.
 use Rattle.flow_scan.proofs.end_finder.EndFinder.next_behind.Goals as goal
 
 pub returns-in-Windows-clause-next : goal.returns-in-Windows-clause-next

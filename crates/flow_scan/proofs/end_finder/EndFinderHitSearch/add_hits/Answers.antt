@@ -1,4 +1,4 @@
--- To learn changes no literal.
+-- Tuning changes no literal.
 use Rattle.std.proofs.Common.{ap}
 use Rattle.flow_scan.specs.Plans.{Plan}
 use Rattle.flow_scan.proofs.end_finder.EndFinderHitSearch.add_hits.Goals as goal

@@ -1,4 +1,4 @@
--- The candidates are those of the plan's sieve.
+-- The candidates come from the plan's prefilter.
 use Rattle.flow_scan.proofs.endings.SievedEnds.behind.Goals as goal
 
 pub invariant_of-result : goal.invariant_of-result

@@ -1,4 +1,4 @@
--- The candidates are those of the plan's sieve.
+-- The candidates come from the plan's prefilter.
 use Rattle.std.proofs.Common.{MatchOption, ◌∙◌, subst}
 use Rattle.lit_base.specs.NextEnds.{IsNextEnd, NoEndAfter}
 use Rattle.flow_scan.specs.Walks.{Walk}

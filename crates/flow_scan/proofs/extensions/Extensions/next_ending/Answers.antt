@@ -1,4 +1,4 @@
--- The walk passes none that ends there, and any that does is one of those that it goes to.
+-- The walk passes no literal that ends there, and it reaches each that does.
 use Rattle.std.proofs.Common.{◌<◌, length, arith}
 use Rattle.std.proofs.lemmas.Option.{slice_get_within}
 use Rattle.flow_scan.proofs.ExtensionLemmas.{first_behind, first_from_there, none_behind, walks_first, walks_on}

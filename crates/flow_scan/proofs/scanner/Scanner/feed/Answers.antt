@@ -1,4 +1,4 @@
--- All of the piece is fed, since no list holds so many hits.
+-- The whole piece is fed, since no list holds `usize::MAX` hits.
 use Rattle.std.proofs.Common.{◌≡◌, ◌<◌, length, take, ap, ◌∙◌, subst, arith}
 use Rattle.flow_scan.specs.Scanners.{fed}
 use Rattle.flow_scan.specs.Tails.{GainsHits}

@@ -1,4 +1,4 @@
--- Nothing ends in the piece behind the tail of the scan, which is that of its progress.
+-- Nothing ends in the piece after the scan's tail, which is its progress's tail.
 use Rattle.std.proofs.Common.{◌++◌, length, subst, IsOkUnless}
 use Rattle.lit_base.specs.NextEnds.{NoEndAfter}
 use Rattle.flow_scan.specs.Scanners.{Scanning}

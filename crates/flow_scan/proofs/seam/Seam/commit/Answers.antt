@@ -1,4 +1,4 @@
--- The last bytes of the tail and the piece are those of what is held and the piece.
+-- The last bytes of the tail and the piece are those of the held bytes and the piece.
 use Rattle.std.proofs.Common.{◌≡◌, ◌++◌, drop, take, refl, sym, ap, ◌∙◌}
 use Rattle.flow_scan.specs.Seams.{Seaming}
 use Rattle.flow_scan.specs.Tails.{last_bytes}

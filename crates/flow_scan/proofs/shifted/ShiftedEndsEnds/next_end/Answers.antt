@@ -1,4 +1,4 @@
--- The looks are those of the plan's literals.
+-- The state belongs to the plan's literals.
 use Rattle.std.proofs.Common.{MatchOption, subst}
 use Rattle.lit_base.specs.NextEnds.{IsNextEnd, NoEndAfter}
 use Rattle.flow_scan.specs.Walks.{Walk}

@@ -1,4 +1,4 @@
--- Nothing ends in the piece behind the tail of the scan, which is that of its progress; the plan is the one that is shared.
+-- Nothing ends in the piece after the scan's tail, which is its progress's tail; the plan is the shared plan.
 use Rattle.std.proofs.Common.{◌++◌, length, ap, subst, IsOkUnless}
 use Rattle.lit_base.specs.NextEnds.{NoEndAfter}
 use Rattle.flow_scan.specs.Plans.{Plan}

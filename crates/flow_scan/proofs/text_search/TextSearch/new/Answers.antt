@@ -1,4 +1,4 @@
--- The candidates are those of the text by the plan's sieve.
+-- The candidates in the text come from the plan's prefilter.
 use Rattle.flow_scan.proofs.text_search.TextSearch.new.Goals as goal
 
 pub invariant_of-result : goal.invariant_of-result

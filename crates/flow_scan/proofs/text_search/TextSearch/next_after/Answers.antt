@@ -1,4 +1,4 @@
--- The candidates stay those of the text by the plan's sieve.
+-- The candidates in the text still come from the plan's prefilter.
 use Rattle.std.proofs.Common.{ap, ◌∙◌}
 use Rattle.flow_scan.specs.Searched.{Searched}
 use Rattle.flow_scan.proofs.text_search.TextSearch.next_after.Goals as goal

@@ -1,4 +1,4 @@
--- The automaton is that of the plan's literals.
+-- The automaton belongs to the plan's literals.
 use Rattle.std.proofs.Common.{ℕ, Option, None, Some, MatchOption, subst}
 use Rattle.lit_base.specs.Literals.{Literals}
 use Rattle.lit_base.specs.NextEnds.{IsNextEnd, NoEndAfter}
@@ -7,7 +7,7 @@ use Rattle.text_automaton.specs.Automata.{IsNextTold, Telling, place_of}
 use Rattle.flow_scan.specs.Walks.{ToldWalk}
 use Rattle.flow_scan.proofs.told.ToldEndsEnds.next_end.Goals as goal
 
--- what an automaton finds is the next end
+-- the end that an automaton finds is the next one
 next_of : (a : Telling) (text : List ℕ) (from : ℕ) (found : Option (ℕ × ℕ)) → MatchOption found (NoEndAfter a.literals text from) (IsNextTold a text from) → MatchOption found (NoEndAfter a.literals text from) (λ hit. IsNextEnd a.literals text from hit.0)
 next_of a text from None none = none
 next_of a text from (Some hit) told = told.next

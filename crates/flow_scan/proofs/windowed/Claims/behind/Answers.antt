@@ -1,4 +1,4 @@
--- Looks that begin seven places before a place claim what ends behind it.
+-- Probes that begin seven positions before a position find the pending ends after it.
 use Rattle.std.proofs.Common.{ℕ, ◌+◌, ◌-◌, sym, subst, arith}
 use Rattle.flow_scan.specs.Windowed.{AreClaimed}
 use Rattle.flow_scan.proofs.ClaimSteps.{claims_from, none_claimed}

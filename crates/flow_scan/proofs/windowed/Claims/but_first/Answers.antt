@@ -1,4 +1,4 @@
--- The bits above are those of the ends behind.
+-- The higher bits stand for the later ends.
 use Rattle.std.proofs.Common.{ap, ◌%◌, shr-shr}
 use Rattle.flow_scan.proofs.windowed.Claims.but_first.Goals as goal
 

@@ -6,7 +6,7 @@ use Rattle.flow_scan.proofs.ClaimSteps.{claims_rest}
 use Rattle.flow_scan.proofs.windowed.Claims.next_block.Goals as goal
 use Rattle.flow_scan.proofs.windowed.Claims.next_block.Goals.{After-but_first-rest}
 
--- what is claimed behind this block
+-- the pending ends after this block
 first : (c : After-but_first-rest) → AreClaimed c.args.windows.now c.args.text.now c.but_first-rest.result.seen c.but_first-rest.result.seen (c.but_first-rest.result.seen + 1) c.but_first-rest.result.marks
 first c =
     let rest : AreClaims c.args.windows.now c.args.text.now c.but_first-rest.result = claims_rest c.args.windows.now c.args.text.now c.args.self c.args.self.count c.but_first-rest.result c.requires.claims (omega arith)

@@ -1,4 +1,4 @@
--- One block after the other is claimed, until a literal ends at one of the claimed ends.
+-- One block after the other is probed, until a literal ends at a pending end.
 use Rattle.std.proofs.Common.{ℕ, ◌+◌, ◌-◌, subst, arith}
 use Rattle.lit_base.specs.Literals.{Literals}
 use Rattle.lit_base.specs.NextEnds.{NoEndUpTo}

@@ -1,4 +1,4 @@
--- The claims are those of the plan's literals.
+-- The pending ends belong to the plan's literals.
 use Rattle.std.proofs.Common.{MatchOption, subst}
 use Rattle.lit_base.specs.NextEnds.{IsNextEnd, NoEndAfter}
 use Rattle.flow_scan.specs.Walks.{Walk}

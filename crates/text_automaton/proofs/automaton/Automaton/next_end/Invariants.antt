@@ -3,7 +3,7 @@ use Rattle.lit_base.specs.Occurrences.{HasEnd}
 use Rattle.text_automaton.specs.Automata.{IsReading, place_of}
 use Rattle.text_automaton.proofs.automaton.Automaton.next_end.Given as goal
 
--- nothing ends at the places passed
+-- nothing ends at the positions passed
 abbrev pub invariant-reads : goal.invariant-reads
 invariant-reads l = record {
   reading : IsReading l.self l.text l.reading;

@@ -2,7 +2,7 @@ use Rattle.std.proofs.Common.{◌≡◌, ℕ, ◌<◌, length, slice_index}
 use Rattle.text_automaton.specs.Tables.{IsLonger, front_of, state_of}
 use Rattle.text_automaton.proofs.tables.Tables.is_spelled.Given as goal
 
--- the fronts passed lead each to the next
+-- each prefix passed leads to the next
 abbrev pub invariant-loop-at : goal.invariant-loop-at
 invariant-loop-at l = record {
   state : l.state ≡ state_of l.self (front_of l.literal l.at);

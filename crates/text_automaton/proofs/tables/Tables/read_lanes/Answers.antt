@@ -1,4 +1,4 @@
--- One place more of each lane is read.
+-- One more position of each lane is read.
 use Rattle.std.proofs.Common.{◌≡◌, ℕ, ◌+◌, ◌*◌, ◌<◌, ◌⊎◌, length, set, ◌∙◌, arith}
 use Rattle.std.proofs.lemmas.List.{length-set}
 use Rattle.text_automaton.specs.Fronts.{IsRead}

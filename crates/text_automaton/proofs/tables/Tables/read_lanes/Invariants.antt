@@ -4,7 +4,7 @@ use Rattle.text_automaton.specs.declared.reading.TheConstants.{BLOCK}
 use Rattle.text_automaton.proofs.ReadLemmas.{AreDone}
 use Rattle.text_automaton.proofs.tables.Tables.read_lanes.Given as goal
 
--- the states of the places passed in each lane are known
+-- the states of the positions passed in each lane are known
 abbrev pub invariant-lanes : goal.invariant-lanes
 invariant-lanes l = record {
   room : length l.states ≡ BLOCK;

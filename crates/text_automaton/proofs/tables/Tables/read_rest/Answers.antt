@@ -1,4 +1,4 @@
--- One place more is read.
+-- One more position is read.
 use Rattle.std.proofs.Common.{◌+◌, ◌<◌, inl, inr, ◌∙◌, arith}
 use Rattle.std.proofs.lemmas.Bool.{cases_lt}
 use Rattle.std.proofs.lemmas.List.{length-set}

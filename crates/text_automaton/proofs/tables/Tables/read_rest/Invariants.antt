@@ -3,7 +3,7 @@ use Rattle.text_automaton.specs.Fronts.{IsRead}
 use Rattle.text_automaton.specs.declared.reading.TheConstants.{BLOCK}
 use Rattle.text_automaton.proofs.tables.Tables.read_rest.Given as goal
 
--- the states of the places passed are known
+-- the states of the positions passed are known
 abbrev pub invariant-loop-at : goal.invariant-loop-at
 invariant-loop-at l = record {
   room : length l.states ≡ BLOCK;

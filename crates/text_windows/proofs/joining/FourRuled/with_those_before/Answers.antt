@@ -1,4 +1,4 @@
--- Each word is joined with what the one before it rules out behind it.
+-- Each word is combined with the ends that the word before it rules out after its own positions.
 use Rattle.text_windows.proofs.ShiftOrLemmas.{words_joined, words_next}
 use Rattle.text_windows.proofs.joining.FourRuled.with_those_before.Goals as goal
 

@@ -1,4 +1,4 @@
--- What the entry rules out is moved by as many places, and joined with what was ruled out before.
+-- The entry is shifted by as many positions, and combined with the earlier words.
 use Rattle.std.proofs.Common.{◌+◌, ◌-◌, ◌*◌, ◌/◌, ◌%◌, ◌^◌, arith}
 use Rattle.text_windows.proofs.ShiftOrLemmas.{ruled_behind, ruled_here, ruled_joined}
 use Rattle.text_windows.proofs.joining.Ruled.and_by.Goals as goal

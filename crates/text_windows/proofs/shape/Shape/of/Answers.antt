@@ -1,4 +1,4 @@
--- The first of the literals is no longer than those behind it.
+-- The first literal is no longer than the others.
 use Rattle.std.proofs.Common.{ℕ, ◌<◌, length, [], arith}
 use Rattle.std.proofs.lemmas.List.{length-map}
 use Rattle.lit_base.proofs.LengthLemmas.{length_at}

@@ -1,4 +1,4 @@
--- The looks at the eight places before rule it out.
+-- The probes at the eight positions before rule it out.
 use Rattle.std.proofs.Common.{◌≡◌, ◌+◌, ◌-◌, subst, arith}
 use Rattle.text_windows.specs.ShiftOr.{RulesOut}
 use Rattle.text_windows.proofs.shift_or.ShiftOr.carried_to.Goals as goal

@@ -1,4 +1,4 @@
--- The front is gone through, as far as the text goes.
+-- The start of the text is searched position by position, as far as the text reaches.
 use Rattle.std.proofs.Common.{arith}
 use Rattle.text_windows.proofs.ShiftOrLemmas.{found_in_front}
 use Rattle.text_windows.proofs.shift_or.ShiftOr.end_in_front.Goals as goal

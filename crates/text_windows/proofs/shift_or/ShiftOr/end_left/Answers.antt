@@ -1,4 +1,4 @@
--- Where no bit is set, none is left.
+-- Where no bit is set, no end remains.
 use Rattle.std.proofs.Common.{arith}
 use Rattle.text_windows.proofs.ShiftOrLemmas.{all_left, none_left}
 use Rattle.text_windows.proofs.shift_or.ShiftOr.end_left.Goals as goal

@@ -1,4 +1,4 @@
--- The lowest bit is that of the first end that is left; it is dropped where no literal of its bucket ends there.
+-- The lowest bit stands for the first remaining end; it is dropped if no literal of its bucket ends there.
 use Rattle.std.proofs.Common.{ℕ, ◌+◌, ◌/◌, ◌%◌, ap, arith}
 use Rattle.lit_base.specs.Occurrences.{NoneEnds}
 use Rattle.text_windows.specs.ShiftOr.{Bucketing, NoneOf}

@@ -1,7 +1,7 @@
 use Rattle.text_windows.proofs.ShiftOrLemmas.{AreLeft}
 use Rattle.text_windows.proofs.shift_or.ShiftOr.first_verified.Given as goal
 
--- each end of a literal that was not ruled out has its bit yet
+-- each end of a literal that was not ruled out still has its bit
 abbrev pub invariant-ends : goal.invariant-ends
 invariant-ends l = AreLeft l.self l.text l.looks l.unruled
 

@@ -1,4 +1,4 @@
--- What is left of eight places is verified after the other, and then the rest is gone through.
+-- The remaining ends at eight positions are verified one after the other, and then the rest of the text is searched position by position.
 use Rattle.std.proofs.Common.{ℕ, ◌+◌, bit_or, length, max, subst, arith}
 use Rattle.std.proofs.lemmas.Nat.{or_lt}
 use Rattle.text_windows.specs.Looks.{AreLooks, IsVerified}

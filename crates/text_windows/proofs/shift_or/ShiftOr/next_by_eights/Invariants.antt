@@ -4,7 +4,7 @@ use Rattle.text_windows.specs.ShiftOr.{RulesOut}
 use Rattle.text_windows.specs.declared.shift_or.TheConstants.{FRONT}
 use Rattle.text_windows.proofs.shift_or.ShiftOr.next_by_eights.Given as goal
 
--- nothing ends up to the last of the eight places, and what is carried is ruled out behind it
+-- nothing ends up to the last of the eight positions, and `carried` rules out ends after it
 abbrev pub invariant-eights : goal.invariant-eights
 invariant-eights l = record {
   some : 8 ≤ l.at;

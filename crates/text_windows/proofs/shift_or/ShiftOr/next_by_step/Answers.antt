@@ -1,4 +1,4 @@
--- The front is verified place by place, then what is left of the looks at hand, then of thirty-two places after the other.
+-- The start of the text is verified position by position, then the remaining ends of the given state, then 32 positions a turn.
 use Rattle.std.proofs.Common.{◌≡◌, ℕ, ◌+◌, ◌-◌, ◌*◌, inl, inr, max, slice_index, sym, ap, ◌∙◌, subst, arith}
 use Rattle.std.specs.Int.{bit_at}
 use Rattle.std.proofs.lemmas.Nat.Bits.{bit_at-zero}
@@ -71,7 +71,7 @@ returns-in-Some-verify_four-clause-looks g c =
     let verified : IsVerified b text start found = c.in-Some-verify_four.ensures start (omega (arith, before.near)) none in
     subst (λ s. AreLooks b text s found.looks) (omega (arith, verified.first.after)) verified.looks
 
--- where the looks at thirty-two places leave no end
+-- where the probes at 32 positions leave no end
 pub fours-preserved : goal.fours-preserved
 fours-preserved g c =
     let b = c.args.self.now in
@@ -98,7 +98,7 @@ skip_if_open-quiet-requires-clause-carried g c =
     let there : c.fours.at + 8 + 8 + 8 * 3 ≡ c.fours.at + 32 + 8 = omega arith in
     subst (RulesOut b c.args.text.now (c.fours.at + 32 + 8)) (sym c.last_of-carried.ensures) (subst (λ p. RulesOut b c.args.text.now p (slice_index c.four_looks-now.result.behind 3)) there (are.behind 3 (omega arith)))
 
--- where they leave some at which nothing ends, and maybe blocks behind them
+-- where they leave ends but no literal ends there, and maybe blocks after them
 pub fours-preserved-then-lacking-ne0 : goal.fours-preserved-then-lacking-ne0
 fours-preserved-then-lacking-ne0 g c =
     let b = c.args.self.now in

@@ -4,7 +4,7 @@ use Rattle.text_windows.specs.ShiftOr.{RulesOut}
 use Rattle.text_windows.specs.declared.shift_or.TheConstants.{FRONT}
 use Rattle.text_windows.proofs.shift_or.ShiftOr.next_by_step.Given as goal
 
--- nothing ends up to the last of the places, and what the last word before has is ruled out behind it
+-- nothing ends up to the last of the positions, and the last word before rules out ends after it
 abbrev pub invariant-fours : goal.invariant-fours
 invariant-fours g l = record {
   some : 8 ≤ l.at;

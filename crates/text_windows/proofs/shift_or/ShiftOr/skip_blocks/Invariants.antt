@@ -4,7 +4,7 @@ use Rattle.text_windows.specs.ShiftOr.{RulesOut}
 use Rattle.text_windows.specs.declared.blocks.TheConstants.{GROUPS}
 use Rattle.text_windows.proofs.shift_or.ShiftOr.skip_blocks.Given as goal
 
--- nothing ends in the blocks passed, and what the last looks rule out behind them is ruled out
+-- nothing ends in the blocks passed, and the last probes rule out ends after them
 abbrev pub invariant-quiet : goal.invariant-quiet
 invariant-quiet g l = record {
   words : length l.words ≡ 4 * GROUPS;

@@ -1,4 +1,4 @@
--- The ends that one word leaves after the other, each with what the next one has as what is ruled out behind it.
+-- The remaining ends of one word after the other, each with the next word for the ends ruled out after it.
 use Rattle.std.proofs.Common.{◌≡◌, ℕ, ◌+◌, ◌-◌, ◌*◌, ◌<◌, inl, inr, slice_index, ap, ◌∙◌, subst, arith}
 use Rattle.std.specs.Int.{bit_at}
 use Rattle.std.proofs.lemmas.Bool.{cases_lt}

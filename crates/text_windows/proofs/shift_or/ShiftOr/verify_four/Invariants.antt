@@ -3,7 +3,7 @@ use Rattle.std.specs.Int.{bit_at}
 use Rattle.lit_base.specs.NextEnds.{NoEndUpTo}
 use Rattle.text_windows.proofs.shift_or.ShiftOr.verify_four.Given as goal
 
--- nothing ends at the places of the words whose bits are gone
+-- nothing ends at the positions of the words whose bits are gone
 abbrev pub invariant-words : goal.invariant-words
 invariant-words l = record {
   few : l.unseen < 16;

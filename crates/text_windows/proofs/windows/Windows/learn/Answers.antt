@@ -1,4 +1,4 @@
--- What was chosen is marked, and the masks are made by it.
+-- The chosen factors have their hash bits, and the masks fit them.
 use Rattle.std.proofs.Common.{arith}
 use Rattle.text_windows.proofs.windows.Windows.learn.Goals as goal
 

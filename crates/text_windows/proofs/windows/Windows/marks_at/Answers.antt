@@ -1,4 +1,4 @@
--- What is looked at has the marks of the bytes before the place.
+-- The probe has the hash bits of the bytes before the position.
 use Rattle.std.proofs.Common.{sym, subst}
 use Rattle.lit_base.specs.Marks.{IsMarked}
 use Rattle.lit_base.specs.Suffixes.{hash_of, suffix_key}
