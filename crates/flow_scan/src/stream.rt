@@ -76,9 +76,8 @@ impl Stream {
             → IsOkUnless result StreamTooLong }
     {
         let compiled: &Compiled = &self.plan;
-        let mut search = PlainSearch { compiled };
         self.progress
-            .feed_by(&mut search, compiled, piece, most, out)
+            .feed_by(&mut PlainSearch, compiled, piece, most, out)
     }
 
     /// The position reached: the base and how many bytes were fed.

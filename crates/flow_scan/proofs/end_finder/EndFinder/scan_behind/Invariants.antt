@@ -5,10 +5,10 @@ use Rattle.flow_scan.proofs.end_finder.EndFinder.scan_behind.Given as goal
 -- the hits are those up to the place reached
 abbrev pub invariant-spans : goal.invariant-spans
 invariant-spans l = record {
-  finder : l.self ≡ l.fn.self;
+  finder : l.self ≡ l.compiled.literals;
   ahead : l.from ≤ l.place;
   within : l.place ≤ length l.text;
-  gained : GainsHitsBehind l.fn.self.literals (take l.place l.text) l.from l.from [] l.hits.items;
+  gained : GainsHitsBehind l.compiled.literals (take l.place l.text) l.from l.from [] l.hits.items;
 }
 
 abbrev pub decreases-spans : goal.decreases-spans
