@@ -185,6 +185,28 @@ impl EndFinder {
     {
         let _carry = compiled.carry();
         let mut hits = Vec::new(alloc);
+        self.add_spans(compiled, text, from, usize::MAX, &mut hits)?;
+        Ok(hits)
+    }
+
+    /// Adds the hits of a text that end after `from`, up to the first end by which `out` gained at least `most` hits, as
+    /// `scan_until` does. It tunes itself on the way, before each span of the text.
+    pub(crate) fn add_spans(
+        &mut self,
+        compiled: &Compiled,
+        text: &[u8],
+        from: usize,
+        most: usize,
+        out: &mut Vec<Hit>,
+    ) -> Result<usize, AllocError>
+        requires plan { self.old ≡ compiled.now.literals }
+        requires inside { from ≤ length text.now }
+        ensures same { self.new ≡ self.old }
+        ensures ok { IfOk result (λ stop. StopsAt compiled.now.literals text.now from from most stop out.old.items out.new.items) }
+        ensures kept { Extends out.old.items out.new.items }
+        ensures quiet { NoEndAfter compiled.now.literals text.now from → IsOk result }
+    {
+        let before = out.len();
         let mut place = from;
         'spans: while place < text.len() {
             self.learn_if_sure(compiled, text, place);
@@ -192,11 +214,14 @@ impl EndFinder {
                 .len()
                 .min(place.saturating_add(span_behind(place - from)));
             let (front, _) = text.split_at(stop);
-            let at = place as u64;
-            self.add_hits(compiled, front, place, at, usize::MAX, &mut hits)?;
-            place = stop;
+            let left = most - (out.len() - before);
+            let end = self.add_hits(compiled, front, place, place as u64, left, out)?;
+            if out.len() - before >= most {
+                return Ok(end);
+            }
+            place = end;
         }
-        Ok(hits)
+        Ok(text.len())
     }
 
     /// Adds hits by the plan, as `add_hits` does.

@@ -40,12 +40,7 @@ fn cost_of_looks(stride: usize, count: usize) -> usize {
 }
 
 /// The cost of a search by factors that passed `count` bytes, with the counters `met` and the ends `found`.
-pub(crate) fn cost_by_windows(
-    windows: &Windows,
-    count: usize,
-    met: Met,
-    found: EndRate,
-) -> usize {
+pub(crate) fn cost_by_windows(windows: &Windows, count: usize, met: Met, found: EndRate) -> usize {
     let looks = match windows.masks() {
         Some(_) => cost_of_sieve(windows, count, met.passed),
         None => cost_of_strides(windows, count, found),

@@ -61,6 +61,11 @@ impl Progress {
         self.base + self.count
     }
 
+    /// How many bytes were fed.
+    pub(crate) fn fed(&self) -> u64 {
+        self.count
+    }
+
     /// Feeds the next piece up to the first end by which `out` gained at least `most` hits, or all of it. Adds the hits
     /// that the search finds in the fed bytes, and returns how many bytes were fed.
     ///
@@ -158,6 +163,13 @@ fn add_piece<S: HitSearch>(
     if piece.len() <= carry {
         return Ok(stop - seam.tail_len());
     }
-    let in_place = search.add_hits(compiled, piece, carry, at + carry as u64, most - gained, out)?;
+    let in_place = search.add_hits(
+        compiled,
+        piece,
+        carry,
+        at + carry as u64,
+        most - gained,
+        out,
+    )?;
     Ok(in_place)
 }
