@@ -2,9 +2,11 @@
 mod nested;
 mod spoilt;
 
+use list_index::ListIndex;
 use lit_base::{Fold, LitList, Normal, RawList};
 use std::alloc::Global;
 use std::process::Abort;
+use std::sync::Arc;
 
 /// A raw list of the patterns.
 fn raw_of(alloc: Global, patterns: &[&[u8]]) -> Option<RawList> {
@@ -15,10 +17,10 @@ fn raw_of(alloc: Global, patterns: &[&[u8]]) -> Option<RawList> {
     Some(raw)
 }
 
-/// The normal form of a raw list.
-fn normal_of(alloc: Global, raw: &RawList, fold: Fold) -> Option<LitList> {
+/// The index of the normal form of a raw list.
+fn index_of(alloc: Global, raw: &RawList, fold: Fold) -> Option<Arc<ListIndex>> {
     let (list, _) = LitList::normal(alloc, raw, fold).ok()?;
-    Some(list)
+    ListIndex::new(alloc, list).ok()
 }
 
 /// Whether these are the list's literals, in order.
@@ -139,7 +141,7 @@ fn stands_for_a_megabyte_of_patterns(rt: HostRuntime) {
 }
 
 /// How many literals end at a place of the text, by one walk over them.
-fn count_at(list: &LitList, text: &[u8], end: usize) -> usize {
+fn count_at(list: &ListIndex, text: &[u8], end: usize) -> usize {
     let mut count = 0usize;
     let mut from = 0;
     for _ in 0..list.len() {
@@ -156,7 +158,7 @@ fn count_at(list: &LitList, text: &[u8], end: usize) -> usize {
 }
 
 /// How many end at each place up to the eighth, a digit each.
-fn digits_in(list: &LitList, text: &[u8]) -> u64 {
+fn digits_in(list: &ListIndex, text: &[u8]) -> u64 {
     let mut digits = 0u64;
     for end in 1..=8 {
         let count = count_at(list, text, end) as u64;
@@ -167,7 +169,7 @@ fn digits_in(list: &LitList, text: &[u8]) -> u64 {
 
 /// The same for the normal form of the patterns.
 fn digits_of(alloc: Global, fold: Fold, patterns: &[&[u8]], text: &[u8]) -> Option<u64> {
-    let list = normal_of(alloc, &raw_of(alloc, patterns)?, fold)?;
+    let list = index_of(alloc, &raw_of(alloc, patterns)?, fold)?;
     Some(digits_in(&list, text))
 }
 
@@ -210,7 +212,7 @@ fn letters(alloc: Global) -> Option<RawList> {
 
 /// How many of them end at a position of `count` letters `a`.
 fn letters_at(alloc: Global, count: usize, end: usize) -> Option<usize> {
-    let list = normal_of(alloc, &letters(alloc)?, Fold::No)?;
+    let list = index_of(alloc, &letters(alloc)?, Fold::No)?;
     let text = vec![in alloc; b'a'; count].ok()?;
     Some(count_at(&list, &text, end))
 }

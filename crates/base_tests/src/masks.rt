@@ -1,4 +1,5 @@
 //! The tables of worked lists, their filter bytes, and the law of candidates.
+use list_index::ListIndex;
 use lit_base::{Ends, Fault, Fold, LitList, Profile, RawList, is_cut};
 use nib_mask::{ByteMasks, Masks, candidate_law, plain_byte};
 use std::alloc::Global;
@@ -129,14 +130,18 @@ fn leaves_out_what_a_short_literal_does_not_reach(rt: HostRuntime) -> Result<(),
 #[test]
 fn holds_where_a_literal_ends(rt: HostRuntime) -> Result<(), Fail> {
     let text = b"ushers";
-    let list = list_of(rt.alloc(), Fold::No, "he his she hers")?;
+    let index = ListIndex::new(
+        rt.alloc(),
+        list_of(rt.alloc(), Fold::No, "he his she hers")?,
+    )?;
+    let list = index.list();
     let ends = ends_of(&[1, 4]);
-    assert!(rt; is_cut(&list, Profile::Sixteen, &ends));
-    let place = list.next_ending(text, 4, 1).ok_or("`she` ends there")?;
+    assert!(rt; is_cut(list, Profile::Sixteen, &ends));
+    let place = index.next_ending(text, 4, 1).ok_or("`she` ends there")?;
     assert_eq!(rt; place, 2);
-    candidate_law(&list, &ends, text, place as u16, 4, *b"..");
+    candidate_law(list, &ends, text, place as u16, 4, *b"..");
     // The first run has a shorter literal; the second has `she`.
-    let masks = Masks::of(&list, &ends);
+    let masks = Masks::of(list, &ends);
     assert_eq!(rt; plain_byte(&masks, b's', b'h', b'e'), 3);
     Ok(())
 }

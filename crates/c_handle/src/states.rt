@@ -1,12 +1,11 @@
 //! What the handles own.
-use flow_scan::{Compiled, Hit, Stream};
-use std::sync::Arc;
+use flow_scan::{Hit, Stream, TunedPlan};
 
 /// One owner of a plan. Other handles may own it too, in other threads.
 #[derive(Drop)]
 pub struct SharedPlan {
-    /// The plan.
-    pub plan: Arc<Compiled>,
+    /// The plan, with what the searches by this handle have learned.
+    pub plan: TunedPlan,
     /// Room for hits. It is used again, so that a call allocates only if it finds more hits than each call before.
     pub out: Vec<Hit>,
 }
@@ -14,7 +13,7 @@ pub struct SharedPlan {
 /// A stream that is open, with its share of a plan.
 #[derive(Drop)]
 pub struct OpenStream {
-    /// The scan.
+    /// The scan, with what it has learned.
     pub stream: Stream,
     /// Room for hits, which is used again.
     pub out: Vec<Hit>,

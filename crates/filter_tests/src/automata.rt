@@ -1,6 +1,8 @@
 //! What no clause says: that tables are made, and for which lists they are not.
+use list_index::ListIndex;
 use lit_base::{Fold, LitList, RawList};
 use std::alloc::Global;
+use std::sync::Arc;
 use text_automaton::Automaton;
 
 /// Literals, some of them the end of others, and some the beginning.
@@ -11,20 +13,20 @@ const NESTED: [&[u8]; 8] = [
 /// Literals of either case, and with bytes that have none.
 const CASED: [&[u8]; 4] = [b"Over", b"LAZY", b"q", b"1\xff"];
 
-/// The list of the literals.
-fn list_of(alloc: Global, fold: Fold, literals: &[&[u8]]) -> Option<LitList> {
+/// The index of the literals.
+fn index_of(alloc: Global, fold: Fold, literals: &[&[u8]]) -> Option<Arc<ListIndex>> {
     let mut raw = RawList::new(alloc);
     for literal in literals {
         raw.push(literal).ok()?;
     }
     let (list, _) = LitList::normal(alloc, &raw, fold).ok()?;
-    Some(list)
+    ListIndex::new(alloc, list).ok()
 }
 
 /// Whether the automaton of the literals is made.
 fn is_made(alloc: Global, fold: Fold, literals: &[&[u8]]) -> Option<bool> {
-    let list = list_of(alloc, fold, literals)?;
-    let mut automaton = Automaton::new(alloc, &list).ok()?;
+    let index = index_of(alloc, fold, literals)?;
+    let mut automaton = Automaton::new(alloc, index).ok()?;
     let is_made = automaton.learn();
     let is_read = automaton.reading_behind(b"", 0).is_some();
     if is_made == is_read && automaton.learn() == is_made {
@@ -45,8 +47,8 @@ fn makes_the_tables_of_a_list(rt: HostRuntime) {
 
 /// Where the literals of a list end in a text: how many ends, and the sum of their positions.
 fn ends_in(alloc: Global, fold: Fold, literals: &[&[u8]], text: &[u8]) -> Option<(usize, usize)> {
-    let list = list_of(alloc, fold, literals)?;
-    let mut automaton = Automaton::new(alloc, &list).ok()?;
+    let index = index_of(alloc, fold, literals)?;
+    let mut automaton = Automaton::new(alloc, index).ok()?;
     let _is_made = automaton.learn();
     let (mut count, mut sum, mut from) = (0usize, 0usize, 0);
     for _ in 0..=text.len().min(100_000) {
@@ -109,21 +111,21 @@ fn reads_each_lane_from_before_its_first_place(rt: HostRuntime) {
     }
 }
 
-/// A list of `count` literals of three bytes, no two beginning alike, and a longer literal.
-fn wide_list(alloc: Global, count: usize, long: &[u8]) -> Option<LitList> {
+/// The index of `count` literals of three bytes, no two beginning alike, and of a longer literal.
+fn wide_index(alloc: Global, count: usize, long: &[u8]) -> Option<Arc<ListIndex>> {
     let mut raw = RawList::new(alloc);
     raw.push(long).ok()?;
     for number in 0..count.min(250) {
         raw.push(&[number as u8, 7, 9]).ok()?;
     }
     let (list, _) = LitList::normal(alloc, &raw, Fold::No).ok()?;
-    Some(list)
+    ListIndex::new(alloc, list).ok()
 }
 
 /// Whether an automaton of a list like that is made.
 fn is_wide_made(alloc: Global, count: usize, long: &[u8]) -> Option<bool> {
-    let list = wide_list(alloc, count, long)?;
-    let mut automaton = Automaton::new(alloc, &list).ok()?;
+    let index = wide_index(alloc, count, long)?;
+    let mut automaton = Automaton::new(alloc, index).ok()?;
     Some(automaton.learn())
 }
 
@@ -138,7 +140,8 @@ fn is_long_made(alloc: Global, count: usize) -> Option<bool> {
         raw.push(&[number as u8]).ok()?;
     }
     let (list, _) = LitList::normal(alloc, &raw, Fold::No).ok()?;
-    let mut automaton = Automaton::new(alloc, &list).ok()?;
+    let index = ListIndex::new(alloc, list).ok()?;
+    let mut automaton = Automaton::new(alloc, index).ok()?;
     Some(automaton.learn())
 }
 

@@ -1,6 +1,8 @@
 //! Factors of lists with short literals and with long ones, and of literals whose last bytes are frequent in a text.
+use list_index::ListIndex;
 use lit_base::{Fold, LitList, RawList};
 use std::alloc::Global;
+use std::sync::Arc;
 use text_windows::{EndRate, ShiftOr, Windows, cut_runs};
 
 /// Literals of each length that is marked in its own way.
@@ -24,14 +26,14 @@ const WITH_LONG_WORDS: &[u8] = b"the quick..jumps over the lazy dog";
 /// Where they end there.
 const LONG_ENDS: [usize; 3] = [9, 21, 34];
 
-/// The list of the literals.
-fn list_of(alloc: Global, fold: Fold, literals: &[&[u8]]) -> Option<LitList> {
+/// The index of the literals.
+fn index_of(alloc: Global, fold: Fold, literals: &[&[u8]]) -> Option<Arc<ListIndex>> {
     let mut raw = RawList::new(alloc);
     for literal in literals {
         raw.push(literal).ok()?;
     }
     let (list, _) = LitList::normal(alloc, &raw, fold).ok()?;
-    Some(list)
+    ListIndex::new(alloc, list).ok()
 }
 
 /// These four bytes, 5,000 times.
@@ -52,7 +54,7 @@ fn byte_before(text: &[u8], at: usize, back: usize) -> u8 {
 }
 
 /// Whether a place of a text passes the masks.
-fn passes(windows: &Windows<'_>, text: &[u8], at: usize) -> bool {
+fn passes(windows: &Windows, text: &[u8], at: usize) -> bool {
     let Some(masks) = windows.masks() else {
         return false;
     };
@@ -62,7 +64,7 @@ fn passes(windows: &Windows<'_>, text: &[u8], at: usize) -> bool {
 }
 
 /// Whether the position `back` before an end passes the masks, and its hash bits have the end.
-fn is_sieved_at(windows: &Windows<'_>, text: &[u8], end: usize, back: usize) -> bool {
+fn is_sieved_at(windows: &Windows, text: &[u8], end: usize, back: usize) -> bool {
     let Some(at) = end.checked_sub(back) else {
         return false;
     };
@@ -73,12 +75,12 @@ fn is_sieved_at(windows: &Windows<'_>, text: &[u8], end: usize, back: usize) -> 
 }
 
 /// Whether a search of the places that pass meets an end.
-fn is_sieved(windows: &Windows<'_>, text: &[u8], end: usize) -> bool {
+fn is_sieved(windows: &Windows, text: &[u8], end: usize) -> bool {
     (0..8usize).any(|back| is_sieved_at(windows, text, end, back))
 }
 
 /// Whether the hash bits of the position `back` before an end have it.
-fn is_told(windows: &Windows<'_>, text: &[u8], end: usize, back: usize) -> bool {
+fn is_told(windows: &Windows, text: &[u8], end: usize, back: usize) -> bool {
     let Some(at) = end.checked_sub(back) else {
         return false;
     };
@@ -89,7 +91,7 @@ fn is_told(windows: &Windows<'_>, text: &[u8], end: usize, back: usize) -> bool 
 }
 
 /// Whether they do at one of the positions that are `phase` after a whole number of strides.
-fn is_met(windows: &Windows<'_>, text: &[u8], end: usize, phase: usize) -> bool {
+fn is_met(windows: &Windows, text: &[u8], end: usize, phase: usize) -> bool {
     let stride = windows.stride().max(1);
     for back in 0..8usize {
         if end.saturating_sub(back) % stride == phase && is_told(windows, text, end, back) {
@@ -100,7 +102,7 @@ fn is_met(windows: &Windows<'_>, text: &[u8], end: usize, phase: usize) -> bool 
 }
 
 /// Whether a search by strides meets an end, wherever it begins.
-fn is_always_met(windows: &Windows<'_>, text: &[u8], end: usize) -> bool {
+fn is_always_met(windows: &Windows, text: &[u8], end: usize) -> bool {
     for phase in 0..windows.stride() {
         if !is_met(windows, text, end, phase) {
             return false;
@@ -110,7 +112,7 @@ fn is_always_met(windows: &Windows<'_>, text: &[u8], end: usize) -> bool {
 }
 
 /// Whether it finds each of the ends.
-fn are_met(windows: &Windows<'_>, text: &[u8], ends: &[usize]) -> bool {
+fn are_met(windows: &Windows, text: &[u8], ends: &[usize]) -> bool {
     for end in ends {
         let is_met = match windows.masks() {
             Some(_) => is_sieved(windows, text, *end),
@@ -126,13 +128,13 @@ fn are_met(windows: &Windows<'_>, text: &[u8], ends: &[usize]) -> bool {
 /// Whether it does before it has learned, and after a sample in which these four bytes come again and again.
 fn meets(
     alloc: Global,
-    list: &LitList,
+    index: Arc<ListIndex>,
     text: &[u8],
     ends: &[usize],
     bytes: [u8; 4],
 ) -> Option<(bool, bool)> {
     let sample = sample_of(alloc, bytes)?;
-    let mut windows = Windows::new(alloc, list).ok()?;
+    let mut windows = Windows::new(alloc, index).ok()?;
     let before = are_met(&windows, text, ends);
     windows.learn(&sample, EndRate::nothing());
     Some((before, are_met(&windows, text, ends)))
@@ -140,14 +142,14 @@ fn meets(
 
 /// That for short and long literals.
 fn meets_words(alloc: Global, fold: Fold, text: &[u8]) -> Option<(bool, bool)> {
-    let list = list_of(alloc, fold, &WORDS)?;
-    meets(alloc, &list, text, &ENDS, *b"dogs")
+    let index = index_of(alloc, fold, &WORDS)?;
+    meets(alloc, index, text, &ENDS, *b"dogs")
 }
 
 /// That for long literals alone.
 fn meets_long_words(alloc: Global, bytes: [u8; 4]) -> Option<(bool, bool)> {
-    let list = list_of(alloc, Fold::No, &LONG_WORDS)?;
-    meets(alloc, &list, WITH_LONG_WORDS, &LONG_ENDS, bytes)
+    let index = index_of(alloc, Fold::No, &LONG_WORDS)?;
+    meets(alloc, index, WITH_LONG_WORDS, &LONG_ENDS, bytes)
 }
 
 #[test]
@@ -177,7 +179,7 @@ fn meets_long_literals_of_common_bytes(rt: HostRuntime) {
 }
 
 /// At how many places of a text a search has to look closer: those with marks where literals are strided, or those that pass.
-fn count_marked(windows: &Windows<'_>, text: &[u8]) -> usize {
+fn count_marked(windows: &Windows, text: &[u8]) -> usize {
     let mut count = 0usize;
     for at in 3..text.len() {
         let has_marks = windows.masks().is_none() && windows.marks_at(text, at) != 0;
@@ -190,8 +192,12 @@ fn count_marked(windows: &Windows<'_>, text: &[u8]) -> usize {
 
 /// Whether the literals of a list are sieved, how far apart a search for strided ones looks, and how many places of a sample
 /// cost more than a look: before it learns from it, and then.
-fn learned(alloc: Global, list: &LitList, sample: &[u8]) -> Option<[(bool, usize, usize); 2]> {
-    let mut windows = Windows::new(alloc, list).ok()?;
+fn learned(
+    alloc: Global,
+    index: Arc<ListIndex>,
+    sample: &[u8],
+) -> Option<[(bool, usize, usize); 2]> {
+    let mut windows = Windows::new(alloc, index).ok()?;
     let before = (
         windows.masks().is_some(),
         windows.stride(),
@@ -208,9 +214,9 @@ fn learned(alloc: Global, list: &LitList, sample: &[u8]) -> Option<[(bool, usize
 
 /// That for a literal whose last four bytes are all that the sample has.
 fn moves_off_common_bytes(alloc: Global) -> Option<[(bool, usize, usize); 2]> {
-    let list = list_of(alloc, Fold::No, &[b"abcdxyzt"])?;
+    let index = index_of(alloc, Fold::No, &[b"abcdxyzt"])?;
     let sample = sample_of(alloc, *b"xyzt")?;
-    learned(alloc, &list, &sample)
+    learned(alloc, index, &sample)
 }
 
 #[test]
@@ -223,9 +229,9 @@ fn sieves_by_rare_bytes_once_it_has_learned(rt: HostRuntime) {
 
 /// The same for a long literal, with a sample that has none of its bytes.
 fn strides_over_other_bytes(alloc: Global) -> Option<[(bool, usize, usize); 2]> {
-    let list = list_of(alloc, Fold::No, &[b"the quick fox"])?;
+    let index = index_of(alloc, Fold::No, &[b"the quick fox"])?;
     let sample = sample_of(alloc, *b"....")?;
-    learned(alloc, &list, &sample)
+    learned(alloc, index, &sample)
 }
 
 #[test]
@@ -238,9 +244,9 @@ fn strides_where_long_windows_are_rare(rt: HostRuntime) {
 
 /// The same for a literal of two bytes together with a long one: to mask both takes no longer than to mask one.
 fn sieves_a_short_one(alloc: Global) -> Option<[(bool, usize, usize); 2]> {
-    let list = list_of(alloc, Fold::No, &[b"ox", b"the quick fox"])?;
+    let index = index_of(alloc, Fold::No, &[b"ox", b"the quick fox"])?;
     let sample = sample_of(alloc, *b"....")?;
-    learned(alloc, &list, &sample)
+    learned(alloc, index, &sample)
 }
 
 #[test]
@@ -270,8 +276,8 @@ fn found_by(
     text: &[u8],
     ends: &[usize],
 ) -> Option<(usize, usize, usize)> {
-    let list = list_of(alloc, fold, literals)?;
-    let mut shift_or = ShiftOr::new(alloc, &list).ok()?;
+    let index = index_of(alloc, fold, literals)?;
+    let mut shift_or = ShiftOr::new(alloc, index).ok()?;
     shift_or.learn(&sample_of(alloc, bytes)?, EndRate::nothing());
     let mut looks = shift_or.looks_behind(text, 0);
     let (mut found, mut met, mut seen, mut left) = (0usize, 0usize, 0, 0);
@@ -359,7 +365,7 @@ fn finds_short_literals_in_any_case(rt: HostRuntime) {
 }
 
 /// Whether a search by shift-or finds one end in a text, which is this.
-fn finds_only(shift_or: &ShiftOr<'_>, text: &[u8], end: usize) -> bool {
+fn finds_only(shift_or: &ShiftOr, text: &[u8], end: usize) -> bool {
     let mut looks = shift_or.looks_behind(text, 0);
     let mut left = 0;
     let Some((found, _)) = shift_or.next_by(text, 0, &mut looks, &mut left) else {
@@ -401,8 +407,8 @@ fn count_missed_among(
     first: usize,
     dots: usize,
 ) -> Option<usize> {
-    let list = list_of(alloc, fold, &[literal, b"abcd"])?;
-    let mut shift_or = ShiftOr::new(alloc, &list).ok()?;
+    let index = index_of(alloc, fold, &[literal, b"abcd"])?;
+    let mut shift_or = ShiftOr::new(alloc, index).ok()?;
     shift_or.learn(&sample_of(alloc, bytes)?, EndRate::nothing());
     let mut missed = 0usize;
     for before in first..dots {
@@ -469,8 +475,8 @@ fn finds_literals_at_each_place_of_blocks(rt: HostRuntime) {
 
 /// Where a search by shift-or finds the second of them that has learned from nothing.
 fn second_unlearned(alloc: Global) -> Option<usize> {
-    let list = list_of(alloc, Fold::No, &FOURS)?;
-    let shift_or = ShiftOr::new(alloc, &list).ok()?;
+    let index = index_of(alloc, Fold::No, &FOURS)?;
+    let shift_or = ShiftOr::new(alloc, index).ok()?;
     let mut looks = shift_or.looks_behind(WITH_FOURS, FOUR_ENDS[0]);
     let mut left = 0;
     match shift_or.next_by(WITH_FOURS, FOUR_ENDS[0], &mut looks, &mut left) {
@@ -486,8 +492,8 @@ fn finds_what_ends_before_it_has_learned(rt: HostRuntime) {
 
 /// The estimate of a search by shift-or for the literals, given a sample of the bytes.
 fn cost_of(alloc: Global, literals: &[&[u8]], bytes: [u8; 4]) -> Option<usize> {
-    let list = list_of(alloc, Fold::No, literals)?;
-    let mut shift_or = ShiftOr::new(alloc, &list).ok()?;
+    let index = index_of(alloc, Fold::No, literals)?;
+    let mut shift_or = ShiftOr::new(alloc, index).ok()?;
     Some(shift_or.learn(&sample_of(alloc, bytes)?, EndRate::nothing()))
 }
 

@@ -12,7 +12,7 @@ use Rattle.fiolargu.specs.declared.views.FoundHit.{FoundHit}
 -- the plan of a handle, unless it is null
 abbrev pub plan_of : Option SharedPlan → Option Plan
 plan_of None = None
-plan_of (Some s) = Some s.plan.value
+plan_of (Some s) = Some s.plan
 
 -- the stream of a handle, unless it is null
 abbrev pub stream_of : Option OpenStream → Option Scanning

@@ -90,7 +90,7 @@ pub extern "C" fn fiolargu_plan_save(
     let Some(held) = plan.take(alloc) else {
         return NULL_HANDLE;
     };
-    let status = save(alloc, &held.plan, buffer, len);
+    let status = save(alloc, held.plan.plan(), buffer, len);
     plan.put(held);
     status
 }

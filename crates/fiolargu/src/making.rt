@@ -13,7 +13,7 @@ ghost use Rattle.fiolargu.specs.declared.statuses.TheConstants.{NO_LITERALS, NUL
 use crate::statuses::{NO_LITERALS, OK, OUT_OF_MEMORY};
 use crate::views::Bytes;
 use c_handle::{PlanHandle, SharedPlan};
-use flow_scan::Compiled;
+use flow_scan::{Compiled, TunedPlan};
 use list_plan::compile;
 use lit_base::{Fault, Fold, LitList, Profile, RawList};
 use std::alloc::Global;
@@ -110,7 +110,7 @@ pub(crate) fn set_shared(handle: &mut PlanHandle, alloc: Global, plan: Arc<Compi
     ensures not_null { result ≡ NULL_HANDLE → ⊥ }
 {
     let held = SharedPlan {
-        plan,
+        plan: TunedPlan::new(plan),
         out: Vec::new(alloc),
     };
     match Box::new(alloc, held) {

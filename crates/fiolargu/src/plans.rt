@@ -16,7 +16,6 @@ use c_handle::PlanHandle;
 use flow_scan::Compiled;
 use lit_base::{Fold, Profile, RawList};
 use std::alloc::Global;
-use std::sync::Arc;
 
 /// Makes a plan of patterns. `literal_of` gets the number of each pattern's literal, if it has any room.
 #[unsafe(no_mangle)]
@@ -102,7 +101,7 @@ pub extern "C" fn fiolargu_plan_share(
     let Some(held) = plan.take(alloc) else {
         return NULL_HANDLE;
     };
-    let status = match Arc::try_clone(&held.plan) {
+    let status = match held.plan.share() {
         Ok(again) => set_shared(other, alloc, again),
         Err(_) => OUT_OF_MEMORY,
     };
@@ -152,7 +151,7 @@ pub extern "C" fn fiolargu_plan_info(
     let Some(held) = plan.take(alloc) else {
         return NULL_HANDLE;
     };
-    *info = info_of(&held.plan);
+    *info = info_of(held.plan.plan());
     plan.put(held);
     OK
 }
@@ -175,7 +174,7 @@ pub extern "C" fn fiolargu_plan_literal(
     let Some(held) = plan.take(alloc) else {
         return NULL_HANDLE;
     };
-    let status = write_literal(&held.plan, literal, buffer, len);
+    let status = write_literal(held.plan.plan(), literal, buffer, len);
     plan.put(held);
     status
 }

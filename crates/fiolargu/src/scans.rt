@@ -8,7 +8,7 @@ ghost use Rattle.fiolargu.specs.declared.statuses.TheConstants.{NULL_HANDLE, OK,
 use crate::statuses::{NULL_HANDLE, OK, OUT_OF_MEMORY, OUT_OF_RANGE, SMALL_BUFFER};
 use crate::views::FoundHit;
 use c_handle::{PlanHandle, SharedPlan};
-use flow_scan::{Compiled, Hit, next_end, scan_until};
+use flow_scan::{Compiled, Hit, next_end};
 use std::alloc::Global;
 
 /// How many bytes the literal of a hit has.
@@ -73,30 +73,31 @@ pub extern "C" fn fiolargu_scan(
     let Some(mut held) = plan.take(alloc) else {
         return NULL_HANDLE;
     };
-    let status = scan_held(&mut held, text, place, buffer, count);
+    let status = scan_held(alloc, &mut held, text, place, buffer, count);
     plan.put(held);
     status
 }
 
 fn scan_held(
+    alloc: Global,
     held: &mut SharedPlan,
     text: &[u8],
     place: &mut usize,
     buffer: &mut [FoundHit],
     count: &mut usize,
 ) -> i32
-    ensures plan { held.new.plan.value ≡ held.old.plan.value }
+    ensures plan { held.new.plan ≡ held.old.plan }
     ensures found { result ≡ OK →
-        StopsAt held.old.plan.value.literals text.now place.old place.old (length buffer.old - length held.old.plan.value.literals.texts) place.new []
+        StopsAt held.old.plan.literals text.now place.old place.old (length buffer.old - length held.old.plan.literals.texts) place.new []
         (map hit_of (take count.new buffer.new)) }
-    ensures lengths { result ≡ OK → HaveLengths held.old.plan.value.literals (take count.new buffer.new) }
+    ensures lengths { result ≡ OK → HaveLengths held.old.plan.literals (take count.new buffer.new) }
     ensures not_null { result ≡ NULL_HANDLE → ⊥ }
-    ensures room { result ≡ SMALL_BUFFER ↔ (length buffer.old ≤ length held.old.plan.value.literals.texts) }
+    ensures room { result ≡ SMALL_BUFFER ↔ (length buffer.old ≤ length held.old.plan.literals.texts) }
     ensures range { result ≡ OUT_OF_RANGE → length text.now < place.old }
     ensures inside { result ≡ OK → place.old ≤ length text.now }
     ensures same { (result ≡ OK → ⊥) → (place.new ≡ place.old) × (count.new ≡ count.old) }
 {
-    let most = most_of(&held.plan, buffer);
+    let most = most_of(held.plan.plan(), buffer);
     if most == 0 {
         return SMALL_BUFFER;
     }
@@ -104,10 +105,13 @@ fn scan_held(
         return OUT_OF_RANGE;
     }
     held.out.clear();
-    match scan_until(&held.plan, text, *place, most, &mut held.out) {
+    match held
+        .plan
+        .scan_until(alloc, text, *place, most, &mut held.out)
+    {
         Ok(stop) => {
             *place = stop;
-            *count = write_hits(&held.plan, &held.out, buffer);
+            *count = write_hits(held.plan.plan(), &held.out, buffer);
             OK
         }
         Err(_) => OUT_OF_MEMORY,
@@ -133,7 +137,7 @@ pub extern "C" fn fiolargu_next(
     let Some(held) = plan.take(alloc) else {
         return NULL_HANDLE;
     };
-    let status = next_of(&held.plan, text, from, end);
+    let status = next_of(held.plan.plan(), text, from, end);
     plan.put(held);
     status
 }

@@ -1,6 +1,5 @@
 //! Exports that search streams.
 ghost use Rattle.std.specs.Prelude.{◌≡◌, ◌+◌, ◌-◌, ◌^◌, ◌≤◌, ◌<◌, ◌⊎◌, ◌↔◌, ℕ, [], IfSome, None, Some, length, map, take};
-ghost use Rattle.std.specs.Arc.{arc_value};
 ghost use Rattle.flow_scan.specs.Scanners.{fed as fed_by, started};
 ghost use Rattle.flow_scan.specs.Tails.{StopsIn};
 ghost use Rattle.fiolargu.specs.Found.{HaveLengths, hit_of, plan_of, stream_of};
@@ -10,9 +9,8 @@ use crate::scans::{most_of, write_hits};
 use crate::statuses::{NULL_HANDLE, OK, OUT_OF_MEMORY, SMALL_BUFFER, STREAM_TOO_LONG};
 use crate::views::FoundHit;
 use c_handle::{OpenStream, PlanHandle, StreamHandle};
-use flow_scan::{Compiled, Fault, Stream};
+use flow_scan::{Fault, Stream, TunedPlan};
 use std::alloc::Global;
-use std::sync::Arc;
 
 /// Puts a scan into a handle.
 fn set_stream(handle: &mut StreamHandle, alloc: Global, stream: Stream) -> i32
@@ -35,13 +33,13 @@ fn set_stream(handle: &mut StreamHandle, alloc: Global, stream: Stream) -> i32
 }
 
 /// Puts a new scan by a plan into a handle.
-fn open(handle: &mut StreamHandle, alloc: Global, plan: &Arc<Compiled>, base: u64) -> i32
-    ensures set { result ≡ OK → stream_of handle.new.held ≡ Some (started (arc_value plan.now) base) }
+fn open(handle: &mut StreamHandle, alloc: Global, plan: &TunedPlan, base: u64) -> i32
+    ensures set { result ≡ OK → stream_of handle.new.held ≡ Some (started plan.now base) }
     ensures same { (result ≡ OK → ⊥) → handle.new.held ≡ handle.old.held }
     ensures refused { (result ≡ OK) ⊎ (result ≡ OUT_OF_MEMORY) }
     ensures not_null { result ≡ NULL_HANDLE → ⊥ }
 {
-    let Ok(plan) = Arc::try_clone(plan) else {
+    let Ok(plan) = plan.share() else {
         return OUT_OF_MEMORY;
     };
     match Stream::new_at(alloc, plan, base) {
@@ -96,12 +94,13 @@ pub extern "C" fn fiolargu_stream_feed(
     let Some(mut held) = stream.take(alloc) else {
         return NULL_HANDLE;
     };
-    let status = feed_held(&mut held, piece, fed, buffer, count);
+    let status = feed_held(alloc, &mut held, piece, fed, buffer, count);
     stream.put(held);
     status
 }
 
 fn feed_held(
+    alloc: Global,
     held: &mut OpenStream,
     piece: &[u8],
     fed: &mut usize,
@@ -124,7 +123,7 @@ fn feed_held(
         return SMALL_BUFFER;
     }
     held.out.clear();
-    match held.stream.feed_until(piece, most, &mut held.out) {
+    match held.stream.feed_until(alloc, piece, most, &mut held.out) {
         Ok(stop) => {
             *fed = stop;
             *count = write_hits(held.stream.plan(), &held.out, buffer);

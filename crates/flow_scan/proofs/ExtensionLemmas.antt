@@ -6,12 +6,12 @@ use Rattle.std.specs.List.Sorted.{IsNonDecreasing}
 use Rattle.std.proofs.lemmas.Bool.{cases_eq, cases_lt}
 use Rattle.std.proofs.lemmas.List.{drop-map, get_or-map, get_or-replicate, get_or-set_other, get_or-set_same, length-drop, length-map, length-replicate, length-set, take_all}
 use Rattle.std.proofs.lemmas.Option.{get_or_from_slice_get, slice_get_within}
-use Rattle.lit_base.specs.Chains.{IsChained, IsNextWith, literal_at}
+use Rattle.list_index.specs.Chains.{IsChained, IsNextWith}
 use Rattle.flow_scan.specs.declared.extensions.TheConstants.{MOST_LITERALS}
 use Rattle.lit_base.specs.Folding.{folded, folded_text}
-use Rattle.lit_base.specs.Literals.{Literals, lengths}
+use Rattle.lit_base.specs.Literals.{Literals, lengths, literal_at}
 use Rattle.lit_base.specs.Occurrences.{IsFirstEnding, NoneEnds, Occurs}
-use Rattle.lit_base.proofs.SuffixLemmas.{drop-range}
+use Rattle.list_index.proofs.SuffixLemmas.{drop-range}
 use Rattle.flow_scan.specs.Extensions.{AreExtensions, IsLongestSuffix, IsSuffix}
 use Rattle.flow_scan.proofs.Occurring.{of_literal}
 

@@ -1,5 +1,5 @@
 -- Where a search through a piece stops, seen from its first bytes and from the rest of it.
-use Rattle.std.proofs.Common.{◌≡◌, ℕ, ◌+◌, ◌-◌, ◌<◌, ◌≤◌, List, [], ◌++◌, length, take, inl, inr, sym, subst, arith}
+use Rattle.std.proofs.Common.{◌≡◌, ℕ, ◌+◌, ◌-◌, ◌<◌, ◌≤◌, List, [], ◌++◌, length, take, inl, inr, sym, ◌∙◌, subst, arith}
 use Rattle.std.proofs.lemmas.Bool.{cases_lt}
 use Rattle.std.proofs.lemmas.List.{append-nil, length-append, length-take, take-take, take_all}
 use Rattle.lit_base.specs.Literals.{Literals}
@@ -83,6 +83,34 @@ gained_further l text from m stop old middle new starts further within early lat
     gained_joined l (take stop text) from m from old middle new starts (omega (arith, further, within, length-take stop text))
     (subst (λ t. GainsHitsBehind l t from from old middle) (sym front) early)
     (subst (λ x. GainsHitsBehind l (take stop text) m x middle new) told late)
+
+-- so too where the later search covers a span of the text
+pub span_gained : (l : Literals) (text : List ℕ) (from m span most stop : ℕ) (old middle new : List (ℕ × ℕ)) → from ≤ m → span ≤ length text
+    → GainsHitsBehind l (take m text) from from old middle → StopsAt l (take span text) m m most stop middle new → GainsHitsBehind l (take stop text) from from old new
+span_gained l text from m span most stop old middle new starts within early late =
+    let inside : stop ≤ span = omega (arith, late.within, length-take span text) in
+    let front : take stop (take span text) ≡ take stop text = take-take stop span text inside in
+    gained_further l text from m stop old middle new starts late.after (omega (arith, inside, within)) early (subst (λ t. GainsHitsBehind l t m m middle new) front late.gained)
+
+-- and it stops at the end of the text or after enough hits
+pub stopped_further : (l : Literals) (text : List ℕ) (from m span most stop : ℕ) (old middle new : List (ℕ × ℕ)) → from ≤ m → span ≤ length text → length middle ≤ length old + most
+    → GainsHitsBehind l (take m text) from from old middle → StopsAt l (take span text) m m (most - (length middle - length old)) stop middle new
+    → (stop < length text → length old + most ≤ length new) → StopsAt l text from from most stop old new
+stopped_further l text from m span most stop old middle new starts within room early late enough =
+    let more = gained_more old middle early.found early.grown in
+    record {
+      after = omega (arith, starts, late.after);
+      within = omega (arith, late.within, length-take span text, within);
+      gained = span_gained l text from m span (most - (length middle - length old)) stop old middle new starts within early late;
+      enough = enough;
+      few = omega (arith, late.few, room, more);
+    }
+
+-- a search of a span that gained too few hits reached its end
+pub span_end : (l : Literals) (text : List ℕ) (m span most stop : ℕ) (old middle new : List (ℕ × ℕ)) → span ≤ length text → length old ≤ length middle → length middle ≤ length old + most
+    → StopsAt l (take span text) m m (most - (length middle - length old)) stop middle new → length new - length old < most → stop ≡ span
+span_end l text m span most stop old middle new within more room late few =
+    to_end l (take span text) m m (most - (length middle - length old)) stop middle new late (omega (arith, few, more, room)) ∙ length-take span text ∙ omega (arith, within)
 
 -- nothing is gained where a search begins
 pub gained_nothing : (l : Literals) (text : List ℕ) (from at : ℕ) (old : List (ℕ × ℕ)) → GainsHitsBehind l (take from text) from at old old

@@ -1,7 +1,7 @@
 -- Output links: literals of a list that end with other literals of it.
 use Rattle.std.specs.Prelude.{◌≡◌, ℕ, ◌<◌, ◌≤◌, ◌⊎◌, List, length, slice_index}
-use Rattle.lit_base.specs.Chains.{IsChained, literal_at}
-use Rattle.lit_base.specs.Literals.{IsNormal, Literals}
+use Rattle.list_index.specs.Chains.{IsChained}
+use Rattle.lit_base.specs.Literals.{IsNormal, Literals, literal_at}
 use Rattle.lit_base.specs.Occurrences.{Occurs}
 use Rattle.flow_scan.specs.declared.extensions.TheConstants.{MOST_LITERALS}
 

@@ -31,7 +31,7 @@ const FRONT: usize = 3;
 /// shorter.
 #[inline(always)]
 pub(crate) fn claims_behind(
-    windows: &Windows<'_>,
+    windows: &Windows,
     text: &[u8],
     seen: usize,
     marks: u64,
@@ -51,7 +51,7 @@ pub(crate) fn claims_behind(
 
 /// As `claims_behind` for `count` positions near the start or the end of a text: each is probed singly.
 #[inline(never)]
-fn look_at_each(windows: &Windows<'_>, text: &[u8], seen: usize, count: usize, marks: u64) -> u64
+fn look_at_each(windows: &Windows, text: &[u8], seen: usize, count: usize, marks: u64) -> u64
     requires few { count ≤ BLOCK }
     requires inside { seen + count ≤ length text.now }
     ensures { (from : ℕ)
@@ -72,7 +72,7 @@ fn look_at_each(windows: &Windows<'_>, text: &[u8], seen: usize, count: usize, m
 /// As `claims_behind` for a whole block within the text. With masks it probes the positions that pass, otherwise every
 /// position that is a multiple of the stride into the block.
 #[inline(always)]
-fn look_at_block(windows: &Windows<'_>, text: &[u8], seen: usize, marks: u64, met: &mut Met) -> u64
+fn look_at_block(windows: &Windows, text: &[u8], seen: usize, marks: u64, met: &mut Met) -> u64
     requires behind { 3 ≤ seen }
     requires inside { seen + 64 ≤ length text.now }
     ensures { (from : ℕ)
@@ -88,7 +88,7 @@ fn look_at_block(windows: &Windows<'_>, text: &[u8], seen: usize, marks: u64, me
 /// The pending ends of a block, by probes where the masks pass.
 #[inline(always)]
 fn sieve_block(
-    windows: &Windows<'_>,
+    windows: &Windows,
     masks: &ByteMasks,
     text: &[u8],
     seen: usize,
@@ -110,7 +110,7 @@ fn sieve_block(
 
 /// The pending ends of a block, by probes at the positions in `passing`.
 #[inline(always)]
-fn sieve(windows: &Windows<'_>, text: &[u8], seen: usize, marks: u64, passing: u64) -> u64
+fn sieve(windows: &Windows, text: &[u8], seen: usize, marks: u64, passing: u64) -> u64
     requires behind { 3 ≤ seen }
     requires inside { seen + 64 ≤ length text.now }
     requires passing { ArePassing windows.now text.now seen passing }
@@ -132,7 +132,7 @@ fn sieve(windows: &Windows<'_>, text: &[u8], seen: usize, marks: u64, passing: u
 
 /// The pending ends of a block, by probes that are a stride apart. Lists with short literals have a loop of their own.
 #[inline(always)]
-fn stride(windows: &Windows<'_>, text: &[u8], seen: usize, marks: u64) -> u64
+fn stride(windows: &Windows, text: &[u8], seen: usize, marks: u64) -> u64
     requires behind { 3 ≤ seen }
     requires inside { seen + 64 ≤ length text.now }
     ensures { (from : ℕ)
@@ -147,7 +147,7 @@ fn stride(windows: &Windows<'_>, text: &[u8], seen: usize, marks: u64) -> u64
 
 /// As `stride`, for lists with short literals.
 #[inline(never)]
-fn stride_by_all_widths(windows: &Windows<'_>, text: &[u8], seen: usize, marks: u64) -> u64
+fn stride_by_all_widths(windows: &Windows, text: &[u8], seen: usize, marks: u64) -> u64
     requires behind { 3 ≤ seen }
     requires inside { seen + 64 ≤ length text.now }
     ensures { (from : ℕ)
@@ -159,7 +159,7 @@ fn stride_by_all_widths(windows: &Windows<'_>, text: &[u8], seen: usize, marks: 
 
 /// As `stride`, by probes that are a stride apart, the first of them at the block's first position.
 #[inline(always)]
-fn stride_over(windows: &Windows<'_>, text: &[u8], seen: usize, marks: u64, has_short: bool) -> u64
+fn stride_over(windows: &Windows, text: &[u8], seen: usize, marks: u64, has_short: bool) -> u64
     requires behind { 3 ≤ seen }
     requires inside { seen + 64 ≤ length text.now }
     ensures { (from : ℕ)
@@ -181,7 +181,7 @@ fn stride_over(windows: &Windows<'_>, text: &[u8], seen: usize, marks: u64, has_
 /// block and its pending ends, as `claims_behind` gives them. No literal ends after `seen` and up to this position.
 #[inline(always)]
 pub(crate) fn next_claims(
-    windows: &Windows<'_>,
+    windows: &Windows,
     text: &[u8],
     seen: usize,
     marks: u64,
@@ -207,7 +207,7 @@ pub(crate) fn next_claims(
 /// As `next_claims`, with masks. While no end is pending, it skips blocks in which no position passes.
 #[inline(always)]
 fn sieve_ahead(
-    windows: &Windows<'_>,
+    windows: &Windows,
     masks: &ByteMasks,
     text: &[u8],
     seen: usize,
@@ -242,7 +242,7 @@ fn sieve_ahead(
 /// As `next_claims`, without masks. While no end is pending, it skips probes without hash bits.
 #[inline(always)]
 fn stride_ahead(
-    windows: &Windows<'_>,
+    windows: &Windows,
     text: &[u8],
     seen: usize,
     marks: u64,
@@ -263,7 +263,7 @@ fn stride_ahead(
 
 /// A position from `seen` on up to which nothing ends. While no end is pending, it skips probes without hash bits.
 #[inline(always)]
-fn skip_quiet(windows: &Windows<'_>, text: &[u8], seen: usize, marks: u64) -> usize
+fn skip_quiet(windows: &Windows, text: &[u8], seen: usize, marks: u64) -> usize
     requires behind { 3 ≤ seen }
     requires inside { seen ≤ length text.now }
     ensures ahead { seen ≤ result }
@@ -281,7 +281,7 @@ fn skip_quiet(windows: &Windows<'_>, text: &[u8], seen: usize, marks: u64) -> us
 
 /// A position from `seen` on up to which no probe has hash bits.
 #[inline(always)]
-fn skip_strides(windows: &Windows<'_>, text: &[u8], seen: usize) -> usize
+fn skip_strides(windows: &Windows, text: &[u8], seen: usize) -> usize
     requires behind { 3 ≤ seen }
     requires inside { seen ≤ length text.now }
     ensures ahead { seen ≤ result }
@@ -298,7 +298,7 @@ fn skip_strides(windows: &Windows<'_>, text: &[u8], seen: usize) -> usize
 
 /// As `skip_unmarked`, for lists with short literals.
 #[inline(never)]
-fn skip_by_all_widths(windows: &Windows<'_>, text: &[u8], seen: usize) -> usize
+fn skip_by_all_widths(windows: &Windows, text: &[u8], seen: usize) -> usize
     requires behind { 3 ≤ seen }
     requires inside { seen ≤ length text.now }
     ensures ahead { seen ≤ result }
@@ -312,7 +312,7 @@ fn skip_by_all_widths(windows: &Windows<'_>, text: &[u8], seen: usize) -> usize
 
 /// A position from `seen` on up to which no probe has hash bits, by two probes a turn.
 #[inline(always)]
-fn skip_unmarked(windows: &Windows<'_>, text: &[u8], seen: usize, has_short: bool) -> usize
+fn skip_unmarked(windows: &Windows, text: &[u8], seen: usize, has_short: bool) -> usize
     requires behind { 3 ≤ seen }
     requires inside { seen ≤ length text.now }
     ensures ahead { seen ≤ result }

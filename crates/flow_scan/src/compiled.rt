@@ -1,5 +1,6 @@
 //! Literals with a certified plan.
 ghost use Rattle.std.specs.Prelude.{◌≡◌, ℕ, ◌<◌, ◌↔◌, IfErr, IfOk, IfSome, IsOk, List, MatchOption, None, OnOk, Some, length};
+ghost use Rattle.std.specs.Arc.{arc_value};
 ghost use Rattle.std.specs.List.{slice_get};
 ghost use Rattle.std.specs.Option.{IsSome};
 ghost use Rattle.lit_base.specs.Literals.{lengths};
@@ -20,14 +21,17 @@ use crate::extensions::Extensions;
 use crate::fault::Fault;
 use crate::hit::Hit;
 use lane_filter::Sieve;
+use list_index::ListIndex;
 use lit_base::LitList;
 use lit_cert::{Certificate, certified_law, check};
+use std::alloc::AllocError;
 use std::marker::Model;
+use std::sync::Arc;
 
 /// Literals with a certified plan. Code that holds one needs no check.
 #[derive(Debug, Drop)]
 pub struct Compiled {
-    list: LitList,
+    index: Arc<ListIndex>,
     certificate: Certificate,
     sieve: Sieve,
     extensions: Option<Extensions>,
@@ -38,9 +42,9 @@ impl Model for Compiled {
 
     ghost Value = { Plan };
 
-    ghost view = { λ p. record { literals = p.list; certificate = p.certificate } };
+    ghost view = { λ p. record { literals = p.index.value; certificate = p.certificate } };
 
-    ghost invariant = { λ p. IsCompiled p.list p.certificate p.sieve p.extensions };
+    ghost invariant = { λ p. IsCompiled p.index.value p.certificate p.sieve p.extensions };
 }
 
 impl Compiled {
@@ -48,30 +52,30 @@ impl Compiled {
     /// Otherwise `NotCertified` with the first condition that fails, and the list and the certificate unchanged. It
     /// takes no memory.
     pub fn new(
-        list: LitList,
+        index: Arc<ListIndex>,
         certificate: Certificate,
-    ) -> Result<Compiled, (Fault, LitList, Certificate)>
-        ensures certified { IsOk result ↔ IsCertified list certificate }
-        ensures ok { IfOk result (λ p. p ≡ record { literals = list; certificate = certificate }) }
-        ensures refused { IfErr result (λ refusal. IsRefusalOf list certificate refusal.0 refusal.1 refusal.2) }
-        ensures least { OnOk result (NoAssignmentBelow (buckets certificate.profile) list certificate.cost) }
+    ) -> Result<Compiled, (Fault, Arc<ListIndex>, Certificate)>
+        ensures certified { IsOk result ↔ IsCertified index.value certificate }
+        ensures ok { IfOk result (λ p. p ≡ record { literals = index.value; certificate = certificate }) }
+        ensures refused { IfErr result (λ refusal. IsRefusalOf index.value certificate refusal.0 (arc_value refusal.1) refusal.2) }
+        ensures least { OnOk result (NoAssignmentBelow (buckets certificate.profile) index.value certificate.cost) }
     {
-        match check(&list, &certificate) {
-            Ok(()) => Ok(Compiled::certified(list, certificate)),
-            Err(reason) => Err((Fault::NotCertified { reason }, list, certificate)),
+        match check(index.list(), &certificate) {
+            Ok(()) => Ok(Compiled::certified(index, certificate)),
+            Err(reason) => Err((Fault::NotCertified { reason }, index, certificate)),
         }
     }
 
     /// The plan of a certificate that is known to hold, such as a new one of the planner. It is not checked again. It
     /// takes no memory.
-    pub fn certified(list: LitList, certificate: Certificate) -> Compiled
-        requires { IsCertified list certificate }
-        ensures { result ≡ record { literals = list; certificate = certificate } }
+    pub fn certified(index: Arc<ListIndex>, certificate: Certificate) -> Compiled
+        requires { IsCertified index.value certificate }
+        ensures { result ≡ record { literals = index.value; certificate = certificate } }
     {
-        let sieve = Sieve::of(&list, &certificate.ends);
-        let extensions = Extensions::of(&list);
+        let sieve = Sieve::of(index.list(), &certificate.ends);
+        let extensions = Extensions::of(&index);
         Compiled {
-            list,
+            index,
             certificate,
             sieve,
             extensions,
@@ -82,7 +86,22 @@ impl Compiled {
     pub fn list(&self) -> &LitList
         ensures { result.now ≡ self.now.literals }
     {
-        &self.list
+        self.index.list()
+    }
+
+    /// The literals with the tables by which a search finds them.
+    #[inline]
+    pub fn index(&self) -> &ListIndex
+        ensures { result.now ≡ self.now.literals }
+    {
+        &self.index
+    }
+
+    /// A share of them.
+    pub(crate) fn shared_index(&self) -> Result<Arc<ListIndex>, AllocError>
+        ensures { IfOk result (λ index. index.value ≡ self.now.literals) }
+    {
+        Ok(Arc::try_clone(&self.index)?)
     }
 
     /// The certificate of the plan.
@@ -100,8 +119,9 @@ impl Compiled {
             (λ literal. slice_get self.now.literals.texts hit.0 ≡ Some literal.now) }
     {
         let place = usize::from(hit.lit);
-        if place < self.list.len() {
-            Some(self.list.get(place))
+        let list = self.list();
+        if place < list.len() {
+            Some(list.get(place))
         } else {
             None
         }
@@ -141,7 +161,7 @@ impl Compiled {
         ensures small { result < MAX_LITERAL_LEN }
         ensures bounds { HasBounds self.now.literals }
     {
-        carry(&self.list)
+        carry(self.index.list())
     }
 }
 

@@ -33,39 +33,36 @@ use text_windows::{EndRate, ShiftOr, Windows};
 /// shift-or and, for scans, the automaton, and changes to the cheapest if this promises a gain. Its results do not
 /// depend on this. It takes all its memory when it is made.
 #[derive(Debug, Drop)]
-pub struct EndFinder<'p> {
-    compiled: &'p Compiled,
-    windows: Windows<'p>,
-    shift_or: ShiftOr<'p>,
-    automaton: Automaton<'p>,
+pub struct EndFinder {
+    windows: Windows,
+    shift_or: ShiftOr,
+    automaton: Automaton,
     /// Bytes gathered from short pieces of a stream. The finder takes the sample out while it tunes.
     sample: Option<Sample>,
     strategy: Strategy,
 }
 
-impl<'p> Model for EndFinder<'p> {
+impl Model for EndFinder {
     ghost use Rattle.std.specs.Prelude.{◌≡◌};
-    ghost use Rattle.flow_scan.specs.Plans.{Plan};
+    ghost use Rattle.lit_base.specs.Literals.{Literals};
 
-    ghost Value = { Plan };
+    ghost Value = { Literals };
 
-    ghost view = { λ s. s.compiled.now };
+    ghost view = { λ s. s.windows.literals };
 
-    ghost invariant = { λ s. (s.windows.literals ≡ s.compiled.now.literals) × (s.shift_or.literals ≡ s.compiled.now.literals)
-        × (s.automaton.literals ≡ s.compiled.now.literals) };
+    ghost invariant = { λ s. (s.shift_or.literals ≡ s.windows.literals) × (s.automaton.literals ≡ s.windows.literals) };
 }
 
-impl<'p> EndFinder<'p> {
+impl EndFinder {
     /// A search by a plan, before any text.
-    pub fn new(alloc: Global, compiled: &'p Compiled) -> Result<EndFinder<'p>, AllocError>
-        ensures { IfOk result (λ finder. finder ≡ compiled.now) }
+    pub fn new(alloc: Global, compiled: &Compiled) -> Result<EndFinder, AllocError>
+        ensures { IfOk result (λ finder. finder ≡ compiled.now.literals) }
     {
-        let windows = Windows::new(alloc, compiled.list())?;
-        let shift_or = ShiftOr::new(alloc, compiled.list())?;
-        let automaton = Automaton::new(alloc, compiled.list())?;
+        let windows = Windows::new(alloc, compiled.shared_index()?)?;
+        let shift_or = ShiftOr::new(alloc, compiled.shared_index()?)?;
+        let automaton = Automaton::new(alloc, compiled.shared_index()?)?;
         let sample = Sample::new(alloc)?;
         Ok(EndFinder {
-            compiled,
             windows,
             shift_or,
             automaton,
@@ -78,9 +75,9 @@ impl<'p> EndFinder<'p> {
     /// whatever the text.
     pub fn new_unless_few(
         alloc: Global,
-        compiled: &'p Compiled,
-    ) -> Result<Option<EndFinder<'p>>, AllocError>
-        ensures plan { IfOk result (λ finder. IfSome finder (λ plan. plan ≡ compiled.now)) }
+        compiled: &Compiled,
+    ) -> Result<Option<EndFinder>, AllocError>
+        ensures plan { IfOk result (λ finder. IfSome finder (λ literals. literals ≡ compiled.now.literals)) }
         ensures few { IfOk result (λ finder. IfNone finder (length compiled.now.literals.texts ≤ 3)) }
         ensures many { IfOk result (λ finder. IfSome finder (λ _. 3 < length compiled.now.literals.texts)) }
     {
@@ -88,13 +85,6 @@ impl<'p> EndFinder<'p> {
             return Ok(None);
         }
         Ok(Some(EndFinder::new(alloc, compiled)?))
-    }
-
-    /// The plan.
-    pub fn compiled(&self) -> &'p Compiled
-        ensures { result.now ≡ self.now }
-    {
-        self.compiled
     }
 
     /// The engine in use.
@@ -105,32 +95,33 @@ impl<'p> EndFinder<'p> {
 
     /// The first position of the text after `from` at which some literal ends, wherever it begins, or `None`. It takes
     /// no memory.
-    pub fn next_end(&mut self, text: &[u8], from: usize) -> Option<usize>
+    pub fn next_end(&mut self, compiled: &Compiled, text: &[u8], from: usize) -> Option<usize>
+        requires { self.old ≡ compiled.now.literals }
         ensures same { self.new ≡ self.old }
         ensures next { MatchOption result
-            (NoEndAfter self.old.literals text.now from)
-            (IsNextEnd self.old.literals text.now from) }
+            (NoEndAfter compiled.now.literals text.now from)
+            (IsNextEnd compiled.now.literals text.now from) }
     {
-        let compiled = self.compiled;
         self.next_end_of(&mut TextSearch::new(compiled, text), from)
     }
 
     /// The first position of a search's text after `from` at which some literal ends, wherever it begins, or `None`. As
     /// `next_end` of the text, but faster for one end after another. It takes no memory.
     pub fn next_end_of(&mut self, search: &mut TextSearch<'_>, from: usize) -> Option<usize>
-        requires { search.old.plan ≡ self.old }
+        requires { self.old ≡ search.old.plan.literals }
         ensures same { self.new ≡ self.old }
         ensures search { search.new ≡ search.old }
         ensures next { MatchOption result
-            (NoEndAfter self.old.literals search.old.text from)
-            (IsNextEnd self.old.literals search.old.text from) }
+            (NoEndAfter search.old.plan.literals search.old.text from)
+            (IsNextEnd search.old.plan.literals search.old.text from) }
     {
         let text = search.text();
-        let start = skip_short_ends(self.compiled.list(), from);
+        let compiled = search.compiled();
+        let start = skip_short_ends(compiled.index(), from);
         if start >= text.len() {
             return None;
         }
-        self.learn_if_due(text, start, Wanted::Ends);
+        self.learn_if_due(compiled, text, start, Wanted::Ends);
         match self.next_behind(search, start) {
             Some((end, _)) => Some(end),
             None => None,
@@ -139,30 +130,30 @@ impl<'p> EndFinder<'p> {
 
     /// As `next_end_of`, by the engine in use.
     fn next_behind(&mut self, search: &mut TextSearch<'_>, from: usize) -> Option<(usize, usize)>
-        requires plan { search.old.plan ≡ self.old }
+        requires plan { self.old ≡ search.old.plan.literals }
         requires inside { from < length search.old.text }
         ensures same { self.new ≡ self.old }
         ensures search { search.new ≡ search.old }
         ensures next { MatchOption result
-            (NoEndAfter self.old.literals search.old.text from)
-            (λ found. IsNextEnd self.old.literals search.old.text from found.0) }
+            (NoEndAfter search.old.plan.literals search.old.text from)
+            (λ found. IsNextEnd search.old.plan.literals search.old.text from found.0) }
     {
         match self.engine() {
-            Engine::Windows => self.next_windowed(search.text(), from),
-            Engine::ShiftOr => self.next_shifted(search.text(), from),
+            Engine::Windows => self.next_windowed(search.compiled(), search.text(), from),
+            Engine::ShiftOr => self.next_shifted(search.compiled(), search.text(), from),
             Engine::Automaton | Engine::Plan => self.next_by_plan(search, from),
         }
     }
 
     /// As `next_end_of`, by the plan.
     fn next_by_plan(&mut self, search: &mut TextSearch<'_>, from: usize) -> Option<(usize, usize)>
-        requires plan { search.old.plan ≡ self.old }
+        requires plan { self.old ≡ search.old.plan.literals }
         requires inside { from ≤ length search.old.text }
         ensures same { self.new ≡ self.old }
         ensures search { search.new ≡ search.old }
         ensures next { MatchOption result
-            (NoEndAfter self.old.literals search.old.text from)
-            (λ found. IsNextEnd self.old.literals search.old.text from found.0) }
+            (NoEndAfter search.old.plan.literals search.old.text from)
+            (λ found. IsNextEnd search.old.plan.literals search.old.text from found.0) }
     {
         let before = search.missed();
         let found = search.next_after(from);
@@ -178,50 +169,80 @@ impl<'p> EndFinder<'p> {
     pub fn scan_behind(
         &mut self,
         alloc: Global,
+        compiled: &Compiled,
         text: &[u8],
         from: usize,
     ) -> Result<Vec<Hit>, Fault>
-        requires { from ≤ length text.now }
+        requires plan { self.old ≡ compiled.now.literals }
+        requires inside { from ≤ length text.now }
         ensures same { self.new ≡ self.old }
-        ensures ok { IfOk result (λ hits. AreHitsBehind self.old.literals text.now from from hits.items) }
-        ensures continues { IfOk result (λ hits. Continues self.old.literals text.now from hits.items) }
+        ensures ok { IfOk result (λ hits. AreHitsBehind compiled.now.literals text.now from from hits.items) }
+        ensures continues { IfOk result (λ hits. Continues compiled.now.literals text.now from hits.items) }
         ensures refused { IsOkUnless result OutOfMemory }
 
         // Where nothing ends after the position, it takes no memory.
-        ensures quiet { NoEndAfter self.old.literals text.now from → IsOk result }
+        ensures quiet { NoEndAfter compiled.now.literals text.now from → IsOk result }
     {
-        let _carry = self.compiled.carry();
+        let _carry = compiled.carry();
         let mut hits = Vec::new(alloc);
+        self.add_spans(compiled, text, from, usize::MAX, &mut hits)?;
+        Ok(hits)
+    }
+
+    /// Adds the hits of a text that end after `from`, up to the first end by which `out` gained at least `most` hits, as
+    /// `scan_until` does. It tunes itself on the way, before each span of the text.
+    pub(crate) fn add_spans(
+        &mut self,
+        compiled: &Compiled,
+        text: &[u8],
+        from: usize,
+        most: usize,
+        out: &mut Vec<Hit>,
+    ) -> Result<usize, AllocError>
+        requires plan { self.old ≡ compiled.now.literals }
+        requires inside { from ≤ length text.now }
+        ensures same { self.new ≡ self.old }
+        ensures ok { IfOk result (λ stop. StopsAt compiled.now.literals text.now from from most stop out.old.items out.new.items) }
+        ensures kept { Extends out.old.items out.new.items }
+        ensures quiet { NoEndAfter compiled.now.literals text.now from → IsOk result }
+    {
+        let before = out.len();
         let mut place = from;
         'spans: while place < text.len() {
-            self.learn_if_sure(text, place);
+            self.learn_if_sure(compiled, text, place);
             let stop = text
                 .len()
                 .min(place.saturating_add(span_behind(place - from)));
             let (front, _) = text.split_at(stop);
-            self.add_hits(front, place, place as u64, usize::MAX, &mut hits)?;
-            place = stop;
+            let left = most - (out.len() - before);
+            let end = self.add_hits(compiled, front, place, place as u64, left, out)?;
+            if out.len() - before >= most {
+                return Ok(end);
+            }
+            place = end;
         }
-        Ok(hits)
+        Ok(text.len())
     }
 
     /// Adds hits by the plan, as `add_hits` does.
     fn add_hits_plainly(
         &mut self,
+        compiled: &Compiled,
         text: &[u8],
         from: usize,
         at: u64,
         most: usize,
         out: &mut Vec<Hit>,
     ) -> Result<usize, AllocError>
+        requires plan { self.old ≡ compiled.now.literals }
         requires inside { from ≤ length text.now }
         requires room { at + (length text.now - from) < 2 ^ 64 }
         ensures same { self.new ≡ self.old }
-        ensures ok { IfOk result (λ stop. StopsAt self.old.literals text.now from at most stop out.old.items out.new.items) }
+        ensures ok { IfOk result (λ stop. StopsAt compiled.now.literals text.now from at most stop out.old.items out.new.items) }
         ensures kept { Extends out.old.items out.new.items }
-        ensures quiet { NoEndAfter self.old.literals text.now from → IsOk result }
+        ensures quiet { NoEndAfter compiled.now.literals text.now from → IsOk result }
     {
-        let mut ends = SievedEnds::behind(self.compiled, text, from);
+        let mut ends = SievedEnds::behind(compiled, text, from);
         let stop = add_hits_of(&mut ends, text, from, at, most, out)?;
         let met = ends.met();
         let spent = cost_by_plan(met.passed, met.ends);
@@ -233,20 +254,22 @@ impl<'p> EndFinder<'p> {
     /// Adds hits by factors, as `add_hits` does.
     fn add_hits_windowed(
         &mut self,
+        compiled: &Compiled,
         text: &[u8],
         from: usize,
         at: u64,
         most: usize,
         out: &mut Vec<Hit>,
     ) -> Result<usize, AllocError>
+        requires plan { self.old ≡ compiled.now.literals }
         requires inside { from ≤ length text.now }
         requires room { at + (length text.now - from) < 2 ^ 64 }
         ensures same { self.new ≡ self.old }
-        ensures ok { IfOk result (λ stop. StopsAt self.old.literals text.now from at most stop out.old.items out.new.items) }
+        ensures ok { IfOk result (λ stop. StopsAt compiled.now.literals text.now from at most stop out.old.items out.new.items) }
         ensures kept { Extends out.old.items out.new.items }
-        ensures quiet { NoEndAfter self.old.literals text.now from → IsOk result }
+        ensures quiet { NoEndAfter compiled.now.literals text.now from → IsOk result }
     {
-        let mut ends = WindowedEnds::behind(self.compiled, &self.windows, text, from);
+        let mut ends = WindowedEnds::behind(compiled, &self.windows, text, from);
         let stop = add_hits_of(&mut ends, text, from, at, most, out)?;
         let met = ends.met();
         let found = EndRate::of_scan(met.ends);
@@ -256,14 +279,20 @@ impl<'p> EndFinder<'p> {
     }
 
     /// As `next_end`, by factors.
-    fn next_windowed(&mut self, text: &[u8], from: usize) -> Option<(usize, usize)>
-        requires { from < length text.now }
+    fn next_windowed(
+        &mut self,
+        compiled: &Compiled,
+        text: &[u8],
+        from: usize,
+    ) -> Option<(usize, usize)>
+        requires plan { self.old ≡ compiled.now.literals }
+        requires inside { from < length text.now }
         ensures same { self.new ≡ self.old }
         ensures next { MatchOption result
-            (NoEndAfter self.old.literals text.now from)
-            (λ found. IsNextEnd self.old.literals text.now from found.0) }
+            (NoEndAfter compiled.now.literals text.now from)
+            (λ found. IsNextEnd compiled.now.literals text.now from found.0) }
     {
-        let mut ends = WindowedEnds::behind(self.compiled, &self.windows, text, from);
+        let mut ends = WindowedEnds::behind(compiled, &self.windows, text, from);
         let found = ends.next_end();
         let met = ends.met();
         let count = passed(text, from, found);
@@ -275,20 +304,22 @@ impl<'p> EndFinder<'p> {
     /// Adds hits by shift-or, as `add_hits` does.
     fn add_hits_shifted(
         &mut self,
+        compiled: &Compiled,
         text: &[u8],
         from: usize,
         at: u64,
         most: usize,
         out: &mut Vec<Hit>,
     ) -> Result<usize, AllocError>
+        requires plan { self.old ≡ compiled.now.literals }
         requires inside { from ≤ length text.now }
         requires room { at + (length text.now - from) < 2 ^ 64 }
         ensures same { self.new ≡ self.old }
-        ensures ok { IfOk result (λ stop. StopsAt self.old.literals text.now from at most stop out.old.items out.new.items) }
+        ensures ok { IfOk result (λ stop. StopsAt compiled.now.literals text.now from at most stop out.old.items out.new.items) }
         ensures kept { Extends out.old.items out.new.items }
-        ensures quiet { NoEndAfter self.old.literals text.now from → IsOk result }
+        ensures quiet { NoEndAfter compiled.now.literals text.now from → IsOk result }
     {
-        let mut ends = ShiftedEnds::behind(self.compiled, &self.shift_or, text, from);
+        let mut ends = ShiftedEnds::behind(compiled, &self.shift_or, text, from);
         let stop = add_hits_of(&mut ends, text, from, at, most, out)?;
         let met = ends.met();
         let found = EndRate::of_scan(met.ends);
@@ -298,14 +329,20 @@ impl<'p> EndFinder<'p> {
     }
 
     /// As `next_end`, by shift-or.
-    fn next_shifted(&mut self, text: &[u8], from: usize) -> Option<(usize, usize)>
-        requires { from < length text.now }
+    fn next_shifted(
+        &mut self,
+        compiled: &Compiled,
+        text: &[u8],
+        from: usize,
+    ) -> Option<(usize, usize)>
+        requires plan { self.old ≡ compiled.now.literals }
+        requires inside { from < length text.now }
         ensures same { self.new ≡ self.old }
         ensures next { MatchOption result
-            (NoEndAfter self.old.literals text.now from)
-            (λ found. IsNextEnd self.old.literals text.now from found.0) }
+            (NoEndAfter compiled.now.literals text.now from)
+            (λ found. IsNextEnd compiled.now.literals text.now from found.0) }
     {
-        let mut ends = ShiftedEnds::behind(self.compiled, &self.shift_or, text, from);
+        let mut ends = ShiftedEnds::behind(compiled, &self.shift_or, text, from);
         let found = ends.next_end();
         let count = passed(text, from, found);
         let marked = ends.met().marked;
@@ -317,70 +354,72 @@ impl<'p> EndFinder<'p> {
     /// Adds hits by the automaton, as `add_hits` does, or by the plan if the automaton is not made.
     fn add_hits_told(
         &mut self,
+        compiled: &Compiled,
         text: &[u8],
         from: usize,
         at: u64,
         most: usize,
         out: &mut Vec<Hit>,
     ) -> Result<usize, AllocError>
+        requires plan { self.old ≡ compiled.now.literals }
         requires inside { from ≤ length text.now }
         requires room { at + (length text.now - from) < 2 ^ 64 }
         ensures same { self.new ≡ self.old }
-        ensures ok { IfOk result (λ stop. StopsAt self.old.literals text.now from at most stop out.old.items out.new.items) }
+        ensures ok { IfOk result (λ stop. StopsAt compiled.now.literals text.now from at most stop out.old.items out.new.items) }
         ensures kept { Extends out.old.items out.new.items }
-        ensures quiet { NoEndAfter self.old.literals text.now from → IsOk result }
+        ensures quiet { NoEndAfter compiled.now.literals text.now from → IsOk result }
     {
         let Some(reading) = self.automaton.reading_behind(text, from) else {
-            return self.add_hits_plainly(text, from, at, most, out);
+            return self.add_hits_plainly(compiled, text, from, at, most, out);
         };
-        let mut ends = ToldEnds::of(self.compiled, &self.automaton, text, reading);
+        let mut ends = ToldEnds::of(compiled, &self.automaton, text, reading);
         let stop = add_hits_of(&mut ends, text, from, at, most, out)?;
         let found = ends.ends();
-        let spent = self.cost_to_tell(stop - from, found);
+        let spent = self.cost_to_tell(compiled, stop - from, found);
         self.strategy
             .note(stop - from, spent, EndRate::of_scan(found));
         Ok(stop)
     }
 
     /// Tunes itself to the text after `from`, if the rest is expected to gain by that.
-    fn learn_if_sure(&mut self, text: &[u8], from: usize)
+    fn learn_if_sure(&mut self, compiled: &Compiled, text: &[u8], from: usize)
         requires { from ≤ length text.now }
         ensures { self.new ≡ self.old }
     {
         if self.strategy.tunes_before(text.len() - from) {
-            self.learn(text, from, Wanted::Hits);
+            self.learn(compiled, text, from, Wanted::Hits);
         }
     }
 
     /// Tunes itself to the text after `from`, if it is due and the text is long enough for a sample. A search for hits
     /// gathers a shorter text.
     #[inline(always)]
-    fn learn_if_due(&mut self, text: &[u8], from: usize, wanted: Wanted)
+    fn learn_if_due(&mut self, compiled: &Compiled, text: &[u8], from: usize, wanted: Wanted)
         requires { from ≤ length text.now }
         ensures { self.new ≡ self.old }
     {
         match self.strategy.step(text.len() - from, wanted) {
             Step::GoOn => (),
-            Step::Gather => self.gather(text, from),
-            Step::Tune => self.learn(text, from, wanted),
+            Step::Gather => self.gather(compiled, text, from),
+            Step::Tune => self.learn(compiled, text, from, wanted),
         }
     }
 
     /// Gathers the bytes of a piece after `from`, unless they are too short, and tunes itself once the sample is full.
     #[inline(never)]
-    fn gather(&mut self, text: &[u8], from: usize)
+    fn gather(&mut self, compiled: &Compiled, text: &[u8], from: usize)
         requires { from ≤ length text.now }
         ensures { self.new ≡ self.old }
     {
         let (_, rest) = text.split_at(from);
-        if rest.len() < least_gathered(self.compiled.list().len()) {
+        if rest.len() < least_gathered(compiled.index().len()) {
             return;
         }
         let Some(mut sample) = self.sample.take() else {
             return;
         };
         if sample.add(rest) {
-            self.learn(sample.text(), 0, Wanted::Hits);
+            self.learn(compiled, sample.text(), 0, Wanted::Hits);
             sample.clear();
         }
         self.sample = Some(sample);
@@ -388,17 +427,17 @@ impl<'p> EndFinder<'p> {
 
     /// Tunes itself to a sample of the text after `from`.
     #[inline(never)]
-    fn learn(&mut self, text: &[u8], from: usize, wanted: Wanted)
+    fn learn(&mut self, compiled: &Compiled, text: &[u8], from: usize, wanted: Wanted)
         requires { from ≤ length text.now }
         ensures { self.new ≡ self.old }
     {
         let (_, behind) = text.split_at(from);
-        let most = sample_len(self.compiled.list().len());
+        let most = sample_len(compiled.index().len());
         let (sample, _) = behind.split_at(behind.len().min(most));
         let rate = self.strategy.rate();
         let dense = cost_of_dense_ends(rate);
         let by_windows = self.windows.learn(sample, rate).saturating_add(dense);
-        let told = self.cost_if_told(wanted, rate);
+        let told = self.cost_if_told(compiled, wanted, rate);
         let is_told = self.makes_automaton(wants_automaton_first(told, by_windows));
         let by_shift_or = if !is_told && wants_shift_or(by_windows) {
             self.shift_or.learn(sample, rate).saturating_add(dense)
@@ -426,36 +465,37 @@ impl<'p> EndFinder<'p> {
 
     /// The estimate of a scan by the automaton for 1,024 bytes with ends at this rate; `usize::MAX` for single ends,
     /// which the automaton does not search for.
-    fn cost_if_told(&self, wanted: Wanted, rate: EndRate) -> usize {
+    fn cost_if_told(&self, compiled: &Compiled, wanted: Wanted, rate: EndRate) -> usize {
         match wanted {
-            Wanted::Hits => self.cost_to_tell(1024, rate.ends),
+            Wanted::Hits => self.cost_to_tell(compiled, 1024, rate.ends),
             Wanted::Ends => usize::MAX,
         }
     }
 
     /// The cost of a scan by the automaton for `count` bytes with `ends` ends.
-    fn cost_to_tell(&self, count: usize, ends: usize) -> usize {
-        cost_by_automaton(self.automaton.room(), self.compiled.carry(), count, ends)
+    fn cost_to_tell(&self, compiled: &Compiled, count: usize, ends: usize) -> usize {
+        cost_by_automaton(self.automaton.room(), compiled.carry(), count, ends)
     }
 }
 
-impl<'p> HitSearch for EndFinder<'p> {
-    ghost plan = { λ finder. finder };
+impl HitSearch for EndFinder {
+    ghost serves = { λ finder literals. finder ≡ literals };
 
     fn add_hits(
         &mut self,
+        compiled: &Compiled,
         text: &[u8],
         from: usize,
         at: u64,
         most: usize,
         out: &mut Vec<Hit>,
     ) -> Result<usize, AllocError> {
-        self.learn_if_due(text, from, Wanted::Hits);
+        self.learn_if_due(compiled, text, from, Wanted::Hits);
         match self.strategy.engine_for(text.len() - from) {
-            Engine::Windows => self.add_hits_windowed(text, from, at, most, out),
-            Engine::ShiftOr => self.add_hits_shifted(text, from, at, most, out),
-            Engine::Automaton => self.add_hits_told(text, from, at, most, out),
-            Engine::Plan => self.add_hits_plainly(text, from, at, most, out),
+            Engine::Windows => self.add_hits_windowed(compiled, text, from, at, most, out),
+            Engine::ShiftOr => self.add_hits_shifted(compiled, text, from, at, most, out),
+            Engine::Automaton => self.add_hits_told(compiled, text, from, at, most, out),
+            Engine::Plan => self.add_hits_plainly(compiled, text, from, at, most, out),
         }
     }
 }

@@ -11,7 +11,7 @@ use crate::hit::Hit;
 use crate::met::Met;
 use crate::searching::add_hits_at;
 use lane_filter::Candidates;
-use lit_base::LitList;
+use list_index::ListIndex;
 use std::alloc::AllocError;
 use std::marker::Model;
 
@@ -67,7 +67,7 @@ impl<'a> Ends for SievedEnds<'a> {
     #[inline(always)]
     fn next_end(&mut self) -> Option<(usize, usize)> {
         let found = next_verified(
-            self.compiled.list(),
+            self.compiled.index(),
             self.text,
             &mut self.candidates,
             &mut self.met,
@@ -92,7 +92,7 @@ impl<'a> Ends for SievedEnds<'a> {
 /// candidates come from a prefilter for the literals. Counts candidates at which nothing ends in `met`. It takes no
 /// memory.
 pub(crate) fn next_verified(
-    list: &LitList,
+    list: &ListIndex,
     text: &[u8],
     candidates: &mut Candidates,
     met: &mut Met,

@@ -4,12 +4,12 @@
 //! it; the Aho-Corasick automaton follows its output links to that literal. Where a literal ends, at most one literal
 //! that extends it directly ends too.
 ghost use Rattle.std.specs.Prelude.{◌≡◌, ℕ, ◌+◌, ◌<◌, ◌≤◌, IfSome, MatchOption, length, slice_index};
-ghost use Rattle.lit_base.specs.Chains.{IsChained};
+ghost use Rattle.list_index.specs.Chains.{IsChained};
 ghost use Rattle.lit_base.specs.Occurrences.{IsFirstEnding, NoneEnds, Occurs};
 ghost use Rattle.flow_scan.specs.declared.extensions.TheConstants.{MOST_LITERALS};
 ghost use Rattle.flow_scan.specs.Extensions.{AreExtensions, IsLongestSuffix};
 
-use lit_base::LitList;
+use list_index::ListIndex;
 
 /// A list has no output links if one of its literals has this many suffixes among the others. Otherwise a list of
 /// literals that are suffixes of the next would take long. In lists of words a literal has one or two.
@@ -40,7 +40,7 @@ pub(crate) struct Extensions {
 impl Extensions {
     /// The output links of a list, or `None` if it has more than `MOST_LITERALS` literals or one of them has too many
     /// suffixes.
-    pub(crate) fn of(list: &LitList) -> Option<Extensions>
+    pub(crate) fn of(list: &ListIndex) -> Option<Extensions>
         ensures { IfSome result (λ found. AreExtensions list.now found.heads found.links) }
     {
         list.normal_law();
@@ -79,7 +79,7 @@ impl Extensions {
     #[inline]
     pub(crate) fn next_ending(
         &self,
-        list: &LitList,
+        list: &ListIndex,
         text: &[u8],
         end: usize,
         place: usize,
@@ -110,7 +110,7 @@ impl Extensions {
 
 /// The longest literal before `place` that is a suffix of the literal there, or `NONE`. Returns `None` if it has too
 /// many.
-fn longest_suffix(list: &LitList, place: usize) -> Option<usize>
+fn longest_suffix(list: &ListIndex, place: usize) -> Option<usize>
     requires within { place < length list.now.texts }
     requires few { place < MOST_LITERALS }
     ensures longest { IfSome result (IsLongestSuffix list.now place) }

@@ -40,12 +40,7 @@ fn cost_of_looks(stride: usize, count: usize) -> usize {
 }
 
 /// The cost of a search by factors that passed `count` bytes, with the counters `met` and the ends `found`.
-pub(crate) fn cost_by_windows(
-    windows: &Windows<'_>,
-    count: usize,
-    met: Met,
-    found: EndRate,
-) -> usize {
+pub(crate) fn cost_by_windows(windows: &Windows, count: usize, met: Met, found: EndRate) -> usize {
     let looks = match windows.masks() {
         Some(_) => cost_of_sieve(windows, count, met.passed),
         None => cost_of_strides(windows, count, found),
@@ -56,13 +51,13 @@ pub(crate) fn cost_by_windows(
 }
 
 /// The cost of the masks for `count` bytes, in which `passed` positions passed.
-fn cost_of_sieve(windows: &Windows<'_>, count: usize, passed: usize) -> usize {
+fn cost_of_sieve(windows: &Windows, count: usize, passed: usize) -> usize {
     let sieve = count.saturating_mul(SIEVE_COST) / 1024;
     sieve.saturating_add(windows.cost_of_passes(passed, count))
 }
 
 /// The cost of probes a stride apart.
-fn cost_of_strides(windows: &Windows<'_>, count: usize, found: EndRate) -> usize {
+fn cost_of_strides(windows: &Windows, count: usize, found: EndRate) -> usize {
     let stride = windows.stride();
     let widths = windows.widths();
     cost_of_looks(stride, count)

@@ -61,6 +61,11 @@ impl Progress {
         self.base + self.count
     }
 
+    /// How many bytes were fed.
+    pub(crate) fn fed(&self) -> u64 {
+        self.count
+    }
+
     /// Feeds the next piece up to the first end by which `out` gained at least `most` hits, or all of it. Adds the hits
     /// that the search finds in the fed bytes, and returns how many bytes were fed.
     ///
@@ -74,9 +79,9 @@ impl Progress {
         most: usize,
         out: &mut Vec<Hit>,
     ) -> Result<usize, Fault>
-        requires plan { S.plan search.old ≡ compiled.now }
+        requires plan { S.serves search.old compiled.now.literals }
         requires carry { self.old.carry ≡ carry_of compiled.now.literals }
-        ensures plan { S.plan search.new ≡ S.plan search.old }
+        ensures plan { S.serves search.new compiled.now.literals }
         ensures ok { IfOk result (λ count. self.new ≡ advanced self.old (take count piece.now)) }
         ensures hits { IfOk result (λ count. StopsIn compiled.now.literals self.old.tail piece.now self.old.place most count out.old.items out.new.items) }
         ensures too_long { IsErrOf result StreamTooLong ↔ (2 ^ 64 ≤ self.old.place + length piece.now) }
@@ -139,17 +144,17 @@ fn add_piece<S: HitSearch>(
     most: usize,
     out: &mut Vec<Hit>,
 ) -> Result<usize, AllocError>
-    requires plan { S.plan search.old ≡ compiled.now }
+    requires plan { S.serves search.old compiled.now.literals }
     requires carry { seam.now.carry ≡ carry_of compiled.now.literals }
     requires front { seam.now.front ≡ take seam.now.carry piece.now }
     requires room { at + length piece.now < 2 ^ 64 }
-    ensures plan { S.plan search.new ≡ S.plan search.old }
+    ensures plan { S.serves search.new compiled.now.literals }
     ensures ok { IfOk result (λ count. StopsIn compiled.now.literals seam.now.tail piece.now at most count out.old.items out.new.items) }
     ensures kept { Extends out.old.items out.new.items }
     ensures quiet { NoEndAfter compiled.now.literals (seam.now.tail ++ piece.now) (length seam.now.tail) → IsOk result }
 {
     let before = out.len();
-    let stop = search.add_hits(seam.text(), seam.tail_len(), at, most, out)?;
+    let stop = search.add_hits(compiled, seam.text(), seam.tail_len(), at, most, out)?;
     let gained = out.len() - before;
     if gained >= most {
         return Ok(stop - seam.tail_len());
@@ -158,6 +163,13 @@ fn add_piece<S: HitSearch>(
     if piece.len() <= carry {
         return Ok(stop - seam.tail_len());
     }
-    let in_place = search.add_hits(piece, carry, at + carry as u64, most - gained, out)?;
+    let in_place = search.add_hits(
+        compiled,
+        piece,
+        carry,
+        at + carry as u64,
+        most - gained,
+        out,
+    )?;
     Ok(in_place)
 }

@@ -98,11 +98,8 @@ impl<'p> Scanner<'p> {
         ensures quiet { NoEndAfter self.old.plan.literals (self.old.tail ++ piece.now) (length self.old.tail)
             → IsOkUnless result StreamTooLong }
     {
-        let mut search = PlainSearch {
-            compiled: self.compiled,
-        };
         self.progress
-            .feed_by(&mut search, self.compiled, piece, most, out)
+            .feed_by(&mut PlainSearch, self.compiled, piece, most, out)
     }
 
     /// Feeds the next piece as `feed_until` does, by a finder that tunes itself to it. The finder has the scan's plan,
@@ -111,12 +108,12 @@ impl<'p> Scanner<'p> {
     /// Refusals as for `feed`, for the whole piece.
     pub fn feed_learning(
         &mut self,
-        finder: &mut EndFinder<'_>,
+        finder: &mut EndFinder,
         piece: &[u8],
         most: usize,
         out: &mut Vec<Hit>,
     ) -> Result<usize, Fault>
-        requires { finder.old ≡ self.old.plan }
+        requires { finder.old ≡ self.old.plan.literals }
         ensures finder { finder.new ≡ finder.old }
         ensures ok { IfOk result (λ count. self.new ≡ fed self.old (take count piece.now)) }
         ensures hits { IfOk result (λ count. StopsIn self.old.plan.literals self.old.tail piece.now self.old.place most count out.old.items out.new.items) }

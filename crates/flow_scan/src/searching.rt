@@ -11,7 +11,7 @@ use crate::extensions::Extensions;
 use crate::hit::Hit;
 use crate::met::Met;
 use lane_filter::Candidates;
-use lit_base::LitList;
+use list_index::ListIndex;
 use std::alloc::AllocError;
 
 /// The first position of the text after `from` at which some literal ends, wherever it begins, or `None`. It takes no
@@ -21,7 +21,7 @@ pub fn next_end(compiled: &Compiled, text: &[u8], from: usize) -> Option<usize>
         (NoEndAfter compiled.now.literals text.now from)
         (IsNextEnd compiled.now.literals text.now from) }
 {
-    let list = compiled.list();
+    let list = compiled.index();
     let start = skip_short_ends(list, from);
     if start >= text.len() {
         return None;
@@ -47,12 +47,12 @@ pub(crate) fn next_plainly(
         (λ found. IsNextEnd compiled.now.literals text.now from found.0) }
 {
     let mut candidates = Candidates::new(compiled.sieve(), text, from);
-    next_verified(compiled.list(), text, &mut candidates, met)
+    next_verified(compiled.index(), text, &mut candidates, met)
 }
 
 /// A position from `from` on up to which no literal can end, since each is longer. A search that begins there skips the
 /// single probes near the start of a text.
-pub(crate) fn skip_short_ends(list: &LitList, from: usize) -> usize
+pub(crate) fn skip_short_ends(list: &ListIndex, from: usize) -> usize
     ensures ahead { from ≤ result }
     ensures none { (text : List ℕ) → NoEndUpTo list.now text from result }
 {
@@ -79,7 +79,7 @@ pub(crate) fn add_hits_at(
     ensures few { OnOk result (length out.new.items ≤ length out.old.items + length compiled.now.literals.texts) }
     ensures kept { Extends out.old.items out.new.items }
 {
-    let list = compiled.list();
+    let list = compiled.index();
     match compiled.extensions() {
         Some(extensions) => add_extending(list, extensions, text, end, first, at, out),
         None => add_all_at(list, text, end, first, at, out),
@@ -89,7 +89,7 @@ pub(crate) fn add_hits_at(
 /// As `add_hits_at`, by the output links.
 #[inline]
 fn add_extending(
-    list: &LitList,
+    list: &ListIndex,
     extensions: &Extensions,
     text: &[u8],
     end: usize,
@@ -116,7 +116,7 @@ fn add_extending(
 /// As `add_hits_at`, without output links.
 #[inline(never)]
 fn add_all_at(
-    list: &LitList,
+    list: &ListIndex,
     text: &[u8],
     end: usize,
     first: usize,
@@ -138,7 +138,7 @@ fn add_all_at(
 }
 
 /// The hit of the literal at `place`.
-pub(crate) fn hit_of(list: &LitList, place: usize, at: u64) -> Hit
+pub(crate) fn hit_of(list: &ListIndex, place: usize, at: u64) -> Hit
     requires { place < length list.now.texts }
     ensures { result ≡ (place, at) }
 {

@@ -9,7 +9,7 @@ use crate::ends::Ends;
 use crate::hit::Hit;
 use crate::met::Met;
 use crate::searching::add_hits_at;
-use lit_base::LitList;
+use list_index::ListIndex;
 use std::alloc::AllocError;
 use std::marker::Model;
 use text_windows::{Looks, ShiftOr};
@@ -19,8 +19,8 @@ use text_windows::{Looks, ShiftOr};
 /// false positives in `met`. It takes no memory.
 #[inline(always)]
 fn next_end_by_looks(
-    shift_or: &ShiftOr<'_>,
-    list: &LitList,
+    shift_or: &ShiftOr,
+    list: &ListIndex,
     text: &[u8],
     from: usize,
     looks: &mut Looks,
@@ -42,16 +42,16 @@ fn next_end_by_looks(
 
 /// The ends in a text, found by shift-or.
 #[derive(Drop)]
-pub(crate) struct ShiftedEnds<'a, 'p> {
+pub(crate) struct ShiftedEnds<'a> {
     compiled: &'a Compiled,
-    shift_or: &'a ShiftOr<'p>,
+    shift_or: &'a ShiftOr,
     text: &'a [u8],
     place: usize,
     looks: Looks,
     met: Met,
 }
 
-impl<'a, 'p> Model for ShiftedEnds<'a, 'p> {
+impl<'a> Model for ShiftedEnds<'a> {
     ghost use Rattle.std.specs.Prelude.{◌≡◌};
     ghost use Rattle.flow_scan.specs.Walks.{Walk};
     ghost use Rattle.text_windows.specs.Looks.{AreLooksBehind};
@@ -64,14 +64,14 @@ impl<'a, 'p> Model for ShiftedEnds<'a, 'p> {
         × (w.shift_or.now.literals ≡ w.compiled.now.literals) };
 }
 
-impl<'a, 'p> ShiftedEnds<'a, 'p> {
+impl<'a> ShiftedEnds<'a> {
     /// The ends after a position.
     pub fn behind(
         compiled: &'a Compiled,
-        shift_or: &'a ShiftOr<'p>,
+        shift_or: &'a ShiftOr,
         text: &'a [u8],
         from: usize,
-    ) -> ShiftedEnds<'a, 'p>
+    ) -> ShiftedEnds<'a>
         requires { shift_or.now.literals ≡ compiled.now.literals }
         ensures { result ≡ record { literals = compiled.now.literals; text = text.now; from = from } }
     {
@@ -92,7 +92,7 @@ impl<'a, 'p> ShiftedEnds<'a, 'p> {
     }
 }
 
-impl<'a, 'p> Ends for ShiftedEnds<'a, 'p> {
+impl<'a> Ends for ShiftedEnds<'a> {
     ghost walk = { λ w. w };
 
     ghost tells = { λ w end first. IsFirstEnding w.literals w.text 0 end first };
@@ -102,7 +102,7 @@ impl<'a, 'p> Ends for ShiftedEnds<'a, 'p> {
         let mut looks = self.looks;
         let found = next_end_by_looks(
             self.shift_or,
-            self.compiled.list(),
+            self.compiled.index(),
             self.text,
             self.place,
             &mut looks,

@@ -7,9 +7,10 @@ ghost use Rattle.flow_scan.specs.Scanners.{Scanning, fed, started};
 ghost use Rattle.flow_scan.specs.Tails.{StopsIn, carry_of};
 
 use crate::compiled::Compiled;
+use crate::end_finder::EndFinder;
 use crate::fault::Fault;
 use crate::hit::Hit;
-use crate::hit_search::PlainSearch;
+use crate::learning::make_if_long;
 use crate::progress::Progress;
 use std::alloc::Global;
 use std::marker::Model;
@@ -20,10 +21,12 @@ use std::sync::Arc;
 pub struct Stream {
     plan: Arc<Compiled>,
     progress: Progress,
+    /// The finder that tunes itself to the stream, once enough bytes were fed.
+    finder: Option<EndFinder>,
 }
 
 impl Model for Stream {
-    ghost use Rattle.std.specs.Prelude.{◌≡◌};
+    ghost use Rattle.std.specs.Prelude.{◌≡◌, IfSome};
     ghost use Rattle.flow_scan.specs.Scanners.{Scanning, scanning};
     ghost use Rattle.flow_scan.specs.Tails.{carry_of};
 
@@ -31,7 +34,8 @@ impl Model for Stream {
 
     ghost view = { λ s. scanning s.plan.value s.progress };
 
-    ghost invariant = { λ s. s.progress.carry ≡ carry_of s.plan.value.literals };
+    ghost invariant = { λ s. (s.progress.carry ≡ carry_of s.plan.value.literals)
+        × IfSome s.finder (λ list. list ≡ s.plan.value.literals) };
 }
 
 impl Stream {
@@ -41,7 +45,11 @@ impl Stream {
         ensures refused { IsOkUnless result OutOfMemory }
     {
         let progress = Progress::new(alloc, plan.carry(), base)?;
-        Ok(Stream { plan, progress })
+        Ok(Stream {
+            plan,
+            progress,
+            finder: None,
+        })
     }
 
     /// The plan.
@@ -59,6 +67,7 @@ impl Stream {
     /// comes only if a literal ends in the piece. A refusal leaves the scan and `out` unchanged.
     pub fn feed_until(
         &mut self,
+        alloc: Global,
         piece: &[u8],
         most: usize,
         out: &mut Vec<Hit>,
@@ -71,14 +80,15 @@ impl Stream {
         ensures same { OnErr result (self.new ≡ self.old) }
         ensures same_hits { OnErr result (out.new.items ≡ out.old.items) }
 
-        // Where nothing ends in the piece, it takes no memory.
+        // Where nothing ends in the piece, it does not fail for want of memory.
         ensures quiet { NoEndAfter self.old.plan.literals (self.old.tail ++ piece.now) (length self.old.tail)
             → IsOkUnless result StreamTooLong }
     {
         let compiled: &Compiled = &self.plan;
-        let mut search = PlainSearch { compiled };
+        let count = self.progress.fed().saturating_add(piece.len() as u64);
+        make_if_long(&mut self.finder, alloc, compiled, count);
         self.progress
-            .feed_by(&mut search, compiled, piece, most, out)
+            .feed_by(&mut self.finder, compiled, piece, most, out)
     }
 
     /// The position reached: the base and how many bytes were fed.
@@ -96,7 +106,11 @@ impl Stream {
     {
         let progress = self.progress.copy()?;
         match Arc::try_clone(&self.plan) {
-            Ok(plan) => Ok(Stream { plan, progress }),
+            Ok(plan) => Ok(Stream {
+                plan,
+                progress,
+                finder: None,
+            }),
             Err(_) => Err(Fault::OutOfMemory),
         }
     }

@@ -56,7 +56,7 @@ impl<'a> TextSearch<'a> {
             (NoEndAfter self.old.plan.literals self.old.text from)
             (IsNextEnd self.old.plan.literals self.old.text from) }
     {
-        let start = skip_short_ends(self.compiled.list(), from);
+        let start = skip_short_ends(self.compiled.index(), from);
         if start >= self.text.len() {
             return None;
         }
@@ -77,11 +77,18 @@ impl<'a> TextSearch<'a> {
     {
         self.candidates.skip_to(from);
         next_verified(
-            self.compiled.list(),
+            self.compiled.index(),
             self.text,
             &mut self.candidates,
             &mut self.met,
         )
+    }
+
+    /// The plan.
+    pub(crate) fn compiled(&self) -> &'a Compiled
+        ensures { result.now ≡ self.now.plan }
+    {
+        self.compiled
     }
 
     /// The text.

@@ -7,22 +7,22 @@ use crate::compiled::Compiled;
 use crate::ends::Ends;
 use crate::hit::Hit;
 use crate::searching::hit_of;
-use lit_base::LitList;
+use list_index::ListIndex;
 use std::alloc::AllocError;
 use std::marker::Model;
 use text_automaton::{Automaton, Reading};
 
 /// The ends in a text, found by the automaton.
 #[derive(Drop)]
-pub(crate) struct ToldEnds<'a, 'p> {
+pub(crate) struct ToldEnds<'a> {
     compiled: &'a Compiled,
-    automaton: &'a Automaton<'p>,
+    automaton: &'a Automaton,
     text: &'a [u8],
     reading: Reading,
     ends: usize,
 }
 
-impl<'a, 'p> Model for ToldEnds<'a, 'p> {
+impl<'a> Model for ToldEnds<'a> {
     ghost use Rattle.std.specs.Prelude.{◌≡◌};
     ghost use Rattle.flow_scan.specs.Walks.{ToldWalk};
     ghost use Rattle.text_automaton.specs.Automata.{IsReading, place_of};
@@ -38,14 +38,14 @@ impl<'a, 'p> Model for ToldEnds<'a, 'p> {
         × (w.automaton.now.literals ≡ w.compiled.now.literals) };
 }
 
-impl<'a, 'p> ToldEnds<'a, 'p> {
+impl<'a> ToldEnds<'a> {
     /// The ends after the position that `reading` has reached.
     pub fn of(
         compiled: &'a Compiled,
-        automaton: &'a Automaton<'p>,
+        automaton: &'a Automaton,
         text: &'a [u8],
         reading: Reading,
-    ) -> ToldEnds<'a, 'p>
+    ) -> ToldEnds<'a>
         requires literals { automaton.now.literals ≡ compiled.now.literals }
         requires reading { IsReading automaton.now text.now reading }
         ensures { result.walk ≡ record { literals = compiled.now.literals; text = text.now; from = place_of reading } }
@@ -65,7 +65,7 @@ impl<'a, 'p> ToldEnds<'a, 'p> {
     }
 }
 
-impl<'a, 'p> Ends for ToldEnds<'a, 'p> {
+impl<'a> Ends for ToldEnds<'a> {
     ghost walk = { λ w. w.walk };
 
     ghost tells = { λ w end state. IsStateAt w.telling w.walk.text end state × (w.telling.is_made ≡ true)
@@ -87,7 +87,7 @@ impl<'a, 'p> Ends for ToldEnds<'a, 'p> {
         out: &mut Vec<Hit>,
     ) -> Result<(), AllocError> {
         let places = self.automaton.told_by(told);
-        add_told(self.compiled.list(), self.text, end, places, at, out)
+        add_told(self.compiled.index(), self.text, end, places, at, out)
     }
 }
 
@@ -95,7 +95,7 @@ impl<'a, 'p> Ends for ToldEnds<'a, 'p> {
 /// stay added.
 #[inline(always)]
 fn add_told(
-    list: &LitList,
+    list: &ListIndex,
     text: &[u8],
     end: usize,
     told: &[u16],

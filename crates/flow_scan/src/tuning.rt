@@ -96,3 +96,7 @@ pub(crate) const MOST_WAIT: usize = 128;
 /// A finder tunes at once if the loss expected in the rest of a text in memory is this multiple of the loss that it
 /// waits for. Not varied.
 pub(crate) const SURE: usize = 10;
+
+/// A search has a finder once this many bytes were searched. At two nanoseconds a byte, a slow search of them takes as
+/// long as it takes to make a finder and to tune it.
+pub(crate) const LEAST_LEARNED: u64 = 262_144;

@@ -12,7 +12,7 @@ use crate::ends::Ends;
 use crate::hit::Hit;
 use crate::met::Met;
 use crate::searching::add_hits_at;
-use lit_base::LitList;
+use list_index::ListIndex;
 use std::alloc::AllocError;
 use std::marker::Model;
 use text_windows::Windows;
@@ -33,7 +33,7 @@ pub(crate) struct Claims {
 
 impl Claims {
     /// The pending ends of a search after `from`. It takes no memory.
-    pub fn behind(windows: &Windows<'_>, text: &[u8], from: usize, met: &mut Met) -> Claims
+    pub fn behind(windows: &Windows, text: &[u8], from: usize, met: &mut Met) -> Claims
         requires { from ≤ length text.now }
         ensures claims { AreClaims windows.now text.now result }
         ensures seen { result.seen ≡ from }
@@ -73,8 +73,8 @@ impl Claims {
     #[inline(never)]
     pub fn next_end(
         &mut self,
-        windows: &Windows<'_>,
-        list: &LitList,
+        windows: &Windows,
+        list: &ListIndex,
         text: &[u8],
         met: &mut Met,
     ) -> Option<(usize, usize)>
@@ -104,7 +104,7 @@ impl Claims {
 
     /// The first pending end at which some literal ends, with the first such literal.
     #[inline(always)]
-    fn first_end(self, windows: &Windows<'_>, list: &LitList, text: &[u8]) -> Option<(usize, usize)>
+    fn first_end(self, windows: &Windows, list: &ListIndex, text: &[u8]) -> Option<(usize, usize)>
         requires list { windows.now.literals ≡ list.now }
         requires claims { AreClaims windows.now text.now self }
         ensures next { MatchOption result
@@ -121,7 +121,7 @@ impl Claims {
 
     /// The pending ends of the next block, after a block in which nothing ends.
     #[inline(always)]
-    fn next_block(self, windows: &Windows<'_>, text: &[u8], met: &mut Met) -> Claims
+    fn next_block(self, windows: &Windows, text: &[u8], met: &mut Met) -> Claims
         requires claims { AreClaims windows.now text.now self }
         requires left { self.seen + self.count < length text.now }
         ensures claims { AreClaims windows.now text.now result }
@@ -142,15 +142,15 @@ impl Claims {
 
 /// The ends in a text, found by factors.
 #[derive(Drop)]
-pub(crate) struct WindowedEnds<'a, 'p> {
+pub(crate) struct WindowedEnds<'a> {
     compiled: &'a Compiled,
-    windows: &'a Windows<'p>,
+    windows: &'a Windows,
     text: &'a [u8],
     claims: Claims,
     met: Met,
 }
 
-impl<'a, 'p> Model for WindowedEnds<'a, 'p> {
+impl<'a> Model for WindowedEnds<'a> {
     ghost use Rattle.std.specs.Prelude.{◌≡◌};
     ghost use Rattle.flow_scan.specs.Walks.{Walk};
     ghost use Rattle.flow_scan.specs.Windowed.{AreClaims};
@@ -163,14 +163,14 @@ impl<'a, 'p> Model for WindowedEnds<'a, 'p> {
         × (w.windows.now.literals ≡ w.compiled.now.literals) };
 }
 
-impl<'a, 'p> WindowedEnds<'a, 'p> {
+impl<'a> WindowedEnds<'a> {
     /// The ends after a position.
     pub fn behind(
         compiled: &'a Compiled,
-        windows: &'a Windows<'p>,
+        windows: &'a Windows,
         text: &'a [u8],
         from: usize,
-    ) -> WindowedEnds<'a, 'p>
+    ) -> WindowedEnds<'a>
         requires literals { windows.now.literals ≡ compiled.now.literals }
         requires inside { from ≤ length text.now }
         ensures { result ≡ record { literals = compiled.now.literals; text = text.now; from = from } }
@@ -192,14 +192,14 @@ impl<'a, 'p> WindowedEnds<'a, 'p> {
     }
 }
 
-impl<'a, 'p> Ends for WindowedEnds<'a, 'p> {
+impl<'a> Ends for WindowedEnds<'a> {
     ghost walk = { λ w. w };
 
     ghost tells = { λ w end first. IsFirstEnding w.literals w.text 0 end first };
 
     #[inline(always)]
     fn next_end(&mut self) -> Option<(usize, usize)> {
-        let list = self.compiled.list();
+        let list = self.compiled.index();
         self.claims
             .next_end(self.windows, list, self.text, &mut self.met)
     }
@@ -220,7 +220,7 @@ impl<'a, 'p> Ends for WindowedEnds<'a, 'p> {
 /// positions with a bit in `marks` are tried.
 #[inline(never)]
 fn first_marked(
-    list: &LitList,
+    list: &ListIndex,
     text: &[u8],
     seen: usize,
     count: usize,

@@ -2,6 +2,7 @@
 ghost use Rattle.std.specs.Prelude.{◌≡◌, ℕ, ◌<◌, ◌||◌, Bool, List, [], IfOk, IfSome, Some, false, length, true};
 ghost use Rattle.byte_io.specs.Sources.{Content, IsShort, coming_of};
 ghost use Rattle.grep_run.specs.Requests.{test_of};
+ghost use Rattle.line_pick.specs.Matching.{list_of};
 ghost use Rattle.grep_run.specs.Scanning.{FeedsPiece, HasFed, ReadsLines, StandsBehind};
 ghost use Rattle.grep_run.specs.declared.options.GrepOptions.{GrepOptions};
 ghost use Rattle.grep_run.specs.Writers.{Writer, is_write_fault, writer};
@@ -15,8 +16,8 @@ use lit_base::{ByteIn, ByteOut, Failed, MAX_TURNS};
 use std::alloc::{AllocError, Global};
 
 /// A finder that tunes itself to the inputs of a request, if the request has enough literals to gain by it.
-fn finder_for<'a>(request: &Request<'a>) -> Result<Option<EndFinder<'a>>, AllocError>
-    ensures { IfOk result (λ finder. IfSome finder (λ plan. request.now.patterns.now.plan ≡ Some plan)) }
+fn finder_for(request: &Request<'_>) -> Result<Option<EndFinder>, AllocError>
+    ensures { IfOk result (λ finder. IfSome finder (λ list. list_of request.now.patterns.now.plan ≡ Some list)) }
 {
     match request.patterns.plan.as_ref() {
         Some(plan) => EndFinder::new_unless_few(request.alloc, plan),
@@ -26,8 +27,8 @@ fn finder_for<'a>(request: &Request<'a>) -> Result<Option<EndFinder<'a>>, AllocE
 
 /// A picker of the lines that a request selects, before any text, with what learned from the inputs before. It counts lines
 /// only where their numbers are written.
-pub fn picker_for<'a>(request: &Request<'a>, finder: Option<EndFinder<'a>>) -> Picker<'a>
-    requires { IfSome finder (λ plan. request.now.patterns.now.plan ≡ Some plan) }
+pub fn picker_for<'a>(request: &Request<'a>, finder: Option<EndFinder>) -> Picker<'a>
+    requires { IfSome finder (λ list. list_of request.now.patterns.now.plan ≡ Some list) }
     ensures fed { HasFed (test_of request.now) [] result }
     ensures numbers { result.is_numbered ≡ request.now.options.now.number }
     ensures plan { result.plan ≡ request.now.patterns.now.plan }
@@ -41,8 +42,21 @@ pub fn picker_for<'a>(request: &Request<'a>, finder: Option<EndFinder<'a>>) -> P
 }
 
 /// A picker that counts lines.
-fn numbered_picker_for<'a>(request: &Request<'a>, finder: Option<EndFinder<'a>>) -> Picker<'a>
-    requires { IfSome finder (λ plan. request.now.patterns.now.plan ≡ Some plan) }
+fn numbered_picker_for<'a>(request: &Request<'a>, finder: Option<EndFinder>) -> Picker<'a>
+    requires { IfSome finder (λ list. list_of request.now.patterns.now.plan ≡ Some list) }
+    ensures fed { HasFed (test_of request.now) [] result }
+    ensures numbers { result.is_numbered ≡ true }
+    ensures plan { result.plan ≡ request.now.patterns.now.plan }
+{
+    let picker = plain_picker_for(request);
+    match finder {
+        Some(finder) => picker.learning_by(finder),
+        None => picker,
+    }
+}
+
+/// A picker that counts lines, and whose search does not learn.
+fn plain_picker_for<'a>(request: &Request<'a>) -> Picker<'a>
     ensures fed { HasFed (test_of request.now) [] result }
     ensures numbers { result.is_numbered ≡ true }
     ensures plan { result.plan ≡ request.now.patterns.now.plan }
@@ -52,15 +66,8 @@ fn numbered_picker_for<'a>(request: &Request<'a>, finder: Option<EndFinder<'a>>)
         whole: request.options.whole,
     };
     let patterns = request.patterns;
-    match finder {
-        Some(finder) => Picker::by_finder(request.alloc, finder, patterns.has_empty, rule),
-        None => Picker::new(
-            request.alloc,
-            patterns.plan.as_ref(),
-            patterns.has_empty,
-            rule,
-        ),
-    }
+    let plan = patterns.plan.as_ref();
+    Picker::new(request.alloc, plan, patterns.has_empty, rule)
 }
 
 /// Reads the lines of an input into the block, as far as they are wanted. What a piece gives is written

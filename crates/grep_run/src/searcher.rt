@@ -9,6 +9,7 @@ ghost use Rattle.grep_run.specs.Requests.{test_of};
 ghost use Rattle.grep_run.specs.Searching.{Searches, SearchesAsk, SearchesAsks};
 ghost use Rattle.grep_run.specs.declared.searcher.TheConstants.{LEAST_READ_SIZE, READ_SIZE, UNUSED};
 ghost use Rattle.grep_run.specs.Writers.{Writer, Writes, WritesFront, is_write_fault, writer};
+ghost use Rattle.line_pick.specs.Matching.{list_of};
 
 use crate::block::Block;
 use crate::message::say_unreadable;
@@ -92,14 +93,14 @@ fn longest_name(options: &GrepOptions) -> usize {
 struct Searcher<'a> {
     request: Request<'a>,
     /// What has learned from the inputs so far, once one was long enough, if the request gains by that.
-    finder: Option<EndFinder<'a>>,
+    finder: Option<EndFinder>,
     /// How many inputs were searched before.
     searched: usize,
     block: Block<'a>,
     /// Memory for a piece, after the unused bytes.
     memory: Vec<u8>,
     ghost room: { UNUSED < vec_len memory },
-    ghost plan: { IfSome finder (λ plan. request.patterns.now.plan ≡ Some plan) } by { Prim.hlevel props },
+    ghost plan: { IfSome finder (λ list. list_of request.patterns.now.plan ≡ Some list) } by { Prim.hlevel props },
 }
 
 impl<'a> Searcher<'a> {

@@ -4,6 +4,7 @@ use Rattle.std.specs.Option.{option_copied}
 use Rattle.lit_base.specs.declared.fold.Fold.{Fold}
 use Rattle.lit_base.specs.declared.fold.Fold.TheVariants.{No}
 use Rattle.lit_base.specs.Lines.{IsOnePiece}
+use Rattle.lit_base.specs.Literals.{Literals}
 use Rattle.lit_base.specs.NormalForm.{IsNormalForm}
 use Rattle.lit_base.specs.Selected.{is_selected, matches}
 use Rattle.flow_scan.specs.Plans.{Plan}
@@ -14,6 +15,11 @@ use Rattle.line_pick.specs.declared.matcher.Matcher.{Matcher}
 abbrev pub literals_of : Option Plan → List (List ℕ)
 literals_of None = []
 literals_of (Some plan) = plan.literals.texts
+
+-- the list of a plan, if there is one
+abbrev pub list_of : Option Plan → Option Literals
+list_of None = None
+list_of (Some plan) = Some plan.literals
 
 -- the fold that they are compared under; the null pattern asks for none
 abbrev pub fold_of : Option Plan → Fold

@@ -42,13 +42,13 @@ impl<'t> HitLine<'t> {
 /// is a search of `whole`, which can read those lines and continues from its position.
 pub(crate) fn first_hit_line<'t>(
     compiled: &Compiled,
-    finder: &mut Option<EndFinder<'_>>,
+    finder: &mut Option<EndFinder>,
     search: &mut TextSearch<'_>,
     column: &mut Column,
     whole: &[u8],
     text: &'t [u8],
 ) -> Option<HitLine<'t>>
-    requires finder { IfSome finder.old (λ plan. plan ≡ compiled.now) }
+    requires finder { IfSome finder.old (λ list. list ≡ compiled.now.literals) }
     requires search { search.old ≡ record { plan = compiled.now; text = whole.now } }
     requires behind { IsBehindLines whole.now text.now }
     requires closed { open_rest text.now ≡ [] }
@@ -130,7 +130,7 @@ fn has_end(compiled: &Compiled, column: &mut Column, whole: &[u8], text: &[u8], 
     requires inside { at ≤ length text.now }
     ensures { IsTrue result → HasEnd compiled.now.literals text.now at }
 {
-    let list = compiled.list();
+    let list = compiled.index();
     if column.literal < list.len() && list.ends_at(column.literal, text, at) {
         return true;
     }
@@ -177,12 +177,12 @@ fn hit_line_round<'t>(
 #[inline(always)]
 fn first_end(
     compiled: &Compiled,
-    finder: &mut Option<EndFinder<'_>>,
+    finder: &mut Option<EndFinder>,
     search: &mut TextSearch<'_>,
     whole: &[u8],
     text: &[u8],
 ) -> Option<usize>
-    requires finder { IfSome finder.old (λ plan. plan ≡ compiled.now) }
+    requires finder { IfSome finder.old (λ list. list ≡ compiled.now.literals) }
     requires search { search.old ≡ record { plan = compiled.now; text = whole.now } }
     requires behind { IsBehindLines whole.now text.now }
     requires apart { All IsOnePiece compiled.now.literals.texts }
@@ -202,12 +202,12 @@ fn first_end(
 #[inline]
 fn next_end_behind(
     compiled: &Compiled,
-    finder: &mut Option<EndFinder<'_>>,
+    finder: &mut Option<EndFinder>,
     search: &mut TextSearch<'_>,
     text: &[u8],
     from: usize,
 ) -> Option<usize>
-    requires finder { IfSome finder.old (λ plan. plan ≡ compiled.now) }
+    requires finder { IfSome finder.old (λ list. list ≡ compiled.now.literals) }
     requires search { search.old ≡ record { plan = compiled.now; text = text.now } }
     ensures same { finder.new ≡ finder.old }
     ensures search { search.new ≡ search.old }

@@ -7,7 +7,7 @@ ghost use Rattle.line_pick.specs.Matching.{StandingLaw, matched, picks};
 
 use crate::line_rule::LineRule;
 use flow_scan::{Compiled, next_end};
-use lit_base::LitList;
+use list_index::ListIndex;
 use memchr::memchr;
 
 /// What lines are compared with: the literals of a plan, the null pattern, and the rule.
@@ -59,7 +59,7 @@ impl Matcher<'_> {
             return true;
         }
         match self.plan {
-            Some(compiled) => is_literal(compiled.list(), line),
+            Some(compiled) => is_literal(compiled.index(), line),
             None => false,
         }
     }
@@ -95,7 +95,7 @@ fn has_literal(compiled: &Compiled, line: &[u8]) -> bool
 }
 
 /// Whether the line as a whole is one of the literals.
-pub(crate) fn is_literal(list: &LitList, line: &[u8]) -> bool
+pub(crate) fn is_literal(list: &ListIndex, line: &[u8]) -> bool
     ensures { result ≡ matches list.now.folding true list.now.texts line.now }
 {
     list.normal_law();
@@ -107,7 +107,7 @@ pub(crate) fn is_literal(list: &LitList, line: &[u8]) -> bool
 }
 
 /// The place of the first literal that is not shorter than `len`, or how many literals there are.
-fn first_as_long(list: &LitList, len: usize) -> usize
+fn first_as_long(list: &ListIndex, len: usize) -> usize
     ensures shorter { (place : ℕ) → place < result → slice_index (lengths list.now) place < len }
     ensures as_long { (place : ℕ) → result ≤ place → place < length list.now.texts
         → len ≤ slice_index (lengths list.now) place }
@@ -126,7 +126,7 @@ fn first_as_long(list: &LitList, len: usize) -> usize
 }
 
 /// Whether the longest literal is shorter than `len`, as it is for most lines: they need no search.
-fn are_shorter(list: &LitList, len: usize) -> bool
+fn are_shorter(list: &ListIndex, len: usize) -> bool
     ensures { IsTrue result → (place : ℕ) → place < length list.now.texts
         → slice_index (lengths list.now) place < len }
 {

@@ -3,7 +3,7 @@ ghost use Rattle.std.specs.Prelude.{◌≡◌, ◌≢◌, [], Ok, Err, IfSome, S
 ghost use Rattle.std.specs.Option.{option_copied};
 ghost use Rattle.line_pick.specs.Feeding.{Feeds, Finishes, Stays};
 ghost use Rattle.line_pick.specs.Lending.{answer_of};
-ghost use Rattle.line_pick.specs.Matching.{AreInLines};
+ghost use Rattle.line_pick.specs.Matching.{AreInLines, list_of};
 ghost use Rattle.line_pick.specs.declared.state.State.TheVariants.{Running};
 
 use crate::fault::Fault;
@@ -22,7 +22,7 @@ use std::marker::Model;
 pub struct Picker<'p> {
     matcher: Matcher<'p>,
     /// The finder that tunes itself to the text, if there is one.
-    finder: Option<EndFinder<'p>>,
+    finder: Option<EndFinder>,
     progress: Progress,
     state: State,
 }
@@ -34,7 +34,7 @@ impl<'p> Model for Picker<'p> {
     ghost Value = { Picking };
 
     ghost use Rattle.std.specs.Prelude.{◌≡◌, IfSome, Some, if◌then◌else◌, is_some};
-    ghost use Rattle.line_pick.specs.Matching.{AreInLines};
+    ghost use Rattle.line_pick.specs.Matching.{AreInLines, list_of};
     ghost use Rattle.line_pick.specs.Progresses.{IsSound};
 
     ghost view = { λ p. record {
@@ -50,7 +50,7 @@ impl<'p> Model for Picker<'p> {
     } };
 
     ghost invariant = { λ p. IsSound p.progress × AreInLines (option_copied p.matcher.plan)
-        × IfSome p.finder (λ plan. option_copied p.matcher.plan ≡ Some plan) };
+        × IfSome p.finder (λ list. list_of (option_copied p.matcher.plan) ≡ Some list) };
 }
 
 impl<'p> Picker<'p> {
@@ -75,61 +75,13 @@ impl<'p> Picker<'p> {
           learns = false;
         } }
     {
-        let matcher = Matcher {
-            plan,
-            has_empty,
-            rule,
-        };
-        Picker::before_text(alloc, matcher, None)
-    }
-
-    /// A picker before any text, with a finder that tunes itself to the text. It takes no memory.
-    pub fn by_finder(
-        alloc: Global,
-        finder: EndFinder<'p>,
-        has_empty: bool,
-        rule: LineRule,
-    ) -> Picker<'p>
-        requires { AreInLines (Some finder) }
-        ensures { result ≡ record {
-          plan = Some finder.entry;
-          has_empty = has_empty;
-          rule = rule;
-          is_numbered = true;
-          held = [];
-          lines = 0;
-          bytes = 0;
-          state = Running;
-          learns = true;
-        } }
-    {
-        let matcher = Matcher {
-            plan: Some(finder.compiled()),
-            has_empty,
-            rule,
-        };
-        Picker::before_text(alloc, matcher, Some(finder))
-    }
-
-    /// A picker before any text.
-    fn before_text(alloc: Global, matcher: Matcher<'p>, finder: Option<EndFinder<'p>>) -> Picker<'p>
-        requires apart { AreInLines (option_copied matcher.plan) }
-        requires finder { IfSome finder (λ plan. option_copied matcher.plan ≡ Some plan) }
-        ensures { result ≡ record {
-          plan = option_copied matcher.entry.plan;
-          has_empty = matcher.entry.has_empty;
-          rule = matcher.entry.rule;
-          is_numbered = true;
-          held = [];
-          lines = 0;
-          bytes = 0;
-          state = Running;
-          learns = is_some finder.entry;
-        } }
-    {
         Picker {
-            matcher,
-            finder,
+            matcher: Matcher {
+                plan,
+                has_empty,
+                rule,
+            },
+            finder: None,
             progress: Progress::new(alloc),
             state: State::Running,
         }
@@ -151,17 +103,26 @@ impl<'p> Picker<'p> {
         self.finder.is_some()
     }
 
+    /// The same picker, whose search tunes itself by this finder from now on. The emitted lines do not depend on it.
+    pub fn learning_by(mut self, finder: EndFinder) -> Picker<'p>
+        requires { list_of self.plan ≡ Some finder }
+        ensures { result ≡ record self.entry { learns = true } }
+    {
+        self.finder = Some(finder);
+        self
+    }
+
     /// From now on the search tunes itself, by this finder. The emitted lines do not depend on it.
-    pub fn learn_by(&mut self, finder: EndFinder<'p>)
-        requires { self.old.plan ≡ Some finder }
+    pub fn learn_by(&mut self, finder: EndFinder)
+        requires { list_of self.old.plan ≡ Some finder }
         ensures { self.new ≡ record self.old { learns = true } }
     {
         self.finder = Some(finder);
     }
 
     /// The finder, tuned to the text so far, for use with the next text; `None` if the picker has none.
-    pub fn into_finder(self) -> Option<EndFinder<'p>>
-        ensures plan { IfSome result (λ plan. self.entry.plan ≡ Some plan) }
+    pub fn into_finder(self) -> Option<EndFinder>
+        ensures plan { IfSome result (λ list. list_of self.entry.plan ≡ Some list) }
         ensures learned { is_some result ≡ self.entry.learns }
     {
         self.finder

@@ -3,7 +3,7 @@ ghost use Rattle.std.specs.Prelude.{◌≡◌, ◌≢◌, ◌↔◌, ◌≤◌, 
 ghost use Rattle.std.specs.Option.{option_copied};
 ghost use Rattle.lit_base.specs.Lines.{IsOnePiece, ended_lines, last_line, open_rest};
 ghost use Rattle.line_pick.specs.Lending.{Lends, Lent, answer_of, as_numbered, numbered};
-ghost use Rattle.line_pick.specs.Matching.{AreInLines, picks};
+ghost use Rattle.line_pick.specs.Matching.{AreInLines, picks, list_of};
 ghost use Rattle.line_pick.specs.Progresses.{IsSound};
 
 use crate::cutting::{split_ended, split_line};
@@ -49,12 +49,12 @@ impl Progress {
     pub fn take<S: Sink>(
         &mut self,
         matcher: Matcher<'_>,
-        finder: &mut Option<EndFinder<'_>>,
+        finder: &mut Option<EndFinder>,
         piece: &[u8],
         sink: &mut S,
     ) -> Result<(), Halt>
         requires sound { IsSound self.old }
-        requires finder { IfSome finder.old (λ plan. option_copied matcher.plan ≡ Some plan) }
+        requires finder { IfSome finder.old (λ list. list_of (option_copied matcher.plan) ≡ Some list) }
         requires apart { AreInLines (option_copied matcher.plan) }
         ensures same { finder.new ≡ finder.old }
         ensures sound { IsSound self.new }
@@ -130,11 +130,11 @@ impl Progress {
     fn take_lines<S: Sink>(
         &mut self,
         matcher: Matcher<'_>,
-        finder: &mut Option<EndFinder<'_>>,
+        finder: &mut Option<EndFinder>,
         text: &[u8],
         sink: &mut S,
     ) -> Result<(), Halt>
-        requires finder { IfSome finder.old (λ plan. option_copied matcher.plan ≡ Some plan) }
+        requires finder { IfSome finder.old (λ list. list_of (option_copied matcher.plan) ≡ Some list) }
         requires apart { AreInLines (option_copied matcher.plan) }
         requires fresh { self.old.held.items ≡ [] }
         requires counted { self.old.lines + length text.now ≤ self.old.bytes }

@@ -4,7 +4,7 @@ ghost use Rattle.std.specs.Option.{option_copied};
 ghost use Rattle.lit_base.specs.Lines.{IsOnePiece, ended_lines, open_rest};
 ghost use Rattle.lit_base.specs.Selected.{is_selected, matches};
 ghost use Rattle.line_pick.specs.Lending.{Lent, answer_of, as_numbered, numbered};
-ghost use Rattle.line_pick.specs.Matching.{AreInLines, picks};
+ghost use Rattle.line_pick.specs.Matching.{AreInLines, picks, list_of};
 
 use crate::column::Column;
 use crate::counting::count_newlines;
@@ -41,13 +41,13 @@ const SAMPLE: usize = 1024;
 /// if they are numbered; `before` lines stand before it. Without numbers, lines that are passed over are not counted.
 pub(crate) fn lend_text<S: Sink>(
     matcher: Matcher<'_>,
-    finder: &mut Option<EndFinder<'_>>,
+    finder: &mut Option<EndFinder>,
     text: &[u8],
     before: u64,
     is_numbered: bool,
     sink: &mut S,
 ) -> Result<u64, Halt>
-    requires finder { IfSome finder.old (λ plan. option_copied matcher.plan ≡ Some plan) }
+    requires finder { IfSome finder.old (λ list. list_of (option_copied matcher.plan) ≡ Some list) }
     requires fits { before + length text.now < 2 ^ 64 }
     requires closed { open_rest text.now ≡ [] }
     requires apart { AreInLines (option_copied matcher.plan) }
@@ -83,13 +83,13 @@ pub(crate) fn lend_text<S: Sink>(
 fn lend_listed<S: Sink>(
     compiled: &Compiled,
     rule: LineRule,
-    finder: &mut Option<EndFinder<'_>>,
+    finder: &mut Option<EndFinder>,
     text: &[u8],
     before: u64,
     is_numbered: bool,
     sink: &mut S,
 ) -> Result<u64, Halt>
-    requires finder { IfSome finder.old (λ plan. plan ≡ compiled.now) }
+    requires finder { IfSome finder.old (λ list. list ≡ compiled.now.literals) }
     requires fits { before + length text.now < 2 ^ 64 }
     requires closed { open_rest text.now ≡ [] }
     requires apart { All IsOnePiece compiled.now.literals.texts }
@@ -117,13 +117,13 @@ fn has_short_lines(text: &[u8]) -> bool {
 fn lend_hit_lines<S: Sink>(
     compiled: &Compiled,
     rule: LineRule,
-    finder: &mut Option<EndFinder<'_>>,
+    finder: &mut Option<EndFinder>,
     text: &[u8],
     before: u64,
     is_numbered: bool,
     sink: &mut S,
 ) -> Result<u64, Halt>
-    requires finder { IfSome finder.old (λ plan. plan ≡ compiled.now) }
+    requires finder { IfSome finder.old (λ list. list ≡ compiled.now.literals) }
     requires fits { before + length text.now < 2 ^ 64 }
     requires closed { open_rest text.now ≡ [] }
     requires apart { All IsOnePiece compiled.now.literals.texts }
@@ -206,7 +206,7 @@ fn matches_at_hit(compiled: &Compiled, whole: bool, line: &[u8]) -> bool
         result ≡ matches list.folding whole list.texts line.now }
 {
     if whole {
-        is_literal(compiled.list(), line)
+        is_literal(compiled.index(), line)
     } else {
         true
     }

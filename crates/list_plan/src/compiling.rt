@@ -7,6 +7,7 @@ ghost use Rattle.list_plan.specs.Planned.{IsPlanned};
 ghost use Rattle.run_planner.specs.declared.fault.Fault.TheVariants.{NoLiterals};
 
 use flow_scan::Compiled;
+use list_index::ListIndex;
 use lit_base::{LitList, Profile};
 use run_planner::{Fault, plan};
 use std::alloc::Global;
@@ -16,7 +17,7 @@ use std::alloc::Global;
 ///
 /// # Errors
 /// - `NoLiterals` where the list is empty.
-/// - `OutOfMemory` where there is no memory for the potentials, one for each bucket and literal.
+/// - `OutOfMemory` where there is no memory for the potentials, one for each bucket and literal, or for the index.
 pub fn compile(alloc: Global, list: LitList, profile: Profile) -> Result<Compiled, Fault>
     ensures literals { IfOk result (λ p. p.literals ≡ list) }
     ensures planned { IfOk result (λ p. IsPlanned list profile p.certificate) }
@@ -25,7 +26,8 @@ pub fn compile(alloc: Global, list: LitList, profile: Profile) -> Result<Compile
     ensures none { (result ≡ Err NoLiterals) ↔ (length list.texts ≡ 0) }
 {
     let certificate = plan(alloc, &list, profile)?;
+    let index = ListIndex::new(alloc, list)?;
     // The answer of `plan` is certified. To check it again takes a seventh of all instructions of a run of grep with a
     // thousand literals and no text.
-    Ok(Compiled::certified(list, certificate))
+    Ok(Compiled::certified(index, certificate))
 }

@@ -1,14 +1,12 @@
 pub mod Assigned
 pub mod BucketLemmas
-pub mod ChainLemmas
-pub mod CheckLemmas
 pub mod Cuts
 pub mod EndedLemmas
+pub mod FoldLemmas
 pub mod InsertLemmas
 pub mod Least
 pub mod LengthLemmas
 pub mod LineLemmas
-pub mod MarkLemmas
 pub mod MatchLemmas
 pub mod Members
 pub mod NormalForms
@@ -18,5 +16,4 @@ pub mod RefusalLemmas
 pub mod Runs
 pub mod SearchLemmas
 pub mod SortedLists
-pub mod SuffixLemmas
 pub mod Weights

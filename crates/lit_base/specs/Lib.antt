@@ -1,17 +1,12 @@
 pub mod Assignments
-pub mod Chains
-pub mod Checks
 pub mod Costs
 pub mod Cuts
-pub mod EndingCursors
-pub mod EndingViews
 pub mod Faults
 pub mod Folding
 pub mod Limits
 pub mod Lines
 pub mod LinesLeft
 pub mod Literals
-pub mod Marks
 pub mod NextEnds
 pub mod NormalForm
 pub mod Occurrences
@@ -20,4 +15,3 @@ pub mod Potentials
 pub mod Profiles
 pub mod RawLists
 pub mod Selected
-pub mod Suffixes

@@ -1,5 +1,5 @@
 -- What a contract sees of a `LitList`: its fold, and its literals in normal form.
-use Rattle.std.specs.Prelude.{◌≡◌, ℕ, ◌<◌, ◌≤◌, List, All, length, map, sum_by}
+use Rattle.std.specs.Prelude.{◌≡◌, ℕ, ◌<◌, ◌≤◌, List, [], All, length, map, slice_index_or, sum_by}
 use Rattle.std.specs.Ordering.{nat_cmp, on, then_cmp}
 use Rattle.std.specs.declared.cmp.Ordering.{Ordering}
 use Rattle.std.specs.Cmp.Lexicographic.{slice_cmp}
@@ -12,6 +12,10 @@ use Rattle.lit_base.specs.declared.limits.TheConstants.{MAX_LITERALS, MAX_LITERA
 pub record Literals : Type 0 where
   pub folding : Fold
   pub texts : List (List ℕ)
+
+-- the literal at a place, or none
+abbrev pub literal_at : Literals → ℕ → List ℕ
+literal_at l place = slice_index_or l.texts place []
 
 -- the lengths of the literals, in their order
 abbrev pub lengths : Literals → List ℕ

@@ -56,6 +56,7 @@ impl FoldedList {
     }
 
     /// Whether the literal at a place ends at `end` in the text.
+    #[inline]
     pub fn ends_at(&self, place: usize, text: &[u8], end: usize) -> bool
         requires within { place < length self.now.texts }
         requires inside { end ≤ length text.now }

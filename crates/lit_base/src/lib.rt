@@ -15,7 +15,6 @@ mod occurrences;
 mod patterns;
 mod profile;
 mod raw_list;
-mod suffixes;
 
 pub use byte_io::{
     ByteIn, ByteOut, CutIn, CutOut, Failed, FileOrInput, FromRead, MAX_TURNS, ReadError, ToWrite,
@@ -29,11 +28,8 @@ pub use limits::{
     MAX_BUCKETS, MAX_LIST_LEN, MAX_LITERAL_LEN, MAX_LITERALS, MAX_PATTERNS, MAX_TEXT_LEN,
 };
 pub use lines::{Lines, ended_law, lines_law, matching_law};
-pub use lit_list::{Endings, LitList, Normal};
+pub use lit_list::{LitList, Normal};
 pub use normal_form::normal_form_law;
 pub use occurrences::hits_law;
 pub use profile::{Profile, buckets};
 pub use raw_list::RawList;
-pub use suffixes::{
-    HASH_BITS, case_bits, hash_of, is_marked, last_bits, last_word, mark, mark_literal, suffix_key,
-};

@@ -7,11 +7,10 @@ use Rattle.std.proofs.lemmas.Nat.Bits.{bit_at_and, bit_at-zero}
 use Rattle.std.proofs.lemmas.List.{length-take}
 use Rattle.std.proofs.lemmas.Option.{get_or_from_slice_get, unwrap_or-slice_get}
 use Rattle.lit_base.specs.declared.fold.Fold.{Fold}
-use Rattle.lit_base.specs.Chains.{literal_at}
 use Rattle.lit_base.specs.Folding.{folded_text}
-use Rattle.lit_base.specs.Literals.{Literals}
+use Rattle.lit_base.specs.Literals.{Literals, literal_at}
 use Rattle.lit_base.specs.Occurrences.{Occurs}
-use Rattle.lit_base.proofs.SuffixLemmas.{front_folds}
+use Rattle.lit_base.proofs.FoldLemmas.{front_folds}
 use Rattle.nib_mask.specs.declared.half.Half.{Half}
 use Rattle.nib_mask.specs.declared.half.Half.TheVariants.{Low, High}
 use Rattle.nib_mask.specs.declared.masks.Masks.{Masks}

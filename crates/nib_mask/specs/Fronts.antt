@@ -2,8 +2,7 @@
 use Rattle.std.specs.Prelude.{◌≡◌, ℕ, ◌-◌, ◌%◌, ◌<◌, ◌||◌, not, true, Bool, List, All, length, take, slice_index}
 use Rattle.std.specs.Int.{bit_at}
 use Rattle.lit_base.specs.declared.fold.Fold.{Fold}
-use Rattle.lit_base.specs.Chains.{literal_at}
-use Rattle.lit_base.specs.Literals.{Literals}
+use Rattle.lit_base.specs.Literals.{Literals, literal_at}
 use Rattle.lit_base.specs.Occurrences.{Occurs}
 use Rattle.nib_mask.specs.declared.half.Half.{Half}
 use Rattle.nib_mask.specs.declared.masks.Masks.{Masks}

@@ -108,14 +108,14 @@ fn hits_behind(
     ensures quiet { NoEndAfter compiled.now.literals text.now from → IsOk result }
 {
     match finder_for(alloc, compiled, text.len() - from) {
-        Some(mut finder) => finder.scan_behind(alloc, text, from),
+        Some(mut finder) => finder.scan_behind(alloc, compiled, text, from),
         None => scan_behind(alloc, compiled, text, from),
     }
 }
 
 /// A finder for `count` bytes of a text, if these are many and there is memory for it.
-fn finder_for<'p>(alloc: Global, compiled: &'p Compiled, count: usize) -> Option<EndFinder<'p>>
-    ensures { IfSome result (λ plan. plan ≡ compiled.now) }
+fn finder_for(alloc: Global, compiled: &Compiled, count: usize) -> Option<EndFinder>
+    ensures { IfSome result (λ list. list ≡ compiled.now.literals) }
 {
     if count < LEAST_LEARNED {
         return None;

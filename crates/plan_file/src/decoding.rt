@@ -14,6 +14,7 @@ use crate::limits::{MAGIC, MAX_PLANS};
 use crate::literals::first_list;
 use crate::version::Version;
 use flow_scan::Compiled;
+use list_index::ListIndex;
 use lit_base::LitList;
 use lit_cert::Certificate;
 use std::alloc::Global;
@@ -61,7 +62,8 @@ fn first_plan(alloc: Global, version: Version, bytes: &[u8]) -> Result<(Compiled
     ensures wrong { IfErr result (IfWrong (IsWrongEntry version bytes.now)) }
 {
     let (entry, rest) = first_entry(alloc, version, bytes)?;
-    match Compiled::new(entry.list, entry.certificate) {
+    let index = ListIndex::new(alloc, entry.list)?;
+    match Compiled::new(index, entry.certificate) {
         Ok(plan) => Ok((plan, rest)),
         Err((flow_scan::Fault::NotCertified { reason }, _, _)) => {
             Err(stop_at(bytes, Cause::NotCertified { reason }))

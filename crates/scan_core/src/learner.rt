@@ -21,13 +21,13 @@ const MOST_STRANGE: usize = 1 << 20;
 
 /// A finder by the plan of a ticket.
 #[derive(Drop)]
-struct Learned<'s> {
+struct Learned {
     ticket: Ticket,
-    finder: EndFinder<'s>,
+    finder: EndFinder,
 }
 
 /// A contract sees the ticket.
-impl<'s> Model for Learned<'s> {
+impl Model for Learned {
     ghost use Rattle.std.specs.Prelude.{◌≡◌};
     ghost use Rattle.plan_store.specs.Tickets.{Told};
 
@@ -35,12 +35,12 @@ impl<'s> Model for Learned<'s> {
 
     ghost view = { λ l. l.ticket };
 
-    ghost invariant = { λ l. l.finder ≡ l.ticket.plan };
+    ghost invariant = { λ l. l.finder ≡ l.ticket.plan.literals };
 }
 
-impl<'s> Learned<'s> {
+impl Learned {
     /// A finder before any text, if the plan has literals enough for it and there is memory.
-    fn by_plan_of(alloc: Global, store: &'s PlanStore, ticket: &Ticket) -> Option<Learned<'s>>
+    fn by_plan_of(alloc: Global, store: &PlanStore, ticket: &Ticket) -> Option<Learned>
         requires { IsOf store.now ticket.now }
         ensures { IfSome result (λ learned. learned ≡ ticket.now) }
     {
@@ -68,7 +68,7 @@ impl<'s> Learned<'s> {
         &mut self,
         store: &PlanStore,
         ticket: &Ticket,
-        scanner: &mut Scanner<'s>,
+        scanner: &mut Scanner<'_>,
         piece: &[u8],
         most: usize,
         out: &mut Vec<Hit>,
@@ -95,14 +95,14 @@ impl<'s> Learned<'s> {
 
 /// At most one finder, for all streams of a session that are scanned by its plan.
 #[derive(Drop)]
-pub(crate) struct Learner<'s> {
-    learned: Option<Learned<'s>>,
+pub(crate) struct Learner {
+    learned: Option<Learned>,
     /// How many bytes streams of other plans were fed since one of its own was.
     strange: usize,
 }
 
 /// A contract sees the ticket of its plan.
-impl<'s> Model for Learner<'s> {
+impl Model for Learner {
     ghost use Rattle.std.specs.Prelude.{Option};
     ghost use Rattle.plan_store.specs.Tickets.{Told};
 
@@ -111,9 +111,9 @@ impl<'s> Model for Learner<'s> {
     ghost view = { λ l. l.learned };
 }
 
-impl<'s> Learner<'s> {
+impl Learner {
     /// No finder. It takes no memory.
-    pub(crate) fn new() -> Learner<'s>
+    pub(crate) fn new() -> Learner
         ensures { result ≡ None }
     {
         Learner {
@@ -128,7 +128,7 @@ impl<'s> Learner<'s> {
     pub(crate) fn prepare(
         &mut self,
         alloc: Global,
-        store: &'s PlanStore,
+        store: &PlanStore,
         ticket: &Ticket,
         place: u64,
         count: usize,
@@ -146,7 +146,7 @@ impl<'s> Learner<'s> {
     }
 
     /// Makes a finder by the plan of a ticket where there is none, or the finder of another plan is out of use.
-    fn make_if_due(&mut self, alloc: Global, store: &'s PlanStore, ticket: &Ticket)
+    fn make_if_due(&mut self, alloc: Global, store: &PlanStore, ticket: &Ticket)
         requires own { IfSome self.old (IsOf store.now) }
         requires ticket { IsOf store.now ticket.now }
         ensures { IfSome self.new (IsOf store.now) }
@@ -174,7 +174,7 @@ impl<'s> Learner<'s> {
         &mut self,
         store: &PlanStore,
         ticket: &Ticket,
-        scanner: &mut Scanner<'s>,
+        scanner: &mut Scanner<'_>,
         piece: &[u8],
         most: usize,
         out: &mut Vec<Hit>,

@@ -33,7 +33,7 @@ pub struct Session<'s> {
     store: &'s PlanStore,
     told: Few<Ticket>,
     streams: Few<Stream<'s>>,
-    learner: Learner<'s>,
+    learner: Learner,
 }
 
 /// A contract sees the store, the tickets of the published plans and the open streams. The finder changes no answer.

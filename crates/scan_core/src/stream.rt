@@ -105,7 +105,7 @@ impl<'s> Stream<'s> {
     pub(crate) fn fed_front(
         &self,
         store: &PlanStore,
-        learner: &mut Learner<'s>,
+        learner: &mut Learner,
         piece: &[u8],
         most: usize,
         out: &mut Vec<Hit>,

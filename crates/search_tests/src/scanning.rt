@@ -5,11 +5,13 @@ mod single;
 mod spoilt;
 
 use flow_scan::{Compiled, Fault, Hit, Scanner, least_law, pieces_law, scan_all, scan_pieces};
+use list_index::ListIndex;
 use lit_base::{Fold, LitList, MAX_LITERAL_LEN, Profile, RawList};
 use lit_cert::{Certificate, Reason};
 use nib_mask::{Masks, plain_byte};
 use run_planner::plan;
 use std::alloc::Global;
+use std::sync::Arc;
 
 /// The list of the literals.
 fn list_of(alloc: Global, fold: Fold, literals: &[&[u8]]) -> Option<LitList> {
@@ -30,7 +32,7 @@ fn plan_of(alloc: Global, fold: Fold, literals: &[&[u8]]) -> Option<Compiled> {
 fn plan_under(alloc: Global, profile: Profile, fold: Fold, literals: &[&[u8]]) -> Option<Compiled> {
     let list = list_of(alloc, fold, literals)?;
     let certificate = plan(alloc, &list, profile).ok()?;
-    Compiled::new(list, certificate).ok()
+    Compiled::new(ListIndex::new(alloc, list).ok()?, certificate).ok()
 }
 
 /// The hit of a literal that ends there.
@@ -257,12 +259,12 @@ fn refuses_to_pass_the_last_place(rt: HostRuntime) {
 }
 
 /// Whether a plan with a wrong cost is refused, and one literal and this cost are handed back.
-fn is_handed_back(list: LitList, certificate: Certificate, cost: u64) -> bool {
-    match Compiled::new(list, certificate) {
+fn is_handed_back(index: Arc<ListIndex>, certificate: Certificate, cost: u64) -> bool {
+    match Compiled::new(index, certificate) {
         Ok(_compiled) => false,
-        Err((fault, list, certificate)) => {
+        Err((fault, index, certificate)) => {
             let reason = Reason::Total;
-            fault == Fault::NotCertified { reason } && list.len() == 1 && certificate.cost == cost
+            fault == Fault::NotCertified { reason } && index.len() == 1 && certificate.cost == cost
         }
     }
 }
@@ -272,7 +274,8 @@ fn hands_back(alloc: Global) -> Option<bool> {
     let list = list_of(alloc, Fold::No, &[b"a"])?;
     let mut certificate = plan(alloc, &list, Profile::Eight).ok()?;
     certificate.cost = 4297;
-    Some(is_handed_back(list, certificate, 4297))
+    let index = ListIndex::new(alloc, list).ok()?;
+    Some(is_handed_back(index, certificate, 4297))
 }
 
 #[test]

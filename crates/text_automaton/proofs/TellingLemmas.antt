@@ -4,9 +4,8 @@ use Rattle.std.proofs.lemmas.Bool.{cases_lt}
 use Rattle.std.proofs.lemmas.List.{ext_get_or, get_or-drop, get_or-map, get_or-take, length-drop, length-map, length-take}
 use Rattle.std.proofs.lemmas.List.Elements.{Contains-append_left, Contains-get_or, Contains-push, Contains-push_cases}
 use Rattle.std.proofs.lemmas.Option.{get_or_from_slice_get, slice_get-get_or, slice_get_within}
-use Rattle.lit_base.specs.Chains.{literal_at}
 use Rattle.lit_base.specs.Folding.{folded, folded_text}
-use Rattle.lit_base.specs.Literals.{Literals}
+use Rattle.lit_base.specs.Literals.{Literals, literal_at}
 use Rattle.lit_base.specs.Occurrences.{HasEnd, Occurs}
 use Rattle.lit_base.specs.declared.fold.Fold.{Fold}
 use Rattle.text_automaton.specs.Automata.{AreEnding, IsReading, IsStateAt, Telling, place_of, told_by}

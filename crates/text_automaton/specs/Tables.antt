@@ -1,9 +1,8 @@
 -- When the tables of an automaton are right: the conditions that are checked, state by state.
 use Rattle.std.specs.Prelude.{◌≡◌, ℕ, zero, suc, ◌+◌, ◌*◌, ◌<◌, ◌≤◌, ◌⊎◌, List, [], ◌∷◌, ◌++◌, length, slice_index, slice_range}
 use Rattle.std.specs.List.Sorted.{IsStrictlyIncreasing}
-use Rattle.lit_base.specs.Chains.{literal_at}
 use Rattle.lit_base.specs.Folding.{folded}
-use Rattle.lit_base.specs.Literals.{Literals}
+use Rattle.lit_base.specs.Literals.{Literals, literal_at}
 use Rattle.lit_base.specs.declared.fold.Fold.{Fold}
 use Rattle.text_automaton.specs.declared.tables.Tables.{Tables}
 use Rattle.text_automaton.specs.declared.tables.TheConstants.{CLASSES, MOST_STATES}

@@ -1,16 +1,18 @@
 //! The automaton of a list, and a search for ends by it.
 ghost use Rattle.std.specs.Prelude.{◌≡◌, ℕ, ◌+◌, ◌<◌, ◌≤◌, IfOk, IfSome, MatchOption, false, length, true};
 ghost use Rattle.std.specs.Option.{IfNone};
-ghost use Rattle.lit_base.specs.Chains.{literal_at};
+ghost use Rattle.lit_base.specs.Literals.{literal_at};
 ghost use Rattle.lit_base.specs.NextEnds.{NoEndAfter};
 ghost use Rattle.text_automaton.specs.Automata.{IsNextTold, IsReading, place_of, room_of, told_by};
 
 use crate::reading::Reading;
 use crate::tables::{MOST_STATES, Tables};
 use crate::telling::first_telling;
+use list_index::ListIndex;
 use lit_base::LitList;
 use std::alloc::{AllocError, Global};
 use std::marker::Model;
+use std::sync::Arc;
 
 /// How far an automaton's tables have come.
 #[derive(Clone, Copy, Debug)]
@@ -28,15 +30,15 @@ pub(crate) enum Stage {
 /// that never needs them does not write them. Building is not proved; tables that pass the check give all ends, and no
 /// others.
 #[derive(Debug, Drop)]
-pub struct Automaton<'p> {
-    list: &'p LitList,
+pub struct Automaton {
+    index: Arc<ListIndex>,
     tables: Tables,
     /// The number of states that the tables have room for.
     room: usize,
     stage: Stage,
 }
 
-impl<'p> Model for Automaton<'p> {
+impl Model for Automaton {
     ghost use Rattle.std.specs.Prelude.{◌≡◌};
     ghost use Rattle.text_automaton.specs.Automata.{Telling, room_of};
     ghost use Rattle.text_automaton.specs.Stages.{is_made};
@@ -46,7 +48,7 @@ impl<'p> Model for Automaton<'p> {
     ghost Value = { Telling };
 
     ghost view = { λ a. record {
-      literals = a.list.now;
+      literals = a.index.value;
       told = a.tables.told.items;
       lows = a.tables.lows.items;
       highs = a.tables.highs.items;
@@ -54,18 +56,18 @@ impl<'p> Model for Automaton<'p> {
       is_made = is_made a.stage;
     } };
 
-    ghost invariant = { λ a. (a.stage ≡ Made → AreRight a.tables a.list.now) × (a.room ≡ room_of a.list.now) };
+    ghost invariant = { λ a. (a.stage ≡ Made → AreRight a.tables a.index.value) × (a.room ≡ room_of a.index.value) };
 }
 
-impl<'p> Automaton<'p> {
+impl Automaton {
     /// The automaton of a list, with memory but without tables: it reads nothing before `learn`. `Err` if memory is
     /// short.
-    pub fn new(alloc: Global, list: &'p LitList) -> Result<Automaton<'p>, AllocError>
-        ensures { IfOk result (λ made. made.literals ≡ list.now) }
+    pub fn new(alloc: Global, index: Arc<ListIndex>) -> Result<Automaton, AllocError>
+        ensures { IfOk result (λ made. made.literals ≡ index.value) }
     {
-        let room = room_for(list);
+        let room = room_for(index.list());
         Ok(Automaton {
-            list,
+            index,
             tables: Tables::new(alloc, room)?,
             room,
             stage: Stage::Unmade,
@@ -90,8 +92,7 @@ impl<'p> Automaton<'p> {
             Stage::Made => true,
             Stage::Refused => false,
             Stage::Unmade => {
-                let list = self.list;
-                let is_right = self.tables.make_right(list);
+                let is_right = self.tables.make_right(self.index.list());
                 self.stage = if is_right {
                     Stage::Made
                 } else {
@@ -153,9 +154,10 @@ impl<'p> Automaton<'p> {
         ensures next { reading.new.next ≡ 0 }
         ensures some { 0 < reading.new.count }
     {
-        self.list.normal_law();
+        let list = self.index.list();
+        list.normal_law();
         let start = reading.start + reading.count;
-        let longest = longest_of(self.list);
+        let longest = longest_of(list);
         let count = self
             .tables
             .read_behind(text, longest, start, &mut reading.states);

@@ -1,7 +1,7 @@
 //! Whether tables are right. However they were built, tables that pass give all ends, and no others.
 ghost use Rattle.std.specs.Prelude.{◌≡◌, ◌↔◌, ◌⊎◌, ◌++◌, ◌∷◌, [], ℕ, ◌*◌, ◌<◌, ◌≤◌, IsTrue, length, slice_index, slice_range, true};
 ghost use Rattle.std.specs.List.Sorted.{IsStrictlyIncreasing};
-ghost use Rattle.lit_base.specs.Chains.{literal_at};
+ghost use Rattle.lit_base.specs.Literals.{literal_at};
 ghost use Rattle.lit_base.specs.Folding.{folded};
 ghost use Rattle.text_automaton.specs.Tables.{AreClasses, AreRight, AreSized, IsChild, IsFail, IsKnown, IsSpelled, IsStep, IsTelling, step, told_at};
 

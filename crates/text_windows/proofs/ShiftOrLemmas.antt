@@ -18,11 +18,10 @@ use Rattle.nib_mask.proofs.Ranges.{get_or-range}
 use Rattle.lane_filter.specs.Bits.{SplitsLowest}
 use Rattle.lit_base.specs.declared.fold.Fold.{Fold}
 use Rattle.lit_base.specs.declared.fold.Fold.TheVariants.{No, Ascii}
-use Rattle.lit_base.specs.Chains.{literal_at}
-use Rattle.lit_base.specs.Literals.{Literals}
+use Rattle.lit_base.specs.Literals.{Literals, literal_at}
 use Rattle.lit_base.specs.Occurrences.{HasEnd, IsFirstEnding, NoneEnds, Occurs}
-use Rattle.lit_base.specs.Suffixes.{case_bits, hash_of, last_bits, spelled, suffix_key}
-use Rattle.lit_base.proofs.SuffixLemmas.{AreBytes, drop-range, key-occurs, key-occurs_inside, masked, range_bytes, spelled-drop, spelled_fits, zeros_bytes}
+use Rattle.list_index.specs.Suffixes.{case_bits, hash_of, last_bits, spelled, suffix_key}
+use Rattle.list_index.proofs.SuffixLemmas.{AreBytes, drop-range, key-occurs, key-occurs_inside, masked, range_bytes, spelled-drop, spelled_fits, zeros_bytes}
 use Rattle.text_windows.specs.Looks.{AreLooks, IsVerified}
 use Rattle.lit_base.specs.NextEnds.{Finds, IsFirstFound, NoEndUpTo}
 use Rattle.text_windows.specs.ShiftOr.{AreConfirmsOf, AreEntriesOf, Bucketing, LetThrough, NoneOf, RulesOut, RulesOutWords, bucket_at, last_number_at, number_at, pair_case_bits}

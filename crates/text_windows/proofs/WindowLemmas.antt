@@ -11,13 +11,12 @@ use Rattle.std.proofs.lemmas.List.Edits.{length-between}
 use Rattle.std.proofs.lemmas.Slice.{between_is}
 use Rattle.std.proofs.lemmas.Option.{slice_get_within, unwrap_or-slice_get}
 use Rattle.lit_base.specs.declared.fold.Fold.{Fold}
-use Rattle.lit_base.specs.declared.suffixes.marks.TheConstants.{HASH_BITS}
-use Rattle.lit_base.specs.Chains.{literal_at}
-use Rattle.lit_base.specs.Literals.{Literals}
-use Rattle.lit_base.specs.Marks.{IsMarked}
+use Rattle.list_index.specs.declared.suffixes.marks.TheConstants.{HASH_BITS}
+use Rattle.lit_base.specs.Literals.{Literals, literal_at}
+use Rattle.list_index.specs.Marks.{IsMarked}
 use Rattle.lit_base.specs.Occurrences.{Occurs}
-use Rattle.lit_base.specs.Suffixes.{case_bits, hash_of, last_bits, spelled, suffix_key}
-use Rattle.lit_base.proofs.SuffixLemmas.{AreBytes, drop-range, key-occurs_inside, masked, range_bytes, spelled_fits, zeros_bytes}
+use Rattle.list_index.specs.Suffixes.{case_bits, hash_of, last_bits, spelled, suffix_key}
+use Rattle.list_index.proofs.SuffixLemmas.{AreBytes, drop-range, key-occurs_inside, masked, range_bytes, spelled_fits, zeros_bytes}
 use Rattle.text_windows.specs.declared.shape.Shape.{Shape}
 use Rattle.text_windows.specs.declared.shape.TheConstants.{WIDTH}
 use Rattle.text_windows.specs.Shapes.{IsShapeOf, width_at}

@@ -1,7 +1,6 @@
 -- The widths of a list's factors: four bytes, or the whole of a shorter literal.
 use Rattle.std.specs.Prelude.{ℕ, ◌+◌, ◌<◌, ◌≤◌, length, min}
-use Rattle.lit_base.specs.Chains.{literal_at}
-use Rattle.lit_base.specs.Literals.{Literals}
+use Rattle.lit_base.specs.Literals.{Literals, literal_at}
 use Rattle.text_windows.specs.declared.shape.Shape.{Shape}
 use Rattle.text_windows.specs.declared.shape.TheConstants.{WIDTH}
 

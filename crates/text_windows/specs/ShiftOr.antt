@@ -2,11 +2,10 @@
 use Rattle.std.specs.Prelude.{◌≡◌, ℕ, ◌+◌, ◌-◌, ◌*◌, ◌%◌, ◌<◌, ◌≤◌, List, length, slice_index, ◌/◌, ◌^◌}
 use Rattle.std.specs.Int.{bit_at}
 use Rattle.std.specs.Int.RustNames.{bit_or}
-use Rattle.lit_base.specs.Chains.{literal_at}
-use Rattle.lit_base.specs.Literals.{Literals}
-use Rattle.lit_base.specs.Marks.{IsMarked}
+use Rattle.lit_base.specs.Literals.{Literals, literal_at}
+use Rattle.list_index.specs.Marks.{IsMarked}
 use Rattle.lit_base.specs.Occurrences.{Occurs}
-use Rattle.lit_base.specs.Suffixes.{case_bits, hash_of, suffix_key}
+use Rattle.list_index.specs.Suffixes.{case_bits, hash_of, suffix_key}
 use Rattle.lit_base.specs.declared.fold.Fold.{Fold}
 use Rattle.text_windows.specs.declared.confirming.Confirms.{Confirms}
 use Rattle.text_windows.specs.declared.confirming.TheConstants.{CONFIRM_BITS}

@@ -1,11 +1,10 @@
 -- Factors of literals, which have hash bits.
 use Rattle.std.specs.Prelude.{◌≡◌, ℕ, ◌+◌, ◌^◌, ◌<◌, ◌≤◌, List, length, slice_index}
 use Rattle.std.specs.Int.{bit_at}
-use Rattle.lit_base.specs.Chains.{literal_at}
-use Rattle.lit_base.specs.Literals.{Literals}
-use Rattle.lit_base.specs.Marks.{IsMarkedFor}
+use Rattle.lit_base.specs.Literals.{Literals, literal_at}
+use Rattle.list_index.specs.Marks.{IsMarkedFor}
 use Rattle.lit_base.specs.Occurrences.{Occurs}
-use Rattle.lit_base.specs.declared.suffixes.marks.TheConstants.{HASH_BITS}
+use Rattle.list_index.specs.declared.suffixes.marks.TheConstants.{HASH_BITS}
 use Rattle.text_windows.specs.Shapes.{width_at}
 
 -- the value of a `Windows` in contracts: the literals, how many factors each has, and how far before its end the last of them ends

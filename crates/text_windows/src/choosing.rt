@@ -1,13 +1,14 @@
 //! Chooses the factors with the lowest estimate. Costs are in tenths of a nanosecond. A choice changes the time of a
 //! search, never its result.
 ghost use Rattle.std.specs.Prelude.{◌≡◌, ◌^◌, ◌<◌, ◌≤◌, length, vec_len};
-ghost use Rattle.lit_base.specs.declared.suffixes.marks.TheConstants.{HASH_BITS};
+ghost use Rattle.list_index.specs.declared.suffixes.marks.TheConstants.{HASH_BITS};
 
 use crate::counts::{Counts, NEVER, PLACES};
 use crate::grouping::group;
 use crate::rate::EndRate;
 use crate::shape::{Shape, WIDTH};
-use lit_base::{HASH_BITS, LitList};
+use list_index::HASH_BITS;
+use lit_base::LitList;
 use nib_mask::ByteMasks;
 
 /// A probe, in tenths of a nanosecond.

@@ -1,12 +1,13 @@
 //! A second check of shift-or, bucket by bucket, before any chain of literals is walked.
 ghost use Rattle.std.specs.Prelude.{◌≡◌, ℕ, ◌^◌, ◌<◌, ◌≤◌, IfOk, length, slice_index, vec_len};
-ghost use Rattle.lit_base.specs.Chains.{literal_at};
-ghost use Rattle.lit_base.specs.Marks.{IsMarked};
+ghost use Rattle.lit_base.specs.Literals.{literal_at};
+ghost use Rattle.list_index.specs.Marks.{IsMarked};
 ghost use Rattle.text_windows.specs.ShiftOr.{AreConfirmsOf, IsConfirmed, bucket_at};
 ghost use Rattle.text_windows.specs.declared.confirming.TheConstants.{CONFIRM_BITS};
 
 use crate::entries::{BUCKETS, bucket_of};
-use lit_base::{Fold, LitList, case_bits, hash_of, mark, suffix_key};
+use list_index::{case_bits, hash_of, mark, suffix_key};
+use lit_base::{Fold, LitList};
 use std::alloc::{AllocError, Global};
 
 /// Bits of a hash here. A byte for each takes 8 KiB, which stay in the first-level cache.

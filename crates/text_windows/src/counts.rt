@@ -1,9 +1,10 @@
 //! Counts how often factors occur in texts, by their hashes.
 ghost use Rattle.std.specs.Prelude.{◌≡◌, ◌^◌, ◌<◌, ◌≤◌, IfOk, length, vec_capacity, vec_len};
-ghost use Rattle.lit_base.specs.declared.suffixes.marks.TheConstants.{HASH_BITS};
+ghost use Rattle.list_index.specs.declared.suffixes.marks.TheConstants.{HASH_BITS};
 
 use crate::shape::WIDTH;
-use lit_base::{HASH_BITS, LitList, case_bits, hash_of, last_bits, last_word, suffix_key};
+use list_index::{HASH_BITS, case_bits, hash_of, last_bits, last_word, suffix_key};
+use lit_base::LitList;
 use std::alloc::{AllocError, Global};
 
 /// The factors of a literal to choose from: the last of them ends at the literal's end, each other a byte before the

@@ -1,11 +1,12 @@
 //! The entries of shift-or: which ends the two bytes before a position rule out.
 ghost use Rattle.std.specs.Prelude.{◌≡◌, ℕ, ◌+◌, ◌-◌, ◌*◌, ◌/◌, ◌^◌, ◌<◌, ◌≤◌, IsTrue, bit_or, length, slice_index, vec_capacity, vec_len};
 ghost use Rattle.std.specs.Int.{bit_at};
-ghost use Rattle.lit_base.specs.Chains.{literal_at};
+ghost use Rattle.lit_base.specs.Literals.{literal_at};
 ghost use Rattle.text_windows.specs.ShiftOr.{AreEntriesOf, LetThrough, bucket_at, number_at, last_number_at};
 ghost use Rattle.text_windows.specs.declared.entries.TheConstants.{ENTRIES};
 
-use lit_base::{Fold, LitList, case_bits, suffix_key};
+use list_index::{case_bits, suffix_key};
+use lit_base::{Fold, LitList};
 
 /// Number of entries, one for each pair of bytes: 512 KiB, of which a text uses few. Measured in C: a hash of three
 /// bytes spreads the entries, and its probes took 1.6 times as long.

@@ -1,14 +1,15 @@
 //! Sets the hash bits of literals, each by its factors.
 ghost use Rattle.std.specs.Prelude.{◌≡◌, ◌≢◌, ℕ, ◌+◌, ◌^◌, ◌<◌, ◌≤◌, length, slice_index, vec_len};
-ghost use Rattle.lit_base.specs.Chains.{literal_at};
-ghost use Rattle.lit_base.specs.Marks.{IsMarked};
-ghost use Rattle.lit_base.specs.declared.suffixes.marks.TheConstants.{HASH_BITS};
+ghost use Rattle.lit_base.specs.Literals.{literal_at};
+ghost use Rattle.list_index.specs.Marks.{IsMarked};
+ghost use Rattle.list_index.specs.declared.suffixes.marks.TheConstants.{HASH_BITS};
 ghost use Rattle.text_windows.specs.Shapes.{width_at};
 ghost use Rattle.text_windows.specs.Windows.{AreWindowed, IsWindowed};
 ghost use Rattle.text_windows.specs.declared.shape.TheConstants.{WIDTH};
 
 use crate::shape::width_of;
-use lit_base::{LitList, mark_literal};
+use list_index::mark_literal;
+use lit_base::LitList;
 
 /// Sets the hash bits of each literal anew, by as many factors as the stride has positions. They end at its offset
 /// before the literal's end, or nearer to its end if there is no room.

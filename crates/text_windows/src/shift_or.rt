@@ -17,10 +17,11 @@ use crate::looks::{Looks, Verified, bits_behind};
 use crate::rate::EndRate;
 use crate::runs::cut_runs;
 use lane_filter::split_lowest;
-use lit_base::{LitList, hash_of, is_marked, last_bits, last_word};
+use list_index::{ListIndex, hash_of, is_marked, last_bits, last_word};
 use std::alloc::{AllocError, Global};
 use std::marker::Model;
 use std::simd::prelude::*;
+use std::sync::Arc;
 
 /// Probes at each of 1,024 positions, in tenths of a nanosecond, if all ends are ruled out.
 const EACH_COST: usize = 4300;
@@ -76,8 +77,8 @@ struct Quiet {
 /// It takes all its memory when it is made, but writes the entries only when it is first tuned. So a search that is
 /// never tuned need not write half a megabyte.
 #[derive(Debug, Drop)]
-pub struct ShiftOr<'p> {
-    list: &'p LitList,
+pub struct ShiftOr {
+    index: Arc<ListIndex>,
     /// The bucket of each literal.
     buckets: Vec<u8>,
     /// The second check of the buckets of an end.
@@ -87,32 +88,33 @@ pub struct ShiftOr<'p> {
     stride: Stride,
 }
 
-impl<'p> Model for ShiftOr<'p> {
+impl Model for ShiftOr {
     ghost use Rattle.std.specs.Prelude.{◌≡◌, ◌<◌, ◌≤◌, length, vec_capacity, vec_len};
     ghost use Rattle.text_windows.specs.ShiftOr.{AreConfirmsOf, AreEntriesOf, Bucketing};
     ghost use Rattle.text_windows.specs.declared.entries.TheConstants.{ENTRIES};
 
     ghost Value = { Bucketing };
 
-    ghost view = { λ s. record { literals = s.list.now; buckets = s.buckets.items } };
+    ghost view = { λ s. record { literals = s.index.value; buckets = s.buckets.items } };
 
     ghost invariant = { λ s. (ENTRIES ≤ vec_capacity s.entries)
-        × (0 < vec_len s.entries → AreEntriesOf s.list.now s.buckets.items s.entries.items)
-        × (vec_len s.buckets ≡ length s.list.now.texts)
-        × AreConfirmsOf s.list.now s.buckets.items s.confirms };
+        × (0 < vec_len s.entries → AreEntriesOf s.index.value s.buckets.items s.entries.items)
+        × (vec_len s.buckets ≡ length s.index.value.texts)
+        × AreConfirmsOf s.index.value s.buckets.items s.confirms };
 }
 
-impl<'p> ShiftOr<'p> {
+impl ShiftOr {
     /// Shift-or for a list. It rules out nothing before it is tuned.
-    pub fn new(alloc: Global, list: &'p LitList) -> Result<ShiftOr<'p>, AllocError>
-        ensures { IfOk result (λ made. made.literals ≡ list.now) }
+    pub fn new(alloc: Global, index: Arc<ListIndex>) -> Result<ShiftOr, AllocError>
+        ensures { IfOk result (λ made. made.literals ≡ index.value) }
     {
+        let list = index.list();
         let mut buckets = Vec::from_elem(alloc, 0, list.len())?;
         cut_runs(list, &mut buckets);
         let confirms = Confirms::new(alloc, list, &buckets)?;
         let entries = Vec::with_capacity(alloc, ENTRIES)?;
         Ok(ShiftOr {
-            list,
+            index,
             buckets,
             confirms,
             entries,
@@ -146,7 +148,7 @@ impl<'p> ShiftOr<'p> {
         ensures { self.new ≡ self.old }
     {
         if self.entries.is_empty() {
-            fill_all(self.list, &self.buckets, &mut self.entries);
+            fill_all(self.index.list(), &self.buckets, &mut self.entries);
         }
     }
 
@@ -530,7 +532,7 @@ impl<'p> ShiftOr<'p> {
             let (bit, others) = split_lowest(unruled);
             let end = looks.at + bit / 8;
             if self.may_end(text, end, bit % 8) {
-                if let Some(first) = self.list.next_ending(text, end, 0) {
+                if let Some(first) = self.index.next_ending(text, end, 0) {
                     let unruled = bits_behind(others, bit / 8);
                     return Some(Verified {
                         end,
@@ -602,7 +604,7 @@ impl<'p> ShiftOr<'p> {
         ensures within { IfSome result (λ found. found.0 ≤ last) }
     {
         for seen in from..last {
-            if let Some(first) = self.list.next_ending(text, seen + 1, 0) {
+            if let Some(first) = self.index.next_ending(text, seen + 1, 0) {
                 return Some((seen + 1, first));
             }
         }

@@ -2,9 +2,9 @@
 ghost use Rattle.std.specs.Prelude.{◌≡◌, ℕ, ◌+◌, ◌^◌, ◌<◌, ◌≤◌, ◌++◌, ◌-◌, IfOk, IfSome, length, replicate, slice_index, slice_range, vec_len};
 ghost use Rattle.std.specs.Int.{bit_at};
 ghost use Rattle.std.specs.Int.RustNames.{bit_and, bit_or};
-ghost use Rattle.lit_base.specs.Marks.{IsMarked};
-ghost use Rattle.lit_base.specs.Suffixes.{hash_of, last_bits, spelled, suffix_key};
-ghost use Rattle.lit_base.specs.declared.suffixes.marks.TheConstants.{HASH_BITS};
+ghost use Rattle.list_index.specs.Marks.{IsMarked};
+ghost use Rattle.list_index.specs.Suffixes.{hash_of, last_bits, spelled, suffix_key};
+ghost use Rattle.list_index.specs.declared.suffixes.marks.TheConstants.{HASH_BITS};
 ghost use Rattle.nib_mask.specs.Fronts.{CoversFronts};
 ghost use Rattle.nib_mask.specs.Halves.{widened};
 ghost use Rattle.text_windows.specs.declared.shape.TheConstants.{WIDTH};
@@ -16,18 +16,20 @@ use crate::grouping::group;
 use crate::marking::mark_all;
 use crate::rate::EndRate;
 use crate::shape::{Shape, WIDTH};
-use lit_base::{Fold, HASH_BITS, LitList, case_bits, hash_of, last_bits, suffix_key};
+use list_index::{HASH_BITS, ListIndex, case_bits, hash_of, last_bits, suffix_key};
+use lit_base::{Fold, LitList};
 use nib_mask::ByteMasks;
 use std::alloc::{AllocError, Global};
 use std::marker::Model;
+use std::sync::Arc;
 
 /// The literals of a list, with hash bits for some of their factors: those that are rare in a given text.
 ///
 /// With masks, probes at each position that the masks pass miss no end. Without masks, probes at every `stride`-th
 /// position of a text miss none. It takes all its memory when it is made.
 #[derive(Debug, Drop)]
-pub struct Windows<'p> {
-    list: &'p LitList,
+pub struct Windows {
+    index: Arc<ListIndex>,
     stride: usize,
     shape: Shape,
     /// The distance from the end of each literal to the end of its last factor.
@@ -40,9 +42,9 @@ pub struct Windows<'p> {
     counts: Counts,
 }
 
-impl<'p> Model for Windows<'p> {
+impl Model for Windows {
     ghost use Rattle.std.specs.Prelude.{◌≡◌, ◌^◌, ◌<◌, ◌≤◌, IfSome, length, vec_capacity, vec_len};
-    ghost use Rattle.lit_base.specs.declared.suffixes.marks.TheConstants.{HASH_BITS};
+    ghost use Rattle.list_index.specs.declared.suffixes.marks.TheConstants.{HASH_BITS};
     ghost use Rattle.nib_mask.specs.Fronts.{CoversFronts};
     ghost use Rattle.nib_mask.specs.Halves.{widened};
     ghost use Rattle.text_windows.specs.Shapes.{IsShapeOf};
@@ -50,21 +52,22 @@ impl<'p> Model for Windows<'p> {
 
     ghost Value = { Windowing };
 
-    ghost view = { λ w. record { literals = w.list.now; stride = w.stride; offsets = w.offsets.items } };
+    ghost view = { λ w. record { literals = w.index.value; stride = w.stride; offsets = w.offsets.items } };
 
-    ghost invariant = { λ w. IsShapeOf w.list.now w.shape
+    ghost invariant = { λ w. IsShapeOf w.index.value w.shape
         × (0 < w.stride) × (w.stride ≤ w.shape.most_stride)
-        × AreWindowed w.list.now w.stride w.offsets.items w.marks.items (length w.list.now.texts)
-        × IfSome w.masks (λ masks. CoversFronts w.list.now (length w.list.now.texts) w.offsets.items (widened masks))
-        × (vec_len w.buckets ≡ length w.list.now.texts)
+        × AreWindowed w.index.value w.stride w.offsets.items w.marks.items (length w.index.value.texts)
+        × IfSome w.masks (λ masks. CoversFronts w.index.value (length w.index.value.texts) w.offsets.items (widened masks))
+        × (vec_len w.buckets ≡ length w.index.value.texts)
         × (2 ^ HASH_BITS ≤ vec_capacity w.counts.fours) × (2 ^ HASH_BITS ≤ vec_capacity w.counts.threes) };
 }
 
-impl<'p> Windows<'p> {
+impl Windows {
     /// The literals of a list without masks, at stride 1, with hash bits for their last bytes.
-    pub fn new(alloc: Global, list: &'p LitList) -> Result<Windows<'p>, AllocError>
-        ensures { IfOk result (λ windows. windows.literals ≡ list.now) }
+    pub fn new(alloc: Global, index: Arc<ListIndex>) -> Result<Windows, AllocError>
+        ensures { IfOk result (λ windows. windows.literals ≡ index.value) }
     {
+        let list = index.list();
         let shape = Shape::of(list);
         let mut offsets = Vec::from_elem(alloc, 0, list.len())?;
         let buckets = Vec::from_elem(alloc, 0, list.len())?;
@@ -72,7 +75,7 @@ impl<'p> Windows<'p> {
         let counts = Counts::new(alloc)?;
         mark_all(list, 1, &mut offsets, &mut marks);
         Ok(Windows {
-            list,
+            index,
             stride: 1,
             shape,
             offsets,
@@ -89,9 +92,10 @@ impl<'p> Windows<'p> {
     pub fn learn(&mut self, sample: &[u8], rate: EndRate) -> usize
         ensures { self.new.literals ≡ self.old.literals }
     {
-        self.counts.count(self.list, sample);
+        let list = self.index.list();
+        self.counts.count(list, sample);
         let choice = best_choice(
-            self.list,
+            list,
             &self.counts,
             sample,
             rate,
@@ -100,19 +104,14 @@ impl<'p> Windows<'p> {
         );
         let stride = choice.stride.clamp(1, self.shape.most_stride);
         choose_offsets(
-            self.list,
+            list,
             &self.counts,
             choice.is_sieved,
             stride,
             &mut self.offsets,
         );
-        mark_all(self.list, stride, &mut self.offsets, &mut self.marks);
-        self.masks = masks_if(
-            choice.is_sieved,
-            self.list,
-            &self.offsets,
-            &mut self.buckets,
-        );
+        mark_all(list, stride, &mut self.offsets, &mut self.marks);
+        self.masks = masks_if(choice.is_sieved, list, &self.offsets, &mut self.buckets);
         self.stride = stride;
         choice.cost
     }
@@ -145,7 +144,7 @@ impl<'p> Windows<'p> {
     {
         if at < WIDTH {
             let least = self.shape.least_width;
-            return marks_near_front(&self.marks, self.list.fold(), least, text, at);
+            return marks_near_front(&self.marks, self.index.fold(), least, text, at);
         }
         self.marks_by_widths(text, at)
     }
@@ -181,7 +180,7 @@ impl<'p> Windows<'p> {
         ensures { AreMarks self.now text.now at result }
     {
         let least = self.shape.least_width;
-        marks_of_widths(&self.marks, self.list.fold(), least, text, at)
+        marks_of_widths(&self.marks, self.index.fold(), least, text, at)
     }
 
     /// As `marks_by_widths`, in a call, which keeps it out of the caller's loop.

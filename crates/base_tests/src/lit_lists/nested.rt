@@ -1,7 +1,8 @@
 //! Literals that end in one another, all of them at each position, compared with a search that compares each.
 use super::spoilt::stands_before;
-use super::{normal_of, raw_of};
-use lit_base::{Endings, Fold, LitList};
+use super::{index_of, raw_of};
+use list_index::{Endings, ListIndex};
+use lit_base::Fold;
 use std::alloc::Global;
 use std::process::Abort;
 
@@ -32,7 +33,7 @@ fn rest_of(alloc: Global, endings: &mut Endings, most: usize) -> Option<Vec<usiz
 /// The literals from one on that end at a place, as the list gives them.
 fn given(
     alloc: Global,
-    list: &LitList,
+    list: &ListIndex,
     text: &[u8],
     end: usize,
     from: usize,
@@ -44,7 +45,7 @@ fn given(
 }
 
 /// Those after the first, if one ends there.
-fn given_behind(alloc: Global, list: &LitList, text: &[u8], end: usize) -> Option<Vec<usize>> {
+fn given_behind(alloc: Global, list: &ListIndex, text: &[u8], end: usize) -> Option<Vec<usize>> {
     if end > text.len() {
         return None;
     }
@@ -61,7 +62,7 @@ fn given_behind(alloc: Global, list: &LitList, text: &[u8], end: usize) -> Optio
 /// The literals from one on that end at a place, by comparing each.
 fn compared(
     alloc: Global,
-    list: &LitList,
+    list: &ListIndex,
     text: &[u8],
     end: usize,
     from: usize,
@@ -77,7 +78,7 @@ fn compared(
 
 /// How often the list gives others, at each place of the text.
 fn differences(alloc: Global, fold: Fold, patterns: &[&[u8]], text: &[u8]) -> Option<usize> {
-    let list = normal_of(alloc, &raw_of(alloc, patterns)?, fold)?;
+    let list = index_of(alloc, &raw_of(alloc, patterns)?, fold)?;
     let mut count = 0usize;
     for end in 0..=text.len() {
         for from in 0..=list.len() {
@@ -115,7 +116,7 @@ fn gives_all_that_end_at_each_place(rt: HostRuntime) {
 
 /// Whether the literals that end with a text of three bytes stand at these places.
 fn are_given(alloc: Global, text: &[u8; 3], places: &[usize]) -> Option<bool> {
-    let list = normal_of(alloc, &raw_of(alloc, &SHORT)?, Fold::No)?;
+    let list = index_of(alloc, &raw_of(alloc, &SHORT)?, Fold::No)?;
     Some(given(alloc, &list, text, 3, 0)?.as_slice() == places)
 }
 

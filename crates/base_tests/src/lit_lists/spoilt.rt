@@ -1,8 +1,10 @@
 //! Texts of near-misses: literals with one byte changed, compared with a search that compares each literal.
-use super::normal_of;
-use lit_base::{Fold, LitList, RawList, fold_byte};
+use super::index_of;
+use list_index::ListIndex;
+use lit_base::{Fold, RawList, fold_byte};
 use std::alloc::Global;
 use std::process::Abort;
+use std::sync::Arc;
 
 /// The changes of a byte: none, another byte in its place, and its letter in the other case.
 const KEPT: u8 = 0;
@@ -22,12 +24,12 @@ fn word_of(alloc: Global, len: u8) -> Option<Vec<u8>> {
 }
 
 /// The list of the words of `shortest` bytes and more, up to twenty.
-fn words_from(alloc: Global, shortest: u8, fold: Fold) -> Option<LitList> {
+fn words_from(alloc: Global, shortest: u8, fold: Fold) -> Option<Arc<ListIndex>> {
     let mut raw = RawList::new(alloc);
     for len in shortest..21 {
         raw.push(&word_of(alloc, len)?).ok()?;
     }
-    normal_of(alloc, &raw, fold)
+    index_of(alloc, &raw, fold)
 }
 
 /// The word of `len` bytes, with the byte at a place changed.
@@ -66,7 +68,7 @@ pub(super) fn stands_before(fold: Fold, literal: &[u8], text: &[u8], end: usize)
 }
 
 /// The first literal that ends there, by comparing each.
-fn plain_first(list: &LitList, text: &[u8], end: usize) -> Option<usize> {
+fn plain_first(list: &ListIndex, text: &[u8], end: usize) -> Option<usize> {
     for place in 0..list.len() {
         if place < list.len() && stands_before(list.fold(), list.get(place), text, end) {
             return Some(place);
@@ -76,7 +78,7 @@ fn plain_first(list: &LitList, text: &[u8], end: usize) -> Option<usize> {
 }
 
 /// At how many positions of the text the list gives another literal.
-fn differences_in(list: &LitList, text: &[u8]) -> usize {
+fn differences_in(list: &ListIndex, text: &[u8]) -> usize {
     let mut count = 0usize;
     for end in 0..text.len() {
         if list.next_ending(text, end, 0) != plain_first(list, text, end) {

@@ -3,4 +3,4 @@ use Rattle.std.proofs.Common.{◌≡◌}
 use Rattle.bench_scan.proofs.scan_pieces_learning.Given as goal
 
 abbrev pub invariant-pieces : goal.invariant-pieces
-invariant-pieces l = l.finder ≡ l.scanner.plan
+invariant-pieces l = l.finder ≡ l.scanner.plan.literals

@@ -38,14 +38,18 @@ fn by_plan(compiled: &Compiled, text: &[u8], progress: Progress, count: usize) -
 
 /// At most `count` more ends, by a finder.
 fn by_learning(
-    finder: &mut EndFinder<'_>,
+    compiled: &Compiled,
+    finder: &mut EndFinder,
     text: &[u8],
     progress: Progress,
     count: usize,
-) -> Progress {
+) -> Progress
+    requires { finder.old ≡ compiled.now.literals }
+    ensures { finder.new ≡ compiled.now.literals }
+{
     let (mut from, mut told) = progress;
-    for _ in 0..count {
-        let Some(end) = finder.next_end(text, from) else {
+    'ends: for _ in 0..count {
+        let Some(end) = finder.next_end(compiled, text, from) else {
             return (text.len(), told);
         };
         told = with_end(told, end);
@@ -178,12 +182,14 @@ fn sample_of<'t>(draws: &mut Draws, text: &'t [u8]) -> Option<&'t [u8]> {
 fn changing_in(
     alloc: Global,
     compiled: &Compiled,
-    finder: &mut EndFinder<'_>,
+    finder: &mut EndFinder,
     draws: &mut Draws,
     text: &[u8],
-) -> Option<Told> {
+) -> Option<Told>
+    requires { finder.old ≡ compiled.now.literals }
+{
     let mut progress = (0, (0, 0));
-    for _ in 0..text.len() {
+    'changes: for _ in 0..text.len() {
         let (from, told) = progress;
         if from >= text.len() {
             return Some(told);
@@ -191,7 +197,7 @@ fn changing_in(
         let count = draws.below(100).saturating_add(1);
         progress = match draws.below(5) {
             0 => by_plan(compiled, text, progress, count),
-            1 => by_learning(finder, text, progress, count),
+            1 => by_learning(compiled, finder, text, progress, count),
             3 => by_automaton(alloc, compiled, text, progress, count)?,
             2 => {
                 let sample = sample_of(draws, text)?;
@@ -210,10 +216,12 @@ fn changing_in(
 pub(super) fn changes_the_same(
     alloc: Global,
     compiled: &Compiled,
-    finder: &mut EndFinder<'_>,
+    finder: &mut EndFinder,
     text: &[u8],
     seed: u64,
-) -> Option<bool> {
+) -> Option<bool>
+    requires { finder.old ≡ compiled.now.literals }
+{
     let mut draws = Draws { state: seed };
     let wanted = plain_in(compiled, text, text.len());
     Some(changing_in(alloc, compiled, finder, &mut draws, text)? == wanted)

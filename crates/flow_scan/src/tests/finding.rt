@@ -1,9 +1,12 @@
 //! Searches by a finder and by the plan alone, in random texts of words: both find the same. The literals are pieces of
 //! the text, so that it has many near-misses.
+ghost use Rattle.std.specs.Prelude.{◌≡◌};
+
 use crate::compiled::Compiled;
 use crate::end_finder::EndFinder;
 use crate::searching::next_end;
 use crate::tests::owning::{How, agrees};
+use list_index::ListIndex;
 use lit_base::{Fold, LitList, Profile, RawList};
 use run_planner::plan;
 use std::alloc::Global;
@@ -109,7 +112,7 @@ pub(super) fn pieces_of(
 pub(super) fn plan_of_pieces(alloc: Global, raw: &RawList, fold: Fold) -> Option<Compiled> {
     let (list, _) = LitList::normal(alloc, raw, fold).ok()?;
     let certificate = plan(alloc, &list, Profile::Eight).ok()?;
-    Compiled::new(list, certificate).ok()
+    Compiled::new(ListIndex::new(alloc, list).ok()?, certificate).ok()
 }
 
 /// The plan of the literals, in which case counts.
@@ -134,11 +137,14 @@ pub(super) fn with_end(told: Told, end: usize) -> Told {
 }
 
 /// The ends that a finder finds in a text, one after another.
-fn add_learned(told: Told, finder: &mut EndFinder<'_>, text: &[u8]) -> Told {
+fn add_learned(told: Told, compiled: &Compiled, finder: &mut EndFinder, text: &[u8]) -> Told
+    requires { finder.old ≡ compiled.now.literals }
+    ensures { finder.new ≡ compiled.now.literals }
+{
     let mut told = told;
     let mut from = 0;
-    for _ in 0..=text.len() {
-        let Some(end) = finder.next_end(text, from) else {
+    'ends: for _ in 0..=text.len() {
+        let Some(end) = finder.next_end(compiled, text, from) else {
             return told;
         };
         told = with_end(told, end);
@@ -162,10 +168,13 @@ fn add_plain(told: Told, compiled: &Compiled, text: &[u8]) -> Told {
 }
 
 /// The ends that a finder finds in the pieces of a text, each a text of its own.
-fn learned_in(finder: &mut EndFinder<'_>, text: &[u8], size: usize) -> Told {
+fn learned_in(compiled: &Compiled, finder: &mut EndFinder, text: &[u8], size: usize) -> Told
+    requires { finder.old ≡ compiled.now.literals }
+    ensures { finder.new ≡ compiled.now.literals }
+{
     let mut told = (0, 0);
-    for piece in text.chunks(size.max(1)) {
-        told = add_learned(told, finder, piece);
+    'pieces: for piece in text.chunks(size.max(1)) {
+        told = add_learned(told, compiled, finder, piece);
     }
     told
 }
@@ -182,17 +191,19 @@ pub(super) fn plain_in(compiled: &Compiled, text: &[u8], size: usize) -> Told {
 /// Whether both find the same in a whole text, four times, and then in pieces of this length.
 pub(super) fn find_the_same(
     compiled: &Compiled,
-    finder: &mut EndFinder<'_>,
+    finder: &mut EndFinder,
     text: &[u8],
     size: usize,
-) -> bool {
+) -> bool
+    requires { finder.old ≡ compiled.now.literals }
+{
     let wanted = plain_in(compiled, text, text.len());
-    for _ in 0..4 {
-        if learned_in(finder, text, text.len()) != wanted {
+    'times: for _ in 0..4 {
+        if learned_in(compiled, finder, text, text.len()) != wanted {
             return false;
         }
     }
-    learned_in(finder, text, size) == plain_in(compiled, text, size)
+    learned_in(compiled, finder, text, size) == plain_in(compiled, text, size)
 }
 
 /// Whether they do with forty pieces of a text as literals. The halves of the text consist of the given words.

@@ -1,4 +1,6 @@
 //! Searches of one text that continue after each end, compared with searches that begin anew.
+ghost use Rattle.std.specs.Prelude.{◌≡◌};
+
 use super::finding::{CAPITALS, Draws, Told, WORDS, pieces_of, plan_of_pieces, text_of, with_end};
 use crate::compiled::Compiled;
 use crate::end_finder::EndFinder;
@@ -9,9 +11,12 @@ use lit_base::Fold;
 use std::alloc::Global;
 
 /// The ends that one search of a text by a finder finds, each more than `skip` bytes after the one before.
-fn by_finder(finder: &mut EndFinder<'_>, text: &[u8], skip: usize) -> Told {
+fn by_finder(compiled: &Compiled, finder: &mut EndFinder, text: &[u8], skip: usize) -> Told
+    requires { finder.old ≡ compiled.now.literals }
+    ensures { finder.new ≡ compiled.now.literals }
+{
     let (mut told, mut from) = ((0, 0), 0);
-    let mut search = TextSearch::new(finder.compiled(), text);
+    let mut search = TextSearch::new(compiled, text);
     'ends: for _ in 0..=text.len() {
         let Some(end) = finder.next_end_of(&mut search, from) else {
             return told;
@@ -50,10 +55,13 @@ fn anew(compiled: &Compiled, text: &[u8], skip: usize) -> Told {
 }
 
 /// Whether all three find the same at each distance.
-pub(super) fn go_on_the_same(compiled: &Compiled, finder: &mut EndFinder<'_>, text: &[u8]) -> bool {
-    for skip in [0, 1, 7, 31, 61, 62, 63, 64, 65, 66, 127, 128, 129, 1000] {
+pub(super) fn go_on_the_same(compiled: &Compiled, finder: &mut EndFinder, text: &[u8]) -> bool
+    requires { finder.old ≡ compiled.now.literals }
+{
+    'skips: for skip in [0, 1, 7, 31, 61, 62, 63, 64, 65, 66, 127, 128, 129, 1000] {
         let wanted = anew(compiled, text, skip);
-        if by_plan(compiled, text, skip) != wanted || by_finder(finder, text, skip) != wanted {
+        let learned = by_finder(compiled, finder, text, skip);
+        if by_plan(compiled, text, skip) != wanted || learned != wanted {
             return false;
         }
     }

@@ -38,11 +38,11 @@ pub(super) fn agrees(alloc: Global, compiled: &Compiled, text: &[u8], how: How) 
 fn agrees_by(
     alloc: Global,
     compiled: &Compiled,
-    finder: &mut EndFinder<'_>,
+    finder: &mut EndFinder,
     text: &[u8],
     how: How,
 ) -> Option<bool>
-    requires { finder.old ≡ compiled.now }
+    requires { finder.old ≡ compiled.now.literals }
 {
     match how {
         How::Ends(size) => Some(find_the_same(compiled, finder, text, size)),

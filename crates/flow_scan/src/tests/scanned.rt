@@ -1,4 +1,6 @@
 //! Scans by a finder and by the plan alone give the same hits.
+ghost use Rattle.std.specs.Prelude.{◌≡◌};
+
 use crate::compiled::Compiled;
 use crate::end_finder::EndFinder;
 use crate::hit::Hit;
@@ -18,12 +20,17 @@ fn count_behind(hits: &[Hit], from: usize) -> usize {
 /// Whether a scan by a finder gives exactly the hits of a text that end after a position.
 fn are_found(
     alloc: Global,
-    finder: &mut EndFinder<'_>,
+    compiled: &Compiled,
+    finder: &mut EndFinder,
     text: &[u8],
     from: usize,
     wanted: &[Hit],
-) -> Option<bool> {
-    let hits = finder.scan_behind(alloc, text, from.min(text.len())).ok()?;
+) -> Option<bool>
+    requires { finder.old ≡ compiled.now.literals }
+    ensures { finder.new ≡ compiled.now.literals }
+{
+    let start = from.min(text.len());
+    let hits = finder.scan_behind(alloc, compiled, text, start).ok()?;
     let (_, behind) = wanted.split_at_checked(wanted.len().checked_sub(hits.len())?)?;
     Some(hits.as_slice() == behind && hits.len() == count_behind(wanted, from))
 }
@@ -33,16 +40,18 @@ fn are_found(
 pub(super) fn scans_the_same(
     alloc: Global,
     compiled: &Compiled,
-    finder: &mut EndFinder<'_>,
+    finder: &mut EndFinder,
     text: &[u8],
-) -> Option<bool> {
+) -> Option<bool>
+    requires { finder.old ≡ compiled.now.literals }
+{
     let wanted = scan_all(alloc, compiled, text).ok()?;
-    for _ in 0..4 {
-        if !are_found(alloc, finder, text, 0, &wanted)? {
+    'times: for _ in 0..4 {
+        if !are_found(alloc, compiled, finder, text, 0, &wanted)? {
             return Some(false);
         }
     }
-    let are_behind = are_found(alloc, finder, text, 70_001, &wanted)?;
+    let are_behind = are_found(alloc, compiled, finder, text, 70_001, &wanted)?;
     Some(wanted.len() > 100 && are_behind)
 }
 

@@ -15,11 +15,11 @@ use std::alloc::Global;
 /// Feeds a piece in two: up to the first end by which a hundred hits were gained, and the rest.
 fn feed(
     scanner: &mut Scanner<'_>,
-    finder: &mut EndFinder<'_>,
+    finder: &mut EndFinder,
     piece: &[u8],
     hits: &mut Vec<Hit>,
 ) -> Option<()>
-    requires { finder.old ≡ scanner.old.plan }
+    requires { finder.old ≡ scanner.old.plan.literals }
     ensures scan { scanner.new.plan ≡ scanner.old.plan }
     ensures finder { finder.new ≡ finder.old }
 {
@@ -32,13 +32,13 @@ fn feed(
 /// Whether a text in pieces of this length has these hits.
 fn are_fed(
     scanner: Scanner<'_>,
-    finder: &mut EndFinder<'_>,
+    finder: &mut EndFinder,
     hits: Vec<Hit>,
     text: &[u8],
     size: usize,
     wanted: &[Hit],
 ) -> Option<bool>
-    requires { finder.old ≡ scanner.plan }
+    requires { finder.old ≡ scanner.plan.literals }
     ensures { finder.new ≡ finder.old }
 {
     let (mut scanner, mut hits) = (scanner, hits);
@@ -53,10 +53,10 @@ fn are_fed(
 pub(super) fn feed_the_same(
     alloc: Global,
     compiled: &Compiled,
-    finder: &mut EndFinder<'_>,
+    finder: &mut EndFinder,
     text: &[u8],
 ) -> Option<bool>
-    requires { finder.old ≡ compiled.now }
+    requires { finder.old ≡ compiled.now.literals }
 {
     let wanted = scan_all(alloc, compiled, text).ok()?;
     'sizes: for size in [65536, 20_000, 65536, 1000, 61] {
@@ -98,11 +98,11 @@ fn finds_short_hits_of_a_stream_in_either_case(rt: HostRuntime) {
 pub(super) fn learns_in_pieces(
     alloc: Global,
     compiled: &Compiled,
-    finder: &mut EndFinder<'_>,
+    finder: &mut EndFinder,
     text: &[u8],
     size: usize,
 ) -> Option<bool>
-    requires { finder.old ≡ compiled.now }
+    requires { finder.old ≡ compiled.now.literals }
 {
     let wanted = scan_all(alloc, compiled, text).ok()?;
     let scanner = Scanner::new(alloc, compiled).ok()?;

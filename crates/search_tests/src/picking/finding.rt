@@ -51,8 +51,8 @@ fn lent_plainly(
 }
 
 /// What learns from texts for a plan.
-fn finder_by<'p>(alloc: Global, compiled: &'p Compiled) -> Option<EndFinder<'p>>
-    ensures { IfSome result (λ finder. finder ≡ compiled.now) }
+fn finder_by(alloc: Global, compiled: &Compiled) -> Option<EndFinder>
+    ensures { IfSome result (λ list. list ≡ compiled.now.literals) }
 {
     EndFinder::new(alloc, compiled).ok()
 }
@@ -68,7 +68,7 @@ fn lent_by_finder(
         return None;
     }
     let finder = finder_by(alloc, compiled)?;
-    let mut picker = Picker::by_finder(alloc, finder, false, rule);
+    let mut picker = Picker::new(alloc, Some(compiled), false, rule).learning_by(finder);
     lent_by(alloc, &mut picker, text)
 }
 
@@ -123,7 +123,7 @@ fn hands_back_by(alloc: Global, compiled: &Compiled) -> Option<bool> {
         return None;
     }
     let finder = finder_by(alloc, compiled)?;
-    let picker = Picker::by_finder(alloc, finder, false, PARTS);
+    let picker = Picker::new(alloc, Some(compiled), false, PARTS).learning_by(finder);
     Some(picker.learns() && picker.into_finder().is_some())
 }
 

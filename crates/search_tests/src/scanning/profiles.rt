@@ -3,6 +3,7 @@
 use super::plan_under;
 use super::spoilt::finds_the_same;
 use flow_scan::Compiled;
+use list_index::ListIndex;
 use lit_base::{Fold, LitList, Profile, RawList};
 use run_planner::plan;
 use std::alloc::Global;
@@ -46,7 +47,7 @@ fn plan_of_numbers(alloc: Global, profile: Profile, count: u16) -> Option<Compil
     }
     let (list, _) = LitList::normal(alloc, &raw, Fold::No).ok()?;
     let certificate = plan(alloc, &list, profile).ok()?;
-    Compiled::new(list, certificate).ok()
+    Compiled::new(ListIndex::new(alloc, list).ok()?, certificate).ok()
 }
 
 /// Some of them one after the other, with a byte between that none of them has.

@@ -1,8 +1,7 @@
 -- The hits at the boundary, and then the hits of the piece in place.
-use Rattle.std.proofs.Common.{◌≡◌, ◌+◌, ◌-◌, ◌++◌, length, take, ap, ◌∙◌, arith}
+use Rattle.std.proofs.Common.{◌≡◌, ◌+◌, ◌-◌, ◌++◌, length, take, arith}
 use Rattle.std.proofs.lemmas.Bool.{false≢true}
 use Rattle.std.proofs.lemmas.List.{length-append, length-take}
-use Rattle.flow_scan.specs.Plans.{Plan}
 use Rattle.flow_scan.specs.Tails.{StopsAt, carry_of}
 use Rattle.flow_scan.proofs.HitLists.{gained_both, gained_more}
 use Rattle.flow_scan.proofs.TailSteps.{quiet_front, quiet_rest}
@@ -14,7 +13,7 @@ use Rattle.flow_scan.proofs.progress.add_piece.Given.{Over}
 pub returns-in_err-stop-clause-quiet : goal.returns-in_err-stop-clause-quiet
 returns-in_err-stop-clause-quiet g c = λ none.
     let l = c.args.compiled.now.literals in
-    absurd (false≢true ((rw (ap (λ (p : Plan). p.literals) c.requires.plan) at c.in_err-stop.ensures.quiet)
+    absurd (false≢true (c.in_err-stop.ensures.quiet
     (rw (c.text.ensures, c.tail_len.ensures, c.requires.front) (quiet_front l c.args.seam.now.tail c.args.piece.now c.args.seam.now.carry none))))
 
 pub returns-in_err-in_place-clause-kept : goal.returns-in_err-in_place-clause-kept
@@ -25,12 +24,12 @@ returns-in_err-in_place-clause-kept g c =
 
 pub returns-in_err-in_place-clause-quiet : goal.returns-in_err-in_place-clause-quiet
 returns-in_err-in_place-clause-quiet g c = λ none.
-    absurd (false≢true ((rw (ap (λ (p : Plan). p.literals) (c.in_ok-stop.ensures.same ∙ c.requires.plan)) at c.in_err-in_place.ensures.quiet)
+    absurd (false≢true (c.in_err-in_place.ensures.quiet
     (quiet_rest c.args.compiled.now.literals c.args.seam.now.tail c.args.piece.now c.carry-carry.result none)))
 
 -- the search from the tail on
 at_seam : (g : Over) (c : In_ok-stop g) → StopsAt c.args.compiled.now.literals (c.args.seam.now.tail ++ take c.args.seam.now.carry c.args.piece.now) (length c.args.seam.now.tail) c.args.at c.args.most c.in_ok-stop.stop c.args.out.now.items c.add_hits.new.out.items
-at_seam g c = rw (ap (λ (p : Plan). p.literals) c.requires.plan, c.text.ensures, c.tail_len.ensures, c.requires.front) at c.in_ok-stop.ensures.ok
+at_seam g c = rw (c.text.ensures, c.tail_len.ensures, c.requires.front) at c.in_ok-stop.ensures.ok
 
 pub returns-then-gained-most-clause-ok : goal.returns-then-gained-most-clause-ok
 returns-then-gained-most-clause-ok g c =
@@ -56,6 +55,6 @@ returns-clause-ok g c =
     let gained : c.len.result - c.len-before.result ≡ length middle - length old = omega (arith, c.len.ensures, c.len-before.ensures, c.args.out.now.ok.0, c.add_hits.new.out.ok.0) in
     let first = rw c.requires.carry at (at_seam g (goal.at.returns-clause-ok g c).In_ok-stop) in
     let second : StopsAt l c.args.piece.now (carry_of l) (c.args.at + carry_of l) (c.args.most - (length middle - length old)) c.in_ok-in_place.in_place middle new =
-    rw (ap (λ (p : Plan). p.literals) (c.in_ok-stop.ensures.same ∙ c.requires.plan), c.carry-carry.ensures.value, gained) at c.in_ok-in_place.ensures.ok in
+    rw (c.carry-carry.ensures.value, gained) at c.in_ok-in_place.ensures.ok in
     stopped_in_place l c.args.seam.now.tail c.args.piece.now c.args.at c.args.most c.in_ok-stop.stop c.in_ok-in_place.in_place old middle new c.carry-carry.ensures.bounds
     first (omega (arith, gained, c.if-gained-most.false)) second

@@ -1,24 +1,16 @@
--- A new picker has been fed nothing.
-use Rattle.std.proofs.Common.{◌≡◌, Option, Some, IfSome, refl, ap, sym, subst}
-use Rattle.flow_scan.specs.Plans.{Plan}
-use Rattle.line_pick.specs.Matching.{AreInLines, selects}
-use Rattle.grep_run.proofs.ScanLemmas.{fed-none}
+-- A picker that learns has been fed as much as before.
+use Rattle.std.proofs.Common.{◌≡◌, ◌∙◌, Option, Some, IfSome, ap, subst}
+use Rattle.lit_base.specs.Literals.{Literals}
+use Rattle.line_pick.specs.Matching.{list_of}
 use Rattle.grep_run.proofs.scanning.numbered_picker_for.Goals as goal
 
-pub returns-in-None-clause-fed : goal.returns-in-None-clause-fed
-returns-in-None-clause-fed c =
-    let request = c.args.request.now in
-    rw c.«new».ensures (fed-none _ _ (ap (λ plan. selects plan request.patterns.now.has_empty (record { invert = request.options.now.invert; whole = request.options.now.whole })) c.as_ref.ensures.value) refl refl refl refl)
-
--- The finder is by the plan of the patterns, whose literals stand in lines.
-pub by_finder-requires : goal.by_finder-requires
-by_finder-requires c =
-    let request = c.args.request.now in
-    let same : request.patterns.now.plan ≡ Some c.in-Some.finder = subst (λ (o : Option Plan). IfSome o (λ plan. request.patterns.now.plan ≡ Some plan)) c.in-Some.is c.requires in
-    subst AreInLines same request.patterns.now.apart
+pub learning_by-requires : goal.learning_by-requires
+learning_by-requires c =
+    let plan = c.args.request.now.patterns.now.plan in
+    let same : list_of plan ≡ Some c.in-Some.finder = subst (λ (o : Option Literals). IfSome o (λ list. list_of plan ≡ Some list)) c.in-Some.is c.requires in
+    ap list_of c.plain_picker_for-picker.ensures.plan ∙ same
 
 pub returns-in-Some-clause-fed : goal.returns-in-Some-clause-fed
 returns-in-Some-clause-fed c =
-    let request = c.args.request.now in
-    let same : request.patterns.now.plan ≡ Some c.in-Some.finder = subst (λ (o : Option Plan). IfSome o (λ plan. request.patterns.now.plan ≡ Some plan)) c.in-Some.is c.requires in
-    rw c.by_finder.ensures (fed-none _ _ (ap (λ plan. selects plan request.patterns.now.has_empty (record { invert = request.options.now.invert; whole = request.options.now.whole })) (sym same)) refl refl refl refl)
+    let fed = c.plain_picker_for-picker.ensures.fed in
+    rw c.learning_by.ensures (record { tests = fed.tests; held = fed.held; lines = fed.lines; bytes = fed.bytes; state = fed.state })

@@ -11,4 +11,4 @@ returns-in-Some c = λ _.
     let from = length whole - length text in
     let place : from + length text ≡ length whole = omega (arith, behind-len whole text c.requires.behind) in
     rest-end c.args.compiled.now.literals c.requires.apart whole text from c.args.at c.requires.behind place c.requires.some
-    (c.in-Some.first, subst (λ list. Occurs list whole c.in-Some.first (from + c.args.at)) c.list-list.ensures c.in-Some.ensures.first.occurs)
+    (c.in-Some.first, subst (λ list. Occurs list whole c.in-Some.first (from + c.args.at)) c.index-list.ensures c.in-Some.ensures.first.occurs)

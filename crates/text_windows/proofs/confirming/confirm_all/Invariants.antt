@@ -1,5 +1,5 @@
 use Rattle.std.proofs.Common.{◌≡◌, ℕ, ◌^◌, ◌<◌, length, slice_index, vec_len}
-use Rattle.lit_base.specs.Chains.{literal_at}
+use Rattle.lit_base.specs.Literals.{literal_at}
 use Rattle.text_windows.specs.ShiftOr.{IsConfirmed, bucket_at}
 use Rattle.text_windows.specs.declared.confirming.TheConstants.{CONFIRM_BITS}
 use Rattle.text_windows.proofs.confirming.confirm_all.Given as goal

@@ -1,6 +1,6 @@
 use Rattle.std.proofs.Common.{◌≡◌, ℕ, ◌+◌, ◌*◌, ◌<◌, ◌≤◌, length}
 use Rattle.std.specs.Int.{bit_at}
-use Rattle.lit_base.specs.Chains.{literal_at}
+use Rattle.lit_base.specs.Literals.{literal_at}
 use Rattle.text_windows.specs.ShiftOr.{bucket_at}
 use Rattle.text_windows.proofs.entries.base_of.Given as goal
 

@@ -1,6 +1,6 @@
 -- The entries that let all literals through are made alike whatever the case of letters.
 use Rattle.std.proofs.Common.{◌/◌, ◌^◌, bit_or, slice_index, ap, ◌∙◌, arith}
-use Rattle.lit_base.specs.Suffixes.{case_bits}
+use Rattle.list_index.specs.Suffixes.{case_bits}
 use Rattle.text_windows.proofs.ShiftOrLemmas.{entries_alike}
 use Rattle.text_windows.proofs.entries.fill_all.Goals as goal
 

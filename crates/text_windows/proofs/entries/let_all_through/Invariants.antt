@@ -1,6 +1,6 @@
 use Rattle.std.proofs.Common.{◌≡◌, ℕ, ◌+◌, ◌-◌, ◌*◌, ◌/◌, ◌<◌, ◌≤◌, length, slice_index, vec_len}
 use Rattle.std.specs.Int.{bit_at}
-use Rattle.lit_base.specs.Chains.{literal_at}
+use Rattle.lit_base.specs.Literals.{literal_at}
 use Rattle.text_windows.specs.ShiftOr.{bucket_at, last_number_at, number_at}
 use Rattle.text_windows.specs.declared.entries.TheConstants.{ENTRIES}
 use Rattle.text_windows.proofs.entries.let_all_through.Given as goal

@@ -1,6 +1,6 @@
 -- The entry of both bytes, whatever the case of letters, rules out the same ends as the entry without their case.
 use Rattle.std.proofs.Common.{slice_index, ap, ◌∙◌}
-use Rattle.lit_base.proofs.SuffixLemmas.{are_bytes}
+use Rattle.list_index.proofs.SuffixLemmas.{are_bytes}
 use Rattle.text_windows.proofs.ShiftOrLemmas.{ruled_by_pair}
 use Rattle.text_windows.proofs.looking.entry_at.Goals as goal
 

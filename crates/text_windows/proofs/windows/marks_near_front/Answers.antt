@@ -1,7 +1,7 @@
 -- One width after the other is probed.
 use Rattle.std.proofs.Common.{◌≡◌, inl, inr, ap, arith}
 use Rattle.std.proofs.lemmas.Bool.{cases_lt}
-use Rattle.lit_base.specs.Suffixes.{suffix_key}
+use Rattle.list_index.specs.Suffixes.{suffix_key}
 use Rattle.text_windows.proofs.WindowLemmas.{marked_left, marked_right, read_mark}
 use Rattle.text_windows.proofs.windows.marks_near_front.Goals as goal
 

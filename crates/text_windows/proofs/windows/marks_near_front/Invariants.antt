@@ -1,8 +1,8 @@
 use Rattle.std.proofs.Common.{◌≡◌, ℕ, ◌<◌, ◌≤◌}
 use Rattle.std.specs.Int.{bit_at}
-use Rattle.lit_base.specs.Marks.{IsMarked}
-use Rattle.lit_base.specs.Suffixes.{hash_of, suffix_key}
-use Rattle.lit_base.specs.declared.suffixes.marks.TheConstants.{HASH_BITS}
+use Rattle.list_index.specs.Marks.{IsMarked}
+use Rattle.list_index.specs.Suffixes.{hash_of, suffix_key}
+use Rattle.list_index.specs.declared.suffixes.marks.TheConstants.{HASH_BITS}
 use Rattle.text_windows.proofs.windows.marks_near_front.Given as goal
 
 -- the hash bits by the widths passed are found

@@ -2,10 +2,10 @@
 use Rattle.std.proofs.Common.{ℕ, ◌≤◌, inl, inr, sym, subst, arith}
 use Rattle.std.specs.Int.RustNames.{bit_and, bit_or}
 use Rattle.std.proofs.lemmas.Bool.{cases_lt}
-use Rattle.lit_base.specs.Marks.{IsMarked}
-use Rattle.lit_base.specs.Suffixes.{hash_of, last_bits, suffix_key}
-use Rattle.lit_base.specs.declared.suffixes.marks.TheConstants.{HASH_BITS}
-use Rattle.lit_base.proofs.SuffixLemmas.{are_bytes}
+use Rattle.list_index.specs.Marks.{IsMarked}
+use Rattle.list_index.specs.Suffixes.{hash_of, last_bits, suffix_key}
+use Rattle.list_index.specs.declared.suffixes.marks.TheConstants.{HASH_BITS}
+use Rattle.list_index.proofs.SuffixLemmas.{are_bytes}
 use Rattle.text_windows.specs.declared.shape.TheConstants.{WIDTH}
 use Rattle.text_windows.proofs.WindowLemmas.{marked_left, marked_right, read_width, word_key}
 use Rattle.text_windows.proofs.windows.marks_of_widths.Goals as goal

@@ -1,13 +1,12 @@
 -- The walk is over the plan's literals.
 use Rattle.std.proofs.Common.{ap}
 use Rattle.std.proofs.lemmas.Bool.{false≢true}
-use Rattle.flow_scan.specs.Plans.{Plan}
 use Rattle.flow_scan.specs.Walks.{Walk}
 use Rattle.flow_scan.proofs.end_finder.EndFinder.add_hits_plainly.Goals as goal
 
 pub returns-in_err-stop-clause-quiet : goal.returns-in_err-stop-clause-quiet
 returns-in_err-stop-clause-quiet c = λ none.
-    absurd (false≢true ((rw (ap (λ (w : Walk). w.literals) c.behind-ends.ensures, ap (λ (p : Plan). p.literals) c.self.view_is) at c.in_err-stop.ensures.quiet) none))
+    absurd (false≢true ((rw (ap (λ (w : Walk). w.literals) c.behind-ends.ensures) at c.in_err-stop.ensures.quiet) none))
 
 pub returns-clause-ok : goal.returns-clause-ok
-returns-clause-ok c = rw (ap (λ (w : Walk). w.literals) c.behind-ends.ensures, ap (λ (p : Plan). p.literals) c.self.view_is) at c.in_ok-stop.ensures.ok
+returns-clause-ok c = rw (ap (λ (w : Walk). w.literals) c.behind-ends.ensures) at c.in_ok-stop.ensures.ok

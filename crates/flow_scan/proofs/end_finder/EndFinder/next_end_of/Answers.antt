@@ -7,8 +7,8 @@ use Rattle.flow_scan.proofs.end_finder.EndFinder.next_end_of.Goals as goal
 use Rattle.flow_scan.proofs.end_finder.EndFinder.next_end_of.Goals.{After-skip_short_ends-start}
 
 -- nothing ends up to there
-none_before : (c : After-skip_short_ends-start) → NoEndUpTo c.args.self.now.literals c.args.search.now.text c.args.from c.skip_short_ends-start.result
-none_before c = rw (c.list.ensures ∙ ap (λ (p : Plan). p.literals) c.self.view_is) at (c.skip_short_ends-start.ensures.none c.args.search.now.text)
+none_before : (c : After-skip_short_ends-start) → NoEndUpTo c.args.search.now.plan.literals c.args.search.now.text c.args.from c.skip_short_ends-start.result
+none_before c = rw (c.index.ensures ∙ ap (λ (p : Plan). p.literals) c.compiled-compiled.ensures) at (c.skip_short_ends-start.ensures.none c.args.search.now.text)
 
 pub returns-then-start-text-clause-next : goal.returns-then-start-text-clause-next
 returns-then-start-text-clause-next c end after here =
@@ -16,12 +16,10 @@ returns-then-start-text-clause-next c end after here =
 
 pub returns-in-None-clause-next : goal.returns-in-None-clause-next
 returns-in-None-clause-next c =
-    none_further c.args.self.now.literals c.args.search.now.text c.args.from c.skip_short_ends-start.result
-    (none_before (goal.at.returns-in-None-clause-next c).After-skip_short_ends-start)
-    (rw (ap (λ (p : Plan). p.literals) c.learn_if_due.ensures) at c.in-None.ensures.next)
+    none_further c.args.search.now.plan.literals c.args.search.now.text c.args.from c.skip_short_ends-start.result
+    (none_before (goal.at.returns-in-None-clause-next c).After-skip_short_ends-start) c.in-None.ensures.next
 
 pub returns-in-Some-clause-next : goal.returns-in-Some-clause-next
 returns-in-Some-clause-next c =
-    next_further c.args.self.now.literals c.args.search.now.text c.args.from c.skip_short_ends-start.result
-    (none_before (goal.at.returns-in-Some-clause-next c).After-skip_short_ends-start) _ c.skip_short_ends-start.ensures.ahead
-    (rw (ap (λ (p : Plan). p.literals) c.learn_if_due.ensures) at c.in-Some.ensures.next)
+    next_further c.args.search.now.plan.literals c.args.search.now.text c.args.from c.skip_short_ends-start.result
+    (none_before (goal.at.returns-in-Some-clause-next c).After-skip_short_ends-start) _ c.skip_short_ends-start.ensures.ahead c.in-Some.ensures.next

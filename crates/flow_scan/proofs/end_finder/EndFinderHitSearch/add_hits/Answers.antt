@@ -1,16 +1,14 @@
 -- Tuning changes no literal.
-use Rattle.std.proofs.Common.{ap}
-use Rattle.flow_scan.specs.Plans.{Plan}
 use Rattle.flow_scan.proofs.end_finder.EndFinderHitSearch.add_hits.Goals as goal
 
 pub returns-in-Windows-clause-quiet : goal.returns-in-Windows-clause-quiet
-returns-in-Windows-clause-quiet c = rw (ap (λ (p : Plan). p.literals) c.learn_if_due.ensures) at c.add_hits_windowed.ensures.quiet
+returns-in-Windows-clause-quiet c = c.add_hits_windowed.ensures.quiet
 
 pub returns-in-Plan-clause-quiet : goal.returns-in-Plan-clause-quiet
-returns-in-Plan-clause-quiet c = rw (ap (λ (p : Plan). p.literals) c.learn_if_due.ensures) at c.add_hits_plainly.ensures.quiet
+returns-in-Plan-clause-quiet c = c.add_hits_plainly.ensures.quiet
 
 pub returns-in-ShiftOr-clause-quiet : goal.returns-in-ShiftOr-clause-quiet
-returns-in-ShiftOr-clause-quiet c = rw (ap (λ (p : Plan). p.literals) c.learn_if_due.ensures) at c.add_hits_shifted.ensures.quiet
+returns-in-ShiftOr-clause-quiet c = c.add_hits_shifted.ensures.quiet
 
 pub returns-in-Automaton-clause-quiet : goal.returns-in-Automaton-clause-quiet
-returns-in-Automaton-clause-quiet c = rw (ap (λ (p : Plan). p.literals) c.learn_if_due.ensures) at c.add_hits_told.ensures.quiet
+returns-in-Automaton-clause-quiet c = c.add_hits_told.ensures.quiet

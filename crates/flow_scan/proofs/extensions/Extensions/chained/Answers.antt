@@ -1,7 +1,7 @@
 -- From the last literal to the first each is chained before those that have the same suffix.
 use Rattle.std.proofs.Common.{◌≡◌, ◌<◌, ◌+◌, ◌-◌, slice_index, ◌∙◌, subst, arith}
 use Rattle.std.proofs.lemmas.List.{length-replicate, length-set}
-use Rattle.lit_base.specs.Chains.{IsChained}
+use Rattle.list_index.specs.Chains.{IsChained}
 use Rattle.flow_scan.proofs.ExtensionLemmas.{chained_more, chained_none}
 use Rattle.flow_scan.proofs.extensions.Extensions.chained.Goals as goal
 

@@ -1,5 +1,5 @@
 use Rattle.std.proofs.Common.{◌≡◌, ◌≤◌, length, slice_index}
-use Rattle.lit_base.specs.Chains.{IsChained}
+use Rattle.list_index.specs.Chains.{IsChained}
 use Rattle.flow_scan.specs.declared.extensions.TheConstants.{MOST_LITERALS}
 use Rattle.flow_scan.proofs.extensions.Extensions.chained.Given as goal
 

@@ -4,6 +4,6 @@ use Rattle.flow_scan.proofs.tests.streamed.are_fed.Given as goal
 
 abbrev pub invariant-pieces : goal.invariant-pieces
 invariant-pieces l = record {
-  plan : l.finder ≡ l.scanner.plan;
+  plan : l.finder ≡ l.scanner.plan.literals;
   same : l.finder ≡ l.fn.finder;
 }

@@ -4,7 +4,7 @@ use Rattle.flow_scan.specs.Searched.{Searched}
 use Rattle.flow_scan.proofs.text_search.TextSearch.next_after.Goals as goal
 
 pub next_verified-requires-clause-covers : goal.next_verified-requires-clause-covers
-next_verified-requires-clause-covers c = rw (c.list.ensures, c.skip_to.ensures.sieve) c.self.invariant.0
+next_verified-requires-clause-covers c = rw (c.index.ensures, c.skip_to.ensures.sieve) c.self.invariant.0
 
 pub next_verified-requires-clause-text : goal.next_verified-requires-clause-text
 next_verified-requires-clause-text c = c.skip_to.ensures.text ∙ c.self.invariant.1
@@ -17,4 +17,4 @@ invariant_of-self c = (
 
 pub returns-clause-next : goal.returns-clause-next
 returns-clause-next c =
-    rw (c.list.ensures ∙ ap (λ (s : Searched). s.plan.literals) c.self.view_is, ap (λ (s : Searched). s.text) c.self.view_is, c.skip_to.ensures.from) at c.next_verified.ensures.next
+    rw (c.index.ensures ∙ ap (λ (s : Searched). s.plan.literals) c.self.view_is, ap (λ (s : Searched). s.text) c.self.view_is, c.skip_to.ensures.from) at c.next_verified.ensures.next

@@ -8,7 +8,7 @@ use Rattle.flow_scan.proofs.text_search.TextSearch.next_end.Goals.{After-skip_sh
 
 -- nothing ends up to there
 none_before : (c : After-skip_short_ends-start) → NoEndUpTo c.args.self.now.plan.literals c.args.self.now.text c.args.from c.skip_short_ends-start.result
-none_before c = rw (c.list.ensures ∙ ap (λ (s : Searched). s.plan.literals) c.self.view_is) at (c.skip_short_ends-start.ensures.none c.args.self.now.text)
+none_before c = rw (c.index.ensures ∙ ap (λ (s : Searched). s.plan.literals) c.self.view_is) at (c.skip_short_ends-start.ensures.none c.args.self.now.text)
 
 pub returns-then-start-self-clause-next : goal.returns-then-start-self-clause-next
 returns-then-start-self-clause-next c end after here =

@@ -6,4 +6,4 @@ use Rattle.flow_scan.proofs.windowed.WindowedEndsEnds.next_end.Goals as goal
 
 pub returns-clause-next : goal.returns-clause-next
 returns-clause-next c =
-    subst (λ (w : Walk). MatchOption c.next_end.result (NoEndAfter w.literals w.text w.from) (λ found. IsNextEnd w.literals w.text w.from found.0)) c.self.view_is (rw c.list-list.ensures at c.next_end.ensures.next)
+    subst (λ (w : Walk). MatchOption c.next_end.result (NoEndAfter w.literals w.text w.from) (λ found. IsNextEnd w.literals w.text w.from found.0)) c.self.view_is (rw c.index-list.ensures at c.next_end.ensures.next)

@@ -16,7 +16,7 @@ pub returns-in-Some : goal.returns-in-Some
 returns-in-Some c =
     let plan = option_copied c.args.self.plan in
     let known : plan ≡ Some c.in-Some.compiled.now = ap option_copied c.in-Some.is in
-    c.is_literal.ensures ∙ ap (λ (l : Literals). matches l.folding true l.texts c.args.line.now) c.list.ensures
+    c.is_literal.ensures ∙ ap (λ (l : Literals). matches l.folding true l.texts c.args.line.now) c.index.ensures
     ∙ by_plan true c.args.line.now plan c.in-Some.compiled.now known
     ∙ sym (null-missed (fold_of plan) c.args.self.has_empty (literals_of plan) c.args.line.now (sym c.is_null.ensures ∙ c.if-is_null.false))
 

@@ -13,5 +13,5 @@ returns-clause-len c =
 pub returns-clause-nonempty : goal.returns-clause-nonempty
 returns-clause-nonempty c =
     let at : c.get.result.now ≡ get_or c.args.self.now.texts c.args.place c.get.result.now = grind (arith, common_steps) in
-    let normal : IsNormal c.args.self.now = subst IsNormal c.self.view_is c.self.invariant.0 in
+    let normal : IsNormal c.args.self.now = subst IsNormal c.self.view_is c.self.invariant in
     holds_at (λ t. 0 < length t) c.args.self.now.texts c.args.place c.get.result.now c.requires at normal.nonempty

@@ -14,4 +14,4 @@ returns-clause-last c =
 
 pub returns-clause-greatest : goal.returns-clause-greatest
 returns-clause-greatest c =
-    last_greatest c.args.self.now (subst IsNormal c.self.view_is c.self.invariant.0) (length c.get.result.now) (returns-clause-last c)
+    last_greatest c.args.self.now (subst IsNormal c.self.view_is c.self.invariant) (length c.get.result.now) (returns-clause-last c)

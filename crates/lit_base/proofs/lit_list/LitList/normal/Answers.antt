@@ -1,12 +1,9 @@
 -- The literals are the normal form, and keep the limits of the raw list.
-use Rattle.std.proofs.Common.{◌≡◌, subst, sym, ◌∙◌, All, length, map, ◌<◌, ◌≤◌}
+use Rattle.std.proofs.Common.{◌≡◌, subst, sym, ◌∙◌, length, ◌≤◌}
 use Rattle.std.specs.List.{AllZip}
-use Rattle.std.specs.List.Sorted.{IsNonDecreasing}
 use Rattle.lit_base.specs.Literals.{IsNormal}
 use Rattle.lit_base.specs.declared.limits.TheConstants.{MAX_LITERALS}
-use Rattle.lit_base.specs.Checks.{AreSuffixesOf}
 use Rattle.lit_base.specs.NormalForm.{IsNormalForm, IsPlaceOf, normal_form}
-use Rattle.lit_base.proofs.LengthLemmas.{lengths_rise}
 use Rattle.lit_base.proofs.NormalForms.{is_normal, normal_form_is}
 use Rattle.lit_base.proofs.lit_list.LitList.normal.Goals as goal
 use Rattle.lit_base.proofs.lit_list.LitList.normal.Goals.{In_ok-literals}
@@ -19,25 +16,13 @@ form c = c.in_ok-literals.ensures ∙ c.in_ok-distinct.ensures.keys
 normal : (c : In_ok-literals) → IsNormal (record { folding = c.args.fold; texts = c.in_ok-literals.literals.items })
 normal c = is_normal c.args.fold c.args.raw.now c.in_ok-literals.literals.items (form c) c.in_ok-distinct.ensures.limits (subst (λ ts. length ts ≤ MAX_LITERALS) (sym c.in_ok-literals.ensures) c.in_ok-distinct.ensures.few)
 
-pub new-requires-clause-nonempty : goal.new-requires-clause-nonempty
-new-requires-clause-nonempty c =
-    subst (All (λ t. 0 < length t)) (sym c.as_slice-2.ensures.value) (normal (goal.at.new-requires-clause-nonempty c).In_ok-literals).nonempty
-
-pub new-requires-clause-rising : goal.new-requires-clause-rising
-new-requires-clause-rising c =
-    subst (λ texts. IsNonDecreasing (map length texts)) (sym c.as_slice-2.ensures.value) (lengths_rise _ (normal (goal.at.new-requires-clause-rising c).In_ok-literals))
-
 pub invariant_of-list : goal.invariant_of-list
-invariant_of-list c = (
-  subst IsNormal (sym c.new-2.ensures) (normal (goal.at.invariant_of-list c).In_ok-literals),
-  subst (λ l. AreSuffixesOf l c.in_ok-suffixes.suffixes) (sym c.new-2.ensures)
-      (subst (λ texts. AreSuffixesOf (record { folding = c.args.fold; texts = texts }) c.in_ok-suffixes.suffixes) c.as_slice-2.ensures.value c.in_ok-suffixes.ensures),
-)
+invariant_of-list c = subst IsNormal (sym c.new.ensures) (normal (goal.at.invariant_of-list c).In_ok-literals)
 
 pub returns-clause-form : goal.returns-clause-form
 returns-clause-form c =
-    rw c.new-2.ensures (subst (IsNormalForm c.args.fold c.args.raw.now) (sym (form (goal.at.returns-clause-form c).In_ok-literals)) (normal_form_is c.args.fold c.args.raw.now))
+    rw c.new.ensures (subst (IsNormalForm c.args.fold c.args.raw.now) (sym (form (goal.at.returns-clause-form c).In_ok-literals)) (normal_form_is c.args.fold c.args.raw.now))
 
 pub returns-clause-places : goal.returns-clause-places
 returns-clause-places c =
-    rw c.new-2.ensures (subst (λ texts. AllZip (IsPlaceOf c.args.fold texts) c.args.raw.now c.in_ok-place_of.place_of.items) c.as_slice.ensures.value c.in_ok-place_of.ensures)
+    rw c.new.ensures (subst (λ texts. AllZip (IsPlaceOf c.args.fold texts) c.args.raw.now c.in_ok-place_of.place_of.items) c.as_slice.ensures.value c.in_ok-place_of.ensures)

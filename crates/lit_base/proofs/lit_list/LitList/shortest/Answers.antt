@@ -13,4 +13,4 @@ returns-clause-first c =
 
 pub returns-clause-least : goal.returns-clause-least
 returns-clause-least c =
-    first_least c.args.self.now (subst IsNormal c.self.view_is c.self.invariant.0) (length c.get.result.now) (returns-clause-first c)
+    first_least c.args.self.now (subst IsNormal c.self.view_is c.self.invariant) (length c.get.result.now) (returns-clause-first c)

@@ -6,8 +6,8 @@ use Rattle.std.specs.List.{slice_index}
 use Rattle.std.proofs.lemmas.Bool.{false≢true}
 use Rattle.std.proofs.lemmas.Grind.{get_or_default_zero}
 use Rattle.lit_base.specs.Literals.{Literals}
-use Rattle.lit_base.specs.Suffixes.{hash_of, last_bits}
-use Rattle.lit_base.proofs.SuffixLemmas.{are_bytes}
+use Rattle.list_index.specs.Suffixes.{hash_of, last_bits}
+use Rattle.list_index.proofs.SuffixLemmas.{are_bytes}
 use Rattle.text_windows.specs.ShiftOr.{Bucketing, NoneOf, bucket_at}
 use Rattle.text_windows.specs.declared.confirming.TheConstants.{CONFIRM_BITS}
 use Rattle.text_windows.proofs.ShiftOrLemmas.{confirmed-occurs}
@@ -15,7 +15,7 @@ use Rattle.text_windows.proofs.shift_or.ShiftOr.may_end.Goals as goal
 
 pub returns : goal.returns
 returns c = λ cleared.
-    let l : Literals = c.self.inside.list.now in
+    let l : Literals = c.self.inside.index.value in
     let text = c.args.text.now in
     let buckets = c.self.inside.buckets.items in
     let confirms = c.self.inside.confirms in

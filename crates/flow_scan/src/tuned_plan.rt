@@ -1,0 +1,94 @@
+//! A plan with what its searches have learned.
+ghost use Rattle.std.specs.Prelude.{◌≡◌, ◌≤◌, IfOk, IfSome, IsOk, IsOkUnless, length};
+ghost use Rattle.std.specs.Arc.{arc_value};
+ghost use Rattle.flow_scan.specs.declared.fault.Fault.TheVariants.{OutOfMemory};
+ghost use Rattle.flow_scan.specs.HitsAt.{Extends};
+ghost use Rattle.lit_base.specs.NextEnds.{NoEndAfter};
+ghost use Rattle.flow_scan.specs.Tails.{StopsAt};
+
+use crate::compiled::Compiled;
+use crate::end_finder::EndFinder;
+use crate::fault::Fault;
+use crate::hit::Hit;
+use crate::learning::make_if_long;
+use crate::until::scan_until;
+use std::alloc::{AllocError, Global};
+use std::marker::Model;
+use std::sync::Arc;
+
+/// A share of a plan, with a finder once its owner has searched enough bytes. A contract sees the plan alone.
+#[derive(Drop)]
+pub struct TunedPlan {
+    plan: Arc<Compiled>,
+    finder: Option<EndFinder>,
+    /// How many bytes its scans were given.
+    bytes: u64,
+}
+
+impl Model for TunedPlan {
+    ghost use Rattle.std.specs.Prelude.{◌≡◌, IfSome};
+    ghost use Rattle.flow_scan.specs.Plans.{Plan};
+
+    ghost Value = { Plan };
+
+    ghost view = { λ t. t.plan.value };
+
+    ghost invariant = { λ t. IfSome t.finder (λ list. list ≡ t.plan.value.literals) };
+}
+
+impl TunedPlan {
+    /// A plan whose searches have learned nothing. It takes no memory.
+    pub fn new(plan: Arc<Compiled>) -> TunedPlan
+        ensures { result ≡ arc_value plan }
+    {
+        TunedPlan {
+            plan,
+            finder: None,
+            bytes: 0,
+        }
+    }
+
+    /// The plan.
+    pub fn plan(&self) -> &Compiled
+        ensures { result.now ≡ self.now }
+    {
+        &self.plan
+    }
+
+    /// Another share of the plan, without what was learned.
+    pub fn share(&self) -> Result<Arc<Compiled>, AllocError>
+        ensures { IfOk result (λ plan. arc_value plan ≡ self.now) }
+    {
+        Ok(Arc::try_clone(&self.plan)?)
+    }
+
+    /// Adds to `out` the hits of a text that end after `from`, as `scan_until` does by the plan alone. It tunes itself to
+    /// the texts; the hits do not depend on this. Without memory for a finder it goes on by the plan alone.
+    ///
+    /// The only refusal is `OutOfMemory`, and `out` may then have gained some hits.
+    pub fn scan_until(
+        &mut self,
+        alloc: Global,
+        text: &[u8],
+        from: usize,
+        most: usize,
+        out: &mut Vec<Hit>,
+    ) -> Result<usize, Fault>
+        requires { from ≤ length text.now }
+        ensures same { self.new ≡ self.old }
+        ensures ok { IfOk result (λ stop. StopsAt self.old.literals text.now from from most stop out.old.items out.new.items) }
+        ensures kept { Extends out.old.items out.new.items }
+        ensures refused { IsOkUnless result OutOfMemory }
+
+        // Where nothing ends after the position, it does not fail for want of memory.
+        ensures quiet { NoEndAfter self.old.literals text.now from → IsOk result }
+    {
+        self.bytes = self.bytes.saturating_add((text.len() - from) as u64);
+        let compiled: &Compiled = &self.plan;
+        make_if_long(&mut self.finder, alloc, compiled, self.bytes);
+        match &mut self.finder {
+            Some(finder) => Ok(finder.add_spans(compiled, text, from, most, out)?),
+            None => scan_until(compiled, text, from, most, out),
+        }
+    }
+}

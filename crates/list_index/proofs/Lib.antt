@@ -1,0 +1,4 @@
+pub mod ChainLemmas
+pub mod CheckLemmas
+pub mod MarkLemmas
+pub mod SuffixLemmas

@@ -1,0 +1,53 @@
+-- Marks: one more, and that a text has the mark of each literal that ends in it.
+use Rattle.std.proofs.Common.{◌≡◌, ℕ, ◌+◌, ◌-◌, ◌++◌, replicate, refl, ◌*◌, ◌%◌, ◌^◌, ◌<◌, ◌≤◌, List, length, get_or, set, inl, inr, sym, ap, ◌∙◌, subst, arith, get_or-set_same, get_or-set_other}
+use Rattle.std.specs.Int.{bit_at, w8}
+use Rattle.std.specs.Int.RustNames.{bit_and, bit_or}
+use Rattle.std.specs.List.{slice_range}
+use Rattle.std.proofs.lemmas.Bool.{cases_eq}
+use Rattle.std.proofs.lemmas.Nat.Bits.{bit_at_set_same, bit_at_set_other}
+use Rattle.std.proofs.lemmas.Option.{slice_get_within}
+use Rattle.list_index.specs.declared.suffixes.marks.SuffixMarks.{SuffixMarks}
+use Rattle.list_index.specs.declared.suffixes.marks.TheConstants.{HASH_BITS}
+use Rattle.lit_base.specs.Literals.{Literals}
+use Rattle.list_index.specs.Marks.{IsMarked, AreMarksOf}
+use Rattle.lit_base.specs.Occurrences.{Occurs}
+use Rattle.list_index.specs.Suffixes.{hash_of, spelled, suffix_key}
+use Rattle.list_index.proofs.SuffixLemmas.{AreBytes, key-occurs_inside, masked, spelled_fits}
+
+module _ (marks : List ℕ) (number byte back : ℕ) (room : number < length marks) (read : byte ≡ get_or marks number 0) (bit : back < 8) where
+  abbrev marked_byte : ℕ
+  marked_byte = bit_or byte (1 * 2 ^ back % 256)
+
+  -- the number is marked
+  pub marked_now : IsMarked (set marks number marked_byte) number back
+  marked_now = ap (λ w. bit_at w back) (get_or-set_same marks number marked_byte 0 room) ∙ bit_at_set_same w8 byte back bit
+
+  -- and earlier marks stay
+  pub marked_still : (other place : ℕ) → IsMarked marks other place → IsMarked (set marks number marked_byte) other place
+  marked_still other place old = elim (cases_eq other number) [
+    | inl here ↦
+        let same : bit_at byte place ≡ 1 = ap (λ w. bit_at w place) (read ∙ ap (λ k. get_or marks k 0) (sym here)) ∙ old in
+        ap (λ k. bit_at (get_or (set marks number marked_byte) k 0) place) here
+        ∙ ap (λ w. bit_at w place) (get_or-set_same marks number marked_byte 0 room)
+        ∙ elim (cases_eq place back) [
+          | inl there ↦ ap (λ k. bit_at marked_byte k) there ∙ bit_at_set_same w8 byte back bit
+          | inr apart ↦ bit_at_set_other w8 byte back bit place apart ∙ same
+        ]
+    | inr apart ↦ ap (λ w. bit_at w place) (get_or-set_other marks number other marked_byte 0 apart) ∙ old
+  ]
+
+-- where a literal ends, the text's hash before it is marked
+pub marked-occurs : (l : Literals) (marks : SuffixMarks) (text : List ℕ) (place at back end : ℕ) → AreMarksOf l marks → AreBytes text → at + back ≡ end → back < 1 → 8 ≤ at → Occurs l text place end
+    → IsMarked marks.marks.items (hash_of HASH_BITS (bit_or (bit_and (spelled (slice_range text (at - 8) at)) marks.mask) marks.case_bits)) back
+unfolding suffix_key
+marked-occurs l marks text place at back end is bytes sum near room occurs =
+    let there = slice_get_within l.texts place occurs.literal occurs.stands in
+    let inside : at ≤ length text = omega (arith, occurs.ends) in
+    let before : end - back ≡ at = omega arith in
+    let word : ℕ = spelled (slice_range text (at - 8) at) in
+    let masks : bit_and word marks.mask ≡ spelled (replicate (8 - marks.width) 0 ++ slice_range text (at - marks.width) at) =
+    ap (bit_and word) is.mask ∙ masked text at marks.width word bytes is.narrow room inside (spelled_fits text at bytes room inside) refl in
+    let key : bit_or (bit_and word marks.mask) marks.case_bits ≡ suffix_key l.folding text at marks.width = λ i. bit_or (masks i) (is.case i) in
+    let literal = ap (λ n. suffix_key l.folding text n marks.width) (sym before)
+    ∙ key-occurs_inside l text place end marks.width back bytes is.narrow (omega (arith, is.wide place there)) occurs in
+    subst (λ k. IsMarked marks.marks.items (hash_of HASH_BITS k) back) (sym (key ∙ literal)) (is.marked place there back (omega arith) (omega (arith, near)))

@@ -1,0 +1,37 @@
+-- There is a byte for each hash, and in the end every literal is marked.
+use Rattle.std.proofs.Common.{◌≡◌, ◌<◌, [], length, ap, ◌∙◌, subst, arith, below_more}
+use Rattle.std.proofs.lemmas.List.{get_or_read}
+use Rattle.lit_base.specs.Literals.{literal_at}
+use Rattle.list_index.specs.Marks.{IsMarkedFor}
+use Rattle.list_index.specs.Suffixes.{case_bits}
+use Rattle.list_index.proofs.suffixes.marks.SuffixMarks.new.Goals as goal
+
+pub mark_literal-requires-clause-long : goal.mark_literal-requires-clause-long
+mark_literal-requires-clause-long c =
+    let inside : c.loop-place.place < length c.args.list.now.texts = omega (arith, c.loop-place-test.true) in
+    let here : c.get.result.now ≡ literal_at c.args.list.now c.loop-place.place = get_or_read c.args.list.now.texts c.loop-place.place c.get.result.now inside c.get.ensures.value [] in
+    omega (arith, ap length here, c.marked_len-width.ensures.shared c.loop-place.place inside)
+
+pub loop-place-preserved : goal.loop-place-preserved
+loop-place-preserved c =
+    let inside : c.loop-place.place < length c.args.list.now.texts = omega (arith, c.loop-place-test.true) in
+    let here : c.get.result.now ≡ literal_at c.args.list.now c.loop-place.place = get_or_read c.args.list.now.texts c.loop-place.place c.get.result.now inside c.get.ensures.value [] in
+    let width = c.marked_len-width.result in
+    record {
+      len = c.mark_literal.ensures.len ∙ c.loop-place.invariant.len;
+      marked = below_more _ _
+          (λ place low back counted near. c.mark_literal.ensures.kept _ back (c.loop-place.invariant.marked place low back counted near))
+          (subst (λ t. IsMarkedFor c.mark_literal.new.marks.items c.fold-fold.result t width 0 1) here c.mark_literal.ensures.marked);
+    }
+
+pub returns : goal.returns
+returns c = record {
+  some = c.marked_len-width.ensures.some;
+  narrow = c.marked_len-width.ensures.small;
+  mask = c.last_bits.ensures;
+  case = c.case_bits.ensures ∙ ap case_bits c.fold-fold.ensures;
+  room = omega (arith, c.loop-place.invariant.len);
+  wide = λ place inside. omega (arith, c.marked_len-width.ensures.shared place inside);
+  marked = λ place inside. subst (λ fold. IsMarkedFor c.loop-place.marks.items fold (literal_at c.args.list.now place) c.marked_len-width.result 0 1) c.fold-fold.ensures
+      (c.loop-place.invariant.marked place (omega (arith, inside, c.loop-place-test.false)));
+}

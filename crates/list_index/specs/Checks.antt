@@ -1,0 +1,35 @@
+-- Checks by hashes of the last bytes of keys, which give the key widths of the literals that may end at a position.
+use Rattle.std.specs.Prelude.{◌≡◌, ℕ, ◌-◌, ◌^◌, ◌<◌, ◌≤◌, List, length, min}
+use Rattle.list_index.specs.declared.suffixes.Suffixes.{Suffixes}
+use Rattle.list_index.specs.declared.suffixes.checks.SuffixChecks.{SuffixChecks}
+use Rattle.list_index.specs.declared.suffixes.checks.TheConstants.{CHECK_BITS}
+use Rattle.list_index.specs.Chains.{AreChainsOf, told_at}
+use Rattle.lit_base.specs.Literals.{Literals, literal_at}
+use Rattle.list_index.specs.Marks.{AreMarksOf, IsMarked}
+use Rattle.list_index.specs.Suffixes.{case_bits, hash_of, suffix_key}
+
+-- the hash of a key has the bit of a width
+abbrev pub IsChecked : List ℕ → ℕ → ℕ → Type 0
+IsChecked widths width key = IsMarked widths (hash_of CHECK_BITS key) (width - 1)
+
+-- the key of the checked bytes of the literal at a place: the last bytes of its key, at most `most`
+abbrev pub last_key : Literals → ℕ → ℕ → ℕ
+last_key l most place = suffix_key l.folding (literal_at l place) (length (literal_at l place)) (min (told_at l place) most)
+
+-- each literal is checked by a key of eight bytes, or by the last bytes of a shorter one, and there is room for every
+-- hash
+pub record AreChecksOf (l : Literals) (checks : SuffixChecks) : Type 0 where
+  pub some : 0 < checks.least
+  pub ordered : checks.least ≤ checks.most
+  pub narrow : checks.most ≤ 8
+  pub case : checks.case_bits ≡ case_bits l.folding
+  pub room : length checks.widths.items ≡ 2 ^ CHECK_BITS
+  pub wide : (place : ℕ) → place < length l.texts → checks.least ≤ length (literal_at l place)
+  pub short : (place : ℕ) → place < length l.texts → told_at l place < 8 → IsChecked checks.widths.items (told_at l place) (last_key l checks.most place)
+  pub long : (place : ℕ) → place < length l.texts → told_at l place ≡ 8 → IsChecked checks.widths.items (told_at l place) (last_key l 8 place)
+
+-- chains, hash bits and checks of the literals
+pub record AreSuffixesOf (l : Literals) (suffixes : Suffixes) : Type 0 where
+  pub chains : AreChainsOf l suffixes.chains
+  pub marks : AreMarksOf l suffixes.marks
+  pub checks : AreChecksOf l suffixes.checks

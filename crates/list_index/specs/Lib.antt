@@ -1,0 +1,6 @@
+pub mod Chains
+pub mod Checks
+pub mod EndingCursors
+pub mod EndingViews
+pub mod Marks
+pub mod Suffixes

@@ -1,0 +1,27 @@
+-- Hash bits for the bytes shortly before literals' ends, which rule out positions where no literal ends.
+use Rattle.std.specs.Prelude.{◌≡◌, ℕ, ◌+◌, ◌-◌, ◌^◌, ◌<◌, ◌≤◌, List, length, slice_index}
+use Rattle.std.specs.Int.{bit_at}
+use Rattle.lit_base.specs.declared.fold.Fold.{Fold}
+use Rattle.list_index.specs.declared.suffixes.marks.SuffixMarks.{SuffixMarks}
+use Rattle.lit_base.specs.Literals.{Literals, literal_at}
+use Rattle.list_index.specs.Suffixes.{case_bits, hash_of, last_bits, suffix_key}
+use Rattle.list_index.specs.declared.suffixes.marks.TheConstants.{HASH_BITS}
+
+-- the byte of a number has bit `back`: a literal may end `back` positions later
+abbrev pub IsMarked : List ℕ → ℕ → ℕ → Type 0
+IsMarked marks number back = bit_at (slice_index marks number) back ≡ 1
+
+-- each of `stride` positions of a literal, the last one `offset` before its end, has the hash bit of the bytes before
+-- it
+abbrev pub IsMarkedFor : List ℕ → Fold → List ℕ → ℕ → ℕ → ℕ → Type 0
+IsMarkedFor marks fold literal width offset stride = (back : ℕ) → offset ≤ back → back < offset + stride → IsMarked marks (hash_of HASH_BITS (suffix_key fold literal (length literal - back) width)) back
+
+-- the end of each literal is marked, and there is room for every hash
+pub record AreMarksOf (l : Literals) (marks : SuffixMarks) : Type 0 where
+  pub some : 0 < marks.width
+  pub narrow : marks.width ≤ 8
+  pub mask : marks.mask ≡ last_bits marks.width
+  pub case : marks.case_bits ≡ case_bits l.folding
+  pub room : length marks.marks.items ≡ 2 ^ HASH_BITS
+  pub wide : (place : ℕ) → place < length l.texts → marks.width ≤ length (literal_at l place)
+  pub marked : (place : ℕ) → place < length l.texts → IsMarkedFor marks.marks.items l.folding (literal_at l place) marks.width 0 1

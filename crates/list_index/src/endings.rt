@@ -1,0 +1,104 @@
+//! The literals that end at one position of a text, one after another.
+ghost use Rattle.std.specs.Prelude.{◌≡◌, ◌+◌, ◌<◌, ◌≤◌, IfSome, MatchOption, length};
+ghost use Rattle.std.specs.Option.{IfNone};
+ghost use Rattle.lit_base.specs.Occurrences.{IsFirstEnding, NoneEnds, Occurs};
+
+use crate::index::ListIndex;
+use crate::suffixes::widths_behind;
+use std::marker::Model;
+
+/// The literals that end at one position of a text, in order, from some place of the list on. A contract sees the
+/// literals, the text, that position, and the place of the list from which the search continues.
+///
+/// The last bytes of the text there are read once for all of them.
+#[derive(Drop)]
+pub struct Endings<'a> {
+    list: &'a ListIndex,
+    text: &'a [u8],
+    end: usize,
+    from: usize,
+    /// Bit `width - 1` is set if a literal from `from` on with a key of `width` bytes may end there.
+    widths: u8,
+}
+
+impl<'a> Model for Endings<'a> {
+    ghost use Rattle.list_index.specs.EndingCursors.{EndingCursor};
+
+    ghost Value = { EndingCursor };
+
+    ghost use Rattle.list_index.specs.EndingViews.{cursor_of, IsReady};
+
+    ghost view = { cursor_of };
+
+    ghost invariant = { IsReady };
+}
+
+impl<'a> Endings<'a> {
+    /// The literals from place `from` on that end at `end`.
+    #[inline]
+    pub(crate) fn new(list: &'a ListIndex, text: &'a [u8], end: usize, from: usize) -> Endings<'a>
+        requires { end ≤ length text.now }
+        ensures literals { result.literals ≡ list.now }
+        ensures text { result.text ≡ text.now }
+        ensures end { result.end ≡ end }
+        ensures from { result.from ≡ from }
+    {
+        Endings {
+            list,
+            text,
+            end,
+            from,
+            widths: list.suffixes.widths_at(text, end),
+        }
+    }
+
+    /// The literals that end at `end` after the literal at `place`, which ends there.
+    #[inline]
+    pub(crate) fn behind(
+        list: &'a ListIndex,
+        text: &'a [u8],
+        end: usize,
+        place: usize,
+    ) -> Endings<'a>
+        requires { Occurs list.now text.now place end }
+        ensures literals { result.literals ≡ list.now }
+        ensures text { result.text ≡ text.now }
+        ensures end { result.end ≡ end }
+        ensures from { result.from ≡ place + 1 }
+    {
+        let len = list.list.get(place).len();
+        Endings {
+            list,
+            text,
+            end,
+            from: place + 1,
+            widths: widths_behind(list.suffixes.widths_at(text, end), len),
+        }
+    }
+
+    /// The next literal that ends there, or `None` if no literal remains.
+    #[inline]
+    pub fn next(&mut self) -> Option<usize>
+        ensures literals { self.new.literals ≡ self.old.literals }
+        ensures text { self.new.text ≡ self.old.text }
+        ensures end { self.new.end ≡ self.old.end }
+        ensures first { MatchOption result
+            (NoneEnds self.old.literals self.old.text self.old.from self.old.end)
+            (λ place. IsFirstEnding self.old.literals self.old.text self.old.from self.old.end place) }
+        ensures within { IfSome result (λ place. place < length self.old.literals.texts) }
+        ensures moved { IfSome result (λ place. self.new.from ≡ place + 1) }
+        ensures stays { IfNone result (self.new.from ≡ self.old.from) }
+    {
+        if self.widths == 0 {
+            return None;
+        }
+        let list = self.list;
+        let mut widths = self.widths;
+        let place = list
+            .suffixes
+            .next_by_widths(&list.list, self.text, self.end, self.from, &mut widths)?;
+        self.widths = widths;
+        self.from = place + 1;
+        Some(place)
+    }
+}

@@ -1,0 +1,205 @@
+//! Lists of literals, with tables for a search.
+ghost use Rattle.std.specs.Prelude.{◌≡◌, ◌+◌, ◌-◌, ◌<◌, ◌≤◌, ◌↔◌, [], All, IfOk, IfSome, IsTrue, MatchOption, length, slice_index, slice_index_or};
+ghost use Rattle.std.specs.List.Sorted.{IsNonDecreasing};
+ghost use Rattle.lit_base.specs.Literals.{lengths, IsNormal};
+ghost use Rattle.lit_base.specs.Occurrences.{IsFirstEnding, NoneEnds, Occurs};
+ghost use Rattle.lit_base.specs.declared.limits.TheConstants.{MAX_LITERALS};
+
+use crate::endings::Endings;
+use crate::suffixes::Suffixes;
+use lit_base::{Fold, LitList};
+use std::alloc::{AllocError, Global};
+use std::marker::Model;
+use std::sync::Arc;
+
+/// A list of literals, with the tables by which a search finds the literals that end at a position. A contract sees the
+/// literals alone.
+#[derive(Debug, Drop)]
+pub struct ListIndex {
+    pub(crate) list: LitList,
+    pub(crate) suffixes: Suffixes,
+}
+
+impl Model for ListIndex {
+    ghost use Rattle.lit_base.specs.Literals.{Literals, IsNormal};
+    ghost use Rattle.list_index.specs.Checks.{AreSuffixesOf};
+
+    ghost Value = { Literals };
+
+    ghost view = { λ x. x.list };
+
+    ghost invariant = { λ x. IsNormal x.list × AreSuffixesOf x.list x.suffixes };
+}
+
+impl ListIndex {
+    /// The index of a list, which a plan and its engines share. It takes 72 KiB, and memory for each literal. `Err` if
+    /// memory is short.
+    pub fn new(alloc: Global, list: LitList) -> Result<Arc<ListIndex>, AllocError>
+        ensures { IfOk result (λ index. index.value ≡ list) }
+    {
+        Ok(Arc::new(alloc, ListIndex::of(alloc, list)?)?)
+    }
+
+    /// The index of a list.
+    fn of(alloc: Global, list: LitList) -> Result<ListIndex, AllocError>
+        ensures { IfOk result (λ index. index ≡ list) }
+    {
+        list.normal_law();
+        let suffixes = Suffixes::new(alloc, &list)?;
+        Ok(ListIndex { list, suffixes })
+    }
+
+    /// The list.
+    #[inline]
+    pub fn list(&self) -> &LitList
+        ensures { result.now ≡ self.now }
+    {
+        &self.list
+    }
+
+    /// How many literals there are.
+    #[inline]
+    pub fn len(&self) -> usize
+        ensures value { result ≡ length self.now.texts }
+        ensures few { result ≤ MAX_LITERALS }
+        ensures rising { IsNonDecreasing (lengths self.now) }
+    {
+        self.list.len()
+    }
+
+    /// Whether there is no literal.
+    #[inline]
+    pub fn is_empty(&self) -> bool
+        ensures { IsTrue result ↔ (self.now.texts ≡ []) }
+    {
+        self.list.is_empty()
+    }
+
+    /// The fold that the literals are compared under.
+    #[inline]
+    pub fn fold(&self) -> Fold
+        ensures { result ≡ self.now.folding }
+    {
+        self.list.fold()
+    }
+
+    /// The length of the shortest literal, which is the first.
+    pub fn shortest(&self) -> usize
+        requires { 0 < length self.now.texts }
+        ensures first { result ≡ slice_index (lengths self.now) 0 }
+        ensures least { All (λ len. result ≤ len) (lengths self.now) }
+    {
+        self.list.shortest()
+    }
+
+    /// The length of the longest literal, which is the last.
+    pub fn longest(&self) -> usize
+        requires { 0 < length self.now.texts }
+        ensures last { result ≡ slice_index (lengths self.now) (length self.now.texts - 1) }
+        ensures greatest { All (λ len. len ≤ result) (lengths self.now) }
+    {
+        self.list.longest()
+    }
+
+    /// The law that the literals are in normal form.
+    pub fn normal_law(&self)
+        ensures { IsNormal self.now }
+    {
+        self.list.normal_law();
+    }
+
+    /// The first of the literals from place `from` on that ends at `end` in the text, if there is one.
+    #[inline]
+    pub fn next_ending(&self, text: &[u8], end: usize, from: usize) -> Option<usize>
+        requires { end ≤ length text.now }
+        ensures first { MatchOption result
+            (NoneEnds self.now text.now from end)
+            (λ place. IsFirstEnding self.now text.now from end place) }
+        ensures within { IfSome result (λ place. place < length self.now.texts) }
+    {
+        if self.list.len() == 1 {
+            return self.only_ending(text, end, from);
+        }
+        self.suffixes.next_ending(&self.list, text, end, from)
+    }
+
+    /// The literals from place `from` on that end at `end` in the text, in order. To get all of them use it rather than
+    /// `next_ending`: it looks up the bytes before `end` only once.
+    #[inline]
+    pub fn endings<'a>(&'a self, text: &'a [u8], end: usize, from: usize) -> Endings<'a>
+        requires { end ≤ length text.now }
+        ensures literals { result.literals ≡ self.now }
+        ensures text { result.text ≡ text.now }
+        ensures end { result.end ≡ end }
+        ensures from { result.from ≡ from }
+    {
+        Endings::new(self, text, end, from)
+    }
+
+    /// The literals that end at `end` in the text after the literal at `place`, which ends there. It gives the same as
+    /// `endings` from the next place on, and searches for no other literal as short: none ends there.
+    #[inline]
+    pub fn endings_behind<'a>(&'a self, text: &'a [u8], end: usize, place: usize) -> Endings<'a>
+        requires { Occurs self.now text.now place end }
+        ensures literals { result.literals ≡ self.now }
+        ensures text { result.text ≡ text.now }
+        ensures end { result.end ≡ end }
+        ensures from { result.from ≡ place + 1 }
+    {
+        Endings::behind(self, text, end, place)
+    }
+
+    /// The first of the literals that ends at `end` in the text, if there is one. It gives the same as `next_ending`
+    /// from the first literal on. It is faster where mostly none ends, since a few bytes rule out most positions.
+    #[inline]
+    pub fn first_ending(&self, text: &[u8], end: usize) -> Option<usize>
+        requires { end ≤ length text.now }
+        ensures first { MatchOption result
+            (NoneEnds self.now text.now 0 end)
+            (λ place. IsFirstEnding self.now text.now 0 end place) }
+        ensures within { IfSome result (λ place. place < length self.now.texts) }
+    {
+        if self.list.len() == 1 {
+            return self.only_ending(text, end, 0);
+        }
+        self.suffixes.first_ending(&self.list, text, end)
+    }
+
+    /// The only literal, if it is from place `from` on and ends at `end`. It is compared at once: through hash bits and
+    /// chains, a search for a literal that each seventh line has takes 1.12 times as long.
+    #[inline]
+    fn only_ending(&self, text: &[u8], end: usize, from: usize) -> Option<usize>
+        requires one { length self.now.texts ≡ 1 }
+        requires inside { end ≤ length text.now }
+        ensures { MatchOption result
+            (NoneEnds self.now text.now from end)
+            (λ place. IsFirstEnding self.now text.now from end place) }
+    {
+        if from == 0 && self.list.ends_at(0, text, end) {
+            Some(0)
+        } else {
+            None
+        }
+    }
+
+    /// Whether the literal at a place ends at `end` in the text.
+    #[inline]
+    pub fn ends_at(&self, place: usize, text: &[u8], end: usize) -> bool
+        requires within { place < length self.now.texts }
+        requires inside { end ≤ length text.now }
+        ensures { IsTrue result ↔ Occurs self.now text.now place end }
+    {
+        self.list.ends_at(place, text, end)
+    }
+
+    /// The literal at a place.
+    #[inline]
+    pub fn get(&self, place: usize) -> &[u8]
+        requires { place < length self.now.texts }
+        ensures value { result.now ≡ slice_index_or self.now.texts place result.now }
+        ensures len { length result.now ≡ slice_index (lengths self.now) place }
+        ensures nonempty { 0 < length result.now }
+    {
+        self.list.get(place)
+    }
+}

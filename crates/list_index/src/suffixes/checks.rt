@@ -1,0 +1,124 @@
+//! Checks by the last bytes of keys, for the positions that the hash bits pass.
+ghost use Rattle.std.specs.Prelude.{◌≡◌, ℕ, ◌-◌, ◌^◌, ◌<◌, ◌≤◌, length, min, slice_index, vec_len, IfOk};
+ghost use Rattle.std.specs.Int.{bit_at};
+ghost use Rattle.std.specs.Int.RustNames.{bit_and, bit_or};
+ghost use Rattle.list_index.specs.Chains.{told_at};
+ghost use Rattle.list_index.specs.Checks.{AreChecksOf, IsChecked};
+ghost use Rattle.lit_base.specs.Literals.{Literals};
+ghost use Rattle.list_index.specs.Marks.{IsMarked};
+ghost use Rattle.lit_base.specs.Occurrences.{Occurs};
+ghost use Rattle.list_index.specs.Suffixes.{hash_of, last_bits, suffix_key, told_width};
+ghost use Rattle.list_index.specs.declared.suffixes.checks.TheConstants.{CHECK_BITS};
+
+use crate::suffixes::key::{case_bits, hash_of, last_bits, last_word, suffix_key, told_width};
+use crate::suffixes::marks::{mark, marked_len};
+use lit_base::{Fold, LitList};
+use std::alloc::{AllocError, Global};
+
+/// The number of bits of a hash here. There are twice as many hashes as there may be literals. A byte for each takes 8
+/// KiB, which stay in a processor's first cache.
+pub(crate) const CHECK_BITS: usize = 13;
+
+/// Keys of this many bytes up to seven are checked by one probe, and keys of eight by another. Measured: a probe for each
+/// width from the least to eight takes 18 of 100 instructions for a thousand frequent literals in log lines. The chains
+/// reject what the two probes pass wrongly. With one probe for all keys, a thousand rare literals in English text take 1.1
+/// times as long.
+const LEAST_CHECKED: usize = 4;
+
+/// A byte for each hash. Bit `width - 1` is set if some literal with a key of `width` bytes has that hash by its
+/// checked bytes. A key of eight bytes is checked whole; a shorter one by as many of its last bytes as the shortest
+/// literal has, but at least four, or whole if it has fewer. So chains are walked for those widths alone.
+#[derive(Debug, Drop)]
+pub(crate) struct SuffixChecks {
+    /// The length of the shortest literal, at most eight.
+    pub least: usize,
+    /// Keys of fewer than eight bytes are checked by at most this many.
+    pub most: usize,
+    /// The bits of letter case, which hashes ignore.
+    pub case_bits: u64,
+    /// The key widths of each hash.
+    pub widths: Vec<u8>,
+}
+
+impl SuffixChecks {
+    /// The checks of a list's literals.
+    pub fn new(alloc: Global, list: &LitList) -> Result<SuffixChecks, AllocError>
+        ensures { IfOk result (AreChecksOf list.now) }
+    {
+        let fold = list.fold();
+        let least = marked_len(list).min(8);
+        let most = least.max(LEAST_CHECKED);
+        let mut widths = Vec::from_elem(alloc, 0, 1 << CHECK_BITS)?;
+        for place in 0..list.len() {
+            check_literal(&mut widths, fold, list.get(place), most);
+        }
+        Ok(SuffixChecks {
+            least,
+            most,
+            case_bits: case_bits(fold),
+            widths,
+        })
+    }
+
+    /// The key widths of the literals that may end at `end`, by the hashes of the last bytes before it: bit `width - 1`
+    /// stands for keys of `width` bytes. It probes every width by which keys are checked: a branch for each would often
+    /// be mispredicted.
+    #[inline(always)]
+    pub fn widths_at(&self, text: &[u8], end: usize) -> u8
+        requires some { 0 < self.now.least }
+        requires ordered { self.now.least ≤ self.now.most }
+        requires narrow { self.now.most ≤ 8 }
+        requires room { length self.now.widths.items ≡ 2 ^ CHECK_BITS }
+        requires eight { 8 ≤ end }
+        requires inside { end ≤ length text.now }
+        ensures { (l : Literals) (place : ℕ) → AreChecksOf l self.now → Occurs l text.now place end → bit_at result (told_at l place - 1) ≡ 1 }
+    {
+        let word = last_word(text, end);
+        let widest = self.widths_of(word, 8) & 0x80;
+        let narrower = self.widths_of(word, self.most) & 0x7f;
+        let first = widest | narrower;
+        let mut widths = first;
+        for width in self.least..self.most {
+            widths |= self.widths_of(word, width) & (1 << (width - 1));
+        }
+        widths
+    }
+
+    /// The key widths of the literals with the hash of the last `width` of the eight bytes that a word spells.
+    #[inline(always)]
+    fn widths_of(&self, word: u64, width: usize) -> u8
+        requires some { 0 < width }
+        requires narrow { width ≤ 8 }
+        requires room { length self.now.widths.items ≡ 2 ^ CHECK_BITS }
+        ensures { result ≡ slice_index self.now.widths.items (hash_of CHECK_BITS (bit_or (bit_and word (last_bits width)) self.now.case_bits)) }
+    {
+        self.widths[hash_of(CHECK_BITS, (word & last_bits(width)) | self.case_bits)]
+    }
+}
+
+/// The number of bytes by which a key of `told` bytes is checked: keys shorter than eight by at most `most`.
+fn checked_width(told: usize, most: usize) -> usize
+    requires some { 0 < told }
+    requires checked { 0 < most }
+    ensures some { 0 < result }
+    ensures within { result ≤ told }
+    ensures short { told < 8 → result ≡ min told most }
+    ensures long { told ≡ 8 → result ≡ min told 8 }
+{
+    if told < 8 { told.min(most) } else { told }
+}
+
+/// Sets the bit of a literal; keys shorter than eight bytes are checked by at most `most`.
+fn check_literal(widths: &mut Vec<u8>, fold: Fold, literal: &[u8], most: usize)
+    requires some { 0 < length literal.now }
+    requires checked { 0 < most }
+    requires room { vec_len widths.old ≡ 2 ^ CHECK_BITS }
+    ensures len { vec_len widths.new ≡ vec_len widths.old }
+    ensures short { told_width (length literal.now) < 8 → IsChecked widths.new.items (told_width (length literal.now)) (suffix_key fold literal.now (length literal.now) (min (told_width (length literal.now)) most)) }
+    ensures long { told_width (length literal.now) ≡ 8 → IsChecked widths.new.items (told_width (length literal.now)) (suffix_key fold literal.now (length literal.now) (min (told_width (length literal.now)) 8)) }
+    ensures kept { (hash back : ℕ) → IsMarked widths.old.items hash back → IsMarked widths.new.items hash back }
+{
+    let width = told_width(literal.len());
+    let key = suffix_key(fold, literal, literal.len(), checked_width(width, most));
+    mark(widths, hash_of(CHECK_BITS, key), width - 1);
+}
