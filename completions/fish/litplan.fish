@@ -12,6 +12,7 @@ complete -c litplan -n __fish_use_subcommand -a scan -d 'Find the patterns in an
 complete -c litplan -n __fish_use_subcommand -a help -d 'Describe a command'
 
 complete -c litplan -n '__fish_seen_subcommand_from plan check pack explain scan' -s i -l ignore-case -d 'Patterns that differ in case are one'
+complete -c litplan -n '__fish_seen_subcommand_from plan check pack explain scan' -l hex -d 'Lines of FILE are patterns in hexadecimal'
 complete -c litplan -n '__fish_seen_subcommand_from plan check pack explain migrate scan' -s h -l help -d 'Write a description, to standard error'
 complete -c litplan -n '__fish_seen_subcommand_from plan pack explain' -l buckets -x -a '8 16' -d 'How many buckets the plan may have'
 complete -c litplan -n '__fish_seen_subcommand_from explain' -l svg -d 'Draw the plan, as an SVG file'

@@ -252,6 +252,8 @@ PLANS = [
     planned(["plan", "-i", "w"], ["w"], FILES["c"]),
     planned(["plan", "-"], ["-"], MANY_PLANNED, MANY),
     planned(["plan", "--buckets", "16", "w"], ["w"], plain_plan.spelled(plain_plan.plan_of(WORDS, 16))),
+    planned(["plan", "--hex", "-"], ["-"], plain_plan.spelled(plain_plan.plan_of([b"a\nb", b"horse"])), b"610A62\n\n686f727365\n"),
+    planned(["plan", "--hex", "-"], ["-"], b"", b"636174\n6", status=2, messages=b"litplan: -: line 2 is not hexadecimal\n"),
     planned(["check", "-", "c"], ["-", "c"], b"optimal 934\n", FILES["w"]),
     planned(["plan", "e"], ["e"], b"", status=2, messages=b"litplan: refused (5)\n"),
     planned(["check", "w", "d"], ["w", "d"], plain_plan.answer(WORDS, FILES["d"])[1], status=1),

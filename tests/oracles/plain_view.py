@@ -86,14 +86,19 @@ def text_of(patterns, is_folded, buckets=8):
     return "".join(lines).encode()
 
 
-HEAD = """<svg xmlns="http://www.w3.org/2000/svg" viewBox="0 0 720 310" font-family="sans-serif" font-size="13">
+HEAD = """<svg xmlns="http://www.w3.org/2000/svg" viewBox="0 0 720 %d" font-family="sans-serif" font-size="13">
 <style>text { fill: #24292f } rect { fill: #4f8fd0; stroke: #fff } path { stroke: #24292f }
 @media (prefers-color-scheme: dark) { text { fill: #e6edf3 } rect { stroke: #0d1117 } path { stroke: #e6edf3 } }</style>
 """
 FOOT = """<path d="M40 260H680"/>
 <text x="40" y="300">literals by length; below a bucket the bytes of its shortest, above it its cost</text>
-</svg>
 """
+
+
+def numbers(literals, number, start, end, total):
+    """What a title and the legend say of a bucket."""
+    cost = plain_plan.cost(literals, start, end)
+    return f"bucket {number}: literals {end - start}, shortest {len(literals[start])}, cost {cost}, % of all {cost * 100 // total}"
 
 
 def bar(literals, number, start, end, total, highest):
@@ -101,8 +106,7 @@ def bar(literals, number, start, end, total, highest):
     shortest, cost = len(literals[start]), plain_plan.cost(literals, start, end)
     left, right = (640 * place // len(literals) for place in (start, end))
     high, width = 200 * cost // highest, right - left
-    title = f"bucket {number}: literals {end - start}, shortest {shortest}, cost {cost}, % of all {cost * 100 // total}"
-    title += f"  {shown(literals[start])} to {shown(literals[end - 1])}"
+    title = numbers(literals, number, start, end, total) + f"  {shown(literals[start])} to {shown(literals[end - 1])}"
     text = f'<g><title>{escape(title)}</title>\n<rect x="{40 + left}" y="{260 - high}" width="{width}" height="{high}"/>\n'
     if width >= 48:
         text += f'<text x="{43 + left}" y="{255 - high}">{cost}</text>\n<text x="{43 + left}" y="275">{shortest}</text>\n'
@@ -115,6 +119,8 @@ def drawing_of(patterns, is_folded, buckets=8):
     total, single, even = costs(literals, buckets)
     runs = runs_of(literals, buckets)
     highest = max(plain_plan.cost(literals, *run) for run in runs)
-    text = HEAD + f'<text x="40" y="24">cost {total}; one bucket for all {single}; {EVEN[buckets]} {even}</text>\n'
+    text = HEAD % (316 + 18 * len(runs)) + f'<text x="40" y="24">cost {total}; one bucket for all {single}; {EVEN[buckets]} {even}</text>\n'
     text += "".join(bar(literals, number, *run, total, highest) for number, run in enumerate(runs, 1))
-    return (text + FOOT).encode()
+    lines = [numbers(literals, number, *run, total) for number, run in enumerate(runs, 1)]
+    legend = "".join(f'<text x="40" y="{324 + 18 * place}">{line}</text>\n' for place, line in enumerate(lines))
+    return (text + FOOT + legend + "</svg>\n").encode()

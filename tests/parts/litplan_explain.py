@@ -25,7 +25,7 @@ equal to an earlier line: 1
   line 5 is line 2 again
 null patterns: 1
 """
-DRAWING = rb"""<svg xmlns="http://www.w3.org/2000/svg" viewBox="0 0 720 310" font-family="sans-serif" font-size="13">
+DRAWING = rb"""<svg xmlns="http://www.w3.org/2000/svg" viewBox="0 0 720 370" font-family="sans-serif" font-size="13">
 <style>text { fill: #24292f } rect { fill: #4f8fd0; stroke: #fff } path { stroke: #24292f }
 @media (prefers-color-scheme: dark) { text { fill: #e6edf3 } rect { stroke: #0d1117 } path { stroke: #e6edf3 } }</style>
 <text x="40" y="24">cost 934; one bucket for all 1559; even eighths 934</text>
@@ -46,6 +46,9 @@ DRAWING = rb"""<svg xmlns="http://www.w3.org/2000/svg" viewBox="0 0 720 310" fon
 </g>
 <path d="M40 260H680"/>
 <text x="40" y="300">literals by length; below a bucket the bytes of its shortest, above it its cost</text>
+<text x="40" y="324">bucket 1: literals 1, shortest 3, cost 351, % of all 37</text>
+<text x="40" y="342">bucket 2: literals 1, shortest 3, cost 351, % of all 37</text>
+<text x="40" y="360">bucket 3: literals 1, shortest 5, cost 232, % of all 24</text>
 </svg>
 """
 TABLE_OF_SIGNS = rb"""bucket  literals  shortest  bytes  weight        cost    %   endings  first and last literal
@@ -57,7 +60,7 @@ even eighths                                      615  100
 equal to an earlier line: 0
 null patterns: 0
 """
-DRAWING_OF_SIGNS = rb"""<svg xmlns="http://www.w3.org/2000/svg" viewBox="0 0 720 310" font-family="sans-serif" font-size="13">
+DRAWING_OF_SIGNS = rb"""<svg xmlns="http://www.w3.org/2000/svg" viewBox="0 0 720 352" font-family="sans-serif" font-size="13">
 <style>text { fill: #24292f } rect { fill: #4f8fd0; stroke: #fff } path { stroke: #24292f }
 @media (prefers-color-scheme: dark) { text { fill: #e6edf3 } rect { stroke: #0d1117 } path { stroke: #e6edf3 } }</style>
 <text x="40" y="24">cost 615; one bucket for all 804; even eighths 615</text>
@@ -73,6 +76,8 @@ DRAWING_OF_SIGNS = rb"""<svg xmlns="http://www.w3.org/2000/svg" viewBox="0 0 720
 </g>
 <path d="M40 260H680"/>
 <text x="40" y="300">literals by length; below a bucket the bytes of its shortest, above it its cost</text>
+<text x="40" y="324">bucket 1: literals 1, shortest 3, cost 351, % of all 57</text>
+<text x="40" y="342">bucket 2: literals 1, shortest 4, cost 264, % of all 42</text>
 </svg>
 """
 # Nine letters, which sixteen buckets have one by one.

@@ -6,10 +6,10 @@ from support.programs import LITGREP, LITPLAN, run
 def usages():
     """The usage that follows a refusal of words names the program and its operands."""
     lists = "Usage: litgrep [-F] [-c | -l | -q] [-insvx] LIST [FILE]..."
-    plan, check = "litplan plan [-i] [--buckets B] FILE", "litplan check [-i] FILE CERT | --plan FILE [I]"
-    pack = "litplan pack [-i] [--buckets B] FILE.. OUT"
-    explain = "litplan explain [-i] [--buckets B] [--svg] FILE | --plan FILE [I] | --certificate CERT"
-    migrate, scan = "litplan migrate IN OUT", "litplan scan [-i] [--count | --names] --workers W FILE INPUT"
+    plan, check = "litplan plan [-i] [--hex] [--buckets B] FILE", "litplan check [-i] [--hex] FILE CERT | --plan FILE [I]"
+    pack = "litplan pack [-i] [--hex] [--buckets B] FILE.. OUT"
+    explain = "litplan explain [-i] [--hex] [--buckets B] [--svg] FILE | --plan FILE [I] | --certificate CERT"
+    migrate, scan = "litplan migrate IN OUT", "litplan scan [-i] [--hex] [--count | --names] --workers W FILE INPUT"
     commands = "\n       ".join([plan, check, pack, explain, migrate, scan])
     for program, words, usage in (
         (LITGREP, ["-z"], lists),

@@ -9,6 +9,9 @@ use Rattle.lit_base.specs.declared.fold.Fold.{Fold}
 use Rattle.lit_base.specs.declared.fold.Fold.TheVariants.{Ascii, No}
 use Rattle.lit_base.specs.declared.profile.Profile.{Profile}
 use Rattle.lit_base.specs.declared.profile.Profile.TheVariants.{Eight, Sixteen}
+use Rattle.plan_run.specs.declared.notation.Notation.{Notation}
+use Rattle.plan_run.specs.declared.notation.Notation.TheVariants.{Bytes, Hex}
+use Rattle.plan_run.specs.declared.notation.Reading.{Reading}
 use Rattle.plan_run.specs.declared.request.Request.{Request}
 use Rattle.plan_run.specs.declared.request.Request.TheVariants.{Check, CheckPlan, Explain, ExplainCertificate, ExplainPlan, Migrate, Pack, Plan, Scan}
 use Rattle.program_words.specs.Matches.{IsNumber}
@@ -45,22 +48,33 @@ pub record IsFold (m : ArgMatches) (fold : Fold) : Type 0 where
   pub no : one_text (found_of m) (codes "fold") ≡ Some (codes "false") → fold ≡ No
   pub unused : one_text (found_of m) (codes "fold") ≡ None → fold ≡ No
 
+-- how a line writes a pattern, by the flag that asks for hexadecimal
+pub record IsNotation (m : ArgMatches) (notation : Notation) : Type 0 where
+  pub yes : one_text (found_of m) (codes "hex") ≡ Some (codes "true") → notation ≡ Hex
+  pub no : one_text (found_of m) (codes "hex") ≡ Some (codes "false") → notation ≡ Bytes
+  pub unused : one_text (found_of m) (codes "hex") ≡ None → notation ≡ Bytes
+
+-- how files of patterns are read
+pub record IsReading (m : ArgMatches) (reading : Reading) : Type 0 where
+  pub notation : IsNotation m reading.notation
+  pub fold : IsFold m reading.fold
+
 -- the profile, by its number of buckets: eight, unless it is sixteen. clap lets no other number through
 abbrev pub profile_of : ArgMatches → Profile
 profile_of m = if bytes_eq (text_of m (codes "buckets")) (codes "16") then Sixteen else Eight
 
 -- the request in the matches of the subcommand of a name, each argument under its name as id
 abbrev pub IsRequestOf : List ℕ → ArgMatches → Request → Type 0
-IsRequestOf name m (Plan fold profile file) = (name ≡ codes "plan") × IsFold m fold × (profile ≡ profile_of m) × (string_bytes file ≡ text_of m (codes "file"))
-IsRequestOf name m (Check fold file certificate) = (name ≡ codes "check") × (is_given m (codes "plan") ≡ false) × IsFold m fold × (string_bytes file ≡ text_of m (codes "file"))
+IsRequestOf name m (Plan reading profile file) = (name ≡ codes "plan") × IsReading m reading × (profile ≡ profile_of m) × (string_bytes file ≡ text_of m (codes "file"))
+IsRequestOf name m (Check reading file certificate) = (name ≡ codes "check") × (is_given m (codes "plan") ≡ false) × IsReading m reading × (string_bytes file ≡ text_of m (codes "file"))
     × (string_bytes certificate ≡ text_of m (codes "certificate"))
 IsRequestOf name m (CheckPlan file place) = (name ≡ codes "check") × (is_given m (codes "plan") ≡ true) × (string_bytes file ≡ text_of m (codes "plan")) × IsPlace m place
-IsRequestOf name m (Pack fold profile files output) = (name ≡ codes "pack") × IsFold m fold × (profile ≡ profile_of m) × (map string_bytes files.names.items ≡ texts_of m (codes "file"))
+IsRequestOf name m (Pack reading profile files output) = (name ≡ codes "pack") × IsReading m reading × (profile ≡ profile_of m) × (map string_bytes files.names.items ≡ texts_of m (codes "file"))
     × (string_bytes output ≡ text_of m (codes "output"))
-IsRequestOf name m (Explain fold profile svg file) = (name ≡ codes "explain") × (is_given m (codes "plan") ≡ false) × (is_given m (codes "certificate") ≡ false) × IsFold m fold × (profile ≡ profile_of m) × IsFlag m (codes "svg") svg × (string_bytes file ≡ text_of m (codes "file"))
+IsRequestOf name m (Explain reading profile svg file) = (name ≡ codes "explain") × (is_given m (codes "plan") ≡ false) × (is_given m (codes "certificate") ≡ false) × IsReading m reading × (profile ≡ profile_of m) × IsFlag m (codes "svg") svg × (string_bytes file ≡ text_of m (codes "file"))
 IsRequestOf name m (ExplainPlan svg file place) = (name ≡ codes "explain") × (is_given m (codes "plan") ≡ true) × IsFlag m (codes "svg") svg × (string_bytes file ≡ text_of m (codes "plan")) × IsPlace m place
 IsRequestOf name m (ExplainCertificate certificate) = (name ≡ codes "explain") × (is_given m (codes "plan") ≡ false) × (is_given m (codes "certificate") ≡ true)
     × (string_bytes certificate ≡ text_of m (codes "certificate"))
 IsRequestOf name m (Migrate input output) = (name ≡ codes "migrate") × (string_bytes input ≡ text_of m (codes "input")) × (string_bytes output ≡ text_of m (codes "output"))
-IsRequestOf name m (Scan scan) = (name ≡ codes "scan") × IsFold m scan.fold × IsNumber m (codes "workers") scan.workers.count × IsFlag m (codes "count") scan.count × IsFlag m (codes "names") scan.names
+IsRequestOf name m (Scan scan) = (name ≡ codes "scan") × IsReading m scan.reading × IsNumber m (codes "workers") scan.workers.count × IsFlag m (codes "count") scan.count × IsFlag m (codes "names") scan.names
     × (string_bytes scan.file ≡ text_of m (codes "file")) × (string_bytes scan.input ≡ text_of m (codes "input"))

@@ -1,11 +1,11 @@
 //! The words of the command line, read with clap.
 ghost use Rattle.std.specs.Prelude.{◌≡◌, IfOk, IfSome, codes, map, string_bytes};
 ghost use Rattle.program_words.specs.Matches.{IsNumber};
-ghost use Rattle.litplan.specs.Requests.{IsFlag, IsFold, IsPlace, IsRequestOf, is_given, profile_of, text_of, texts, texts_of};
+ghost use Rattle.litplan.specs.Requests.{IsFlag, IsFold, IsNotation, IsPlace, IsReading, IsRequestOf, is_given, profile_of, text_of, texts, texts_of};
 
 use clap::{Arg, ArgAction, ArgMatches, Command, value_parser};
 use lit_base::{Fold, Profile};
-use plan_run::{PatternFiles, Request, Scan, Workers};
+use plan_run::{Notation, PatternFiles, Reading, Request, Scan, Workers};
 use program_words::{Fault, VERSION, matches_of};
 use std::alloc::{AllocError, Global};
 
@@ -33,7 +33,7 @@ pub fn request_of(alloc: Global, name: &str, found: &ArgMatches<'_>) -> Result<R
 {
     match name {
         "plan" => Ok(Request::Plan {
-            fold: fold_of(found),
+            reading: reading_of(found),
             profile: profile_of(found),
             file: value(alloc, found, "file")?,
         }),
@@ -60,7 +60,7 @@ fn check_of(alloc: Global, found: &ArgMatches<'_>) -> Result<Request, Fault>
         });
     }
     Ok(Request::Check {
-        fold: fold_of(found),
+        reading: reading_of(found),
         file: value(alloc, found, "file")?,
         certificate: value(alloc, found, "certificate")?,
     })
@@ -77,7 +77,7 @@ fn pack_of(alloc: Global, found: &ArgMatches<'_>) -> Result<Request, Fault>
         )));
     };
     Ok(Request::Pack {
-        fold: fold_of(found),
+        reading: reading_of(found),
         profile: profile_of(found),
         files,
         output: value(alloc, found, "output")?,
@@ -100,7 +100,7 @@ fn explain_of(alloc: Global, found: &ArgMatches<'_>) -> Result<Request, Fault>
         return Ok(Request::ExplainCertificate { certificate });
     }
     Ok(Request::Explain {
-        fold: fold_of(found),
+        reading: reading_of(found),
         profile: profile_of(found),
         svg: flag_of(found, "svg"),
         file: value(alloc, found, "file")?,
@@ -135,7 +135,7 @@ fn scan_of(alloc: Global, found: &ArgMatches<'_>) -> Result<Scan, Fault>
         return Err(Fault::usage(String::from_str(alloc, "litplan: no such number of workers\n")));
     };
     Ok(Scan {
-        fold: fold_of(found),
+        reading: reading_of(found),
         workers,
         count: flag_of(found, "count"),
         names: flag_of(found, "names"),
@@ -154,6 +154,26 @@ fn workers_of(found: &ArgMatches<'_>) -> Option<Workers>
 /// The fault where the words name no command.
 fn no_command(alloc: Global) -> Fault {
     Fault::usage(String::from_str(alloc, "litplan: no command given\n"))
+}
+
+/// How files of patterns are read.
+fn reading_of(matches: &ArgMatches<'_>) -> Reading
+    ensures { IsReading matches.now result }
+{
+    Reading {
+        notation: notation_of(matches),
+        fold: fold_of(matches),
+    }
+}
+
+fn notation_of(matches: &ArgMatches<'_>) -> Notation
+    ensures { IsNotation matches.now result }
+{
+    if flag_of(matches, "hex") {
+        Notation::Hex
+    } else {
+        Notation::Bytes
+    }
 }
 
 fn fold_of(matches: &ArgMatches<'_>) -> Fold
@@ -217,12 +237,12 @@ fn litplan<'a>(alloc: Global) -> Result<Command<'a>, AllocError> {
             "Plans how the literals of a list are grouped, checks such plans, and finds where literals end",
         )
         .override_usage(
-            "litplan plan [-i] [--buckets B] FILE\n       \
-             litplan check [-i] FILE CERT | --plan FILE [I]\n       \
-             litplan pack [-i] [--buckets B] FILE.. OUT\n       \
-             litplan explain [-i] [--buckets B] [--svg] FILE | --plan FILE [I] | --certificate CERT\n       \
+            "litplan plan [-i] [--hex] [--buckets B] FILE\n       \
+             litplan check [-i] [--hex] FILE CERT | --plan FILE [I]\n       \
+             litplan pack [-i] [--hex] [--buckets B] FILE.. OUT\n       \
+             litplan explain [-i] [--hex] [--buckets B] [--svg] FILE | --plan FILE [I] | --certificate CERT\n       \
              litplan migrate IN OUT\n       \
-             litplan scan [-i] [--count | --names] --workers W FILE INPUT",
+             litplan scan [-i] [--hex] [--count | --names] --workers W FILE INPUT",
         )
         .no_binary_name(true)
         .subcommand_required(true)
@@ -237,9 +257,10 @@ fn litplan<'a>(alloc: Global) -> Result<Command<'a>, AllocError> {
 fn plan<'a>(alloc: Global) -> Result<Command<'a>, AllocError> {
     Command::new(alloc, "plan")
         .about("Prints the certificate of the cheapest grouping of a file's patterns")
-        .override_usage("litplan plan [-i] [--buckets B] FILE")
+        .override_usage("litplan plan [-i] [--hex] [--buckets B] FILE")
         .after_help(PLAN_HELP)
         .arg(fold(alloc)?)?
+        .arg(hex(alloc)?)?
         .arg(buckets(alloc))?
         .arg(file(alloc))
 }
@@ -252,12 +273,14 @@ fn check<'a>(alloc: Global) -> Result<Command<'a>, AllocError> {
         .help("A file with a certificate, as `plan` prints it; - is a file of that name");
     let plan = plan_in_file(alloc)
         .conflicts_with("fold")?
+        .conflicts_with("hex")?
         .conflicts_with("certificate")?;
     Command::new(alloc, "check")
         .about("Says whether a certificate shows that no grouping of a file's patterns is cheaper")
-        .override_usage("litplan check [-i] FILE CERT | --plan FILE [I]")
+        .override_usage("litplan check [-i] [--hex] FILE CERT | --plan FILE [I]")
         .after_help(CHECK_HELP)
         .arg(fold(alloc)?)?
+        .arg(hex(alloc)?)?
         .arg(plan)?
         .arg(file_or_place(alloc).required_unless_present("plan")?)?
         .arg(certificate)
@@ -266,9 +289,10 @@ fn check<'a>(alloc: Global) -> Result<Command<'a>, AllocError> {
 fn pack<'a>(alloc: Global) -> Result<Command<'a>, AllocError> {
     Command::new(alloc, "pack")
         .about("Writes the plans of files of patterns to a plan file")
-        .override_usage("litplan pack [-i] [--buckets B] FILE.. OUT")
+        .override_usage("litplan pack [-i] [--hex] [--buckets B] FILE.. OUT")
         .after_help(PACK_HELP)
         .arg(fold(alloc)?)?
+        .arg(hex(alloc)?)?
         .arg(buckets(alloc))?
         .arg(file(alloc).num_args(1..).action(ArgAction::Append))?
         .arg(output(alloc))
@@ -283,10 +307,11 @@ fn explain<'a>(alloc: Global) -> Result<Command<'a>, AllocError> {
             "Shows how a file's patterns are grouped, or where a list, plan file or certificate is wrong",
         )
         .override_usage(
-            "litplan explain [-i] [--buckets B] [--svg] FILE | --plan FILE [I] | --certificate CERT",
+            "litplan explain [-i] [--hex] [--buckets B] [--svg] FILE | --plan FILE [I] | --certificate CERT",
         )
         .after_help(EXPLAIN_HELP)
         .arg(fold(alloc)?)?
+        .arg(hex(alloc)?)?
         .arg(buckets(alloc))?
         .arg(svg(alloc)?)?
         .arg(planned_alone(alloc)?)?
@@ -305,6 +330,7 @@ fn plan_in_file<'a>(alloc: Global) -> Arg<'a> {
 fn planned_alone<'a>(alloc: Global) -> Result<Arg<'a>, AllocError> {
     plan_in_file(alloc)
         .conflicts_with("fold")?
+        .conflicts_with("hex")?
         .conflicts_with("buckets")?
         .conflicts_with("certificate")
 }
@@ -316,6 +342,7 @@ fn certificate_alone<'a>(alloc: Global) -> Result<Arg<'a>, AllocError> {
         .action(ArgAction::Set)
         .help("A file with a certificate; - is a file of that name")
         .conflicts_with("fold")?
+        .conflicts_with("hex")?
         .conflicts_with("buckets")?
         .conflicts_with("svg")?
         .conflicts_with("file")
@@ -352,9 +379,10 @@ fn scan<'a>(alloc: Global) -> Result<Command<'a>, AllocError> {
         .help("What is searched, read whole; - is standard input");
     Command::new(alloc, "scan")
         .about("Finds a file's patterns in an input, by several workers at once")
-        .override_usage("litplan scan [-i] [--count | --names] --workers W FILE INPUT")
+        .override_usage("litplan scan [-i] [--hex] [--count | --names] --workers W FILE INPUT")
         .after_help(SCAN_HELP)
         .arg(fold(alloc)?)?
+        .arg(hex(alloc)?)?
         .arg(count(alloc)?)?
         .arg(names(alloc)?)?
         .arg(workers(alloc))?
@@ -401,6 +429,11 @@ fn fold<'a>(alloc: Global) -> Result<Arg<'a>, AllocError> {
     Ok(fold.help("Take A to Z for a to z, so that patterns that differ in case are one"))
 }
 
+fn hex<'a>(alloc: Global) -> Result<Arg<'a>, AllocError> {
+    let hex = flag(alloc, "hex")?.long("hex");
+    Ok(hex.help("Read a line of FILE as a pattern in hexadecimal, two digits a byte"))
+}
+
 /// A flag, which may be given again.
 fn flag<'a>(alloc: Global, id: &'a str) -> Result<Arg<'a>, AllocError> {
     let flag = Arg::new(alloc, id).action(ArgAction::SetTrue);
@@ -425,10 +458,12 @@ fn file<'a>(alloc: Global) -> Arg<'a> {
 
 const PLAN_HELP: &str = "\
 Empty lines are dropped, and so is what stands twice. The certificate is a text that `litplan check` reads. Status 0,
-or 2 with a message.
+or 2 with a message. With --hex a pattern may hold any byte, also a newline; a line with anything but pairs of digits, 0 to 9
+and a to f of either case, is refused by its number.
 
-Example: the plan of three literals
-  printf 'horse\\ncat\\ndog\\n' | litplan plan -";
+Example: the plan of three literals, and of two that hold a newline and a NUL
+  printf 'horse\\ncat\\ndog\\n' | litplan plan -
+  printf '610a62\\n00FF\\n' | litplan plan --hex -";
 
 const CHECK_HELP: &str = "\
 Prints `optimal COST` (status 0), or `not certified: REASON` with the first condition that fails (status 1).

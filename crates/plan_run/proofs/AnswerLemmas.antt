@@ -17,7 +17,7 @@ use Rattle.lit_cert.specs.Reading.{IsFirstBad}
 use Rattle.lit_cert.specs.Spelling.{HasText, IsShaped, literals_in, spelling}
 use Rattle.lit_cert.specs.declared.fault.Fault.{Fault}
 use Rattle.lit_cert.specs.declared.fault.Fault.TheVariants.{BadCertText, ReadFault}
-use Rattle.lit_base.specs.declared.fold.Fold.{Fold}
+use Rattle.plan_run.specs.declared.notation.Reading.{Reading}
 use Rattle.lit_base.specs.declared.profile.Profile.{Profile}
 use Rattle.lit_base.specs.declared.profile.Profile.TheVariants.{Eight, Sixteen}
 use Rattle.lit_base.specs.declared.lit_list.Normal.{Normal}
@@ -66,15 +66,15 @@ tells-reason reason P WriteFault known e = absurd e
 tells-reason reason P OutOfMemory known e = Silent (Appends-nil known)
 
 -- an answer on a list is an answer on its file
-pub tells-list : (fold : Fold) (name : List ℕ) (source : Option Content) (P : Literals → Answer → Type 0) (list : Literals) (r : Result Status Stop) (old new : Option (List ℕ))
-    → TakesList fold name source (Ok list) → Tells (P list) r old new → Tells (AnswersList fold name source P) r old new
-tells-list fold name source P list r old new taken t =
-    tells-unless (list_message name source) (P (list_in fold source)) r old new taken.0 (subst (λ l. Tells (P l) r old new) taken.1 t)
+pub tells-list : (reading : Reading) (name : List ℕ) (source : Option Content) (P : Literals → Answer → Type 0) (list : Literals) (r : Result Status Stop) (old new : Option (List ℕ))
+    → TakesList reading name source (Ok list) → Tells (P list) r old new → Tells (AnswersList reading name source P) r old new
+tells-list reading name source P list r old new taken t =
+    tells-unless (list_message reading name source) (P (list_in reading source)) r old new taken.0 (subst (λ l. Tells (P l) r old new) taken.1 t)
 
 -- why there is no list
-pub tells-stop : (fold : Fold) (name : List ℕ) (source : Option Content) (P : Literals → Answer → Type 0) (stop : Stop) (known : Option (List ℕ))
-    → Explains stop (list_message name source) → Tells (AnswersList fold name source P) (Err stop) known known
-tells-stop fold name source P stop known e = tells-reason (list_message name source) (P (list_in fold source)) stop known e
+pub tells-stop : (reading : Reading) (name : List ℕ) (source : Option Content) (P : Literals → Answer → Type 0) (stop : Stop) (known : Option (List ℕ))
+    → Explains stop (list_message reading name source) → Tells (AnswersList reading name source P) (Err stop) known known
+tells-stop reading name source P stop known e = tells-reason (list_message reading name source) (P (list_in reading source)) stop known e
 
 -- all asks were made
 pub asks-all : {T : Type 0} (r : Result T Stop) (all : List Ask) (s left : Sources) → left ≡ after_all all s → Asks r all s left
@@ -84,22 +84,22 @@ asks-all (Err WriteFault) all s left e = e
 asks-all (Err OutOfMemory) all s left e = record { made = all; rest = []; parts = sym (append-nil all); after = e }
 
 -- the plan of a list that is had
-pub plan-had : (fold : Fold) (profile : Profile) (file : List ℕ) (known mid : Option Sources) (list : Literals) (r : Result Status Stop) (old new : Option (List ℕ))
-    → Told known mid (λ s left. AreShort s → (left ≡ after (ask_of file) s) × TakesList fold file (taken_by (ask_of file) s) (Ok list)) → Tells (IsPlanAnswer profile list) r old new
-    → Told known mid (λ s left. AreShort s → Asks r (ask_of file ∷ []) s left × Tells (AnswersPlan fold profile file s) r old new)
-plan-had fold profile file known mid list r old new reads tells =
-    Told-weaker known mid _ (λ s left. AreShort s → Asks r (ask_of file ∷ []) s left × Tells (AnswersPlan fold profile file s) r old new) reads (λ s left h short.
+pub plan-had : (reading : Reading) (profile : Profile) (file : List ℕ) (known mid : Option Sources) (list : Literals) (r : Result Status Stop) (old new : Option (List ℕ))
+    → Told known mid (λ s left. AreShort s → (left ≡ after (ask_of file) s) × TakesList reading file (taken_by (ask_of file) s) (Ok list)) → Tells (IsPlanAnswer profile list) r old new
+    → Told known mid (λ s left. AreShort s → Asks r (ask_of file ∷ []) s left × Tells (AnswersPlan reading profile file s) r old new)
+plan-had reading profile file known mid list r old new reads tells =
+    Told-weaker known mid _ (λ s left. AreShort s → Asks r (ask_of file ∷ []) s left × Tells (AnswersPlan reading profile file s) r old new) reads (λ s left h short.
     let taken = h short in
-    (asks-all r (ask_of file ∷ []) s left taken.0, tells-list fold file (taken_by (ask_of file) s) (IsPlanAnswer profile) list r old new taken.1 tells))
+    (asks-all r (ask_of file ∷ []) s left taken.0, tells-list reading file (taken_by (ask_of file) s) (IsPlanAnswer profile) list r old new taken.1 tells))
 
 -- and of a file without a list
-pub plan-stopped : (fold : Fold) (profile : Profile) (file : List ℕ) (known mid : Option Sources) (stop : Stop) (out : Option (List ℕ))
-    → Told known mid (λ s left. AreShort s → (left ≡ after (ask_of file) s) × TakesList fold file (taken_by (ask_of file) s) (Err stop))
-    → Told known mid (λ s left. AreShort s → Asks {T = Status} (Err stop) (ask_of file ∷ []) s left × Tells (AnswersPlan fold profile file s) (Err stop) out out)
-plan-stopped fold profile file known mid stop out reads =
-    Told-weaker known mid _ (λ s left. AreShort s → Asks {T = Status} (Err stop) (ask_of file ∷ []) s left × Tells (AnswersPlan fold profile file s) (Err stop) out out) reads (λ s left h short.
+pub plan-stopped : (reading : Reading) (profile : Profile) (file : List ℕ) (known mid : Option Sources) (stop : Stop) (out : Option (List ℕ))
+    → Told known mid (λ s left. AreShort s → (left ≡ after (ask_of file) s) × TakesList reading file (taken_by (ask_of file) s) (Err stop))
+    → Told known mid (λ s left. AreShort s → Asks {T = Status} (Err stop) (ask_of file ∷ []) s left × Tells (AnswersPlan reading profile file s) (Err stop) out out)
+plan-stopped reading profile file known mid stop out reads =
+    Told-weaker known mid _ (λ s left. AreShort s → Asks {T = Status} (Err stop) (ask_of file ∷ []) s left × Tells (AnswersPlan reading profile file s) (Err stop) out out) reads (λ s left h short.
     let taken = h short in
-    (asks-all {T = Status} (Err stop) (ask_of file ∷ []) s left taken.0, tells-stop fold file (taken_by (ask_of file) s) (IsPlanAnswer profile) stop out taken.1))
+    (asks-all {T = Status} (Err stop) (ask_of file ∷ []) s left taken.0, tells-stop reading file (taken_by (ask_of file) s) (IsPlanAnswer profile) stop out taken.1))
 
 -- behind one ask, more were made
 pub asks-more : {T : Type 0} (r : Result T Stop) (a : Ask) (more : List Ask) (s left : Sources) → Asks r more (after a s) left → Asks r (a ∷ more) s left
@@ -127,19 +127,19 @@ asks-both file next None e = refl
 asks-both file next (Some text) e = (cc)
 
 -- the check of a certificate for a list that is had
-pub check-had : (fold : Fold) (file certificate : List ℕ) (known mid left : Option Sources) (list : Literals) (r : Result Status Stop) (old new : Option (List ℕ))
-    → Told known mid (λ s m. AreShort s → (m ≡ after (ask_of file) s) × TakesList fold file (taken_by (ask_of file) s) (Ok list))
+pub check-had : (reading : Reading) (file certificate : List ℕ) (known mid left : Option Sources) (list : Literals) (r : Result Status Stop) (old new : Option (List ℕ))
+    → Told known mid (λ s m. AreShort s → (m ≡ after (ask_of file) s) × TakesList reading file (taken_by (ask_of file) s) (Ok list))
     → Told mid left (λ m l. AreShort m → (l ≡ after (Named certificate) m) × Tells (IsCheckAnswer list certificate (taken_by (Named certificate) m)) r old new)
-    → Told known left (λ s l. AreShort s → Asks r (check_asks file certificate s) s l × Tells (AnswersCheck fold file certificate s) r old new)
-check-had fold file certificate known mid left list r old new reads judges =
-    Told-then known mid left _ _ (λ s l. AreShort s → Asks r (check_asks file certificate s) s l × Tells (AnswersCheck fold file certificate s) r old new) reads judges (λ s m l h g short.
+    → Told known left (λ s l. AreShort s → Asks r (check_asks reading file certificate s) s l × Tells (AnswersCheck reading file certificate s) r old new)
+check-had reading file certificate known mid left list r old new reads judges =
+    Told-then known mid left _ _ (λ s l. AreShort s → Asks r (check_asks reading file certificate s) s l × Tells (AnswersCheck reading file certificate s) r old new) reads judges (λ s m l h g short.
     let taken = h short in
     let judged = g (subst AreShort (sym taken.0) (short-after (ask_of file) s short)) in
-    let message : Option (List ℕ) = list_message file (taken_by (ask_of file) s) in
+    let message : Option (List ℕ) = list_message reading file (taken_by (ask_of file) s) in
     let made : l ≡ after_all (ask_of file ∷ Named certificate ∷ []) s = judged.0 ∙ ap (after (Named certificate)) taken.0 in
     let tells = subst (λ x. Tells (IsCheckAnswer list certificate (taken_by (Named certificate) x)) r old new) taken.0 judged.1 in (
-      asks-all r (check_asks file certificate s) s l (made ∙ ap (λ asks. after_all asks s) (sym (asks-both file (Named certificate) message taken.1.0))),
-      tells-list fold file (taken_by (ask_of file) s) (λ ls. IsCheckAnswer ls certificate (certificate_source file certificate s)) list r old new taken.1 tells,
+      asks-all r (check_asks reading file certificate s) s l (made ∙ ap (λ asks. after_all asks s) (sym (asks-both file (Named certificate) message taken.1.0))),
+      tells-list reading file (taken_by (ask_of file) s) (λ ls. IsCheckAnswer ls certificate (certificate_source file certificate s)) list r old new taken.1 tells,
     ))
 
 -- where there is one, none does
@@ -151,14 +151,14 @@ asks-stopped T file next message WriteFault s left e after = absurd e
 asks-stopped T file next message OutOfMemory s left e after =
     record { made = ask_of file ∷ []; rest = cond (is_some message) [] next; parts = refl; after = after }
 
-pub check-stopped : (fold : Fold) (file certificate : List ℕ) (known mid : Option Sources) (stop : Stop) (out : Option (List ℕ))
-    → Told known mid (λ s left. AreShort s → (left ≡ after (ask_of file) s) × TakesList fold file (taken_by (ask_of file) s) (Err stop))
-    → Told known mid (λ s left. AreShort s → Asks {T = Status} (Err stop) (check_asks file certificate s) s left × Tells (AnswersCheck fold file certificate s) (Err stop) out out)
-check-stopped fold file certificate known mid stop out reads =
-    Told-weaker known mid _ (λ s left. AreShort s → Asks {T = Status} (Err stop) (check_asks file certificate s) s left × Tells (AnswersCheck fold file certificate s) (Err stop) out out) reads (λ s left h short.
+pub check-stopped : (reading : Reading) (file certificate : List ℕ) (known mid : Option Sources) (stop : Stop) (out : Option (List ℕ))
+    → Told known mid (λ s left. AreShort s → (left ≡ after (ask_of file) s) × TakesList reading file (taken_by (ask_of file) s) (Err stop))
+    → Told known mid (λ s left. AreShort s → Asks {T = Status} (Err stop) (check_asks reading file certificate s) s left × Tells (AnswersCheck reading file certificate s) (Err stop) out out)
+check-stopped reading file certificate known mid stop out reads =
+    Told-weaker known mid _ (λ s left. AreShort s → Asks {T = Status} (Err stop) (check_asks reading file certificate s) s left × Tells (AnswersCheck reading file certificate s) (Err stop) out out) reads (λ s left h short.
     let taken = h short in (
-      asks-stopped Status file (Named certificate ∷ []) (list_message file (taken_by (ask_of file) s)) stop s left taken.1 taken.0,
-      tells-stop fold file (taken_by (ask_of file) s) (λ ls. IsCheckAnswer ls certificate (certificate_source file certificate s)) stop out taken.1,
+      asks-stopped Status file (Named certificate ∷ []) (list_message reading file (taken_by (ask_of file) s)) stop s left taken.1 taken.0,
+      tells-stop reading file (taken_by (ask_of file) s) (λ ls. IsCheckAnswer ls certificate (certificate_source file certificate s)) stop out taken.1,
     ))
 
 -- the hits in an input that is read
@@ -182,33 +182,33 @@ input-stopped list count names input known left stop out reads =
     (taken.0, tells-reason (input_message input source) (AreHitsTold list count names (text_in source)) stop out taken.1))
 
 -- the scan of an input by a plan that is had
-pub scan-had : (fold : Fold) (count names : Bool) (file input : List ℕ) (known mid left : Option Sources) (plan : Plan) (r : Result Status Stop) (old new : Option (List ℕ))
-    → Told known mid (λ s m. AreShort s → (m ≡ after (ask_of file) s) × TakesPlan fold Eight file (taken_by (ask_of file) s) (Ok plan))
+pub scan-had : (reading : Reading) (count names : Bool) (file input : List ℕ) (known mid left : Option Sources) (plan : Plan) (r : Result Status Stop) (old new : Option (List ℕ))
+    → Told known mid (λ s m. AreShort s → (m ≡ after (ask_of file) s) × TakesPlan reading Eight file (taken_by (ask_of file) s) (Ok plan))
     → Told mid left (λ m l. AreShort m → (l ≡ after (ask_of input) m) × Tells (AnswersInput plan.literals count names input (taken_by (ask_of input) m)) r old new)
-    → Told known left (λ s l. AreShort s → Asks r (scan_asks fold file input s) s l × Tells (AnswersScan fold count names file input s) r old new)
-scan-had fold count names file input known mid left plan r old new reads scans =
-    Told-then known mid left _ _ (λ s l. AreShort s → Asks r (scan_asks fold file input s) s l × Tells (AnswersScan fold count names file input s) r old new) reads scans (λ s m l h g short.
+    → Told known left (λ s l. AreShort s → Asks r (scan_asks reading file input s) s l × Tells (AnswersScan reading count names file input s) r old new)
+scan-had reading count names file input known mid left plan r old new reads scans =
+    Told-then known mid left _ _ (λ s l. AreShort s → Asks r (scan_asks reading file input s) s l × Tells (AnswersScan reading count names file input s) r old new) reads scans (λ s m l h g short.
     let taken = h short in
     let scanned = g (subst AreShort (sym taken.0) (short-after (ask_of file) s short)) in
-    let message : Option (List ℕ) = search_message fold file (taken_by (ask_of file) s) in
-    let list : Literals = list_in fold (taken_by (ask_of file) s) in
+    let message : Option (List ℕ) = search_message reading file (taken_by (ask_of file) s) in
+    let list : Literals = list_in reading (taken_by (ask_of file) s) in
     let made : l ≡ after_all (ask_of file ∷ ask_of input ∷ []) s = scanned.0 ∙ ap (after (ask_of input)) taken.0 in
     let tells = subst (λ x. Tells (AnswersInput plan.literals count names input (taken_by (ask_of input) x)) r old new) taken.0 scanned.1 in
     let answer = AnswersInput list count names input (input_source file input s) in (
-      asks-all r (scan_asks fold file input s) s l (made ∙ ap (λ asks. after_all asks s) (sym (asks-both file (ask_of input) message taken.1.0))),
+      asks-all r (scan_asks reading file input s) s l (made ∙ ap (λ asks. after_all asks s) (sym (asks-both file (ask_of input) message taken.1.0))),
       tells-unless message answer r old new taken.1.0 (subst (λ ls. Tells (AnswersInput ls count names input (input_source file input s)) r old new) taken.1.1.literals tells),
     ))
 
 -- and by a file without a plan
-pub scan-stopped : (fold : Fold) (count names : Bool) (file input : List ℕ) (known mid : Option Sources) (stop : Stop) (out : Option (List ℕ))
-    → Told known mid (λ s left. AreShort s → (left ≡ after (ask_of file) s) × TakesPlan fold Eight file (taken_by (ask_of file) s) (Err stop))
-    → Told known mid (λ s left. AreShort s → Asks {T = Status} (Err stop) (scan_asks fold file input s) s left × Tells (AnswersScan fold count names file input s) (Err stop) out out)
-scan-stopped fold count names file input known mid stop out reads =
-    Told-weaker known mid _ (λ s left. AreShort s → Asks {T = Status} (Err stop) (scan_asks fold file input s) s left × Tells (AnswersScan fold count names file input s) (Err stop) out out) reads (λ s left h short.
+pub scan-stopped : (reading : Reading) (count names : Bool) (file input : List ℕ) (known mid : Option Sources) (stop : Stop) (out : Option (List ℕ))
+    → Told known mid (λ s left. AreShort s → (left ≡ after (ask_of file) s) × TakesPlan reading Eight file (taken_by (ask_of file) s) (Err stop))
+    → Told known mid (λ s left. AreShort s → Asks {T = Status} (Err stop) (scan_asks reading file input s) s left × Tells (AnswersScan reading count names file input s) (Err stop) out out)
+scan-stopped reading count names file input known mid stop out reads =
+    Told-weaker known mid _ (λ s left. AreShort s → Asks {T = Status} (Err stop) (scan_asks reading file input s) s left × Tells (AnswersScan reading count names file input s) (Err stop) out out) reads (λ s left h short.
     let taken = h short in
-    let message : Option (List ℕ) = search_message fold file (taken_by (ask_of file) s) in (
+    let message : Option (List ℕ) = search_message reading file (taken_by (ask_of file) s) in (
       asks-stopped Status file (ask_of input ∷ []) message stop s left taken.1 taken.0,
-      tells-reason message (AnswersInput (list_in fold (taken_by (ask_of file) s)) count names input (input_source file input s)) stop out taken.1,
+      tells-reason message (AnswersInput (list_in reading (taken_by (ask_of file) s)) count names input (input_source file input s)) stop out taken.1,
     ))
 
 -- ---- a list and its certificate
@@ -278,17 +278,17 @@ judged wrong P name certificate r old new (Some x) (Some y) c found clean tells 
 -- ---- a plan that is explained
 
 -- the plan of a list that is had
-pub explain-had : (fold : Fold) (profile : Profile) (svg : Bool) (file : List ℕ) (known mid : Option Sources) (found : Literals × Normal) (r : Result Status Stop) (old new : Option (List ℕ))
-    → Told known mid (λ s left. AreShort s → (left ≡ after (ask_of file) s) × TakesPlaces fold file (taken_by (ask_of file) s) (Ok found))
+pub explain-had : (reading : Reading) (profile : Profile) (svg : Bool) (file : List ℕ) (known mid : Option Sources) (found : Literals × Normal) (r : Result Status Stop) (old new : Option (List ℕ))
+    → Told known mid (λ s left. AreShort s → (left ≡ after (ask_of file) s) × TakesPlaces reading file (taken_by (ask_of file) s) (Ok found))
     → ((patterns : List (List ℕ)) → ArePlaces found.0 patterns found.1.place_of.items → Tells (IsExplainAnswer profile found.0 svg patterns) r old new)
-    → Told known mid (λ s left. AreShort s → Asks r (ask_of file ∷ []) s left × Tells (AnswersExplain fold profile svg file s) r old new)
-explain-had fold profile svg file known mid found r old new reads tells =
-    Told-weaker known mid _ (λ s left. AreShort s → Asks r (ask_of file ∷ []) s left × Tells (AnswersExplain fold profile svg file s) r old new) reads (λ s left h short.
+    → Told known mid (λ s left. AreShort s → Asks r (ask_of file ∷ []) s left × Tells (AnswersExplain reading profile svg file s) r old new)
+explain-had reading profile svg file known mid found r old new reads tells =
+    Told-weaker known mid _ (λ s left. AreShort s → Asks r (ask_of file ∷ []) s left × Tells (AnswersExplain reading profile svg file s) r old new) reads (λ s left h short.
     let taken = h short in
     let source : Option Content = taken_by (ask_of file) s in
-    let told = subst (λ list. Tells (IsExplainAnswer profile list svg (patterns_in source)) r old new) taken.1.1 (tells (patterns_in source) taken.1.2) in (
+    let told = subst (λ list. Tells (IsExplainAnswer profile list svg (patterns_in reading source)) r old new) taken.1.1 (tells (patterns_in reading source) taken.1.2) in (
       asks-all r (ask_of file ∷ []) s left taken.0,
-      tells-weaker (IsExplainAnswer profile (list_in fold source) svg (patterns_in source)) (AnswersExplain fold profile svg file s) r old new (λ a right. HasList taken.1.0 right) told,
+      tells-weaker (IsExplainAnswer profile (list_in reading source) svg (patterns_in reading source)) (AnswersExplain reading profile svg file s) r old new (λ a right. HasList taken.1.0 right) told,
     ))
 
 -- what is told of a stop, where it is right of each refusal that the stop may be
@@ -306,27 +306,27 @@ both (Some x) None P Q p q = absurd p
 both (Some x) (Some y) P Q p q = (p, q)
 
 -- why a file of patterns gives no list
-no-list : (file : List ℕ) (source : Option Content) (stop : Stop) → Explains stop (list_message file source) → NamesStop source stop
-    → (refusal : Refusal) → stop ≡ Refused refusal → IsNoList file source refusal
-no-list file source (Refused refusal) why named other e =
+no-list : (reading : Reading) (file : List ℕ) (source : Option Content) (stop : Stop) → Explains stop (list_message reading file source) → NamesStop reading source stop
+    → (refusal : Refusal) → stop ≡ Refused refusal → IsNoList reading file source refusal
+no-list reading file source (Refused refusal) why named other e =
     let same : refusal ≡ other = (cc) in
-    subst (λ x. IsNoList file source x) same (record { message = why; names = named })
-no-list file source WriteFault why named other e = absurd (cc)
-no-list file source OutOfMemory why named other e = absurd (cc)
+    subst (λ x. IsNoList reading file source x) same (record { message = why; names = named })
+no-list reading file source WriteFault why named other e = absurd (cc)
+no-list reading file source OutOfMemory why named other e = absurd (cc)
 
 -- and of a file without a list
-pub explain-stopped : (fold : Fold) (profile : Profile) (svg : Bool) (file : List ℕ) (known mid : Option Sources) (stop : Stop) (r : Result Status Stop) (old new : Option (List ℕ))
-    → Told known mid (λ s left. AreShort s → (left ≡ after (ask_of file) s) × TakesPlaces fold file (taken_by (ask_of file) s) (Err stop))
-    → Told known mid (λ s left. AreShort s → NamesStop (taken_by (ask_of file) s) stop)
+pub explain-stopped : (reading : Reading) (profile : Profile) (svg : Bool) (file : List ℕ) (known mid : Option Sources) (stop : Stop) (r : Result Status Stop) (old new : Option (List ℕ))
+    → Told known mid (λ s left. AreShort s → (left ≡ after (ask_of file) s) × TakesPlaces reading file (taken_by (ask_of file) s) (Err stop))
+    → Told known mid (λ s left. AreShort s → NamesStop reading (taken_by (ask_of file) s) stop)
     → TellsStop stop r old new
-    → Told known mid (λ s left. AreShort s → Asks r (ask_of file ∷ []) s left × Tells (AnswersExplain fold profile svg file s) r old new)
-explain-stopped fold profile svg file known mid stop r old new reads names tells =
-    Told-weaker known mid _ (λ s left. AreShort s → Asks r (ask_of file ∷ []) s left × Tells (AnswersExplain fold profile svg file s) r old new)
-    (both known mid (λ s left. AreShort s → (left ≡ after (ask_of file) s) × TakesPlaces fold file (taken_by (ask_of file) s) (Err stop)) (λ s left. AreShort s → NamesStop (taken_by (ask_of file) s) stop) reads names) (λ s left h short.
+    → Told known mid (λ s left. AreShort s → Asks r (ask_of file ∷ []) s left × Tells (AnswersExplain reading profile svg file s) r old new)
+explain-stopped reading profile svg file known mid stop r old new reads names tells =
+    Told-weaker known mid _ (λ s left. AreShort s → Asks r (ask_of file ∷ []) s left × Tells (AnswersExplain reading profile svg file s) r old new)
+    (both known mid (λ s left. AreShort s → (left ≡ after (ask_of file) s) × TakesPlaces reading file (taken_by (ask_of file) s) (Err stop)) (λ s left. AreShort s → NamesStop reading (taken_by (ask_of file) s) stop) reads names) (λ s left h short.
     let taken = h.0 short in
     let source : Option Content = taken_by (ask_of file) s in (
       asks-all r (ask_of file ∷ []) s left taken.0,
-      tells-flaw (AnswersExplain fold profile svg file s) stop r old new (λ refusal is. NoList refusal (no-list file source stop taken.1 (h.1 short) refusal is) refl) tells,
+      tells-flaw (AnswersExplain reading profile svg file s) stop r old new (λ refusal is. NoList refusal (no-list reading file source stop taken.1 (h.1 short) refusal is) refl) tells,
     ))
 
 -- ---- a plan of a plan file

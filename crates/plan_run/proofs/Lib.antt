@@ -1,5 +1,6 @@
 pub mod AnswerLemmas
 pub mod EndLemmas
+pub mod HexLemmas
 pub mod ListLemmas
 pub mod ListingLemmas
 pub mod MigrateLemmas

@@ -12,6 +12,7 @@ use Rattle.lit_base.specs.declared.fold.Fold.{Fold}
 use Rattle.lit_base.specs.declared.lit_list.Normal.{Normal}
 use Rattle.plan_run.specs.Lists.{ArePlaces}
 use Rattle.plan_run.specs.Running.{NamesStop, TakesList, TakesPlaces}
+use Rattle.plan_run.specs.declared.notation.Reading.{Reading}
 use Rattle.plan_run.specs.declared.stop.Stop.{Stop}
 
 -- a call that was done is not refused
@@ -26,18 +27,18 @@ placed fold texts list patterns raw places e same p =
     subst (λ f. AllZip (IsPlaceOf f list.texts) patterns places) (sym (ap (λ (l : Literals). l.folding) e)) (subst (λ xs. AllZip (IsPlaceOf fold list.texts) xs places) same p)
 
 -- a list that is had with its places is had
-pub without-places : (fold : Fold) (file : List ℕ) (known mid : Option Sources) (list : Literals) (normal : Normal)
-    → Told known mid (λ s left. AreShort s → (left ≡ after (ask_of file) s) × TakesPlaces fold file (taken_by (ask_of file) s) (Ok (list, normal)))
-    → Told known mid (λ s left. AreShort s → (left ≡ after (ask_of file) s) × TakesList fold file (taken_by (ask_of file) s) (Ok list))
-without-places fold file known mid list normal reads =
-    Told-weaker known mid _ (λ s left. AreShort s → (left ≡ after (ask_of file) s) × TakesList fold file (taken_by (ask_of file) s) (Ok list)) reads (λ s left h short.
+pub without-places : (reading : Reading) (file : List ℕ) (known mid : Option Sources) (list : Literals) (normal : Normal)
+    → Told known mid (λ s left. AreShort s → (left ≡ after (ask_of file) s) × TakesPlaces reading file (taken_by (ask_of file) s) (Ok (list, normal)))
+    → Told known mid (λ s left. AreShort s → (left ≡ after (ask_of file) s) × TakesList reading file (taken_by (ask_of file) s) (Ok list))
+without-places reading file known mid list normal reads =
+    Told-weaker known mid _ (λ s left. AreShort s → (left ≡ after (ask_of file) s) × TakesList reading file (taken_by (ask_of file) s) (Ok list)) reads (λ s left h short.
     let taken = h short in
     (taken.0, (taken.1.0, taken.1.1)))
 
 -- where a list is refused, it is told which pattern is
-pub named-told : {T : Type 0} (file : List ℕ) (known left : Option Sources) (r : Result T Stop)
-    → Told known left (λ s l. AreShort s → (l ≡ after (ask_of file) s) × IfErr r (NamesStop (taken_by (ask_of file) s)))
-    → IfErr r (λ stop. Told known left (λ s l. AreShort s → NamesStop (taken_by (ask_of file) s) stop))
-named-told file known left (Ok list) named = tt
-named-told file known left (Err stop) named =
-    Told-weaker known left _ (λ s l. AreShort s → NamesStop (taken_by (ask_of file) s) stop) named (λ s l h short. (h short).1)
+pub named-told : {T : Type 0} (reading : Reading) (file : List ℕ) (known left : Option Sources) (r : Result T Stop)
+    → Told known left (λ s l. AreShort s → (l ≡ after (ask_of file) s) × IfErr r (NamesStop reading (taken_by (ask_of file) s)))
+    → IfErr r (λ stop. Told known left (λ s l. AreShort s → NamesStop reading (taken_by (ask_of file) s) stop))
+named-told reading file known left (Ok list) named = tt
+named-told reading file known left (Err stop) named =
+    Told-weaker known left _ (λ s l. AreShort s → NamesStop reading (taken_by (ask_of file) s) stop) named (λ s l h short. (h short).1)

@@ -1,7 +1,7 @@
 -- Lines of hits, written some at a time.
-use Rattle.std.proofs.Common.{◌≡◌, ℕ, Bool, List, ◌++◌, Option, Err, sym, ap, ◌∙◌, subst, append_assoc}
+use Rattle.std.proofs.Common.{◌≡◌, ℕ, Bool, List, [], ◌++◌, Option, Result, Err, refl, sym, ap, ◌∙◌, subst, append_assoc}
 use Rattle.std.specs.Io.KnownBytes.{Appends}
-use Rattle.std.proofs.KnownBytes.{Appends-trans}
+use Rattle.std.proofs.KnownBytes.{Appends-nil, Appends-trans}
 use Rattle.std.proofs.lemmas.List.Concat.{flat_map-append}
 use Rattle.lit_base.specs.Literals.{Literals}
 use Rattle.byte_io.specs.Transfers.{AppendsFront}
@@ -10,6 +10,11 @@ use Rattle.plan_run.specs.Running.{Writes}
 use Rattle.plan_run.specs.declared.status.Status.{Status}
 use Rattle.plan_run.specs.declared.stop.Stop.{Stop}
 use Rattle.plan_run.specs.declared.stop.Stop.TheVariants.{OutOfMemory, Refused, WriteFault}
+
+-- nothing was written before memory ran out
+pub none-written : (text : List ℕ) (status : Status) (r : Result Status Stop) (known : Option (List ℕ)) → r ≡ Err OutOfMemory → Writes text status r known known
+none-written text status r known is =
+    subst (λ x. Writes text status x known known) (sym is) (record { front = []; rest = text; parts = refl; grown = Appends-nil known })
 
 -- the lines of some hits and of others are the lines of both
 lines-both : (names : Bool) (l : Literals) (done part : List (ℕ × ℕ)) → hit_lines names l (done ++ part) ≡ hit_lines names l done ++ hit_lines names l part

@@ -1,19 +1,19 @@
 -- A plan file that is made, from the plans and the file of them to what a request has to answer.
-use Rattle.std.proofs.Common.{◌≡◌, ℕ, Bool, true, false, cond, List, [], ◌∷◌, ◌++◌, Option, None, Some, IfSome, is_some, Result, Ok, Err, inl, inr, ◌+◌, ◌-◌, ◌<◌, ◌≤◌, arith, drop, get_or, length, take, refl, sym, ap, subst, ◌∙◌, append_assoc, append-nil, take_all}
+use Rattle.std.proofs.Common.{◌≡◌, ℕ, Bool, true, false, cond, List, [], ◌∷◌, ◌++◌, Option, None, Some, IfSome, Result, Ok, Err, inl, inr, ◌-◌, ◌<◌, ◌≤◌, arith, drop, get_or, length, take, refl, sym, ap, subst, ◌∙◌, append_assoc, append-nil, take_all}
 use Rattle.std.proofs.KnownBytes.{Appends-nil}
 use Rattle.std.specs.Global.{Global}
 use Rattle.std.specs.Prelude.{String, map, string_bytes}
 use Rattle.byte_io.specs.Devices.{Told}
-use Rattle.byte_io.specs.Sources.{AreShort, Ask, Created, Named, Sources, Standard, after, after_all, ask_of, can_create, taken_by}
+use Rattle.byte_io.specs.Sources.{AreShort, Ask, Created, Named, Sources, Standard, after, ask_of, can_create, taken_by}
 use Rattle.byte_io.proofs.OpenerLemmas.{short-after}
 use Rattle.byte_io.proofs.ToldLemmas.{Told-none, Told-then, Told-weaker}
 use Rattle.flow_scan.specs.Plans.{Plan}
-use Rattle.lit_base.specs.declared.fold.Fold.{Fold}
+use Rattle.plan_run.specs.declared.notation.Reading.{Reading}
 use Rattle.lit_base.specs.declared.profile.Profile.{Profile}
 use Rattle.plan_run.specs.Answers.{Answer, AnswersPack, AnswersUnless, Cut, IsPackAnswer, Packed, Unmade, asks_for_plans, pack_asks, pack_message, reads_file, refused_with}
 use Rattle.plan_run.specs.Lists.{ArePlansOf, IsPlanOf, first_message, list_in, search_message, search_messages}
 use Rattle.plan_run.specs.Messages.{message_on, unusable}
-use Rattle.plan_run.specs.Packing.{HoldsFrontOf, HoldsPlansOf, IsBefore, LeavesFile, LeavesPack, Made, MakesFile, MakesPack, Other, Own, PacksFiles, answer_of}
+use Rattle.plan_run.specs.Packing.{LeavesPack, Made, MakesFile, MakesPack, Other, Own, PacksFiles, answer_of}
 use Rattle.plan_run.specs.PlanFiles.{HoldsFront, HoldsPlans}
 use Rattle.plan_run.specs.Running.{Answers, Asks, Explains, TakesPlan, Tells, is_refusal}
 use Rattle.plan_run.specs.declared.pattern_files.PatternFiles.{PatternFiles}
@@ -43,28 +43,28 @@ then-explains stop reason later none e = subst (λ r. Explains stop (first_messa
 
 -- ---- the file of plans behind no further files
 
-pub packs-made : {O : Type 0} (written : O → Option (List ℕ)) (fold : Fold) (profile : Profile) (before : List Plan) (output : List ℕ) (s left : Sources) (r : Made O)
-    → MakesFile written before output (can_create output s.creatable) r → MakesPack written fold profile before [] output s left r
-packs-made written fold profile before output s left (Ok made) makes =
+pub packs-made : {O : Type 0} (written : O → Option (List ℕ)) (reading : Reading) (profile : Profile) (before : List Plan) (output : List ℕ) (s left : Sources) (r : Made O)
+    → MakesFile written before output (can_create output s.creatable) r → MakesPack written reading profile before [] output s left r
+packs-made written reading profile before output s left (Ok made) makes =
     (refl, makes.0, record { plans = []; right = refl; holds = subst (λ ps. HoldsPlans ps (written made)) (sym (append-nil before)) makes.1 })
-packs-made written fold profile before output s left (Err (stop, Some made)) makes =
+packs-made written reading profile before output s left (Err (stop, Some made)) makes =
     (makes.0, (refl, makes.1.0, record { plans = []; right = refl; holds = subst (λ ps. HoldsFront ps (written made)) (sym (append-nil before)) makes.1.1 }))
-packs-made written fold profile before output s left (Err (stop, None)) makes = (makes.0, inr makes.1)
+packs-made written reading profile before output s left (Err (stop, None)) makes = (makes.0, inr makes.1)
 
-pub pack-made : {O : Type 0} (written : O → Option (List ℕ)) (fold : Fold) (profile : Profile) (before : List Plan) (output : List ℕ) (known left : Option Sources) (r : Made O)
+pub pack-made : {O : Type 0} (written : O → Option (List ℕ)) (reading : Reading) (profile : Profile) (before : List Plan) (output : List ℕ) (known left : Option Sources) (r : Made O)
     → Told known left (λ s l. (l ≡ after (Created output) s) × MakesFile written before output (can_create output s.creatable) r)
-    → Told known left (λ s l. AreShort s → Asks (answer_of r) (asks_for_plans fold [] (Created output) s) s l × MakesPack written fold profile before [] output s l r)
-pack-made written fold profile before output known left r makes =
-    Told-weaker known left _ (λ s l. AreShort s → Asks (answer_of r) (asks_for_plans fold [] (Created output) s) s l × MakesPack written fold profile before [] output s l r) makes (λ s l h short.
-    (asks-all (answer_of r) (Created output ∷ []) s l h.0, packs-made written fold profile before output s l r h.1))
+    → Told known left (λ s l. AreShort s → Asks (answer_of r) (asks_for_plans reading [] (Created output) s) s l × MakesPack written reading profile before [] output s l r)
+pack-made written reading profile before output known left r makes =
+    Told-weaker known left _ (λ s l. AreShort s → Asks (answer_of r) (asks_for_plans reading [] (Created output) s) s l × MakesPack written reading profile before [] output s l r) makes (λ s l h short.
+    (asks-all (answer_of r) (Created output ∷ []) s l h.0, packs-made written reading profile before output s l r h.1))
 
 -- ---- one file of patterns, and those behind it
 
-packs-next : {O : Type 0} (written : O → Option (List ℕ)) (fold : Fold) (profile : Profile) (before : List Plan) (file : List ℕ) (names : List (List ℕ)) (output : List ℕ) (s left : Sources) (plan : Plan) (r : Made O)
-    → search_message fold file (taken_by (ask_of file) s) ≡ None → IsPlanOf profile (list_in fold (taken_by (ask_of file) s)) plan
-    → MakesPack written fold profile (before ++ plan ∷ []) names output (after (ask_of file) s) left r → MakesPack written fold profile before (file ∷ names) output s left r
-packs-next written fold profile before file names output s left plan (Ok made) none right makes = (
-  ap (λ m. first_message m (search_messages fold names (after (ask_of file) s))) none ∙ makes.0,
+packs-next : {O : Type 0} (written : O → Option (List ℕ)) (reading : Reading) (profile : Profile) (before : List Plan) (file : List ℕ) (names : List (List ℕ)) (output : List ℕ) (s left : Sources) (plan : Plan) (r : Made O)
+    → search_message reading file (taken_by (ask_of file) s) ≡ None → IsPlanOf profile (list_in reading (taken_by (ask_of file) s)) plan
+    → MakesPack written reading profile (before ++ plan ∷ []) names output (after (ask_of file) s) left r → MakesPack written reading profile before (file ∷ names) output s left r
+packs-next written reading profile before file names output s left plan (Ok made) none right makes = (
+  ap (λ m. first_message m (search_messages reading names (after (ask_of file) s))) none ∙ makes.0,
   ap (can_create output) (sym (same-creatable (ask_of file) s)) ∙ makes.1,
   record {
     plans = plan ∷ makes.2.plans;
@@ -72,9 +72,9 @@ packs-next written fold profile before file names output s left plan (Ok made) n
     holds = subst (λ ps. HoldsPlans ps (written made)) (append_assoc before (plan ∷ []) makes.2.plans) makes.2.holds;
   },
 )
-packs-next written fold profile before file names output s left plan (Err (stop, Some made)) none right makes =
-    let first : first_message (search_message fold file (taken_by (ask_of file) s)) (search_messages fold names (after (ask_of file) s)) ≡ search_messages fold names (after (ask_of file) s) =
-    ap (λ m. first_message m (search_messages fold names (after (ask_of file) s))) none in (
+packs-next written reading profile before file names output s left plan (Err (stop, Some made)) none right makes =
+    let first : first_message (search_message reading file (taken_by (ask_of file) s)) (search_messages reading names (after (ask_of file) s)) ≡ search_messages reading names (after (ask_of file) s) =
+    ap (λ m. first_message m (search_messages reading names (after (ask_of file) s))) none in (
       subst (λ m. Explains stop (first_message m (Some (unusable output)))) (sym first) makes.0,
       (
         first ∙ makes.1.0,
@@ -86,64 +86,64 @@ packs-next written fold profile before file names output s left plan (Err (stop,
         },
       ),
     )
-packs-next written fold profile before file names output s left plan (Err (stop, None)) none right (why, inl kept) =
-    let first : first_message (search_message fold file (taken_by (ask_of file) s)) (search_messages fold names (after (ask_of file) s)) ≡ search_messages fold names (after (ask_of file) s) =
-    ap (λ m. first_message m (search_messages fold names (after (ask_of file) s))) none in (
+packs-next written reading profile before file names output s left plan (Err (stop, None)) none right (why, inl kept) =
+    let first : first_message (search_message reading file (taken_by (ask_of file) s)) (search_messages reading names (after (ask_of file) s)) ≡ search_messages reading names (after (ask_of file) s) =
+    ap (λ m. first_message m (search_messages reading names (after (ask_of file) s))) none in (
       subst (λ m. Explains stop (first_message m (Some (unusable output)))) (sym first) why,
       inl (inr kept.0, subst (λ m. Explains stop m) (sym first) kept.1),
     )
-packs-next written fold profile before file names output s left plan (Err (stop, None)) none right (why, inr cannot) =
-    let first : first_message (search_message fold file (taken_by (ask_of file) s)) (search_messages fold names (after (ask_of file) s)) ≡ search_messages fold names (after (ask_of file) s) =
-    ap (λ m. first_message m (search_messages fold names (after (ask_of file) s))) none in (
+packs-next written reading profile before file names output s left plan (Err (stop, None)) none right (why, inr cannot) =
+    let first : first_message (search_message reading file (taken_by (ask_of file) s)) (search_messages reading names (after (ask_of file) s)) ≡ search_messages reading names (after (ask_of file) s) =
+    ap (λ m. first_message m (search_messages reading names (after (ask_of file) s))) none in (
       subst (λ m. Explains stop (first_message m (Some (unusable output)))) (sym first) why,
       inr (ap (can_create output) (sym (same-creatable (ask_of file) s)) ∙ cannot),
     )
 
 -- the plan file of patterns that have a plan
-pub pack-next : {O : Type 0} (written : O → Option (List ℕ)) (fold : Fold) (profile : Profile) (before : List Plan) (file : List ℕ) (names : List (List ℕ)) (output : List ℕ) (known mid left : Option Sources) (plan : Plan) (r : Made O)
-    → Told known mid (λ s m. AreShort s → (m ≡ after (ask_of file) s) × TakesPlan fold profile file (taken_by (ask_of file) s) (Ok plan))
-    → Told mid left (λ m l. AreShort m → Asks (answer_of r) (asks_for_plans fold names (Created output) m) m l × MakesPack written fold profile (before ++ plan ∷ []) names output m l r)
-    → Told known left (λ s l. AreShort s → Asks (answer_of r) (asks_for_plans fold (file ∷ names) (Created output) s) s l × MakesPack written fold profile before (file ∷ names) output s l r)
-pack-next written fold profile before file names output known mid left plan r reads makes =
-    Told-then known mid left _ _ (λ s l. AreShort s → Asks (answer_of r) (asks_for_plans fold (file ∷ names) (Created output) s) s l × MakesPack written fold profile before (file ∷ names) output s l r) reads makes (λ s m l h g short.
+pub pack-next : {O : Type 0} (written : O → Option (List ℕ)) (reading : Reading) (profile : Profile) (before : List Plan) (file : List ℕ) (names : List (List ℕ)) (output : List ℕ) (known mid left : Option Sources) (plan : Plan) (r : Made O)
+    → Told known mid (λ s m. AreShort s → (m ≡ after (ask_of file) s) × TakesPlan reading profile file (taken_by (ask_of file) s) (Ok plan))
+    → Told mid left (λ m l. AreShort m → Asks (answer_of r) (asks_for_plans reading names (Created output) m) m l × MakesPack written reading profile (before ++ plan ∷ []) names output m l r)
+    → Told known left (λ s l. AreShort s → Asks (answer_of r) (asks_for_plans reading (file ∷ names) (Created output) s) s l × MakesPack written reading profile before (file ∷ names) output s l r)
+pack-next written reading profile before file names output known mid left plan r reads makes =
+    Told-then known mid left _ _ (λ s l. AreShort s → Asks (answer_of r) (asks_for_plans reading (file ∷ names) (Created output) s) s l × MakesPack written reading profile before (file ∷ names) output s l r) reads makes (λ s m l h g short.
     let taken = h short in
     let rest = g (subst AreShort (sym taken.0) (short-after (ask_of file) s short)) in
-    let here = subst (λ x. Asks (answer_of r) (asks_for_plans fold names (Created output) x) x l × MakesPack written fold profile (before ++ plan ∷ []) names output x l r) taken.0 rest in
-    let more : List Ask = asks_for_plans fold names (Created output) (after (ask_of file) s) in
-    let message : Option (List ℕ) = search_message fold file (taken_by (ask_of file) s) in (
+    let here = subst (λ x. Asks (answer_of r) (asks_for_plans reading names (Created output) x) x l × MakesPack written reading profile (before ++ plan ∷ []) names output x l r) taken.0 rest in
+    let more : List Ask = asks_for_plans reading names (Created output) (after (ask_of file) s) in
+    let message : Option (List ℕ) = search_message reading file (taken_by (ask_of file) s) in (
       same-asks (answer_of r) (ask_of file) more message s l taken.1.0 (asks-more (answer_of r) (ask_of file) more s l here.0),
-      packs-next written fold profile before file names output s l plan r taken.1.0 taken.1.1 here.1,
+      packs-next written reading profile before file names output s l plan r taken.1.0 taken.1.1 here.1,
     ))
 
 -- and of patterns that have none
-pub pack-stopped : {O : Type 0} (written : O → Option (List ℕ)) (fold : Fold) (profile : Profile) (before : List Plan) (file : List ℕ) (names : List (List ℕ)) (output : List ℕ) (known mid : Option Sources) (stop : Stop)
-    → Told known mid (λ s left. AreShort s → (left ≡ after (ask_of file) s) × TakesPlan fold profile file (taken_by (ask_of file) s) (Err stop))
-    → Told known mid (λ s left. AreShort s → Asks {T = O} (Err stop) (asks_for_plans fold (file ∷ names) (Created output) s) s left × MakesPack {O = O} written fold profile before (file ∷ names) output s left (Err (stop, None)))
-pack-stopped {O} written fold profile before file names output known mid stop reads =
-    Told-weaker known mid _ (λ s left. AreShort s → Asks {T = O} (Err stop) (asks_for_plans fold (file ∷ names) (Created output) s) s left × MakesPack {O = O} written fold profile before (file ∷ names) output s left (Err (stop, None))) reads (λ s left h short.
+pub pack-stopped : {O : Type 0} (written : O → Option (List ℕ)) (reading : Reading) (profile : Profile) (before : List Plan) (file : List ℕ) (names : List (List ℕ)) (output : List ℕ) (known mid : Option Sources) (stop : Stop)
+    → Told known mid (λ s left. AreShort s → (left ≡ after (ask_of file) s) × TakesPlan reading profile file (taken_by (ask_of file) s) (Err stop))
+    → Told known mid (λ s left. AreShort s → Asks {T = O} (Err stop) (asks_for_plans reading (file ∷ names) (Created output) s) s left × MakesPack {O = O} written reading profile before (file ∷ names) output s left (Err (stop, None)))
+pack-stopped {O} written reading profile before file names output known mid stop reads =
+    Told-weaker known mid _ (λ s left. AreShort s → Asks {T = O} (Err stop) (asks_for_plans reading (file ∷ names) (Created output) s) s left × MakesPack {O = O} written reading profile before (file ∷ names) output s left (Err (stop, None))) reads (λ s left h short.
     let taken = h short in
-    let message : Option (List ℕ) = search_message fold file (taken_by (ask_of file) s) in
-    let others : Option (List ℕ) = search_messages fold names (after (ask_of file) s) in
+    let message : Option (List ℕ) = search_message reading file (taken_by (ask_of file) s) in
+    let others : Option (List ℕ) = search_messages reading names (after (ask_of file) s) in
     let first : Explains stop (first_message message others) = first-explains stop message others taken.1 in (
-      asks-stopped O file (asks_for_plans fold names (Created output) (after (ask_of file) s)) message stop s left taken.1 taken.0,
+      asks-stopped O file (asks_for_plans reading names (Created output) (after (ask_of file) s)) message stop s left taken.1 taken.0,
       (first-explains stop (first_message message others) (Some (unusable output)) first, inl (inl taken.0, first)),
     ))
 
 -- memory ran out behind a plan
-pub pack-starved : {O : Type 0} (written : O → Option (List ℕ)) (fold : Fold) (profile : Profile) (before : List Plan) (file : List ℕ) (names : List (List ℕ)) (output : List ℕ) (known mid : Option Sources) (plan : Plan)
-    → Told known mid (λ s left. AreShort s → (left ≡ after (ask_of file) s) × TakesPlan fold profile file (taken_by (ask_of file) s) (Ok plan))
-    → Told known mid (λ s left. AreShort s → Asks {T = O} (Err OutOfMemory) (asks_for_plans fold (file ∷ names) (Created output) s) s left × MakesPack {O = O} written fold profile before (file ∷ names) output s left (Err (OutOfMemory, None)))
-pack-starved {O} written fold profile before file names output known mid plan reads =
-    pack-stopped {O = O} written fold profile before file names output known mid OutOfMemory
-    (Told-weaker known mid _ (λ s left. AreShort s → (left ≡ after (ask_of file) s) × TakesPlan fold profile file (taken_by (ask_of file) s) (Err OutOfMemory)) reads (λ s left h short. ((h short).0, tt)))
+pub pack-starved : {O : Type 0} (written : O → Option (List ℕ)) (reading : Reading) (profile : Profile) (before : List Plan) (file : List ℕ) (names : List (List ℕ)) (output : List ℕ) (known mid : Option Sources) (plan : Plan)
+    → Told known mid (λ s left. AreShort s → (left ≡ after (ask_of file) s) × TakesPlan reading profile file (taken_by (ask_of file) s) (Ok plan))
+    → Told known mid (λ s left. AreShort s → Asks {T = O} (Err OutOfMemory) (asks_for_plans reading (file ∷ names) (Created output) s) s left × MakesPack {O = O} written reading profile before (file ∷ names) output s left (Err (OutOfMemory, None)))
+pack-starved {O} written reading profile before file names output known mid plan reads =
+    pack-stopped {O = O} written reading profile before file names output known mid OutOfMemory
+    (Told-weaker known mid _ (λ s left. AreShort s → (left ≡ after (ask_of file) s) × TakesPlan reading profile file (taken_by (ask_of file) s) (Err OutOfMemory)) reads (λ s left h short. ((h short).0, tt)))
 
 -- the same of the names of files that have such a list
-pub packs-of : {O : Type 0} (written : O → Option (List ℕ)) (fold : Fold) (profile : Profile) (before : List Plan) (all names : List (List ℕ)) (output : List ℕ) (known left : Option Sources) (r : Made O)
+pub packs-of : {O : Type 0} (written : O → Option (List ℕ)) (reading : Reading) (profile : Profile) (before : List Plan) (all names : List (List ℕ)) (output : List ℕ) (known left : Option Sources) (r : Made O)
     → all ≡ names
-    → Told known left (λ s l. AreShort s → Asks (answer_of r) (asks_for_plans fold names (Created output) s) s l × MakesPack written fold profile before names output s l r)
-    → Told known left (λ s l. AreShort s → Asks (answer_of r) (asks_for_plans fold all (Created output) s) s l × MakesPack written fold profile before all output s l r)
-packs-of written fold profile before all names output known left r same makes =
-    subst (λ xs. Told known left (λ s l. AreShort s → Asks (answer_of r) (asks_for_plans fold xs (Created output) s) s l × MakesPack written fold profile before xs output s l r)) (sym same) makes
+    → Told known left (λ s l. AreShort s → Asks (answer_of r) (asks_for_plans reading names (Created output) s) s l × MakesPack written reading profile before names output s l r)
+    → Told known left (λ s l. AreShort s → Asks (answer_of r) (asks_for_plans reading all (Created output) s) s l × MakesPack written reading profile before all output s l r)
+packs-of written reading profile before all names output known left r same makes =
+    subst (λ xs. Told known left (λ s l. AreShort s → Asks (answer_of r) (asks_for_plans reading xs (Created output) s) s l × MakesPack written reading profile before xs output s l r)) (sym same) makes
 
 -- none is left of them
 pub names-none : {Z : Type 0} (names : List (String Z)) → length names < 1 → map string_bytes names ≡ []
@@ -160,104 +160,104 @@ names-first (name ∷ rest) item default file some is same =
 
 -- ---- files of patterns, unless one of them is the plan file
 
-pub pack-own : {O : Type 0} (written : O → Option (List ℕ)) (fold : Fold) (profile : Profile) (names : List (List ℕ)) (output : List ℕ) (known : Option Sources) (stop : Stop)
+pub pack-own : {O : Type 0} (written : O → Option (List ℕ)) (reading : Reading) (profile : Profile) (names : List (List ℕ)) (output : List ℕ) (known : Option Sources) (stop : Stop)
     → reads_file names output ≡ true → Explains stop (Some (unusable output))
-    → Told known known (λ s l. AreShort s → Asks {T = O} (Err stop) (pack_asks fold names output s) s l × PacksFiles {O = O} written fold profile names output s l (Err (stop, None)))
-pack-own {O} written fold profile names output known stop own why =
-    Told-none known (λ s l. AreShort s → Asks {T = O} (Err stop) (pack_asks fold names output s) s l × PacksFiles {O = O} written fold profile names output s l (Err (stop, None))) (λ s short. (
-      subst (λ b. Asks {T = O} (Err stop) (cond b [] (asks_for_plans fold names (Created output) s)) s s) (sym own) (asks-all {T = O} (Err stop) [] s s refl),
+    → Told known known (λ s l. AreShort s → Asks {T = O} (Err stop) (pack_asks reading names output s) s l × PacksFiles {O = O} written reading profile names output s l (Err (stop, None)))
+pack-own {O} written reading profile names output known stop own why =
+    Told-none known (λ s l. AreShort s → Asks {T = O} (Err stop) (pack_asks reading names output s) s l × PacksFiles {O = O} written reading profile names output s l (Err (stop, None))) (λ s short. (
+      subst (λ b. Asks {T = O} (Err stop) (cond b [] (asks_for_plans reading names (Created output) s)) s s) (sym own) (asks-all {T = O} (Err stop) [] s s refl),
       Own stop own why refl refl,
     ))
 
-pub pack-other : {O : Type 0} (written : O → Option (List ℕ)) (fold : Fold) (profile : Profile) (names : List (List ℕ)) (output : List ℕ) (known left : Option Sources) (r : Made O)
+pub pack-other : {O : Type 0} (written : O → Option (List ℕ)) (reading : Reading) (profile : Profile) (names : List (List ℕ)) (output : List ℕ) (known left : Option Sources) (r : Made O)
     → reads_file names output ≡ false
-    → Told known left (λ s l. AreShort s → Asks (answer_of r) (asks_for_plans fold names (Created output) s) s l × MakesPack written fold profile [] names output s l r)
-    → Told known left (λ s l. AreShort s → Asks (answer_of r) (pack_asks fold names output s) s l × PacksFiles written fold profile names output s l r)
-pack-other written fold profile names output known left r other makes =
-    Told-weaker known left _ (λ s l. AreShort s → Asks (answer_of r) (pack_asks fold names output s) s l × PacksFiles written fold profile names output s l r) makes (λ s l h short.
+    → Told known left (λ s l. AreShort s → Asks (answer_of r) (asks_for_plans reading names (Created output) s) s l × MakesPack written reading profile [] names output s l r)
+    → Told known left (λ s l. AreShort s → Asks (answer_of r) (pack_asks reading names output s) s l × PacksFiles written reading profile names output s l r)
+pack-other written reading profile names output known left r other makes =
+    Told-weaker known left _ (λ s l. AreShort s → Asks (answer_of r) (pack_asks reading names output s) s l × PacksFiles written reading profile names output s l r) makes (λ s l h short.
     let p = h short in (
-      subst (λ b. Asks (answer_of r) (cond b [] (asks_for_plans fold names (Created output) s)) s l) (sym other) p.0,
+      subst (λ b. Asks (answer_of r) (cond b [] (asks_for_plans reading names (Created output) s)) s l) (sym other) p.0,
       Other other p.1,
     ))
 
 -- ---- what is told
 
 -- of a plan file that was made
-tells-packed : {O : Type 0} (written : O → Option (List ℕ)) (has_failed : O → Bool) (fold : Fold) (profile : Profile) (names : List (List ℕ)) (output : List ℕ) (s left : Sources) (made : O) (out : Option (List ℕ))
-    → has_failed made ≡ false → PacksFiles written fold profile names output s left (Ok made)
-    → Tells (AnswersPack written has_failed fold profile names output s) (Ok Done) out out
-tells-packed written has_failed fold profile names output s left made out whole (Own stop own why same is) = absurd (cc)
-tells-packed written has_failed fold profile names output s left made out whole (Other other makes) =
-    let answer = IsPackAnswer written has_failed (ArePlansOf fold profile names s) output (can_create output s.creatable) in
-    let none : pack_message fold names output s ≡ None = ap (λ b. cond b (Some (unusable output)) (search_messages fold names s)) other ∙ makes.0 in
-    tells-unless (pack_message fold names output s) answer (Ok Done) out out none
+tells-packed : {O : Type 0} (written : O → Option (List ℕ)) (has_failed : O → Bool) (reading : Reading) (profile : Profile) (names : List (List ℕ)) (output : List ℕ) (s left : Sources) (made : O) (out : Option (List ℕ))
+    → has_failed made ≡ false → PacksFiles written reading profile names output s left (Ok made)
+    → Tells (AnswersPack written has_failed reading profile names output s) (Ok Done) out out
+tells-packed written has_failed reading profile names output s left made out whole (Own stop own why same is) = absurd (cc)
+tells-packed written has_failed reading profile names output s left made out whole (Other other makes) =
+    let answer = IsPackAnswer written has_failed (ArePlansOf reading profile names s) output (can_create output s.creatable) in
+    let none : pack_message reading names output s ≡ None = ap (λ b. cond b (Some (unusable output)) (search_messages reading names s)) other ∙ makes.0 in
+    tells-unless (pack_message reading names output s) answer (Ok Done) out out none
     (tells-text answer [] Done (Ok Done) out out (Packed makes.2.plans made makes.2.right makes.1 makes.2.holds whole refl) (refl, Appends-nil out))
 
-pub pack-told : {O : Type 0} (written : O → Option (List ℕ)) (has_failed : O → Bool) (fold : Fold) (profile : Profile) (names : List (List ℕ)) (output : List ℕ) (known left : Option Sources) (made : O)
+pub pack-told : {O : Type 0} (written : O → Option (List ℕ)) (has_failed : O → Bool) (reading : Reading) (profile : Profile) (names : List (List ℕ)) (output : List ℕ) (known left : Option Sources) (made : O)
     → has_failed made ≡ false
-    → Told known left (λ s l. AreShort s → Asks {T = O} (Ok made) (pack_asks fold names output s) s l × PacksFiles written fold profile names output s l (Ok made))
-    → Told known left (λ s l. AreShort s → Asks {T = Status} (Ok Done) (pack_asks fold names output s) s l × ((out : Option (List ℕ)) → Tells (AnswersPack written has_failed fold profile names output s) (Ok Done) out out))
-pack-told written has_failed fold profile names output known left made whole packs =
-    Told-weaker known left _ (λ s l. AreShort s → Asks {T = Status} (Ok Done) (pack_asks fold names output s) s l × ((out : Option (List ℕ)) → Tells (AnswersPack written has_failed fold profile names output s) (Ok Done) out out)) packs (λ s l h short.
+    → Told known left (λ s l. AreShort s → Asks {T = O} (Ok made) (pack_asks reading names output s) s l × PacksFiles written reading profile names output s l (Ok made))
+    → Told known left (λ s l. AreShort s → Asks {T = Status} (Ok Done) (pack_asks reading names output s) s l × ((out : Option (List ℕ)) → Tells (AnswersPack written has_failed reading profile names output s) (Ok Done) out out))
+pack-told written has_failed reading profile names output known left made whole packs =
+    Told-weaker known left _ (λ s l. AreShort s → Asks {T = Status} (Ok Done) (pack_asks reading names output s) s l × ((out : Option (List ℕ)) → Tells (AnswersPack written has_failed reading profile names output s) (Ok Done) out out)) packs (λ s l h short.
     let p = h short in
-    (p.0, λ out. tells-packed written has_failed fold profile names output s l made out whole p.1))
+    (p.0, λ out. tells-packed written has_failed reading profile names output s l made out whole p.1))
 
 -- what is answered where this is the message on the files of patterns
-abbrev IsToldOf : {O : Type 0} → (O → Option (List ℕ)) → (O → Bool) → Fold → Profile → List (List ℕ) → List ℕ → Sources → Option (List ℕ) → Answer → Type 0
-IsToldOf written has_failed fold profile names output s message =
-    AnswersUnless message (IsPackAnswer written has_failed (ArePlansOf fold profile names s) output (can_create output s.creatable))
+abbrev IsToldOf : {O : Type 0} → (O → Option (List ℕ)) → (O → Bool) → Reading → Profile → List (List ℕ) → List ℕ → Sources → Option (List ℕ) → Answer → Type 0
+IsToldOf written has_failed reading profile names output s message =
+    AnswersUnless message (IsPackAnswer written has_failed (ArePlansOf reading profile names s) output (can_create output s.creatable))
 
 -- a file that is not made, or not whole, has its message where nothing comes before
-tells-cut : {O : Type 0} (written : O → Option (List ℕ)) (has_failed : O → Bool) (fold : Fold) (profile : Profile) (names : List (List ℕ)) (output : List ℕ) (s left : Sources) (message : Option (List ℕ)) (stop : Stop) (begun : Option O) (out : Option (List ℕ))
-    → message ≡ search_messages fold names s → Explains stop (first_message message (Some (unusable output))) → LeavesPack written fold profile [] names output s left stop begun
+tells-cut : {O : Type 0} (written : O → Option (List ℕ)) (has_failed : O → Bool) (reading : Reading) (profile : Profile) (names : List (List ℕ)) (output : List ℕ) (s left : Sources) (message : Option (List ℕ)) (stop : Stop) (begun : Option O) (out : Option (List ℕ))
+    → message ≡ search_messages reading names s → Explains stop (first_message message (Some (unusable output))) → LeavesPack written reading profile [] names output s left stop begun
     → IfSome begun (λ made. has_failed made ≡ is_refusal stop)
-    → Tells (IsToldOf written has_failed fold profile names output s message) (Err stop) out out
-tells-cut written has_failed fold profile names output s left message OutOfMemory begun out same why leaves broken = tells-silent (IsToldOf written has_failed fold profile names output s message) out
-tells-cut written has_failed fold profile names output s left message WriteFault begun out same why leaves broken = absurd why
-tells-cut written has_failed fold profile names output s left (Some text) (Refused refusal) begun out same why leaves broken =
+    → Tells (IsToldOf written has_failed reading profile names output s message) (Err stop) out out
+tells-cut written has_failed reading profile names output s left message OutOfMemory begun out same why leaves broken = tells-silent (IsToldOf written has_failed reading profile names output s message) out
+tells-cut written has_failed reading profile names output s left message WriteFault begun out same why leaves broken = absurd why
+tells-cut written has_failed reading profile names output s left (Some text) (Refused refusal) begun out same why leaves broken =
     (ap refused_with (cc), Appends-nil out)
-tells-cut written has_failed fold profile names output s left None (Refused refusal) (Some made) out same why leaves broken =
+tells-cut written has_failed reading profile names output s left None (Refused refusal) (Some made) out same why leaves broken =
     let text : message_on refusal ≡ unusable output = (cc) in
     (Cut leaves.2.plans made leaves.2.right leaves.1 leaves.2.holds broken (ap refused_with text), Appends-nil out)
-tells-cut written has_failed fold profile names output s left None (Refused refusal) None out same why (inl kept) broken = absurd (cc)
-tells-cut written has_failed fold profile names output s left None (Refused refusal) None out same why (inr cannot) broken =
+tells-cut written has_failed reading profile names output s left None (Refused refusal) None out same why (inl kept) broken = absurd (cc)
+tells-cut written has_failed reading profile names output s left None (Refused refusal) None out same why (inr cannot) broken =
     let text : message_on refusal ≡ unusable output = (cc) in
     (Unmade cannot (ap refused_with text), Appends-nil out)
 
-tells-unpacked : {O : Type 0} (written : O → Option (List ℕ)) (has_failed : O → Bool) (fold : Fold) (profile : Profile) (names : List (List ℕ)) (output : List ℕ) (s left : Sources) (stopped : Stop × Option O) (out : Option (List ℕ))
-    → IfSome stopped.1 (λ made. has_failed made ≡ is_refusal stopped.0) → PacksFiles written fold profile names output s left (Err stopped)
-    → Tells (AnswersPack written has_failed fold profile names output s) (Err stopped.0) out out
-tells-unpacked written has_failed fold profile names output s left stopped out broken (Own stop own why same is) =
+tells-unpacked : {O : Type 0} (written : O → Option (List ℕ)) (has_failed : O → Bool) (reading : Reading) (profile : Profile) (names : List (List ℕ)) (output : List ℕ) (s left : Sources) (stopped : Stop × Option O) (out : Option (List ℕ))
+    → IfSome stopped.1 (λ made. has_failed made ≡ is_refusal stopped.0) → PacksFiles written reading profile names output s left (Err stopped)
+    → Tells (AnswersPack written has_failed reading profile names output s) (Err stopped.0) out out
+tells-unpacked written has_failed reading profile names output s left stopped out broken (Own stop own why same is) =
     let stop_is : stop ≡ stopped.0 = (cc) in
-    let message : pack_message fold names output s ≡ Some (unusable output) = ap (λ b. cond b (Some (unusable output)) (search_messages fold names s)) own in
-    subst (λ x. Tells (AnswersPack written has_failed fold profile names output s) (Err x) out out) stop_is
-    (tells-reason (pack_message fold names output s) (IsPackAnswer written has_failed (ArePlansOf fold profile names s) output (can_create output s.creatable)) stop out
+    let message : pack_message reading names output s ≡ Some (unusable output) = ap (λ b. cond b (Some (unusable output)) (search_messages reading names s)) own in
+    subst (λ x. Tells (AnswersPack written has_failed reading profile names output s) (Err x) out out) stop_is
+    (tells-reason (pack_message reading names output s) (IsPackAnswer written has_failed (ArePlansOf reading profile names s) output (can_create output s.creatable)) stop out
     (subst (λ m. Explains stop m) (sym message) why))
-tells-unpacked written has_failed fold profile names output s left stopped out broken (Other other makes) =
-    let message : pack_message fold names output s ≡ search_messages fold names s = ap (λ b. cond b (Some (unusable output)) (search_messages fold names s)) other in
-    subst (λ m. Tells (IsToldOf written has_failed fold profile names output s m) (Err stopped.0) out out) (sym message)
-    (tells-cut written has_failed fold profile names output s left (search_messages fold names s) stopped.0 stopped.1 out refl makes.0 makes.1 broken)
+tells-unpacked written has_failed reading profile names output s left stopped out broken (Other other makes) =
+    let message : pack_message reading names output s ≡ search_messages reading names s = ap (λ b. cond b (Some (unusable output)) (search_messages reading names s)) other in
+    subst (λ m. Tells (IsToldOf written has_failed reading profile names output s m) (Err stopped.0) out out) (sym message)
+    (tells-cut written has_failed reading profile names output s left (search_messages reading names s) stopped.0 stopped.1 out refl makes.0 makes.1 broken)
 
-pub pack-untold : {O : Type 0} (written : O → Option (List ℕ)) (has_failed : O → Bool) (fold : Fold) (profile : Profile) (names : List (List ℕ)) (output : List ℕ) (known left : Option Sources) (stopped : Stop × Option O) (stop : Stop)
+pub pack-untold : {O : Type 0} (written : O → Option (List ℕ)) (has_failed : O → Bool) (reading : Reading) (profile : Profile) (names : List (List ℕ)) (output : List ℕ) (known left : Option Sources) (stopped : Stop × Option O) (stop : Stop)
     → stop ≡ stopped.0 → IfSome stopped.1 (λ made. has_failed made ≡ is_refusal stopped.0)
-    → Told known left (λ s l. AreShort s → Asks {T = O} (Err stopped.0) (pack_asks fold names output s) s l × PacksFiles written fold profile names output s l (Err stopped))
-    → Told known left (λ s l. AreShort s → Asks {T = Status} (Err stop) (pack_asks fold names output s) s l × ((out : Option (List ℕ)) → Tells (AnswersPack written has_failed fold profile names output s) (Err stop) out out))
-pack-untold {O} written has_failed fold profile names output known left stopped stop same broken packs =
-    Told-weaker known left _ (λ s l. AreShort s → Asks {T = Status} (Err stop) (pack_asks fold names output s) s l × ((out : Option (List ℕ)) → Tells (AnswersPack written has_failed fold profile names output s) (Err stop) out out)) packs (λ s l h short.
+    → Told known left (λ s l. AreShort s → Asks {T = O} (Err stopped.0) (pack_asks reading names output s) s l × PacksFiles written reading profile names output s l (Err stopped))
+    → Told known left (λ s l. AreShort s → Asks {T = Status} (Err stop) (pack_asks reading names output s) s l × ((out : Option (List ℕ)) → Tells (AnswersPack written has_failed reading profile names output s) (Err stop) out out))
+pack-untold {O} written has_failed reading profile names output known left stopped stop same broken packs =
+    Told-weaker known left _ (λ s l. AreShort s → Asks {T = Status} (Err stop) (pack_asks reading names output s) s l × ((out : Option (List ℕ)) → Tells (AnswersPack written has_failed reading profile names output s) (Err stop) out out)) packs (λ s l h short.
     let p = h short in (
-      subst (λ x. Asks {T = Status} (Err x) (pack_asks fold names output s) s l) (sym same) (asks-any O Status (pack_asks fold names output s) s l stopped.0 p.0),
-      λ out. subst (λ x. Tells (AnswersPack written has_failed fold profile names output s) (Err x) out out) (sym same) (tells-unpacked written has_failed fold profile names output s l stopped out broken p.1),
+      subst (λ x. Asks {T = Status} (Err x) (pack_asks reading names output s) s l) (sym same) (asks-any O Status (pack_asks reading names output s) s l stopped.0 p.0),
+      λ out. subst (λ x. Tells (AnswersPack written has_failed reading profile names output s) (Err x) out out) (sym same) (tells-unpacked written has_failed reading profile names output s l stopped out broken p.1),
     ))
 
 -- the answer and the asks are right for the request
-pub pack-answers : {O : Type 0} (written : O → Option (List ℕ)) (has_failed : O → Bool) (fold : Fold) (profile : Profile) (files : PatternFiles) (output : String Global) (from : List (String Global)) (to : List ℕ) (known left : Option Sources) (r : Result Status Stop) (out : Option (List ℕ))
+pub pack-answers : {O : Type 0} (written : O → Option (List ℕ)) (has_failed : O → Bool) (reading : Reading) (profile : Profile) (files : PatternFiles) (output : String Global) (from : List (String Global)) (to : List ℕ) (known left : Option Sources) (r : Result Status Stop) (out : Option (List ℕ))
     → from ≡ files.names.items → to ≡ string_bytes output
-    → Told known left (λ s l. AreShort s → Asks r (pack_asks fold (map string_bytes from) to s) s l × ((old : Option (List ℕ)) → Tells (AnswersPack written has_failed fold profile (map string_bytes from) to s) r old old))
-    → Told known left (λ s l. AreShort s → Answers written has_failed (Pack fold profile files output) s l r out out)
-pack-answers written has_failed fold profile files output from to known left r out here there answers =
-    Told-weaker known left _ (λ s l. AreShort s → Answers written has_failed (Pack fold profile files output) s l r out out) answers (λ s l h short.
+    → Told known left (λ s l. AreShort s → Asks r (pack_asks reading (map string_bytes from) to s) s l × ((old : Option (List ℕ)) → Tells (AnswersPack written has_failed reading profile (map string_bytes from) to s) r old old))
+    → Told known left (λ s l. AreShort s → Answers written has_failed (Pack reading profile files output) s l r out out)
+pack-answers written has_failed reading profile files output from to known left r out here there answers =
+    Told-weaker known left _ (λ s l. AreShort s → Answers written has_failed (Pack reading profile files output) s l r out out) answers (λ s l h short.
     let t = h short in
     record {
-      asks = subst (λ x. Asks r (pack_asks fold (map string_bytes x) (string_bytes output) s) s l) here (subst (λ y. Asks r (pack_asks fold (map string_bytes from) y s) s l) there t.0);
-      tells = subst (λ x. Tells (AnswersPack written has_failed fold profile (map string_bytes x) (string_bytes output) s) r out out) here (subst (λ y. Tells (AnswersPack written has_failed fold profile (map string_bytes from) y s) r out out) there (t.1 out));
+      asks = subst (λ x. Asks r (pack_asks reading (map string_bytes x) (string_bytes output) s) s l) here (subst (λ y. Asks r (pack_asks reading (map string_bytes from) y s) s l) there t.0);
+      tells = subst (λ x. Tells (AnswersPack written has_failed reading profile (map string_bytes x) (string_bytes output) s) r out out) here (subst (λ y. Tells (AnswersPack written has_failed reading profile (map string_bytes from) y s) r out out) there (t.1 out));
     })

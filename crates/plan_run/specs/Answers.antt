@@ -9,7 +9,7 @@ use Rattle.lit_base.specs.Costs.{run_cost}
 use Rattle.lit_base.specs.Literals.{Literals, lengths}
 use Rattle.lit_base.specs.Occurrences.{IsHits}
 use Rattle.lit_base.specs.Profiles.{buckets}
-use Rattle.lit_base.specs.declared.fold.Fold.{Fold}
+use Rattle.plan_run.specs.declared.notation.Reading.{Reading}
 use Rattle.lit_base.specs.declared.profile.Profile.{Profile}
 use Rattle.lit_cert.specs.Certificates.{CertificateParts}
 use Rattle.lit_cert.specs.Certified.{IsCertified, IsFirstFailure}
@@ -89,20 +89,20 @@ abbrev pub AnswersUnless : Option (List ℕ) → (Answer → Type 0) → Answer 
 AnswersUnless reason P a = MatchOption reason (P a) (λ message. a ≡ refused_with message)
 
 -- the message on a file of patterns that gives no list; else what the list has to answer
-abbrev pub AnswersList : Fold → List ℕ → Option Content → (Literals → Answer → Type 0) → Answer → Type 0
-AnswersList fold name source P = AnswersUnless (list_message name source) (P (list_in fold source))
+abbrev pub AnswersList : Reading → List ℕ → Option Content → (Literals → Answer → Type 0) → Answer → Type 0
+AnswersList reading name source P = AnswersUnless (list_message reading name source) (P (list_in reading source))
 
 -- what stands under the certificate's name, once the file of patterns is read
 abbrev pub certificate_source : List ℕ → List ℕ → Sources → Option Content
 certificate_source file certificate s = taken_by (Named certificate) (after (ask_of file) s)
 
 -- to plan, and to check
-abbrev pub AnswersPlan : Fold → Profile → List ℕ → Sources → Answer → Type 0
-AnswersPlan fold profile file s = AnswersList fold file (taken_by (ask_of file) s) (IsPlanAnswer profile)
+abbrev pub AnswersPlan : Reading → Profile → List ℕ → Sources → Answer → Type 0
+AnswersPlan reading profile file s = AnswersList reading file (taken_by (ask_of file) s) (IsPlanAnswer profile)
 
-abbrev pub AnswersCheck : Fold → List ℕ → List ℕ → Sources → Answer → Type 0
-AnswersCheck fold file certificate s =
-    AnswersList fold file (taken_by (ask_of file) s) (λ list. IsCheckAnswer list certificate (certificate_source file certificate s))
+abbrev pub AnswersCheck : Reading → List ℕ → List ℕ → Sources → Answer → Type 0
+AnswersCheck reading file certificate s =
+    AnswersList reading file (taken_by (ask_of file) s) (λ list. IsCheckAnswer list certificate (certificate_source file certificate s))
 
 -- on a list and a text: the hits of the whole text, with their literals or without; or their number
 pub record AreHitsTold (list : Literals) (count names : Bool) (text : List ℕ) (a : Answer) : Type 0 where
@@ -119,10 +119,10 @@ abbrev pub input_source : List ℕ → List ℕ → Sources → Option Content
 input_source file input s = taken_by (ask_of input) (after (ask_of file) s)
 
 -- to scan
-abbrev pub AnswersScan : Fold → Bool → Bool → List ℕ → List ℕ → Sources → Answer → Type 0
-AnswersScan fold count names file input s =
-    AnswersUnless (search_message fold file (taken_by (ask_of file) s))
-    (AnswersInput (list_in fold (taken_by (ask_of file) s)) count names input (input_source file input s))
+abbrev pub AnswersScan : Reading → Bool → Bool → List ℕ → List ℕ → Sources → Answer → Type 0
+AnswersScan reading count names file input s =
+    AnswersUnless (search_message reading file (taken_by (ask_of file) s))
+    (AnswersInput (list_in reading (taken_by (ask_of file) s)) count names input (input_source file input s))
 
 -- on plans and the name of their file, which can be made or not: nothing is told where it was made and holds them; the message
 -- where it cannot be made, or where a write to it failed, so that it holds a front alone
@@ -142,13 +142,13 @@ reads_file [] name = false
 reads_file (operand ∷ operands) name = if is_file operand name then true else reads_file operands name
 
 -- the message where no plan file is made: it is one of the files of patterns; or one of these gives no plan
-abbrev pub pack_message : Fold → List (List ℕ) → List ℕ → Sources → Option (List ℕ)
-pack_message fold names output s = if reads_file names output then Some (unusable output) else search_messages fold names s
+abbrev pub pack_message : Reading → List (List ℕ) → List ℕ → Sources → Option (List ℕ)
+pack_message reading names output s = if reads_file names output then Some (unusable output) else search_messages reading names s
 
 -- to pack
-abbrev pub AnswersPack : {O : Type 0} → (O → Option (List ℕ)) → (O → Bool) → Fold → Profile → List (List ℕ) → List ℕ → Sources → Answer → Type 0
-AnswersPack written has_failed fold profile names output s =
-    AnswersUnless (pack_message fold names output s) (IsPackAnswer written has_failed (ArePlansOf fold profile names s) output (can_create output s.creatable))
+abbrev pub AnswersPack : {O : Type 0} → (O → Option (List ℕ)) → (O → Bool) → Reading → Profile → List (List ℕ) → List ℕ → Sources → Answer → Type 0
+AnswersPack written has_failed reading profile names output s =
+    AnswersUnless (pack_message reading names output s) (IsPackAnswer written has_failed (ArePlansOf reading profile names s) output (can_create output s.creatable))
 
 -- a list that is cut at these ends for plans of a profile, whose patterns stand at these places: its drawing where that is
 -- asked for, else its text
@@ -169,18 +169,18 @@ pub data IsExplainAnswer (profile : Profile) (list : Literals) (svg : Bool) (pat
   Explained : IsExplained profile list svg patterns a → IsExplainAnswer profile list svg patterns a
 
 -- the refusal of what was asked for where it gives no list
-pub record IsNoList (name : List ℕ) (source : Option Content) (refusal : Refusal) : Type 0 where
-  pub message : list_message name source ≡ Some (message_on refusal)
-  pub names : NamesRefused source refusal
+pub record IsNoList (reading : Reading) (name : List ℕ) (source : Option Content) (refusal : Refusal) : Type 0 where
+  pub message : list_message reading name source ≡ Some (message_on refusal)
+  pub names : NamesRefused reading source refusal
 
 -- to explain what was asked for: where it is wrong, or its plan
-pub data ExplainsList (fold : Fold) (profile : Profile) (svg : Bool) (name : List ℕ) (source : Option Content) (a : Answer) : Type 0 where
-  NoList : (refusal : Refusal) → IsNoList name source refusal → a ≡ where_wrong refusal → ExplainsList fold profile svg name source a
-  HasList : list_message name source ≡ None → IsExplainAnswer profile (list_in fold source) svg (patterns_in source) a
-      → ExplainsList fold profile svg name source a
+pub data ExplainsList (reading : Reading) (profile : Profile) (svg : Bool) (name : List ℕ) (source : Option Content) (a : Answer) : Type 0 where
+  NoList : (refusal : Refusal) → IsNoList reading name source refusal → a ≡ where_wrong refusal → ExplainsList reading profile svg name source a
+  HasList : list_message reading name source ≡ None → IsExplainAnswer profile (list_in reading source) svg (patterns_in reading source) a
+      → ExplainsList reading profile svg name source a
 
-abbrev pub AnswersExplain : Fold → Profile → Bool → List ℕ → Sources → Answer → Type 0
-AnswersExplain fold profile svg file s a = ExplainsList fold profile svg file (taken_by (ask_of file) s) a
+abbrev pub AnswersExplain : Reading → Profile → Bool → List ℕ → Sources → Answer → Type 0
+AnswersExplain reading profile svg file s a = ExplainsList reading profile svg file (taken_by (ask_of file) s) a
 
 -- on the plans of a file of this name: that it has none of this number, or what is told of the one
 pub data IsPlanAnswerAt (P : plan.Plan → Answer → Type 0) (name : List ℕ) (place : ℕ) (plans : List plan.Plan) (a : Answer) : Type 0 where
@@ -227,35 +227,35 @@ pub data AnswersMigrate {O : Type 0} (written : O → Option (List ℕ)) (has_fa
 
 -- what a request has to answer, with what the device of a file that it makes tells of it
 abbrev pub IsAnswerTo : {O : Type 0} → (O → Option (List ℕ)) → (O → Bool) → Request → Sources → Answer → Type 0
-IsAnswerTo written has_failed (Plan fold profile file) s a = AnswersPlan fold profile (string_bytes file) s a
-IsAnswerTo written has_failed (Check fold file certificate) s a = AnswersCheck fold (string_bytes file) (string_bytes certificate) s a
+IsAnswerTo written has_failed (Plan reading profile file) s a = AnswersPlan reading profile (string_bytes file) s a
+IsAnswerTo written has_failed (Check reading file certificate) s a = AnswersCheck reading (string_bytes file) (string_bytes certificate) s a
 IsAnswerTo written has_failed (CheckPlan file place) s a = AnswersCheckPlan (string_bytes file) place s a
-IsAnswerTo written has_failed (Pack fold profile files output) s a = AnswersPack written has_failed fold profile (map string_bytes files.names.items) (string_bytes output) s a
-IsAnswerTo written has_failed (Explain fold profile svg file) s a = AnswersExplain fold profile svg (string_bytes file) s a
+IsAnswerTo written has_failed (Pack reading profile files output) s a = AnswersPack written has_failed reading profile (map string_bytes files.names.items) (string_bytes output) s a
+IsAnswerTo written has_failed (Explain reading profile svg file) s a = AnswersExplain reading profile svg (string_bytes file) s a
 IsAnswerTo written has_failed (ExplainPlan svg file place) s a = AnswersExplainPlan svg (string_bytes file) place s a
 IsAnswerTo written has_failed (ExplainCertificate certificate) s a = AnswersExplainCertificate (string_bytes certificate) s a
 IsAnswerTo written has_failed (Migrate input output) s a = AnswersMigrate written has_failed (string_bytes input) (string_bytes output) s a
-IsAnswerTo written has_failed (Scan r) s a = AnswersScan r.fold r.count r.names (string_bytes r.file) (string_bytes r.input) s a
+IsAnswerTo written has_failed (Scan r) s a = AnswersScan r.reading r.count r.names (string_bytes r.file) (string_bytes r.input) s a
 
 -- the asks, in order: the file of patterns, and the certificate once there is a list
-abbrev pub check_asks : List ℕ → List ℕ → Sources → List Ask
-check_asks file certificate s =
-    ask_of file ∷ (if is_some (list_message file (taken_by (ask_of file) s)) then [] else Named certificate ∷ [])
+abbrev pub check_asks : Reading → List ℕ → List ℕ → Sources → List Ask
+check_asks reading file certificate s =
+    ask_of file ∷ (if is_some (list_message reading file (taken_by (ask_of file) s)) then [] else Named certificate ∷ [])
 
 -- the files of patterns until one gives no plan, and what comes once all have one
-abbrev pub asks_for_plans : Fold → List (List ℕ) → Ask → Sources → List Ask
-asks_for_plans fold [] last s = last ∷ []
-asks_for_plans fold (name ∷ names) last s =
-    ask_of name ∷ (if is_some (search_message fold name (taken_by (ask_of name) s)) then [] else asks_for_plans fold names last (after (ask_of name) s))
+abbrev pub asks_for_plans : Reading → List (List ℕ) → Ask → Sources → List Ask
+asks_for_plans reading [] last s = last ∷ []
+asks_for_plans reading (name ∷ names) last s =
+    ask_of name ∷ (if is_some (search_message reading name (taken_by (ask_of name) s)) then [] else asks_for_plans reading names last (after (ask_of name) s))
 
 -- to pack, nothing where the plan file is one of them, and else it comes last
-abbrev pub pack_asks : Fold → List (List ℕ) → List ℕ → Sources → List Ask
-pack_asks fold names output s = if reads_file names output then [] else asks_for_plans fold names (Created output) s
+abbrev pub pack_asks : Reading → List (List ℕ) → List ℕ → Sources → List Ask
+pack_asks reading names output s = if reads_file names output then [] else asks_for_plans reading names (Created output) s
 
 -- likewise the file of patterns, and the input once there is a plan
-abbrev pub scan_asks : Fold → List ℕ → List ℕ → Sources → List Ask
-scan_asks fold file input s =
-    ask_of file ∷ (if is_some (search_message fold file (taken_by (ask_of file) s)) then [] else ask_of input ∷ [])
+abbrev pub scan_asks : Reading → List ℕ → List ℕ → Sources → List Ask
+scan_asks reading file input s =
+    ask_of file ∷ (if is_some (search_message reading file (taken_by (ask_of file) s)) then [] else ask_of input ∷ [])
 
 -- likewise the plan file that is read, and the new one once there are plans
 abbrev pub migrate_asks : List ℕ → List ℕ → List Ask
@@ -263,15 +263,15 @@ migrate_asks input output = ask_of input ∷ Created output ∷ []
 
 -- all that a request may ask for
 abbrev pub asks_of : Request → Sources → List Ask
-asks_of (Plan fold profile file) s = ask_of (string_bytes file) ∷ []
-asks_of (Check fold file certificate) s = check_asks (string_bytes file) (string_bytes certificate) s
+asks_of (Plan reading profile file) s = ask_of (string_bytes file) ∷ []
+asks_of (Check reading file certificate) s = check_asks reading (string_bytes file) (string_bytes certificate) s
 asks_of (CheckPlan file place) s = ask_of (string_bytes file) ∷ []
-asks_of (Pack fold profile files output) s = pack_asks fold (map string_bytes files.names.items) (string_bytes output) s
-asks_of (Explain fold profile svg file) s = ask_of (string_bytes file) ∷ []
+asks_of (Pack reading profile files output) s = pack_asks reading (map string_bytes files.names.items) (string_bytes output) s
+asks_of (Explain reading profile svg file) s = ask_of (string_bytes file) ∷ []
 asks_of (ExplainPlan svg file place) s = ask_of (string_bytes file) ∷ []
 asks_of (ExplainCertificate certificate) s = Named (string_bytes certificate) ∷ []
 asks_of (Migrate input output) s = migrate_asks (string_bytes input) (string_bytes output)
-asks_of (Scan r) s = scan_asks r.fold (string_bytes r.file) (string_bytes r.input) s
+asks_of (Scan r) s = scan_asks r.reading (string_bytes r.file) (string_bytes r.input) s
 
 -- what migrating leaves: the other file is made only where there are plans
 pub data LeavesMigrate (input output : List ℕ) (s left : Sources) : Type 0 where
@@ -282,11 +282,11 @@ pub data LeavesMigrate (input output : List ℕ) (s left : Sources) : Type 0 whe
 
 -- what a request leaves once it has asked for all
 abbrev pub IsLeftBy : Request → Sources → Sources → Type 0
-IsLeftBy (Plan fold profile file) s left = left ≡ after_all (asks_of (Plan fold profile file) s) s
-IsLeftBy (Check fold file certificate) s left = left ≡ after_all (asks_of (Check fold file certificate) s) s
+IsLeftBy (Plan reading profile file) s left = left ≡ after_all (asks_of (Plan reading profile file) s) s
+IsLeftBy (Check reading file certificate) s left = left ≡ after_all (asks_of (Check reading file certificate) s) s
 IsLeftBy (CheckPlan file place) s left = left ≡ after_all (asks_of (CheckPlan file place) s) s
-IsLeftBy (Pack fold profile files output) s left = left ≡ after_all (asks_of (Pack fold profile files output) s) s
-IsLeftBy (Explain fold profile svg file) s left = left ≡ after_all (asks_of (Explain fold profile svg file) s) s
+IsLeftBy (Pack reading profile files output) s left = left ≡ after_all (asks_of (Pack reading profile files output) s) s
+IsLeftBy (Explain reading profile svg file) s left = left ≡ after_all (asks_of (Explain reading profile svg file) s) s
 IsLeftBy (ExplainPlan svg file place) s left = left ≡ after_all (asks_of (ExplainPlan svg file place) s) s
 IsLeftBy (ExplainCertificate certificate) s left = left ≡ after_all (asks_of (ExplainCertificate certificate) s) s
 IsLeftBy (Migrate input output) s left = LeavesMigrate (string_bytes input) (string_bytes output) s left

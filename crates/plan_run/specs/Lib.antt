@@ -4,6 +4,7 @@ pub mod Lists
 pub mod Messages
 pub mod Migrated
 pub mod Migrating
+pub mod Notations
 pub mod Packing
 pub mod PatternFiles
 pub mod PlanFiles

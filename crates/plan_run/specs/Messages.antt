@@ -11,7 +11,7 @@ use Rattle.plan_file.specs.declared.fault.Cause.{Cause}
 use Rattle.plan_file.specs.declared.fault.Cause.TheVariants.{Count, Flags, Literal, Magic, NotCertified, Order, Runs, Short, Trailing, Version}
 use Rattle.plan_view.specs.Quotes.{whole}
 use Rattle.plan_run.specs.declared.stop.Refusal.{Refusal}
-use Rattle.plan_run.specs.declared.stop.Refusal.TheVariants.{Unusable, Patterns, NoLiterals, NoCertificate, NoPlanFile, NoPlan}
+use Rattle.plan_run.specs.declared.stop.Refusal.TheVariants.{Unusable, Patterns, NotHex, NoLiterals, NoCertificate, NoPlanFile, NoPlan}
 
 -- on a file that cannot be opened or read
 abbrev pub unusable : List ℕ → List ℕ
@@ -20,6 +20,10 @@ unusable name = codes "litplan: " ++ (name ++ codes ": cannot be used\n")
 -- on a plan file that has no plan of this number
 abbrev pub no_plan : List ℕ → ℕ → List ℕ
 no_plan name place = codes "litplan: " ++ (name ++ (codes ": no plan " ++ (decimal place ++ codes "\n")))
+
+-- on a file of patterns whose line of this number should be hexadecimal
+abbrev pub not_hex : List ℕ → ℕ → List ℕ
+not_hex name line = codes "litplan: " ++ (name ++ (codes ": line " ++ (decimal line ++ codes " is not hexadecimal\n")))
 
 -- on any other refusal, by its number
 abbrev pub refused : ℕ → List ℕ
@@ -36,6 +40,7 @@ out_of_memory = codes "litplan: refused (1)\n"
 abbrev pub message_on : Refusal → List ℕ
 message_on (Unusable name) = unusable name.now
 message_on (Patterns fault) = refused (number_of fault)
+message_on (NotHex name line) = not_hex name.now line
 message_on NoLiterals = refused 5
 message_on (NoCertificate line) = refused 9
 message_on (NoPlanFile place cause) = refused 10
@@ -86,6 +91,7 @@ wrong_byte place cause = codes "byte " ++ (decimal place ++ (codes ": " ++ wrong
 abbrev pub wrong_input : Refusal → Option (List ℕ)
 wrong_input (Unusable name) = None
 wrong_input (Patterns fault) = wrong_list fault
+wrong_input (NotHex name line) = Some (codes "line " ++ (decimal line ++ codes ": not hexadecimal\n"))
 wrong_input NoLiterals = Some (codes "no line has a literal\n")
 wrong_input (NoCertificate line) = Some (wrong_line line)
 wrong_input (NoPlanFile place cause) = Some (wrong_byte place cause)

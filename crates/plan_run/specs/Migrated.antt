@@ -9,7 +9,7 @@ use Rattle.plan_file.specs.declared.fault.Cause.{Cause}
 use Rattle.plan_file.specs.FirstFaults.{IsFirstFault}
 use Rattle.plan_file.specs.Spelling.{IsFile}
 use Rattle.plan_run.specs.declared.stop.Refusal.{Refusal}
-use Rattle.plan_run.specs.declared.stop.Refusal.TheVariants.{NoCertificate, NoLiterals, NoPlan, NoPlanFile, Patterns, Unusable}
+use Rattle.plan_run.specs.declared.stop.Refusal.TheVariants.{NoCertificate, NoLiterals, NoPlan, NoPlanFile, NotHex, Patterns, Unusable}
 
 -- the plan of the same list, made anew for sixteen buckets, and no dearer
 pub record IsMigrated (old new : Plan) : Type 0 where
@@ -41,6 +41,7 @@ IsSourceOf (Some c) plans = (c.is_faulty ≡ false) × IsFile c.text plans
 abbrev pub IsUnusable : List ℕ → Refusal → Type 0
 IsUnusable name (Unusable n) = n.now ≡ name
 IsUnusable name (Patterns fault) = ⊥
+IsUnusable name (NotHex n line) = ⊥
 IsUnusable name NoLiterals = ⊥
 IsUnusable name (NoCertificate line) = ⊥
 IsUnusable name (NoPlanFile place cause) = ⊥

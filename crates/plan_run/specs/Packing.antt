@@ -4,7 +4,7 @@ use Rattle.std.specs.Io.KnownBytes.{Appends}
 use Rattle.byte_io.specs.Sources.{Sources, after, ask_of, can_create}
 use Rattle.byte_io.specs.Transfers.{AppendsPrefix}
 use Rattle.flow_scan.specs.Plans.{Plan}
-use Rattle.lit_base.specs.declared.fold.Fold.{Fold}
+use Rattle.plan_run.specs.declared.notation.Reading.{Reading}
 use Rattle.lit_base.specs.declared.profile.Profile.{Profile}
 use Rattle.plan_file.specs.Spelling.{ArePlans, spelling}
 use Rattle.plan_file.specs.declared.version.Version.TheVariants.{Two}
@@ -44,15 +44,15 @@ MakesFile written plans name can (Err stopped) = Explains stopped.0 (Some (unusa
 -- ---- from files of patterns
 
 -- the bytes are the plan file of these plans and of those of the files' lists behind them
-pub record HoldsPlansOf (fold : Fold) (profile : Profile) (before : List Plan) (names : List (List ℕ)) (s : Sources) (written : Option (List ℕ)) : Type 0 where
+pub record HoldsPlansOf (reading : Reading) (profile : Profile) (before : List Plan) (names : List (List ℕ)) (s : Sources) (written : Option (List ℕ)) : Type 0 where
   pub plans : List Plan
-  pub right : ArePlansOf fold profile names s plans
+  pub right : ArePlansOf reading profile names s plans
   pub holds : HoldsPlans (before ++ plans) written
 
 -- a front of it, and not all of it
-pub record HoldsFrontOf (fold : Fold) (profile : Profile) (before : List Plan) (names : List (List ℕ)) (s : Sources) (written : Option (List ℕ)) : Type 0 where
+pub record HoldsFrontOf (reading : Reading) (profile : Profile) (before : List Plan) (names : List (List ℕ)) (s : Sources) (written : Option (List ℕ)) : Type 0 where
   pub plans : List Plan
-  pub right : ArePlansOf fold profile names s plans
+  pub right : ArePlansOf reading profile names s plans
   pub holds : HoldsFront (before ++ plans) written
 
 -- files of patterns were asked for, the first at least, and nothing else
@@ -62,22 +62,22 @@ IsBefore (name ∷ names) s left = (left ≡ after (ask_of name) s) ⊎ IsBefore
 
 -- what a stop leaves of the plan file: a front; or nothing, where one of the files gives no plan, or memory ran out there, or it
 -- cannot be made
-abbrev pub LeavesPack : {O : Type 0} → (O → Option (List ℕ)) → Fold → Profile → List Plan → List (List ℕ) → List ℕ → Sources → Sources → Stop → Option O → Type 0
-LeavesPack written fold profile before names output s left stop (Some made) =
-    (search_messages fold names s ≡ None) × (can_create output s.creatable ≡ true) × HoldsFrontOf fold profile before names s (written made)
-LeavesPack written fold profile before names output s left stop None =
-    (IsBefore names s left × Explains stop (search_messages fold names s)) ⊎ (can_create output s.creatable ≡ false)
+abbrev pub LeavesPack : {O : Type 0} → (O → Option (List ℕ)) → Reading → Profile → List Plan → List (List ℕ) → List ℕ → Sources → Sources → Stop → Option O → Type 0
+LeavesPack written reading profile before names output s left stop (Some made) =
+    (search_messages reading names s ≡ None) × (can_create output s.creatable ≡ true) × HoldsFrontOf reading profile before names s (written made)
+LeavesPack written reading profile before names output s left stop None =
+    (IsBefore names s left × Explains stop (search_messages reading names s)) ⊎ (can_create output s.creatable ≡ false)
 
 -- a plan file was made of these plans and of those of the files, or the first message
-abbrev pub MakesPack : {O : Type 0} → (O → Option (List ℕ)) → Fold → Profile → List Plan → List (List ℕ) → List ℕ → Sources → Sources → Made O → Type 0
-MakesPack written fold profile before names output s left (Ok made) =
-    (search_messages fold names s ≡ None) × (can_create output s.creatable ≡ true) × HoldsPlansOf fold profile before names s (written made)
-MakesPack written fold profile before names output s left (Err stopped) =
-    Explains stopped.0 (first_message (search_messages fold names s) (Some (unusable output)))
-    × LeavesPack written fold profile before names output s left stopped.0 stopped.1
+abbrev pub MakesPack : {O : Type 0} → (O → Option (List ℕ)) → Reading → Profile → List Plan → List (List ℕ) → List ℕ → Sources → Sources → Made O → Type 0
+MakesPack written reading profile before names output s left (Ok made) =
+    (search_messages reading names s ≡ None) × (can_create output s.creatable ≡ true) × HoldsPlansOf reading profile before names s (written made)
+MakesPack written reading profile before names output s left (Err stopped) =
+    Explains stopped.0 (first_message (search_messages reading names s) (Some (unusable output)))
+    × LeavesPack written reading profile before names output s left stopped.0 stopped.1
 
 -- a plan file was made of the plans of the files alone, unless it is one of these files: then nothing is asked for
-pub data PacksFiles {O : Type 0} (written : O → Option (List ℕ)) (fold : Fold) (profile : Profile) (names : List (List ℕ)) (output : List ℕ) (s left : Sources) (r : Made O) : Type 0 where
+pub data PacksFiles {O : Type 0} (written : O → Option (List ℕ)) (reading : Reading) (profile : Profile) (names : List (List ℕ)) (output : List ℕ) (s left : Sources) (r : Made O) : Type 0 where
   Own : (stop : Stop) → reads_file names output ≡ true → Explains stop (Some (unusable output)) → left ≡ s → r ≡ Err (stop, None)
-      → PacksFiles written fold profile names output s left r
-  Other : reads_file names output ≡ false → MakesPack written fold profile [] names output s left r → PacksFiles written fold profile names output s left r
+      → PacksFiles written reading profile names output s left r
+  Other : reads_file names output ≡ false → MakesPack written reading profile [] names output s left r → PacksFiles written reading profile names output s left r

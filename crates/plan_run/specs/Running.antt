@@ -6,7 +6,7 @@ use Rattle.byte_io.specs.Transfers.{AppendsFront, Says}
 use Rattle.byte_io.specs.Sources.{Ask, AsksFront, Content, Sources, after_all}
 use Rattle.flow_scan.specs.Plans.{Plan}
 use Rattle.lit_base.specs.Literals.{Literals}
-use Rattle.lit_base.specs.declared.fold.Fold.{Fold}
+use Rattle.plan_run.specs.declared.notation.Reading.{Reading}
 use Rattle.lit_base.specs.declared.lit_list.Normal.{Normal}
 use Rattle.lit_base.specs.declared.profile.Profile.{Profile}
 use Rattle.plan_run.specs.declared.request.Request.{Request}
@@ -63,26 +63,26 @@ Explains WriteFault message = ⊥
 Explains OutOfMemory message = ⊤
 
 -- a file of patterns was read: its list, or why it has none
-abbrev pub TakesList : Fold → List ℕ → Option Content → Result Literals Stop → Type 0
-TakesList fold name source (Ok list) = (list_message name source ≡ None) × (list ≡ list_in fold source)
-TakesList fold name source (Err stop) = Explains stop (list_message name source)
+abbrev pub TakesList : Reading → List ℕ → Option Content → Result Literals Stop → Type 0
+TakesList reading name source (Ok list) = (list_message reading name source ≡ None) × (list ≡ list_in reading source)
+TakesList reading name source (Err stop) = Explains stop (list_message reading name source)
 
 -- likewise, with where each pattern stands in the list
-abbrev pub TakesPlaces : Fold → List ℕ → Option Content → Result (Literals × Normal) Stop → Type 0
-TakesPlaces fold name source (Ok found) =
-    (list_message name source ≡ None) × (found.0 ≡ list_in fold source) × ArePlaces found.0 (patterns_in source) found.1.place_of.items
-TakesPlaces fold name source (Err stop) = Explains stop (list_message name source)
+abbrev pub TakesPlaces : Reading → List ℕ → Option Content → Result (Literals × Normal) Stop → Type 0
+TakesPlaces reading name source (Ok found) =
+    (list_message reading name source ≡ None) × (found.0 ≡ list_in reading source) × ArePlaces found.0 (patterns_in reading source) found.1.place_of.items
+TakesPlaces reading name source (Err stop) = Explains stop (list_message reading name source)
 
 -- where patterns were refused, the refusal is that of the first one
-abbrev pub NamesStop : Option Content → Stop → Type 0
-NamesStop source (Refused refusal) = NamesRefused source refusal
-NamesStop source WriteFault = ⊤
-NamesStop source OutOfMemory = ⊤
+abbrev pub NamesStop : Reading → Option Content → Stop → Type 0
+NamesStop reading source (Refused refusal) = NamesRefused reading source refusal
+NamesStop reading source WriteFault = ⊤
+NamesStop reading source OutOfMemory = ⊤
 
 -- the patterns were planned: their plan, or why there is none
-abbrev pub TakesPlan : Fold → Profile → List ℕ → Option Content → Result Plan Stop → Type 0
-TakesPlan fold profile name source (Ok plan) = (search_message fold name source ≡ None) × IsPlanOf profile (list_in fold source) plan
-TakesPlan fold profile name source (Err stop) = Explains stop (search_message fold name source)
+abbrev pub TakesPlan : Reading → Profile → List ℕ → Option Content → Result Plan Stop → Type 0
+TakesPlan reading profile name source (Ok plan) = (search_message reading name source ≡ None) × IsPlanOf profile (list_in reading source) plan
+TakesPlan reading profile name source (Err stop) = Explains stop (search_message reading name source)
 
 -- a list was planned
 abbrev pub PlansList : Profile → Literals → Result Plan Stop → Type 0

@@ -6,19 +6,20 @@ ghost use Rattle.plan_run.specs.Answers.{AnswersCheck, AnswersPlan, IsPlanAnswer
 ghost use Rattle.plan_run.specs.Running.{Asks, Tells, is_write_fault};
 
 use crate::judging::check_list;
+use crate::notation::Reading;
 use crate::reading::list_of;
 use crate::status::Status;
 use crate::stop::{Refusal, Stop};
 use crate::telling::tell_certificate;
 use byte_io::{ByteOut, Files};
-use lit_base::{Fold, LitList, Profile};
+use lit_base::{LitList, Profile};
 use run_planner::{Fault, plan};
 use std::alloc::Global;
 
 /// Writes the certificate of the plan of a file's patterns.
 pub fn answer_plan<'a, F: Files, W: ByteOut>(
     alloc: Global,
-    fold: Fold,
+    reading: Reading,
     profile: Profile,
     file: &'a str,
     files: &mut F,
@@ -26,10 +27,10 @@ pub fn answer_plan<'a, F: Files, W: ByteOut>(
 ) -> Result<Status, Stop<'a>>
     ensures answer { Told (F.sources files.old) (F.sources files.new) (λ s left. AreShort s
         → Asks result (ask_of file.now ∷ []) s left
-        × Tells (AnswersPlan fold profile file.now s) result (W.written out.old) (W.written out.new)) }
+        × Tells (AnswersPlan reading profile file.now s) result (W.written out.old) (W.written out.new)) }
     ensures flag { W.has_failed out.new ≡ (W.has_failed out.old || is_write_fault result) }
 {
-    match list_of(alloc, fold, file, files) {
+    match list_of(alloc, reading, file, files) {
         Ok(list) => plan_list(alloc, profile, &list, out),
         Err(stop) => Err(stop),
     }
@@ -38,18 +39,18 @@ pub fn answer_plan<'a, F: Files, W: ByteOut>(
 /// Says whether a file's certificate shows that no grouping of a file's patterns is cheaper.
 pub fn answer_check<'a, F: Files, W: ByteOut>(
     alloc: Global,
-    fold: Fold,
+    reading: Reading,
     file: &'a str,
     certificate: &'a str,
     files: &mut F,
     out: &mut W,
 ) -> Result<Status, Stop<'a>>
     ensures answer { Told (F.sources files.old) (F.sources files.new) (λ s left. AreShort s
-        → Asks result (check_asks file.now certificate.now s) s left
-        × Tells (AnswersCheck fold file.now certificate.now s) result (W.written out.old) (W.written out.new)) }
+        → Asks result (check_asks reading file.now certificate.now s) s left
+        × Tells (AnswersCheck reading file.now certificate.now s) result (W.written out.old) (W.written out.new)) }
     ensures flag { W.has_failed out.new ≡ (W.has_failed out.old || is_write_fault result) }
 {
-    match list_of(alloc, fold, file, files) {
+    match list_of(alloc, reading, file, files) {
         Ok(list) => check_list(alloc, &list, certificate, files, out),
         Err(stop) => Err(stop),
     }

@@ -10,13 +10,14 @@ ghost use Rattle.plan_run.specs.Messages.{certificate_head};
 ghost use Rattle.plan_run.specs.Running.{Asks, Tells, is_write_fault};
 
 use crate::flaws::{tell_refusal, tell_stop};
+use crate::notation::Reading;
 use crate::reading::{placed_list_of, plans_of};
 use crate::status::Status;
 use crate::stop::{Refusal, Stop};
 use crate::telling::{tell, tell_bytes};
 use byte_io::{ByteIn, ByteOut, Files};
 use flow_scan::Compiled;
-use lit_base::{Ends, Fold, LitList, Profile};
+use lit_base::{Ends, LitList, Profile};
 use lit_cert::{Certificate, read_cert};
 use plan_view::{plan_svg, plan_text};
 use run_planner::{Fault, plan};
@@ -25,7 +26,7 @@ use std::alloc::{AllocError, Global};
 /// Writes what there is to see of the plan of a file's patterns, a text or a drawing; or where they are wrong.
 pub fn answer_explain<'a, F: Files, W: ByteOut>(
     alloc: Global,
-    fold: Fold,
+    reading: Reading,
     profile: Profile,
     svg: bool,
     file: &'a str,
@@ -34,10 +35,10 @@ pub fn answer_explain<'a, F: Files, W: ByteOut>(
 ) -> Result<Status, Stop<'a>>
     ensures answer { Told (F.sources files.old) (F.sources files.new) (λ s left. AreShort s
         → Asks result (ask_of file.now ∷ []) s left
-        × Tells (AnswersExplain fold profile svg file.now s) result (W.written out.old) (W.written out.new)) }
+        × Tells (AnswersExplain reading profile svg file.now s) result (W.written out.old) (W.written out.new)) }
     ensures flag { W.has_failed out.new ≡ (W.has_failed out.old || is_write_fault result) }
 {
-    match placed_list_of(alloc, fold, file, files) {
+    match placed_list_of(alloc, reading, file, files) {
         Ok((list, normal)) => {
             explain_list(alloc, profile, svg, &list, normal.place_of.as_slice(), out)
         },

@@ -53,6 +53,7 @@ fn wrong_input(alloc: Global, refusal: Refusal<'_>) -> Result<Option<String>, Al
     match refusal {
         Refusal::Unusable(_) => Ok(None),
         Refusal::Patterns(fault) => wrong_list(alloc, fault),
+        Refusal::NotHex { line, .. } => some(format!(in alloc; "line {line}: not hexadecimal\n")),
         Refusal::NoLiterals => some(format!(in alloc; "no line has a literal\n")),
         Refusal::NoCertificate { line } => {
             some(format!(in alloc; "line {line}: wrong, missing or behind the end\n"))

@@ -35,6 +35,9 @@ fn message_of(alloc: Global, refusal: Refusal<'_>) -> Result<String, AllocError>
     match refusal {
         Refusal::Unusable(name) => format!(in alloc; "litplan: {name}: cannot be used\n"),
         Refusal::Patterns(fault) => refused(alloc, fault.number()),
+        Refusal::NotHex { file, line } => {
+            format!(in alloc; "litplan: {file}: line {line} is not hexadecimal\n")
+        }
         Refusal::NoLiterals => refused(alloc, 5),
         Refusal::NoCertificate { .. } => refused(alloc, 9),
         Refusal::NoPlanFile { .. } => refused(alloc, 10),

@@ -6,12 +6,13 @@ ghost use Rattle.plan_run.specs.Answers.{AnswersPack, asks_for_plans, is_file, p
 ghost use Rattle.plan_run.specs.Packing.{MakesFile, MakesPack, Packs, PacksFiles, answer_of};
 ghost use Rattle.plan_run.specs.Running.{Asks, Tells, is_refusal, is_refused, is_write};
 
+use crate::notation::Reading;
 use crate::planning::plan_of;
 use crate::status::Status;
 use crate::stop::{Refusal, Stop};
 use byte_io::{ByteOut, Files};
 use flow_scan::Compiled;
-use lit_base::{Fold, Profile};
+use lit_base::Profile;
 use plan_file::{Fault, write_plans};
 use std::alloc::{AllocError, Global};
 
@@ -21,7 +22,7 @@ pub type Unmade<'a, O> = (Stop<'a>, Option<O>);
 /// Makes the plan file of files of patterns, and answers nothing but that it stands.
 pub fn answer_pack<'a, F: Files>(
     alloc: Global,
-    fold: Fold,
+    reading: Reading,
     profile: Profile,
     names: &'a [String],
     output: &'a str,
@@ -29,11 +30,11 @@ pub fn answer_pack<'a, F: Files>(
 ) -> Result<Status, Stop<'a>>
     requires { length names.now ≤ 64 }
     ensures answer { Told (F.sources files.old) (F.sources files.new) (λ s left. AreShort s
-        → Asks result (pack_asks fold (map string_bytes names.now) output.now s) s left
-        × ((out : Option (List ℕ)) → Tells (AnswersPack F.Output.written F.Output.has_failed fold profile (map string_bytes names.now) output.now s) result out out)) }
+        → Asks result (pack_asks reading (map string_bytes names.now) output.now s) s left
+        × ((out : Option (List ℕ)) → Tells (AnswersPack F.Output.written F.Output.has_failed reading profile (map string_bytes names.now) output.now s) result out out)) }
     ensures unwritten { IfErr result (λ stop. is_write stop ≡ false) }
 {
-    match pack(alloc, fold, profile, names, output, files) {
+    match pack(alloc, reading, profile, names, output, files) {
         Ok(_) => Ok(Status::Done),
         Err(unmade) => Err(stop_of(unmade)),
     }
@@ -60,7 +61,7 @@ pub fn stop_of<O: Drop>(unmade: Unmade<'_, O>) -> Stop<'_>
 /// it, and a write to it failed exactly where its name is refused.
 pub fn pack<'a, F: Files>(
     alloc: Global,
-    fold: Fold,
+    reading: Reading,
     profile: Profile,
     names: &'a [String],
     output: &'a str,
@@ -68,8 +69,8 @@ pub fn pack<'a, F: Files>(
 ) -> Result<F::Output, Unmade<'a, F::Output>>
     requires { length names.now ≤ 64 }
     ensures packed { Told (F.sources files.old) (F.sources files.new) (λ s left. AreShort s
-        → Asks (answer_of result) (pack_asks fold (map string_bytes names.now) output.now s) s left
-        × PacksFiles F.Output.written fold profile (map string_bytes names.now) output.now s left result) }
+        → Asks (answer_of result) (pack_asks reading (map string_bytes names.now) output.now s) s left
+        × PacksFiles F.Output.written reading profile (map string_bytes names.now) output.now s left result) }
 
     // Whatever is known of the files, no write failed to a file that is returned, and one did to a file that is
     // refused.
@@ -80,7 +81,15 @@ pub fn pack<'a, F: Files>(
     if reads_file(names, output) {
         return Err((Stop::Refused(Refusal::Unusable(output)), None));
     }
-    pack_with(alloc, fold, profile, Vec::new(alloc), names, output, files)
+    pack_with(
+        alloc,
+        reading,
+        profile,
+        Vec::new(alloc),
+        names,
+        output,
+        files,
+    )
 }
 
 /// Whether the file of a name is one of the operands.
@@ -107,7 +116,7 @@ fn is_file(operand: &str, name: &str) -> bool
 /// Makes the plan file of these plans, and of those of files of patterns behind them.
 fn pack_with<'a, F: Files>(
     alloc: Global,
-    fold: Fold,
+    reading: Reading,
     profile: Profile,
     plans: Vec<Compiled>,
     names: &'a [String],
@@ -116,17 +125,17 @@ fn pack_with<'a, F: Files>(
 ) -> Result<F::Output, Unmade<'a, F::Output>>
     requires { length plans.items + length names.now ≤ 64 }
     ensures packed { Told (F.sources files.old) (F.sources files.new) (λ s left. AreShort s
-        → Asks (answer_of result) (asks_for_plans fold (map string_bytes names.now) (Created output.now) s) s left
-        × MakesPack F.Output.written fold profile plans.items (map string_bytes names.now) output.now s left result) }
+        → Asks (answer_of result) (asks_for_plans reading (map string_bytes names.now) (Created output.now) s) s left
+        × MakesPack F.Output.written reading profile plans.items (map string_bytes names.now) output.now s left result) }
     ensures flag { IfOk result (λ made. F.Output.has_failed made ≡ false) }
     ensures broken { IfErr result (λ stopped. IfSome stopped.1 (λ made. F.Output.has_failed made ≡ is_refusal stopped.0)) }
     ensures unwritten { IfErr result (λ stopped. is_write stopped.0 ≡ false) }
 {
     match names {
         [] => make(alloc, plans.as_slice(), output, files),
-        [name, rest @ ..] => match plan_of(alloc, fold, profile, name.as_str(), files) {
+        [name, rest @ ..] => match plan_of(alloc, reading, profile, name.as_str(), files) {
             Ok(plan) => match with_plan(plans, plan) {
-                Ok(more) => pack_with(alloc, fold, profile, more, rest, output, files),
+                Ok(more) => pack_with(alloc, reading, profile, more, rest, output, files),
                 Err(_) => Err((Stop::OutOfMemory, None)),
             },
             Err(stop) => Err((stop, None)),

@@ -2,14 +2,16 @@
 ghost use Rattle.std.specs.Prelude.{◌≡◌, ◌≢◌, ◌≤◌, length, IfErr, IfOk, MatchResult, None, Some, false};
 ghost use Rattle.byte_io.specs.Devices.{Told};
 ghost use Rattle.byte_io.specs.Sources.{AreShort, Content, IsShort, after, ask_of, coming_of, taken_by};
-ghost use Rattle.lit_base.specs.Lines.{lines};
-ghost use Rattle.plan_run.specs.Lists.{ArePlaces, list_refusal, literals_of};
+ghost use Rattle.plan_run.specs.Lists.{ArePlaces, literals_of};
+ghost use Rattle.plan_run.specs.Notations.{list_refusal, patterns_of};
 ghost use Rattle.plan_run.specs.Running.{NamesStop, TakesList, TakesPlaces, TakesPlans, TakesText, is_write};
 
+use crate::notation::Reading;
+use crate::patterns::{Unlisted, patterns_of};
 use crate::stop::{Refusal, Stop};
 use byte_io::{ByteIn, Files, ReadError, open_operand, read_to_end};
 use flow_scan::Compiled;
-use lit_base::{Fault, Fold, LitList, MAX_TEXT_LEN, Normal, RawList};
+use lit_base::{Fault, LitList, Normal};
 use plan_file::read_plans;
 use std::alloc::Global;
 
@@ -17,15 +19,15 @@ use std::alloc::Global;
 /// input.
 pub fn list_of<'a, F: Files>(
     alloc: Global,
-    fold: Fold,
+    reading: Reading,
     file: &'a str,
     files: &mut F,
 ) -> Result<LitList, Stop<'a>>
     ensures list { Told (F.sources files.old) (F.sources files.new) (λ s left. AreShort s
-        → (left ≡ after (ask_of file.now) s) × TakesList fold file.now (taken_by (ask_of file.now) s) result) }
+        → (left ≡ after (ask_of file.now) s) × TakesList reading file.now (taken_by (ask_of file.now) s) result) }
     ensures unwritten { IfErr result (λ stop. is_write stop ≡ false) }
 {
-    match placed_list_of(alloc, fold, file, files) {
+    match placed_list_of(alloc, reading, file, files) {
         Ok((list, _normal)) => Ok(list),
         Err(stop) => Err(stop),
     }
@@ -34,20 +36,20 @@ pub fn list_of<'a, F: Files>(
 /// The list of a file of patterns, and where each pattern stands in it.
 pub fn placed_list_of<'a, F: Files>(
     alloc: Global,
-    fold: Fold,
+    reading: Reading,
     file: &'a str,
     files: &mut F,
 ) -> Result<(LitList, Normal), Stop<'a>>
     ensures list { Told (F.sources files.old) (F.sources files.new) (λ s left. AreShort s
-        → (left ≡ after (ask_of file.now) s) × TakesPlaces fold file.now (taken_by (ask_of file.now) s) result) }
+        → (left ≡ after (ask_of file.now) s) × TakesPlaces reading file.now (taken_by (ask_of file.now) s) result) }
 
     // Where patterns are refused, it is told which.
     ensures named { IfErr result (λ stop. Told (F.sources files.old) (F.sources files.new) (λ s left. AreShort s
-        → NamesStop (taken_by (ask_of file.now) s) stop)) }
+        → NamesStop reading (taken_by (ask_of file.now) s) stop)) }
     ensures unwritten { IfErr result (λ stop. is_write stop ≡ false) }
 {
     match open_operand(files, file) {
-        Ok(mut input) => list_from(alloc, fold, file, &mut input),
+        Ok(mut input) => list_from(alloc, reading, file, &mut input),
         Err(_) => Err(Stop::Refused(Refusal::Unusable(file))),
     }
 }
@@ -55,22 +57,23 @@ pub fn placed_list_of<'a, F: Files>(
 /// The list of a file of patterns that is open, and where each pattern stands in it.
 fn list_from<'a, I: ByteIn>(
     alloc: Global,
-    fold: Fold,
+    reading: Reading,
     file: &'a str,
     input: &mut I,
 ) -> Result<(LitList, Normal), Stop<'a>>
     ensures list { (c : Content) → I.coming input.old ≡ Some (coming_of c) → IsShort c
-        → TakesPlaces fold file.now (Some c) result }
+        → TakesPlaces reading file.now (Some c) result }
     ensures named { (c : Content) → I.coming input.old ≡ Some (coming_of c) → IsShort c
-        → IfErr result (NamesStop (Some c)) }
+        → IfErr result (NamesStop reading (Some c)) }
     ensures unwritten { IfErr result (λ stop. is_write stop ≡ false) }
 {
     let mut text = Vec::new(alloc);
-    match read_to_end(input, MAX_TEXT_LEN, &mut text) {
-        Ok(()) => match listed(alloc, fold, text.as_slice()) {
+    match read_to_end(input, reading.notation.max_text_len(), &mut text) {
+        Ok(()) => match listed(alloc, reading, text.as_slice()) {
             Ok(found) => Ok(found),
-            Err(Fault::OutOfMemory) => Err(Stop::OutOfMemory),
-            Err(fault) => Err(Stop::Refused(Refusal::Patterns(fault))),
+            Err(Unlisted::BadPatterns(Fault::OutOfMemory)) => Err(Stop::OutOfMemory),
+            Err(Unlisted::BadPatterns(fault)) => Err(Stop::Refused(Refusal::Patterns(fault))),
+            Err(Unlisted::BadHex { line }) => Err(Stop::Refused(Refusal::NotHex { file, line })),
         },
         Err(ReadError::Failed) => Err(Stop::Refused(Refusal::Unusable(file))),
         Err(ReadError::TooLong) => Err(Stop::Refused(Refusal::Patterns(Fault::ListTooLarge))),
@@ -78,17 +81,16 @@ fn list_from<'a, I: ByteIn>(
     }
 }
 
-/// The list of a text's lines, and where each line stands in it.
-fn listed(alloc: Global, fold: Fold, text: &[u8]) -> Result<(LitList, Normal), Fault>
-    ensures ok { IfOk result (λ found. found.0 ≡ record { folding = fold; texts = literals_of fold text.now }) }
-    ensures places { IfOk result (λ found. ArePlaces found.0 (lines text.now) found.1.place_of.items) }
+/// The list of a text's lines, and where the pattern of each line stands in it.
+fn listed(alloc: Global, reading: Reading, text: &[u8]) -> Result<(LitList, Normal), Unlisted>
+    ensures ok { IfOk result (λ found. found.0 ≡ record { folding = reading.fold; texts = literals_of reading text.now }) }
+    ensures places { IfOk result (λ found. ArePlaces found.0 (patterns_of reading.notation text.now) found.1.place_of.items) }
     ensures refusal { MatchResult result
-        (λ _. list_refusal text.now ≡ None)
-        (λ fault. fault ≢ Fault.OutOfMemory → list_refusal text.now ≡ Some fault) }
+        (λ _. list_refusal reading.notation text.now ≡ None)
+        (λ why. why ≢ Unlisted.BadPatterns Fault.OutOfMemory → list_refusal reading.notation text.now ≡ Some why) }
 {
-    let mut patterns = RawList::new(alloc);
-    patterns.add_file_bytes(text)?;
-    Ok(LitList::normal(alloc, &patterns, fold)?)
+    let patterns = patterns_of(alloc, reading.notation, text)?;
+    Ok(LitList::normal(alloc, &patterns, reading.fold)?)
 }
 
 /// The plans of a plan file, which is read to its end; `-` is standard input.

@@ -1,15 +1,16 @@
 //! What the command line asks for.
+use crate::notation::Reading;
 use crate::pattern_files::PatternFiles;
 use crate::workers::Workers;
-use lit_base::{Fold, Profile};
+use lit_base::Profile;
 
 /// What the command line asks for.
 #[derive(Debug, Drop)]
 pub enum Request {
     /// Plan the patterns of a file.
     Plan {
-        /// Which case differences are ignored.
-        fold: Fold,
+        /// How the file of patterns is read.
+        reading: Reading,
         /// How many buckets the plan may have.
         profile: Profile,
         /// The file of patterns; `-` is standard input.
@@ -17,8 +18,8 @@ pub enum Request {
     },
     /// Check a certificate against the patterns of a file.
     Check {
-        /// Which case differences are ignored.
-        fold: Fold,
+        /// How the file of patterns is read.
+        reading: Reading,
         /// The file of patterns; `-` is standard input.
         file: String,
         /// The file of the certificate.
@@ -33,8 +34,8 @@ pub enum Request {
     },
     /// Write the plans of the patterns of files to a plan file, in order.
     Pack {
-        /// Which case differences are ignored.
-        fold: Fold,
+        /// How each file of patterns is read.
+        reading: Reading,
         /// How many buckets each plan may have.
         profile: Profile,
         /// The files of patterns; `-` is standard input.
@@ -44,8 +45,8 @@ pub enum Request {
     },
     /// Explain the plan of the patterns of a file.
     Explain {
-        /// Which case differences are ignored.
-        fold: Fold,
+        /// How the file of patterns is read.
+        reading: Reading,
         /// How many buckets the plan may have.
         profile: Profile,
         /// Whether the plan is drawn, in place of a text.
@@ -81,8 +82,8 @@ pub enum Request {
 /// The patterns of a search, and its input.
 #[derive(Debug, Drop)]
 pub struct Scan {
-    /// Which case differences are ignored.
-    pub fold: Fold,
+    /// How the file of patterns is read.
+    pub reading: Reading,
     /// How many workers share the input.
     pub workers: Workers,
     /// Whether the number of hits is written in place of the hits.

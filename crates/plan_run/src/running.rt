@@ -64,17 +64,17 @@ pub fn answer<'a, R: Threads + Sync, F: Files, W: ByteOut>(
 {
     match request {
         Request::Plan {
-            fold,
+            reading,
             profile,
             file,
-        } => answer_plan(alloc, *fold, *profile, file.as_str(), files, out),
+        } => answer_plan(alloc, *reading, *profile, file.as_str(), files, out),
         Request::Check {
-            fold,
+            reading,
             file,
             certificate,
         } => answer_check(
             alloc,
-            *fold,
+            *reading,
             file.as_str(),
             certificate.as_str(),
             files,
@@ -84,24 +84,24 @@ pub fn answer<'a, R: Threads + Sync, F: Files, W: ByteOut>(
             answer_check_plan(alloc, file.as_str(), *place, files, out)
         }
         Request::Pack {
-            fold,
+            reading,
             profile,
             files: sources,
             output,
         } => answer_pack(
             alloc,
-            *fold,
+            *reading,
             *profile,
             sources.names(),
             output.as_str(),
             files,
         ),
         Request::Explain {
-            fold,
+            reading,
             profile,
             svg,
             file,
-        } => answer_explain(alloc, *fold, *profile, *svg, file.as_str(), files, out),
+        } => answer_explain(alloc, *reading, *profile, *svg, file.as_str(), files, out),
         Request::ExplainPlan { svg, file, place } => {
             answer_explain_plan(alloc, *svg, file.as_str(), *place, files, out)
         }

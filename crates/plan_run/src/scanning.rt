@@ -27,12 +27,18 @@ pub fn answer_scan<'a, R: Threads + Sync, F: Files, W: ByteOut>(
     out: &mut W,
 ) -> Result<Status, Stop<'a>>
     ensures answer { Told (F.sources files.old) (F.sources files.new) (λ s left. AreShort s
-        → Asks result (scan_asks scan.now.fold (string_bytes scan.now.file) (string_bytes scan.now.input) s) s left
-        × Tells (AnswersScan scan.now.fold scan.now.count scan.now.names (string_bytes scan.now.file) (string_bytes scan.now.input) s)
+        → Asks result (scan_asks scan.now.reading (string_bytes scan.now.file) (string_bytes scan.now.input) s) s left
+        × Tells (AnswersScan scan.now.reading scan.now.count scan.now.names (string_bytes scan.now.file) (string_bytes scan.now.input) s)
         result (W.written out.old) (W.written out.new)) }
     ensures flag { W.has_failed out.new ≡ (W.has_failed out.old || is_write_fault result) }
 {
-    match plan_of(alloc, scan.fold, Profile::Eight, scan.file.as_str(), files) {
+    match plan_of(
+        alloc,
+        scan.reading,
+        Profile::Eight,
+        scan.file.as_str(),
+        files,
+    ) {
         Ok(compiled) => scan_input(rt, alloc, &compiled, scan, files, out),
         Err(stop) => Err(stop),
     }

@@ -13,6 +13,8 @@ pub enum Refusal<'a> {
     Unusable(&'a str),
     /// The patterns of the file are refused.
     Patterns(Fault),
+    /// A line of this file, from 1, should be hexadecimal and is not.
+    NotHex { file: &'a str, line: usize },
     /// There is no literal to plan or to search for.
     NoLiterals,
     /// What stands for the certificate is no certificate's text: this line is the first wrong one.

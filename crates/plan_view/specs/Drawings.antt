@@ -28,15 +28,16 @@ abbrev pub highest_cost : List ℕ → ℕ → ℕ → List ℕ → ℕ
 highest_cost ls least p [] = least
 highest_cost ls least p (q ∷ more) = highest_cost ls (max least (run_cost ls p q)) q more
 
--- the title of a bucket, which shows where a pointer rests on it
+-- what a bucket holds and costs
 unfoldable pub numbers_told : Literals → List ℕ → ℕ → ℕ → ℕ → List ℕ
 numbers_told l ends b p q =
     let cost = run_cost (lengths l) p q in
-    said (codes "<title>bucket ") (b + 1) ++ (said (codes ": literals ") (q - p) ++ (said (codes ", shortest ") (slice_index (lengths l) p)
+    said (codes "bucket ") (b + 1) ++ (said (codes ": literals ") (q - p) ++ (said (codes ", shortest ") (slice_index (lengths l) p)
     ++ (said (codes ", cost ") cost ++ said (codes ", % of all ") (percent cost (total_of l ends)))))
 
+-- the title of a bucket, which shows where a pointer rests on it
 unfoldable pub title : Literals → List ℕ → ℕ → ℕ → ℕ → List ℕ
-title l ends b p q = numbers_told l ends b p q ++ (flat_map xml_byte (span l p q) ++ codes "</title>\n")
+title l ends b p q = codes "<title>" ++ (numbers_told l ends b p q ++ (flat_map xml_byte (span l p q) ++ codes "</title>\n"))
 
 -- a bar that stands on the line, x to the right, so wide and so high
 unfoldable pub bar : ℕ → ℕ → ℕ → List ℕ
@@ -79,15 +80,27 @@ caption profile l ends =
     said (codes "<text x=\"40\" y=\"24\">cost ") (total_of l ends) ++ (said (codes "; one bucket for all ") (single l)
     ++ (said (even_phrase profile) (even_parts profile l) ++ codes "</text>\n"))
 
--- the head of the file: its size, and colours for light and dark pages
-unfoldable pub head : List ℕ
-head =
-    codes "<svg xmlns=\"http://www.w3.org/2000/svg\" viewBox=\"0 0 720 310\" font-family=\"sans-serif\" font-size=\"13\">\n<style>text { fill: #24292f } rect { fill: #4f8fd0; stroke: #fff } path { stroke: #24292f }\n@media (prefers-color-scheme: dark) { text { fill: #e6edf3 } rect { stroke: #0d1117 } path { stroke: #e6edf3 } }</style>\n"
+-- the head of the file of so many buckets: its size, and colours for light and dark pages
+unfoldable pub head : ℕ → List ℕ
+head count =
+    said (codes "<svg xmlns=\"http://www.w3.org/2000/svg\" viewBox=\"0 0 720 ") (316 + count * 18)
+    ++ codes "\" font-family=\"sans-serif\" font-size=\"13\">\n<style>text { fill: #24292f } rect { fill: #4f8fd0; stroke: #fff } path { stroke: #24292f }\n@media (prefers-color-scheme: dark) { text { fill: #e6edf3 } rect { stroke: #0d1117 } path { stroke: #e6edf3 } }</style>\n"
 
+-- the line on which the bars stand, and what is by them
 unfoldable pub foot : List ℕ
-foot = codes "<path d=\"M40 260H680\"/>\n<text x=\"40\" y=\"300\">literals by length; below a bucket the bytes of its shortest, above it its cost</text>\n</svg>\n"
+foot = codes "<path d=\"M40 260H680\"/>\n<text x=\"40\" y=\"300\">literals by length; below a bucket the bytes of its shortest, above it its cost</text>\n"
+
+-- the line of a bucket in the legend, which also has the numbers of bars that are too narrow for them
+unfoldable pub legend_line : Literals → List ℕ → ℕ → ℕ → ℕ → List ℕ
+legend_line l ends b p q = said (codes "<text x=\"40\" y=\"") (324 + b * 18) ++ (codes "\">" ++ (numbers_told l ends b p q ++ codes "</text>\n"))
+
+-- the lines of the buckets from b on, which begin at place p and have these ends
+abbrev pub legend_from : Literals → List ℕ → ℕ → ℕ → List ℕ → List ℕ
+legend_from l ends b p [] = []
+legend_from l ends b p (q ∷ more) = legend_line l ends b p q ++ legend_from l ends (b + 1) q more
 
 -- the plan, of this profile, of a list that is cut at these ends
 unfoldable pub plan_svg : Profile → Literals → List ℕ → List ℕ
 plan_svg profile l ends =
-    head ++ (caption profile l ends ++ (drawn_from l ends (highest_cost (lengths l) 1 0 ends) 0 0 ends ++ foot))
+    head (length ends) ++ (caption profile l ends ++ (drawn_from l ends (highest_cost (lengths l) 1 0 ends) 0 0 ends
+    ++ (foot ++ (legend_from l ends 0 0 ends ++ codes "</svg>\n"))))

@@ -2,7 +2,7 @@
 ghost use Rattle.std.specs.Prelude.{◌≡◌, ◌+◌, ◌^◌, ◌<◌, ◌≤◌, ◌++◌, OnOk, IfOk, flat_map, length};
 ghost use Rattle.lit_base.specs.Cuts.{CutsFrom, IsCut};
 ghost use Rattle.lit_base.specs.Literals.{lengths};
-ghost use Rattle.plan_view.specs.Drawings.{across, bar, bar_numbers, caption, drawn, drawn_from, even_phrase, height, highest_cost, number_at, numbers_told, plan_svg, said, title, xml_byte};
+ghost use Rattle.plan_view.specs.Drawings.{across, bar, bar_numbers, caption, drawn, drawn_from, even_phrase, head, height, highest_cost, legend_from, legend_line, number_at, numbers_told, plan_svg, said, title, xml_byte};
 
 use crate::rows::{percent, push_span, run_cost};
 use crate::sums::{even_parts, push_number, single};
@@ -11,15 +11,19 @@ use lit_base::{Ends, LitList, Profile};
 use nib_mask::Masks;
 use std::alloc::{AllocError, Global};
 
-/// The size of the drawing, and its colours on light and on dark pages.
-const HEAD: &[u8] =
-    b"<svg xmlns=\"http://www.w3.org/2000/svg\" viewBox=\"0 0 720 310\" font-family=\"sans-serif\" font-size=\"13\">\n<style>text { fill: #24292f } rect { fill: #4f8fd0; stroke: #fff } path { stroke: #24292f }\n@media (prefers-color-scheme: dark) { text { fill: #e6edf3 } rect { stroke: #0d1117 } path { stroke: #e6edf3 } }</style>\n";
+/// What stands before the height of the drawing.
+const SIZE: &[u8] = b"<svg xmlns=\"http://www.w3.org/2000/svg\" viewBox=\"0 0 720 ";
 
+/// The font, and the colours on light and on dark pages.
+const STYLE: &[u8] =
+    b"\" font-family=\"sans-serif\" font-size=\"13\">\n<style>text { fill: #24292f } rect { fill: #4f8fd0; stroke: #fff } path { stroke: #24292f }\n@media (prefers-color-scheme: dark) { text { fill: #e6edf3 } rect { stroke: #0d1117 } path { stroke: #e6edf3 } }</style>\n";
+
+/// The line on which the bars stand, and what is by them.
 const FOOT: &[u8] =
-    b"<path d=\"M40 260H680\"/>\n<text x=\"40\" y=\"300\">literals by length; below a bucket the bytes of its shortest, above it its cost</text>\n</svg>\n";
+    b"<path d=\"M40 260H680\"/>\n<text x=\"40\" y=\"300\">literals by length; below a bucket the bytes of its shortest, above it its cost</text>\n";
 
 /// The plan of a list as an SVG file: a bar for each bucket, as wide as it has literals and as high as it costs. Its caption
-/// compares the plan with as many even parts as the profile has buckets.
+/// compares the plan with as many even parts as the profile has buckets. Its legend has the numbers of each bucket.
 pub fn plan_svg(
     alloc: Global,
     profile: Profile,
@@ -32,11 +36,24 @@ pub fn plan_svg(
     let masks = Masks::of(list, ends);
     let view = View::new(profile, list, ends, &masks);
     let highest = highest_cost(list, 1, 0, ends.as_slice());
-    let mut text = Vec::from_slice(alloc, HEAD)?;
+    let mut text = Vec::new(alloc);
+    push_head(ends.as_slice().len(), &mut text)?;
     push_caption(view, &mut text)?;
     push_buckets(view, highest, 0, 0, ends.as_slice(), &mut text)?;
     text.extend_from_slice(FOOT)?;
+    push_legend(view, 0, 0, ends.as_slice(), &mut text)?;
+    text.extend_from_slice(b"</svg>\n")?;
     Ok(text)
+}
+
+/// Appends the head of the drawing of so many buckets.
+fn push_head(count: usize, text: &mut Vec<u8>) -> Result<(), AllocError>
+    requires { count ≤ 16 }
+    ensures { OnOk result (text.new.items ≡ text.old.items ++ head count) }
+{
+    push_said(SIZE, 316 + count as u64 * 18, text)?;
+    text.extend_from_slice(STYLE)?;
+    Ok(())
 }
 
 /// Appends what the plan costs, and what one bucket and even parts would.
@@ -176,6 +193,7 @@ fn push_title(
 {
     let mut span = Vec::new(*text.allocator());
     push_span(view.list, start, end, &mut span)?;
+    text.extend_from_slice(b"<title>")?;
     push_numbers(view, bucket, start, end, text)?;
     push_xml(span.as_slice(), text)?;
     text.extend_from_slice(b"</title>\n")?;
@@ -196,11 +214,53 @@ fn push_numbers(
     ensures { OnOk result (text.new.items ≡ text.old.items ++ numbers_told view.entry.list.now view.entry.ends.now.items bucket start end) }
 {
     let cost = run_cost(view.list, start, end);
-    push_said(b"<title>bucket ", bucket as u64 + 1, text)?;
+    push_said(b"bucket ", bucket as u64 + 1, text)?;
     push_said(b": literals ", (end - start) as u64, text)?;
     push_said(b", shortest ", view.list.get(start).len() as u64, text)?;
     push_said(b", cost ", cost, text)?;
     push_said(b", % of all ", percent(cost, view.total), text)?;
+    Ok(())
+}
+
+/// Appends the legend's lines of the buckets from this one on, which begin at place `start` and have these ends.
+fn push_legend(
+    view: View<'_>,
+    bucket: usize,
+    start: usize,
+    ends: &[u16],
+    text: &mut Vec<u8>,
+) -> Result<(), AllocError>
+    requires cuts { CutsFrom (length view.list.now.texts) start ends.now }
+    requires few { bucket + length ends.now ≤ 16 }
+    ensures { OnOk result (text.new.items ≡ text.old.items ++ legend_from view.entry.list.now view.entry.ends.now.items bucket start ends.now) }
+{
+    match ends {
+        [] => Ok(()),
+        [end, rest @ ..] => {
+            let end = usize::from(*end);
+            push_legend_line(view, bucket, start, end, text)?;
+            push_legend(view, bucket + 1, end, rest, text)
+        }
+    }
+}
+
+/// Appends the line of a bucket in the legend.
+fn push_legend_line(
+    view: View<'_>,
+    bucket: usize,
+    start: usize,
+    end: usize,
+    text: &mut Vec<u8>,
+) -> Result<(), AllocError>
+    requires bucket { bucket < 16 }
+    requires some { start < end }
+    requires within { end ≤ length view.list.now.texts }
+    ensures { OnOk result (text.new.items ≡ text.old.items ++ legend_line view.entry.list.now view.entry.ends.now.items bucket start end) }
+{
+    push_said(b"<text x=\"40\" y=\"", 324 + bucket as u64 * 18, text)?;
+    text.extend_from_slice(b"\">")?;
+    push_numbers(view, bucket, start, end, text)?;
+    text.extend_from_slice(b"</text>\n")?;
     Ok(())
 }
 
