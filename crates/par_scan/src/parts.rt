@@ -3,11 +3,13 @@ ghost use Rattle.std.specs.Prelude.{◌≡◌, ◌+◌, ◌-◌, ◌*◌, ◌<�
 ghost use Rattle.lit_base.specs.Occurrences.{IsHits};
 ghost use Rattle.lit_base.specs.NextEnds.{NoEndAfter};
 ghost use Rattle.flow_scan.specs.Tails.{Continues};
-ghost use Rattle.flow_scan.specs.declared.fault.Fault.TheVariants.{OutOfMemory};
+ghost use Rattle.flow_scan.specs.declared.fault.Fault.TheVariants as flow;
+ghost use Rattle.par_scan.specs.declared.fault.Fault.TheVariants.{OutOfMemory};
 ghost use denote.Param.Send.{IsSync};
 
+use crate::fault::Fault;
 use crate::gate::Gate;
-use flow_scan::{Compiled, EndFinder, Fault, Hit, scan_behind};
+use flow_scan::{Compiled, EndFinder, Hit, scan_behind};
 use std::alloc::Global;
 use std::thread::{Threads, join};
 
@@ -92,7 +94,10 @@ fn scan_part<G: Gate>(
     gate.enter(worker);
     let hits = hits_behind(alloc, compiled, text, from);
     gate.leave(worker);
-    hits
+    match hits {
+        Ok(hits) => Ok(hits),
+        Err(_) => Err(Fault::OutOfMemory),
+    }
 }
 
 /// The hits that end in a text after a position, by a finder if the rest of the text is long.
@@ -101,10 +106,10 @@ fn hits_behind(
     compiled: &Compiled,
     text: &[u8],
     from: usize,
-) -> Result<Vec<Hit>, Fault>
+) -> Result<Vec<Hit>, flow_scan::Fault>
     requires { from ≤ length text.now }
     ensures continues { IfOk result (λ hits. Continues compiled.now.literals text.now from hits.items) }
-    ensures refused { IsOkUnless result OutOfMemory }
+    ensures refused { IsOkUnless result flow.OutOfMemory }
     ensures quiet { NoEndAfter compiled.now.literals text.now from → IsOk result }
 {
     match finder_for(alloc, compiled, text.len() - from) {

@@ -12,9 +12,9 @@ use crate::request::Scan;
 use crate::status::Status;
 use crate::stop::Stop;
 use byte_io::{ByteOut, Files};
-use flow_scan::{Compiled, Fault};
+use flow_scan::Compiled;
 use lit_base::Profile;
-use par_scan::{NoGate, scan_parts};
+use par_scan::{Fault, NoGate, scan_parts};
 use std::alloc::Global;
 use std::thread::Threads;
 
@@ -80,7 +80,5 @@ fn scan_text<'a, R: Threads + Sync, W: ByteOut>(
     match scan_parts(rt, alloc, &NoGate, compiled, text, scan.workers.count()) {
         Ok(hits) => tell_hits(alloc, compiled, scan, hits.as_slice(), out),
         Err(Fault::OutOfMemory) => Err(Stop::OutOfMemory),
-        Err(Fault::NotCertified { .. }) => unreachable!(),
-        Err(Fault::StreamTooLong) => unreachable!(),
     }
 }

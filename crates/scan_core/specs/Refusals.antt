@@ -1,9 +1,9 @@
 -- Why a session refuses a request, and which refusal comes first.
-use Rattle.std.specs.Prelude.{ℕ, ◌+◌, ◌==◌, nat_le, nat_lt, List, [], ◌∷◌, length, Option, Some, None, if◌then◌else◌}
-use Rattle.lit_base.specs.declared.limits.TheConstants.{MAX_LITERAL_LEN, MAX_PATTERNS}
+use Rattle.std.specs.Prelude.{ℕ, ◌+◌, ◌==◌, nat_le, nat_lt, List, [], ◌∷◌, length, sum_by, Option, Some, None, if◌then◌else◌}
+use Rattle.lit_base.specs.declared.limits.TheConstants.{MAX_LIST_LEN, MAX_LITERAL_LEN, MAX_PATTERNS}
 use Rattle.scan_core.specs.declared.limits.TheConstants.{MAX_PLANS}
 use Rattle.scan_core.specs.declared.refusal.Refusal.{Refusal}
-use Rattle.scan_core.specs.declared.refusal.Refusal.TheVariants.{PlanQuota, NoLiterals, TooManyPatterns, EmptyLiteral, LiteralTooLong, StreamInUse, StreamQuota, NoSuchPlan, NoSuchStream, StreamTooLong}
+use Rattle.scan_core.specs.declared.refusal.Refusal.TheVariants.{PlanQuota, NoLiterals, TooManyPatterns, EmptyLiteral, LiteralTooLong, ListTooLarge, StreamInUse, StreamQuota, NoSuchPlan, NoSuchStream, StreamTooLong}
 
 -- the code in the reply
 abbrev pub code_of : Refusal → ℕ
@@ -11,6 +11,7 @@ code_of TooManyPatterns = 2
 code_of (LiteralTooLong place) = 3
 code_of (EmptyLiteral place) = 4
 code_of NoLiterals = 5
+code_of ListTooLarge = 7
 code_of StreamInUse = 12
 code_of NoSuchStream = 13
 code_of NoSuchPlan = 14
@@ -24,6 +25,7 @@ detail_of TooManyPatterns = 0
 detail_of (LiteralTooLong place) = place
 detail_of (EmptyLiteral place) = place
 detail_of NoLiterals = 0
+detail_of ListTooLarge = 0
 detail_of StreamInUse = 0
 detail_of NoSuchStream = 0
 detail_of NoSuchPlan = 0
@@ -48,10 +50,14 @@ abbrev pub first_refusal : ℕ → List (List ℕ) → Option Refusal
 first_refusal place [] = None
 first_refusal place (literal ∷ literals) = earlier (literal_refusal place literal) (first_refusal (place + 1) literals)
 
+-- of literals that have too many bytes together
+abbrev pub list_refusal : List (List ℕ) → Option Refusal
+list_refusal literals = if nat_lt MAX_LIST_LEN (sum_by length literals) then Some ListTooLarge else None
+
 -- of a Publish of literals, in a session that published `told` plans
 abbrev pub publish_refusal : ℕ → List (List ℕ) → Option Refusal
 publish_refusal told literals =
     if nat_le MAX_PLANS told then Some PlanQuota
     else if length literals == 0 then Some NoLiterals
     else if nat_lt MAX_PATTERNS (length literals) then Some TooManyPatterns
-    else first_refusal 0 literals
+    else earlier (first_refusal 0 literals) (list_refusal literals)

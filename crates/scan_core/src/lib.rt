@@ -19,5 +19,6 @@ pub use fault::Fault;
 pub use limits::{MAX_PLANS, MAX_STREAMS, limits_law};
 pub use refusal::Refusal;
 pub use session::Session;
+pub use tickets::agrees_with;
 pub use together::{Answered, answered_at_once, fit_law, together_law};
 pub use world::{event_law, world_law};

@@ -29,8 +29,7 @@ pub(crate) fn planned(
     compiled(alloc, list, profile)
 }
 
-/// The literals as a list. Apart from want of memory, only a list with more bytes than it may have is refused, and the
-/// literals of no frame have as many.
+/// The literals as a list. They meet no refusal, so that only memory can be wanting.
 fn raw_of(alloc: Global, literals: &[Vec<u8>]) -> Result<RawList, Fault>
     ensures ok { IfOk result (λ raw. raw ≡ texts_of literals.now) }
     ensures fault { IsOkUnless result OutOfMemory }

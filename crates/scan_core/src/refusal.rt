@@ -1,11 +1,11 @@
 //! Why a request is refused.
 ghost use Rattle.std.specs.Prelude.{◌≡◌, ◌<◌, ◌^◌, length};
 ghost use Rattle.scan_wire.specs.Messages.{reply_parts, texts_of};
-ghost use Rattle.scan_core.specs.Refusals.{code_of, detail_of, first_refusal, literal_refusal, publish_refusal};
+ghost use Rattle.scan_core.specs.Refusals.{code_of, detail_of, first_refusal, list_refusal, literal_refusal, publish_refusal};
 ghost use Rattle.scan_core.specs.Steps.{refused_reply};
 
 use crate::limits::MAX_PLANS;
-use lit_base::{MAX_LITERAL_LEN, MAX_PATTERNS};
+use lit_base::{MAX_LIST_LEN, MAX_LITERAL_LEN, MAX_PATTERNS};
 use scan_wire::Reply;
 
 /// Why a request is refused. The reply has the code and the detail, and nothing changes.
@@ -19,6 +19,8 @@ pub enum Refusal {
     EmptyLiteral { place: u16 },
     /// A Publish of no literal.
     NoLiterals,
+    /// A Publish of literals with more than `MAX_LIST_LEN` bytes together. No frame has room for as many.
+    ListTooLarge,
     /// An Open of an open stream.
     StreamInUse,
     /// A request of a stream that is not open.
@@ -43,6 +45,7 @@ impl Refusal {
             Refusal::LiteralTooLong { .. } => 3,
             Refusal::EmptyLiteral { .. } => 4,
             Refusal::NoLiterals => 5,
+            Refusal::ListTooLarge => 7,
             Refusal::StreamInUse => 12,
             Refusal::NoSuchStream => 13,
             Refusal::NoSuchPlan => 14,
@@ -88,7 +91,11 @@ pub(crate) fn refusal_of_literals(told: usize, literals: &[Vec<u8>]) -> Option<R
     if literals.len() > MAX_PATTERNS {
         return Some(Refusal::TooManyPatterns);
     }
-    first_refused(literals)
+    let first = first_refused(literals);
+    if first.is_some() {
+        return first;
+    }
+    refusal_of_list(literals)
 }
 
 /// Why the first refused literal is refused.
@@ -103,6 +110,21 @@ fn first_refused(literals: &[Vec<u8>]) -> Option<Refusal>
             return refusal;
         }
         place += 1;
+    }
+    None
+}
+
+/// Why literals are refused for the bytes that they have together.
+fn refusal_of_list(literals: &[Vec<u8>]) -> Option<Refusal>
+    ensures { result ≡ list_refusal (texts_of literals.now) }
+{
+    let mut left = MAX_LIST_LEN;
+    for literal in literals {
+        let len = literal.len();
+        if left < len {
+            return Some(Refusal::ListTooLarge);
+        }
+        left -= len;
     }
     None
 }

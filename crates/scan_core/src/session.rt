@@ -93,8 +93,7 @@ impl<'s> Session<'s> {
     /// and changes nothing.
     ///
     /// Only a Publish may wait for another thread. The only fault is `OutOfMemory`: session and `out` are
-    /// then as they were, and the request is given up. It comes also where the literals of a Publish have
-    /// more than 1,048,576 bytes together, which a list may not have: no frame has room for as many.
+    /// then as they were, and the request is given up.
     pub fn handle(
         &mut self,
         rt: &impl Wait,

@@ -24,7 +24,7 @@ pub(crate) fn known_ticket(session: &Session<'_>, number: u64) -> Option<Ticket>
 }
 
 /// The law that a ticket agrees with each of a session of its store. It takes no memory.
-pub(crate) fn agrees_with(ticket: &Ticket, session: &Session<'_>)
+pub fn agrees_with(ticket: &Ticket, session: &Session<'_>)
     requires { IsOf session.now.store ticket.now }
     ensures { AgreesWith ticket.now session.now }
 {
