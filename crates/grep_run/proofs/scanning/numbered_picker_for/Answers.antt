@@ -8,7 +8,7 @@ use Rattle.grep_run.proofs.scanning.numbered_picker_for.Goals as goal
 pub returns-in-None-clause-fed : goal.returns-in-None-clause-fed
 returns-in-None-clause-fed c =
     let request = c.args.request.now in
-    rw c.«new».ensures (fed-none _ _ (ap (λ plan. selects plan request.patterns.now.has_empty (record { invert = request.options.now.invert; whole = request.options.now.whole })) c.as_ref.ensures.value) refl refl refl refl)
+    rw c.«new».ensures (fed-none _ _ (ap (λ plan. selects plan request.patterns.now.has_empty (record { invert = request.options.now.invert; whole = request.options.now.whole })) c.as_ref.ensures.value) refl refl refl refl refl)
 
 -- The finder is by the plan of the patterns, whose literals stand in lines.
 pub by_finder-requires : goal.by_finder-requires
@@ -21,4 +21,4 @@ pub returns-in-Some-clause-fed : goal.returns-in-Some-clause-fed
 returns-in-Some-clause-fed c =
     let request = c.args.request.now in
     let same : request.patterns.now.plan ≡ Some c.in-Some.finder = subst (λ (o : Option Plan). IfSome o (λ plan. request.patterns.now.plan ≡ Some plan)) c.in-Some.is c.requires in
-    rw c.by_finder.ensures (fed-none _ _ (ap (λ plan. selects plan request.patterns.now.has_empty (record { invert = request.options.now.invert; whole = request.options.now.whole })) (sym same)) refl refl refl refl)
+    rw c.by_finder.ensures (fed-none _ _ (ap (λ plan. selects plan request.patterns.now.has_empty (record { invert = request.options.now.invert; whole = request.options.now.whole })) (sym same)) refl refl refl refl refl)
