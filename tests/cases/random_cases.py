@@ -79,6 +79,19 @@ def long_lines():
             yield text, source.choice([5, 23, 64, 127, 128, 4096])
 
 
+def open_lines():
+    """Lists of up to eight words, with the null pattern at times; flags; and texts of few newlines, some of them whole words.
+    Each comes with a size of pieces, so that most lines come in many pieces."""
+    source = random.Random(7)
+    for number in range(400):
+        patterns = [text_of(source, b"aabAB", source.choice([0, 1, 3, 6])) + b"c" for _ in range(source.choice([1, 1, 2, 8]))]
+        patterns += [b""] * (number % 9 == 0)
+        flags = "".join(flag for flag in "ixvn" if source.random() < 0.4) + source.choice("cccql")
+        parts = [source.choice(patterns) if source.random() < 0.2 else text_of(source, b"aaabbABc", 9) for _ in range(20)]
+        text = b"".join(part + source.choice([b"", b"", b"", b"\n"]) for part in parts)
+        yield patterns, flags, text[: source.choice([30, 90, 200])], source.choice([1, 2, 3, 7, 23])
+
+
 def lists(most=100):
     """This number of lists of patterns, whose literals have few lengths or many, and whether case is ignored."""
     source = random.Random(4)

@@ -28,7 +28,11 @@ def answer(texts, patterns, flags):
         lines = selected(text, patterns, flags)
         is_found |= bool(lines)
         front = name + b":" if name else b""
-        if "c" in flags:
+        if "q" in flags:
+            continue
+        if "l" in flags:
+            output += [(name or b"(standard input)") + b"\n"] * bool(lines)
+        elif "c" in flags:
             output.append(front + b"%d\n" % len(lines))
         else:
             output += [front + (b"%d:" % number if "n" in flags else b"") + line + b"\n" for number, line in lines]

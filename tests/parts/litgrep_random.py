@@ -1,5 +1,6 @@
 """`litgrep` on random searches, compared with plain matching."""
 
+import os
 import socket
 import tempfile
 
@@ -45,6 +46,10 @@ def random_greps():
     with tempfile.TemporaryDirectory() as folder:
         lay_out(folder.encode(), named)
         yield "lines of each length", run(["-n", "a", *named], cwd=folder), plain_grep.answer(named, [b"a"], "n")
+    for patterns, flags, text, size in random_cases.open_lines():
+        words = [word for pattern in patterns for word in ("-e", os.fsdecode(pattern))] + ["-" + flag for flag in flags]
+        size = max(size, len(text) // 100)
+        yield f"{words} on {text!r}, {size} at a time", in_pieces(words, text, size), plain_grep.answer({b"": text}, patterns, flags)
     for text, size in lines:
         got = in_pieces(["-n", "a"], text, size)
         yield f"a line in {text!r:.300}, {size} at a time", got, plain_grep.answer({b"": text}, [b"a"], "n")

@@ -1,6 +1,7 @@
 """`litgrep` on odd streams: full, closed, endless, named pipes, and files that are also its output."""
 
 import os
+import resource
 import select
 import subprocess
 import tempfile
@@ -28,6 +29,41 @@ def long_inputs():
     lines = b"a cat\nno dog\nthe end\n"
     count = (32 << 20) // len(lines)
     yield "32 MiB, counted", run(["-c", "cat"], lines * count), (0, b"%d\n" % count, b"")
+
+
+# The bytes of a line that no memory holds, and the memory that a run may have.
+ENDLESS, ROOM = 300 << 20, 64 << 20
+
+
+def endless(before, after, words):
+    """Runs `litgrep` with little memory on one line of 300 MiB, with these bytes before and after zeros."""
+    script = f"printf '{before}'; head -c {ENDLESS} /dev/zero; printf '{after}'"
+    with subprocess.Popen(["sh", "-c", script], stdout=subprocess.PIPE, stderr=subprocess.DEVNULL) as line:
+        got = run(words, line.stdout, preexec_fn=lambda: resource.setrlimit(resource.RLIMIT_AS, (ROOM, ROOM)))
+        line.stdout.close()
+    return got
+
+
+def unseen_lines():
+    """Where no line is written, one takes no more memory than the longest literal and a piece."""
+    starved = (2, b"", b"litgrep: out of memory\n")
+    for before, after in ("a cat", ""), ("", "a cat"), ("", "a cat\\n"), ("c", "at"):
+        is_there = (before + after).startswith("a")
+        there, other = (int(not is_there), b"%d\n" % is_there, b""), (int(is_there), b"%d\n" % (not is_there), b"")
+        for words, wanted in (
+            (["-c", "cat"], there),
+            (["-c", "-e", "dog", "-e", "cat", "-e", "a horse"], there),
+            (["-c", "-i", "CAT"], there),
+            (["-c", "-v", "cat"], other),
+            (["-l", "cat"], (there[0], b"(standard input)\n" * is_there, b"")),
+            (["-q", "cat"], (there[0], b"", b"")),
+            (["-c", "-x", "cat"], (1, b"0\n", b"")),
+            (["-c", "-x", "-v", "cat"], (0, b"1\n", b"")),
+            (["-c", ""], (0, b"1\n", b"")),
+            (["-c", "-f", "/dev/null"], (1, b"0\n", b"")),
+            (["cat"], starved),
+        ):
+            yield f"{words} on a line of 300 MiB between {before!r} and {after!r}", endless(before, after, words), wanted
 
 
 def edges():
@@ -153,4 +189,4 @@ def batches():
         yield "a batch of names", shown, (123, b"./f:cat\n./g:2 cat\n", b"litgrep: ./caf\\xe9: cannot be read\n")
 
 
-TESTS = (edges, streams, prompt, own_outputs, batches)
+TESTS = (edges, unseen_lines, streams, prompt, own_outputs, batches)

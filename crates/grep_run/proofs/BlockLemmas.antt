@@ -1,5 +1,5 @@
 -- A block as its lines come.
-use Rattle.std.proofs.Common.{◌≡◌, ℕ, ◌+◌, ◌-◌, ◌^◌, ◌<◌, Bool, true, false, ◌||◌, cond, List, [], ◌∷◌, ◌++◌, flat_map, length, min, Result, Ok, Err, refl, sym, ap, ◌∙◌, append_assoc, append-nil, length-append, arith, codes}
+use Rattle.std.proofs.Common.{◌≡◌, ℕ, ◌+◌, ◌-◌, ◌^◌, ◌<◌, Bool, true, false, ◌||◌, not, cond, List, [], ◌∷◌, ◌++◌, flat_map, length, min, Result, Ok, Err, refl, sym, ap, ◌∙◌, append_assoc, append-nil, length-append, arith, codes}
 use Rattle.std.proofs.lemmas.Bool.{lt-ltb}
 use Rattle.std.specs.Prelude.{decimal, nat_lt}
 use Rattle.line_pick.specs.Lending.{Lent, NoneLeft, OneMore, LastOne, as_numbered}
@@ -9,7 +9,7 @@ use Rattle.line_pick.specs.declared.sink.Next.TheVariants.{More, Stop}
 use Rattle.grep_run.specs.declared.block.Block.{Block}
 use Rattle.grep_run.specs.declared.options.GrepOptions.{GrepOptions}
 use Rattle.grep_run.specs.Blocks.{block_of, has_any, prefix_of, written_line}
-use Rattle.grep_run.specs.Growing.{AddsLine, TakesLine, added_line, ending_of, next_of}
+use Rattle.grep_run.specs.Growing.{AddsLine, TakesLine, added_line, are_shown, ending_of, next_of}
 
 -- no byte
 abbrev nothing : List ℕ
@@ -83,6 +83,31 @@ takes-bare old new n m line (Ok next) none w =
     let h : AddsLine old w.0 line next new = w.1 in
     (record { text = h.text ∙ ap (λ added. old.text.items ++ added) (added-bare old.options.now old.name.now w.0 m line none); count = h.count; next = h.next; options = h.options; name = h.name }, ap (λ o. o.number) h.options ∙ none)
 takes-bare old new n m line (Err fault) none w = (w.1, ap (λ o. o.number) w.1.1.0 ∙ none)
+
+-- where no lines are written, a line adds nothing
+hidden : (b : Bool) (text : List ℕ) → not b ≡ false → cond b [] text ≡ []
+hidden true text e = refl
+hidden false text e = (cc)
+
+-- and any other is taken alike
+takes-unseen : (old new : Block) (n m : ℕ) (line other : List ℕ) (answer : Result Next Fault) → are_shown old.options.now ≡ false → TakesLine old n line answer new → TakesLine old m other answer new × (are_shown new.options.now ≡ false)
+takes-unseen old new n m line other (Ok next) none h =
+    let o = old.options.now in
+    let b = o.quiet || (o.list || o.count) in
+    let same = hidden b (written_line o old.name.now (n, line)) none ∙ sym (hidden b (written_line o old.name.now (m, other)) none) in
+    (record { text = h.text ∙ ap (λ added. old.text.items ++ added) same; count = h.count; next = h.next; options = h.options; name = h.name }, ap are_shown h.options ∙ none)
+takes-unseen old new n m line other (Err fault) none h = (h, ap are_shown h.1.0 ∙ none)
+
+-- so as many other lines are
+pub lent-unseen : {old new : Block} {lines : List (ℕ × List ℕ)} {answer : Result Next Fault} (others : List (ℕ × List ℕ)) → length lines ≡ length others → are_shown old.options.now ≡ false → Lent TakesLine old lines answer new → Lent TakesLine old others answer new
+lent-unseen [] same none NoneLeft = NoneLeft
+lent-unseen (x ∷ others) same none NoneLeft = absurd (omega (arith, same))
+lent-unseen [] same none (OneMore h rest) = absurd (omega (arith, same))
+lent-unseen ((m, other) ∷ others) same none (OneMore {s = s} {t = mid} {number = number} {line = line} h rest) =
+    let next = takes-unseen s mid number m line other (Ok More) none h in
+    OneMore next.0 (lent-unseen others (omega (arith, same)) next.1 rest)
+lent-unseen [] same none (LastOne h last) = absurd (omega (arith, same))
+lent-unseen ((m, other) ∷ others) same none (LastOne {s = s} {t = t} {number = number} {line = line} {answer = answer} h last) = LastOne (takes-unseen s t number m line other answer none h).0 last
 
 -- a block that has taken lines and wants more
 pub record HasMore (o : GrepOptions) (name : List ℕ) (lines : List (ℕ × List ℕ)) (old new : Block) : Type 0 where

@@ -12,15 +12,17 @@ use Rattle.byte_io.specs.Devices.{Coming, EndsHere, Ending, Faulty, MayFail, Rea
 use Rattle.byte_io.specs.Devices as Devices
 use Rattle.byte_io.specs.declared.device.Failed.{Failed}
 use Rattle.lit_base.specs.Lines.{ended_lines, last_line, lines, open_rest}
-use Rattle.lit_base.proofs.EndedLemmas.{ended_lines-append, ended_lines-none, lines-ended_open, open_rest-append}
+use Rattle.lit_base.proofs.EndedLemmas.{ended_lines-append, ended_lines-none, lines-ended_open, open_rest-apart, open_rest-append}
 use Rattle.line_pick.proofs.Crossing.{length-ended_lines}
 use Rattle.line_pick.proofs.Newlines.{open_rest-nil}
 use Rattle.std.proofs.lemmas.List.Elements.{All-nil}
 use Rattle.line_pick.specs.declared.state.State.TheVariants.{Running}
 use Rattle.line_pick.proofs.LentLemmas.{Lent-from_Lends, numbered-append}
 use Rattle.line_pick.proofs.NumberLemmas.{Lent-renumbered, bare, bare-numbered}
-use Rattle.line_pick.specs.Feeding.{Feeds, Finishes, fed, picked}
+use Rattle.line_pick.proofs.OpenLemmas.{alike, decides-itself, decides-on, last-picked}
+use Rattle.line_pick.specs.Feeding.{Feeds, Finishes, IsFed, picked}
 use Rattle.line_pick.specs.Lending.{Lends, Lent, Whole, as_numbered, numbered}
+use Rattle.line_pick.specs.OpenLines.{Decides, IsKept, Keeps, most_kept}
 use Rattle.line_pick.specs.Picking.{Picking}
 use Rattle.line_pick.specs.declared.fault.Fault.{Fault as Failure}
 use Rattle.line_pick.specs.declared.fault.Fault.TheVariants.{StreamTooLong}
@@ -31,12 +33,12 @@ use Rattle.grep_run.specs.declared.options.GrepOptions.{GrepOptions}
 use Rattle.grep_run.specs.declared.request.End.TheVariants.{Clean, Fault}
 use Rattle.grep_run.specs.Blocks.{block_in, block_of, has_any, is_trouble, lines_of, message_in}
 use Rattle.grep_run.specs.Messages.{unreadable}
-use Rattle.grep_run.specs.Growing.{IsSameBlock, TakesLine, added_line, ending_of}
+use Rattle.grep_run.specs.Growing.{IsSameBlock, TakesLine, added_line, are_shown, ending_of}
 use Rattle.grep_run.specs.Scanning.{FeedsPiece, picked_by, HasFed, HasRead, HasTaken, IsHalted, StandsBehind, ended_in, is_fault}
 use Rattle.grep_run.specs.declared.request.End.{End}
 use Rattle.grep_run.specs.Searching.{IsCut, IsSearched}
 use Rattle.grep_run.specs.Writers.{Writer, Writes, WritesFront}
-use Rattle.grep_run.proofs.BlockLemmas.{HasMore, any-behind, block-parts, ending-any, lent-more, lent-stop, lent-stop-text, takes-bare, wants-none}
+use Rattle.grep_run.proofs.BlockLemmas.{HasMore, any-behind, block-parts, ending-any, lent-more, lent-stop, lent-stop-text, lent-unseen, takes-bare, wants-none}
 use Rattle.grep_run.proofs.WriterLemmas.{Writes-nil, Writes-trans, WritesFront-all, WritesFront-behind, WritesFront-more, WritesFront-none, apart}
 
 -- the selected lines among lines that follow a text
@@ -44,21 +46,28 @@ abbrev pub picked_behind : (List ℕ → Bool) → List ℕ → List (List ℕ) 
 picked_behind test text lines = numbered test (length (ended_lines text)) lines
 
 -- the selected lines of a text and of what follows it
-module _ (test : List ℕ → Bool) (text more : List ℕ) (p : Picking) (f : HasFed test text p) where
-  pub ended-more : ended_in test (text ++ more) ≡ ended_in test text ++ picked_behind test text (ended_lines (p.held ++ more))
+module _ (test : List ℕ → Bool) (text more : List ℕ) where
+  pub ended-more : ended_in test (text ++ more) ≡ ended_in test text ++ picked_behind test text (ended_lines (open_rest text ++ more))
   ended-more =
       ap (numbered test 0) (ended_lines-append text more) ∙ numbered-append test 0 (ended_lines text) (ended_lines (open_rest text ++ more))
       ∙ ap (λ n. ended_in test text ++ numbered test n (ended_lines (open_rest text ++ more))) (omega arith)
-      ∙ ap (λ held. ended_in test text ++ picked_behind test text (ended_lines (held ++ more))) (sym f.held)
 
-  pub all-lines : numbered test 0 (lines text) ≡ ended_in test text ++ picked_behind test text (last_line p.held)
+  pub all-lines : numbered test 0 (lines text) ≡ ended_in test text ++ picked_behind test text (last_line (open_rest text))
   all-lines =
       ap (numbered test 0) (lines-ended_open text) ∙ numbered-append test 0 (ended_lines text) (last_line (open_rest text))
       ∙ ap (λ n. ended_in test text ++ numbered test n (last_line (open_rest text))) (omega arith)
-      ∙ ap (λ held. ended_in test text ++ picked_behind test text (last_line held)) (sym f.held)
 
--- lines that follow a text are lent to a block under their numbers, or it writes none
-module _ {o : GrepOptions} {test : List ℕ → Bool} {name text : List ℕ} {p : Picking} {b : Block} {before now : Writer} (s : StandsBehind o test name text p b before now) (lines : List (List ℕ)) where
+-- what is kept of an open line, where its bytes are seen and where they are not
+kept-whole : (test : List ℕ → Bool) (most : ℕ) {kept line : List ℕ} (has_bytes : Bool) → has_bytes ≡ true → Keeps has_bytes test most kept line → kept ≡ line
+kept-whole test most true e k = k
+kept-whole test most false e k = absurd (cc)
+
+kept-short : (test : List ℕ → Bool) (most : ℕ) {kept line : List ℕ} (has_bytes : Bool) → has_bytes ≡ false → Keeps has_bytes test most kept line → IsKept test most kept line
+kept-short test most true e k = absurd (cc)
+kept-short test most false e k = k
+
+-- lines that follow a text are lent to a block under their numbers and with their bytes, or it writes none
+module _ {o : GrepOptions} {test : List ℕ → Bool} {name text : List ℕ} {p : Picking} {b : Block} {before now : Writer} (s : StandsBehind o test name text p b before now) (lines others : List (List ℕ)) where
   lent-by : (is_numbered : Bool) → p.is_numbered ≡ is_numbered → {t : Block} {answer : Result Next Failure} → Lent (as_numbered is_numbered TakesLine) b (picked p lines) answer t → Lent TakesLine b (picked_behind test text lines) answer t
   lent-by true e {t} {answer} h =
       subst (λ ls. Lent TakesLine b ls answer t) (ap (λ pass. numbered pass p.lines lines) s.fed.tests ∙ ap (λ n. numbered test n lines) (s.fed.lines e)) h
@@ -67,15 +76,51 @@ module _ {o : GrepOptions} {test : List ℕ → Bool} {name text : List ℕ} {p 
       (ap (λ pass. bare (numbered pass p.lines lines)) s.fed.tests ∙ bare-numbered test p.lines (length (ended_lines text)) lines)
       (ap (λ options. options.number) s.taken.options ∙ sym s.numbers ∙ e) h
 
-  pub lent-behind : {t : Block} {answer : Result Next Failure} → Lent (as_numbered p.is_numbered TakesLine) b (picked p lines) answer t → Lent TakesLine b (picked_behind test text lines) answer t
-  lent-behind h = lent-by p.is_numbered refl h
+  -- the lines themselves, or others of which as many are selected
+  lent-as : (has_bytes : Bool) → p.has_bytes ≡ has_bytes → (has_bytes ≡ true → lines ≡ others) → (has_bytes ≡ false → (n : ℕ) → length (numbered test n lines) ≡ length (numbered test n others))
+      → {t : Block} {answer : Result Next Failure} → Lent TakesLine b (picked_behind test text lines) answer t → Lent TakesLine b (picked_behind test text others) answer t
+  lent-as true e same count {t} {answer} h = subst (λ ls. Lent TakesLine b (picked_behind test text ls) answer t) (same refl) h
+  lent-as false e same count h = lent-unseen (picked_behind test text others) (count refl (length (ended_lines text))) (ap are_shown s.taken.options ∙ sym s.seen ∙ e) h
+
+  lent-behind : (p.has_bytes ≡ true → lines ≡ others) → (p.has_bytes ≡ false → (n : ℕ) → length (numbered test n lines) ≡ length (numbered test n others))
+      → {t : Block} {answer : Result Next Failure} → Lent (as_numbered p.is_numbered TakesLine) b (picked p lines) answer t → Lent TakesLine b (picked_behind test text others) answer t
+  lent-behind same count h = lent-as p.has_bytes refl same count (lent-by p.is_numbered refl h)
+
+module _ {o : GrepOptions} {test : List ℕ → Bool} {name text : List ℕ} {p : Picking} {b : Block} {before now : Writer} (s : StandsBehind o test name text p b before now) where
+  -- the lines that a piece ends
+  lent-piece : (piece : List ℕ) → {t : Block} {answer : Result Next Failure} → Lent (as_numbered p.is_numbered TakesLine) b (picked p (ended_lines (p.held ++ piece))) answer t
+      → Lent TakesLine b (picked_behind test text (ended_lines (open_rest text ++ piece))) answer t
+  lent-piece piece h =
+      lent-behind s (ended_lines (p.held ++ piece)) (ended_lines (open_rest text ++ piece)) (λ e. ap (λ held. ended_lines (held ++ piece)) (kept-whole test (most_kept p.plan) p.has_bytes e s.fed.held))
+      (λ e n. (alike test p.held (open_rest text) piece (open_rest-apart text) (kept-short test (most_kept p.plan) p.has_bytes e s.fed.held).decides).picked n) h
+
+  -- and the last line
+  lent-last : {t : Block} {answer : Result Next Failure} → Lent (as_numbered p.is_numbered TakesLine) b (picked p (last_line p.held)) answer t → Lent TakesLine b (picked_behind test text (last_line (open_rest text))) answer t
+  lent-last h =
+      lent-behind s (last_line p.held) (last_line (open_rest text)) (λ e. ap last_line (kept-whole test (most_kept p.plan) p.has_bytes e s.fed.held))
+      (λ e n. last-picked test n p.held (open_rest text) (kept-short test (most_kept p.plan) p.has_bytes e s.fed.held).decides) h
+
+module _ (test : List ℕ → Bool) (most : ℕ) (text piece held : List ℕ) where
+  -- what is kept after one more piece is kept of all the text
+  keeps-more : (has_bytes : Bool) (new : List ℕ) → Keeps has_bytes test most held (open_rest text) → Keeps has_bytes test most new (open_rest (held ++ piece)) → Keeps has_bytes test most new (open_rest (text ++ piece))
+  keeps-more true new old k = k ∙ ap (λ h. open_rest (h ++ piece)) old ∙ sym (open_rest-append text piece)
+  keeps-more false new old k = record {
+    decides = subst (Decides test new) (sym (open_rest-append text piece)) (decides-on k.decides (alike test held (open_rest text) piece (open_rest-apart text) old.decides).rest);
+    short = k.short;
+  }
+
+  -- and as many lines are ended
+  ended-count : (has_bytes : Bool) → Keeps has_bytes test most held (open_rest text) → length (ended_lines (held ++ piece)) ≡ length (ended_lines (open_rest text ++ piece))
+  ended-count true old = ap (λ h. length (ended_lines (h ++ piece))) old
+  ended-count false old = (alike test held (open_rest text) piece (open_rest-apart text) old.decides).count
 
 -- the picker after one more piece
-fed-more : (test : List ℕ → Bool) (text piece : List ℕ) (p new : Picking) → HasFed test text p → new ≡ fed p piece → HasFed test (text ++ piece) new
-fed-more test text piece p new f e = subst (HasFed test (text ++ piece)) (sym e) (record {
+fed-more : (test : List ℕ → Bool) (text piece : List ℕ) (p new : Picking) → HasFed test text p → IsFed p piece new → HasFed test (text ++ piece) new
+fed-more test text piece p new f e = subst (HasFed test (text ++ piece)) (sym e.rest) (record {
   tests = f.tests;
-  held = ap (λ h. open_rest (h ++ piece)) f.held ∙ sym (open_rest-append text piece);
-  lines = λ e. ap (λ k. cond k (p.lines + length (ended_lines (p.held ++ piece))) 0) e ∙ ap (λ n. n + length (ended_lines (p.held ++ piece))) (f.lines e) ∙ ap (λ h. length (ended_lines text) + length (ended_lines (h ++ piece))) f.held
+  held = keeps-more test (most_kept p.plan) text piece p.held p.has_bytes new.held f.held (subst (λ pass. Keeps p.has_bytes pass (most_kept p.plan) new.held (open_rest (p.held ++ piece))) f.tests e.held);
+  lines = λ e. ap (λ k. cond k (p.lines + length (ended_lines (p.held ++ piece))) 0) e ∙ ap (λ n. n + length (ended_lines (p.held ++ piece))) (f.lines e)
+      ∙ ap (λ n. length (ended_lines text) + n) (ended-count test (most_kept p.plan) text piece p.held p.has_bytes f.held)
       ∙ sym (length-append (ended_lines text) (ended_lines (open_rest text ++ piece))) ∙ ap length (sym (ended_lines-append text piece));
   bytes = ap (λ n. n + length piece) f.bytes ∙ sym (length-append text piece);
   state = f.state;
@@ -111,26 +156,27 @@ lent-stopped (Whole h) = h
 module _ {o : GrepOptions} {test : List ℕ → Bool} {name text : List ℕ} (piece : List ℕ) {p : Picking} (new_p : Picking) {b : Block} (mid : Block) {before : Writer} (now : Writer)
     (s : StandsBehind o test name text p b before now) where
   -- the lines of a piece stand after the earlier lines
-  piece-lines : ended_in test (text ++ piece) ≡ ended_in test text ++ picked_behind test text (ended_lines (p.held ++ piece))
-  piece-lines = ended-more test text piece p s.fed
+  piece-lines : ended_in test (text ++ piece) ≡ ended_in test text ++ picked_behind test text (ended_lines (open_rest text ++ piece))
+  piece-lines = ended-more test text piece
 
   -- they are taken
-  more-lines : Feeds TakesLine p piece b (Ok More) new_p mid → Lent TakesLine b (picked_behind test text (ended_lines (p.held ++ piece))) (Ok More) mid
-  more-lines f = lent-behind s (ended_lines (p.held ++ piece)) (Lent-from_Lends f.lent)
+  more-lines : Feeds TakesLine p piece b (Ok More) new_p mid → Lent TakesLine b (picked_behind test text (ended_lines (open_rest text ++ piece))) (Ok More) mid
+  more-lines f = lent-piece s piece (Lent-from_Lends f.lent)
 
   -- a piece whose lines are all taken and written
   pub fed-on : (new : Block) (after : Writer) → Feeds TakesLine p piece b (Ok More) new_p mid → Writes now after mid.text.items → new.text.items ≡ [] → IsSameBlock mid new
       → StandsBehind o test name (text ++ piece) new_p new before after
   fed-on new after f passed none same = record {
     fed = fed-more test text piece p new_p s.fed (f.more refl);
-    numbers = ap (λ q. q.is_numbered) (f.more refl) ∙ s.numbers;
-    taken = taken-more o name (ended_in test text) (picked_behind test text (ended_lines (p.held ++ piece))) (ended_in test (text ++ piece)) b mid new before now after s.taken
+    numbers = ap (λ q. q.is_numbered) (f.more refl).rest ∙ s.numbers;
+    seen = ap (λ q. q.has_bytes) (f.more refl).rest ∙ s.seen;
+    taken = taken-more o name (ended_in test text) (picked_behind test text (ended_lines (open_rest text ++ piece))) (ended_in test (text ++ piece)) b mid new before now after s.taken
         (lent-more o name (more-lines f) s.taken.options s.taken.called) piece-lines passed none same;
   }
 
   -- all that lines of both add
-  all-added : flat_map (added_line o name) (ended_in test (text ++ piece)) ≡ flat_map (added_line o name) (ended_in test text) ++ flat_map (added_line o name) (picked_behind test text (ended_lines (p.held ++ piece)))
-  all-added = added-all o name (ended_in test text) (picked_behind test text (ended_lines (p.held ++ piece))) (ended_in test (text ++ piece)) piece-lines
+  all-added : flat_map (added_line o name) (ended_in test (text ++ piece)) ≡ flat_map (added_line o name) (ended_in test text) ++ flat_map (added_line o name) (picked_behind test text (ended_lines (open_rest text ++ piece)))
+  all-added = added-all o name (ended_in test text) (picked_behind test text (ended_lines (open_rest text ++ piece))) (ended_in test (text ++ piece)) piece-lines
 
   -- where their writing is cut, a front of all is written
   pub fed-cut : (after : Writer) → Feeds TakesLine p piece b (Ok More) new_p mid → WritesFront now after mid.text.items
@@ -138,16 +184,16 @@ module _ {o : GrepOptions} {test : List ℕ → Bool} {name text : List ℕ} (pi
   fed-cut after f cut =
       let m = lent-more o name (more-lines f) s.taken.options s.taken.called in
       subst (WritesFront before after) (sym all-added)
-      (WritesFront-behind before now after _ _ s.taken.written (subst (WritesFront now after) (held-lines o name (ended_in test text) (picked_behind test text (ended_lines (p.held ++ piece))) b mid before now s.taken m) cut))
+      (WritesFront-behind before now after _ _ s.taken.written (subst (WritesFront now after) (held-lines o name (ended_in test text) (picked_behind test text (ended_lines (open_rest text ++ piece))) b mid before now s.taken m) cut))
 
   -- where memory runs out, the text written is a front of all
   pub fed-starved : WritesFront before now (flat_map (added_line o name) (ended_in test (text ++ piece)))
   fed-starved = subst (WritesFront before now) (sym all-added)
-      (WritesFront-more before now (flat_map (added_line o name) (ended_in test text)) (flat_map (added_line o name) (picked_behind test text (ended_lines (p.held ++ piece)))) (WritesFront-all before now _ s.taken.written))
+      (WritesFront-more before now (flat_map (added_line o name) (ended_in test text)) (flat_map (added_line o name) (picked_behind test text (ended_lines (open_rest text ++ piece)))) (WritesFront-all before now _ s.taken.written))
 
   -- where no line is wanted any more, one was taken
-  stopped-lines : Feeds TakesLine p piece b (Ok Stop) new_p mid → Lent TakesLine b (picked_behind test text (ended_lines (p.held ++ piece))) (Ok Stop) mid
-  stopped-lines f = lent-behind s (ended_lines (p.held ++ piece)) (lent-stopped f.lent)
+  stopped-lines : Feeds TakesLine p piece b (Ok Stop) new_p mid → Lent TakesLine b (picked_behind test text (ended_lines (open_rest text ++ piece))) (Ok Stop) mid
+  stopped-lines f = lent-piece s piece (lent-stopped f.lent)
 
   -- which adds nothing
   pub fed-halted : Feeds TakesLine p piece b (Ok Stop) new_p mid → IsHalted o name (ended_in test (text ++ piece)) mid before now
@@ -158,7 +204,7 @@ module _ {o : GrepOptions} {test : List ℕ → Bool} {name text : List ℕ} (pi
         options = h.options;
         called = h.called;
         stop = h.stop;
-        some = subst (λ ls. 0 < length ls) (sym piece-lines) (omega (arith, h.some, length-append (ended_in test text) (picked_behind test text (ended_lines (p.held ++ piece)))));
+        some = subst (λ ls. 0 < length ls) (sym piece-lines) (omega (arith, h.some, length-append (ended_in test text) (picked_behind test text (ended_lines (open_rest text ++ piece)))));
         count = h.count;
         written = subst (Writes before now) (ap (flat_map (added_line o name)) none) s.taken.written;
         empty = lent-stop-text o name (stopped-lines f) s.taken.options s.taken.called ∙ ap (λ (held : List ℕ). held ++ []) s.taken.empty;
@@ -242,8 +288,8 @@ module _ {o : GrepOptions} {test : List ℕ → Bool} {name : List ℕ} (c : Con
   clean-lines : lines_of c ≡ lines c.text
   clean-lines = ap (λ f. cond f (ended_lines c.text) (lines c.text)) clean
 
-  clean-numbered : numbered test 0 (lines_of c) ≡ ended_in test c.text ++ picked_behind test c.text (last_line p.held)
-  clean-numbered = ap (numbered test 0) clean-lines ∙ all-lines test c.text [] p s.fed
+  clean-numbered : numbered test 0 (lines_of c) ≡ ended_in test c.text ++ picked_behind test c.text (last_line (open_rest c.text))
+  clean-numbered = ap (numbered test 0) clean-lines ∙ all-lines test c.text []
 
   -- it is no error
   clean-error : false ≡ is_trouble o test (Some c)
@@ -251,28 +297,28 @@ module _ {o : GrepOptions} {test : List ℕ → Bool} {name : List ℕ} (c : Con
 
   pub ended-whole : Finishes TakesLine p b (Ok More) new_p new → HasRead o test name c Clean new before now
   ended-whole f =
-      let m = lent-more o name (lent-behind s (last_line p.held) f.lent) s.taken.options s.taken.called in
-      let all : numbered test 0 (lines c.text) ≡ ended_in test c.text ++ picked_behind test c.text (last_line p.held) = all-lines test c.text [] p s.fed in
-      read-whole o test name c new before now (lines c.text) (ended_in test c.text) (picked_behind test c.text (last_line p.held)) clean-lines (omega (arith, few-lines c.text)) all m.options m.called
-      (m.count (length (ended_in test c.text)) s.taken.count ∙ ap (λ n. min n (2 ^ 64 - 1)) (sym (length-append (ended_in test c.text) (picked_behind test c.text (last_line p.held)))) ∙ ap (λ ls. min (length ls) (2 ^ 64 - 1)) (sym all))
-      s.taken.written (held-lines o name (ended_in test c.text) (picked_behind test c.text (last_line p.held)) b new before now s.taken m) Clean clean-error
+      let m = lent-more o name (lent-last s f.lent) s.taken.options s.taken.called in
+      let all : numbered test 0 (lines c.text) ≡ ended_in test c.text ++ picked_behind test c.text (last_line (open_rest c.text)) = all-lines test c.text [] in
+      read-whole o test name c new before now (lines c.text) (ended_in test c.text) (picked_behind test c.text (last_line (open_rest c.text))) clean-lines (omega (arith, few-lines c.text)) all m.options m.called
+      (m.count (length (ended_in test c.text)) s.taken.count ∙ ap (λ n. min n (2 ^ 64 - 1)) (sym (length-append (ended_in test c.text) (picked_behind test c.text (last_line (open_rest c.text))))) ∙ ap (λ ls. min (length ls) (2 ^ 64 - 1)) (sym all))
+      s.taken.written (held-lines o name (ended_in test c.text) (picked_behind test c.text (last_line (open_rest c.text))) b new before now s.taken m) Clean clean-error
 
   pub ended-halted : Finishes TakesLine p b (Ok Stop) new_p new → HasRead o test name c Clean new before now
   ended-halted f =
-      let h = lent-stop o name (lent-behind s (last_line p.held) f.lent) s.taken.options s.taken.called in
+      let h = lent-stop o name (lent-last s f.lent) s.taken.options s.taken.called in
       let none : ended_in test c.text ≡ [] = s.taken.unwanted h.stop in
-      read-halted o test name c new before now (ended_in test c.text ++ picked_behind test c.text (last_line p.held)) [] (clean-numbered ∙ sym (append-nil (ended_in test c.text ++ picked_behind test c.text (last_line p.held)))) (record {
+      read-halted o test name c new before now (ended_in test c.text ++ picked_behind test c.text (last_line (open_rest c.text))) [] (clean-numbered ∙ sym (append-nil (ended_in test c.text ++ picked_behind test c.text (last_line (open_rest c.text))))) (record {
         options = h.options;
         called = h.called;
         stop = h.stop;
-        some = omega (arith, h.some, length-append (ended_in test c.text) (picked_behind test c.text (last_line p.held)));
+        some = omega (arith, h.some, length-append (ended_in test c.text) (picked_behind test c.text (last_line (open_rest c.text))));
         count = h.count;
         written = subst (Writes before now) (ap (flat_map (added_line o name)) none) s.taken.written;
-        empty = lent-stop-text o name (lent-behind s (last_line p.held) f.lent) s.taken.options s.taken.called ∙ ap (λ (held : List ℕ). held ++ []) s.taken.empty;
+        empty = lent-stop-text o name (lent-last s f.lent) s.taken.options s.taken.called ∙ ap (λ (held : List ℕ). held ++ []) s.taken.empty;
       })
 
   pub ended-starved : WritesFront before now (block_in o test name (Some c))
-  ended-starved = read-front o test name c before now (ended_in test c.text) (picked_behind test c.text (last_line p.held)) clean-numbered (WritesFront-all before now _ s.taken.written)
+  ended-starved = read-front o test name c before now (ended_in test c.text) (picked_behind test c.text (last_line (open_rest c.text))) clean-numbered (WritesFront-all before now _ s.taken.written)
 
 -- whether lines come to an end at the last one
 pub ended-any : {o : GrepOptions} {test : List ℕ → Bool} {name : List ℕ} (c : Content) {p : Picking} (new_p : Picking) {b : Block} (new : Block) {before now : Writer} (answer : Next)
@@ -417,10 +463,10 @@ module _ {o : GrepOptions} {test : List ℕ → Bool} {name : List ℕ} {c : Con
   so_far-turns short many = absurd (omega (arith, r.turns, ap length r.parts, length-append r.done r.rest))
 
 -- a picker before any text
-pub fed-none : (test : List ℕ → Bool) (p : Picking) → picked_by p ≡ test → p.held ≡ [] → p.lines ≡ 0 → p.bytes ≡ 0 → p.state ≡ Running → HasFed test [] p
-fed-none test p tests held none_lines none_bytes state = record {
+pub fed-none : (test : List ℕ → Bool) (p : Picking) → picked_by p ≡ test → p.has_bytes ≡ true → p.held ≡ [] → p.lines ≡ 0 → p.bytes ≡ 0 → p.state ≡ Running → HasFed test [] p
+fed-none test p tests seen held none_lines none_bytes state = record {
   tests = tests;
-  held = held ∙ sym open_rest-nil;
+  held = subst (λ b. Keeps b test (most_kept p.plan) p.held (open_rest [])) (sym seen) (held ∙ sym open_rest-nil);
   lines = λ _. none_lines ∙ sym (ap length (ended_lines-none [] (All-nil (λ b. b ≢ 10))));
   bytes = none_bytes;
   state = state;
@@ -430,23 +476,38 @@ fed-none test p tests held none_lines none_bytes state = record {
 pub fed-bare : (test : List ℕ → Bool) (text : List ℕ) (p : Picking) → HasFed test text p → HasFed test text (record p { is_numbered = false; lines = 0 })
 fed-bare test text p f = record { tests = f.tests; held = f.held; lines = λ e. (cc); bytes = f.bytes; state = f.state }
 
+-- nor does it matter that one keeps only what decides an open line
+pub fed-unseen : (test : List ℕ → Bool) (p : Picking) → p.has_bytes ≡ true → HasFed test [] p → HasFed test [] (record p { has_bytes = false })
+fed-unseen test p seen f =
+    let none : p.held ≡ [] = kept-whole test (most_kept p.plan) p.has_bytes seen f.held ∙ open_rest-nil in
+    let kept : IsKept test (most_kept p.plan) [] [] = record { decides = decides-itself test [] (All-nil (λ b. b ≢ 10)); short = omega arith } in
+    record {
+      tests = f.tests;
+      held = subst (λ k. IsKept test (most_kept p.plan) k (open_rest [])) (sym none) (subst (λ r. IsKept test (most_kept p.plan) [] r) (sym open_rest-nil) kept);
+      lines = f.lines;
+      bytes = f.bytes;
+      state = f.state;
+    }
+
 -- whether the search of a picker learns does not change where it stands
 pub stands-learned : {o : GrepOptions} {test : List ℕ → Bool} {name text : List ℕ} {p q : Picking} {b : Block} {before now : Writer} → q ≡ record p { learns = q.learns } → StandsBehind o test name text p b before now → StandsBehind o test name text q b before now
 stands-learned {o} {test} {name} {text} {p} {q} {b} {before} {now} same s =
     subst (λ (x : Picking). StandsBehind o test name text x b before now) (sym same) record {
       fed = record { tests = s.fed.tests; held = s.fed.held; lines = s.fed.lines; bytes = s.fed.bytes; state = s.fed.state };
       numbers = s.numbers;
+      seen = s.seen;
       taken = s.taken;
     }
 
 -- at first picker and block stand before the content
-pub begin-stands : {o : GrepOptions} {test : List ℕ → Bool} {name : List ℕ} {p : Picking} {b : Block} (out : Writer) → HasFed test [] p → p.is_numbered ≡ o.number
+pub begin-stands : {o : GrepOptions} {test : List ℕ → Bool} {name : List ℕ} {p : Picking} {b : Block} (out : Writer) → HasFed test [] p → p.is_numbered ≡ o.number → p.has_bytes ≡ are_shown o
     → b.options.now ≡ o → b.name.now ≡ name → b.count ≡ 0 → b.text.items ≡ [] → StandsBehind o test name [] p b out out
-begin-stands {o} {test} {name} {p} {b} out f numbers options called count empty =
+begin-stands {o} {test} {name} {p} {b} out f numbers seen options called count empty =
     let none : ended_in test [] ≡ [] = ap (numbered test 0) (ended_lines-none [] (All-nil (λ b. b ≢ 10))) in
     record {
       fed = f;
       numbers = numbers;
+      seen = seen;
       taken = record {
         options = options;
         called = called;

@@ -1,5 +1,5 @@
 -- A block as its lines come: what a line adds, and what ends the block.
-use Rattle.std.specs.Prelude.{◌≡◌, ℕ, ◌+◌, ◌-◌, ◌^◌, ◌||◌, List, [], ◌++◌, if◌then◌else◌, min, nat_lt, Result, Ok, Err, codes, decimal}
+use Rattle.std.specs.Prelude.{◌≡◌, ℕ, ◌+◌, ◌-◌, ◌^◌, ◌||◌, Bool, not, List, [], ◌++◌, if◌then◌else◌, min, nat_lt, Result, Ok, Err, codes, decimal}
 use Rattle.line_pick.specs.declared.fault.Fault.{Fault}
 use Rattle.line_pick.specs.declared.fault.Fault.TheVariants.{OutOfMemory}
 use Rattle.line_pick.specs.declared.sink.Next.{Next}
@@ -7,6 +7,10 @@ use Rattle.line_pick.specs.declared.sink.Next.TheVariants.{More, Stop}
 use Rattle.grep_run.specs.declared.block.Block.{Block}
 use Rattle.grep_run.specs.declared.options.GrepOptions.{GrepOptions}
 use Rattle.grep_run.specs.Blocks.{prefix_of, written_line}
+
+-- whether lines are written: unless names, counts or nothing are
+abbrev pub are_shown : GrepOptions → Bool
+are_shown o = not (o.quiet || (o.list || o.count))
 
 -- a selected line adds itself, unless names, counts or nothing are written
 abbrev pub added_line : GrepOptions → List ℕ → ℕ × List ℕ → List ℕ

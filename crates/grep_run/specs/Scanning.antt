@@ -4,6 +4,7 @@ use Rattle.byte_io.specs.Sources.{Content}
 use Rattle.lit_base.specs.Lines.{ended_lines, open_rest}
 use Rattle.line_pick.specs.Lending.{numbered}
 use Rattle.line_pick.specs.Matching.{selects as picks_of}
+use Rattle.line_pick.specs.OpenLines.{Keeps, most_kept}
 use Rattle.line_pick.specs.Picking.{Picking}
 use Rattle.line_pick.specs.declared.sink.Next.TheVariants.{Stop}
 use Rattle.line_pick.specs.declared.state.State.TheVariants.{Running}
@@ -13,7 +14,7 @@ use Rattle.grep_run.specs.declared.request.End.{End}
 use Rattle.grep_run.specs.declared.request.End.TheVariants.{Clean, Fault}
 use Rattle.grep_run.specs.declared.status.Stop.{Stop as Halt}
 use Rattle.grep_run.specs.Blocks.{block_in, block_of, has_any, is_trouble, lines_of}
-use Rattle.grep_run.specs.Growing.{added_line, ending_of, next_of}
+use Rattle.grep_run.specs.Growing.{added_line, are_shown, ending_of, next_of}
 use Rattle.grep_run.specs.Writers.{Writer, Writes, WritesFront}
 
 -- the test of a picker
@@ -27,7 +28,7 @@ ended_in test text = numbered test 0 (ended_lines text)
 -- the picker, with this test, has been fed the text
 pub record HasFed (test : List ℕ → Bool) (text : List ℕ) (p : Picking) : Type 0 where
   pub tests : picked_by p ≡ test
-  pub held : p.held ≡ open_rest text
+  pub held : Keeps p.has_bytes test (most_kept p.plan) p.held (open_rest text)
   pub lines : p.is_numbered ≡ true → p.lines ≡ length (ended_lines text)
   pub bytes : p.bytes ≡ length text
   pub state : p.state ≡ Running
@@ -51,10 +52,11 @@ pub record IsHalted (o : GrepOptions) (name : List ℕ) (selected : List (ℕ ×
   pub written : Writes before out []
   pub empty : b.text.items ≡ []
 
--- picker and block stand after the text, and lines are numbered if numbers are written
+-- picker and block stand after the text; lines are numbered if numbers are written, and their bytes are seen if lines are
 pub record StandsBehind (o : GrepOptions) (test : List ℕ → Bool) (name text : List ℕ) (p : Picking) (b : Block) (before out : Writer) : Type 0 where
   pub fed : HasFed test text p
   pub numbers : p.is_numbered ≡ o.number
+  pub seen : p.has_bytes ≡ are_shown o
   pub taken : HasTaken o name (ended_in test text) b before out
 
 -- a piece was fed after a text: picker and block stand after both; no line is wanted any more; there are too many bytes; or it was cut

@@ -1,6 +1,7 @@
 //! The lines of one input, from its first byte to its end, its fault, or the last line that is wanted.
 ghost use Rattle.std.specs.Prelude.{◌≡◌, ℕ, ◌<◌, ◌||◌, Bool, List, [], IfOk, IfSome, Some, false, length, true};
 ghost use Rattle.byte_io.specs.Sources.{Content, IsShort, coming_of};
+ghost use Rattle.grep_run.specs.Growing.{are_shown};
 ghost use Rattle.grep_run.specs.Requests.{test_of};
 ghost use Rattle.line_pick.specs.Matching.{list_of};
 ghost use Rattle.grep_run.specs.Scanning.{FeedsPiece, HasFed, ReadsLines, StandsBehind};
@@ -8,6 +9,7 @@ ghost use Rattle.grep_run.specs.declared.options.GrepOptions.{GrepOptions};
 ghost use Rattle.grep_run.specs.Writers.{Writer, is_write_fault, writer};
 
 use crate::block::Block;
+use crate::options::GrepOptions;
 use crate::request::{End, Request};
 use crate::status::Stop;
 use flow_scan::{EndFinder, LEAST_SAMPLE};
@@ -26,11 +28,35 @@ fn finder_for(request: &Request<'_>) -> Result<Option<EndFinder>, AllocError>
 }
 
 /// A picker of the lines that a request selects, before any text, with what learned from the inputs before. It counts lines
-/// only where their numbers are written.
+/// only where their numbers are written, and keeps open lines only where lines are.
 pub fn picker_for<'a>(request: &Request<'a>, finder: Option<EndFinder>) -> Picker<'a>
     requires { IfSome finder (λ list. list_of request.now.patterns.now.plan ≡ Some list) }
     ensures fed { HasFed (test_of request.now) [] result }
     ensures numbers { result.is_numbered ≡ request.now.options.now.number }
+    ensures seen { result.has_bytes ≡ are_shown request.now.options.now }
+    ensures plan { result.plan ≡ request.now.patterns.now.plan }
+{
+    let picker = line_picker_for(request, finder);
+    if shows_lines(request.options) {
+        picker
+    } else {
+        picker.without_bytes()
+    }
+}
+
+/// Whether lines are written, and not names, counts or nothing.
+fn shows_lines(options: &GrepOptions) -> bool
+    ensures { result ≡ are_shown options.now }
+{
+    !(options.quiet || options.list || options.count)
+}
+
+/// A picker that keeps open lines, and counts lines where their numbers are written.
+fn line_picker_for<'a>(request: &Request<'a>, finder: Option<EndFinder>) -> Picker<'a>
+    requires { IfSome finder (λ list. list_of request.now.patterns.now.plan ≡ Some list) }
+    ensures fed { HasFed (test_of request.now) [] result }
+    ensures numbers { result.is_numbered ≡ request.now.options.now.number }
+    ensures seen { result.has_bytes ≡ true }
     ensures plan { result.plan ≡ request.now.patterns.now.plan }
 {
     let picker = numbered_picker_for(request, finder);
@@ -46,6 +72,7 @@ fn numbered_picker_for<'a>(request: &Request<'a>, finder: Option<EndFinder>) -> 
     requires { IfSome finder (λ list. list_of request.now.patterns.now.plan ≡ Some list) }
     ensures fed { HasFed (test_of request.now) [] result }
     ensures numbers { result.is_numbered ≡ true }
+    ensures seen { result.has_bytes ≡ true }
     ensures plan { result.plan ≡ request.now.patterns.now.plan }
 {
     let picker = plain_picker_for(request);
@@ -59,6 +86,7 @@ fn numbered_picker_for<'a>(request: &Request<'a>, finder: Option<EndFinder>) -> 
 fn plain_picker_for<'a>(request: &Request<'a>) -> Picker<'a>
     ensures fed { HasFed (test_of request.now) [] result }
     ensures numbers { result.is_numbered ≡ true }
+    ensures seen { result.has_bytes ≡ true }
     ensures plan { result.plan ≡ request.now.patterns.now.plan }
 {
     let rule = LineRule {

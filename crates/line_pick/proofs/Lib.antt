@@ -8,5 +8,6 @@ pub mod LentLemmas
 pub mod Literals
 pub mod Newlines
 pub mod NumberLemmas
+pub mod OpenLemmas
 pub mod Patterns
 pub mod Standing

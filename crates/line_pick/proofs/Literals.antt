@@ -111,7 +111,7 @@ module _ (l : Literals) (normal : IsNormal l) (line : List ℕ) where
   ends-matches (Some end) found = sym ((matching.matches l.folding false l.texts line).1 (match-from_end end found.here))
 
   -- the length of a literal, by its place
-  own_length : (place : ℕ) (t : List ℕ) → slice_get l.texts place ≡ Some t → get_or (lengths l) place 0 ≡ length t
+  pub own_length : (place : ℕ) (t : List ℕ) → slice_get l.texts place ≡ Some t → get_or (lengths l) place 0 ≡ length t
   own_length place t stands =
       let inside = slice_get_within l.texts place t stands in
       get_or_default (lengths l) place 0 (length t) (omega (arith, length-map l.texts (length {A = ℕ}), inside))

@@ -7,6 +7,7 @@ use Rattle.line_pick.specs.declared.sink.Next.{Next}
 use Rattle.line_pick.specs.declared.sink.Next.TheVariants.{More}
 use Rattle.line_pick.specs.Lending.{Lends, Lent, as_numbered, numbered}
 use Rattle.line_pick.specs.Matching.{selects}
+use Rattle.line_pick.specs.OpenLines.{Keeps, most_kept}
 use Rattle.line_pick.specs.Picking.{Picking, answer_in, fed_state, finished_state}
 
 -- the selected lines among the next lines, with their numbers
@@ -21,11 +22,16 @@ fed p piece = record p {
   bytes = p.bytes + length piece;
 }
 
+-- a picker was fed a piece: it holds what is kept of the open rest
+pub record IsFed (old : Picking) (piece : List ℕ) (new : Picking) : Type 0 where
+  pub rest : new ≡ record (fed old piece) { held = new.held }
+  pub held : Keeps old.has_bytes (selects old.plan old.has_empty old.rule) (most_kept old.plan) new.held (open_rest (old.held ++ piece))
+
 -- a running picker is fed: it emits the selected lines that the piece ends, and is refused exactly where the bytes fed
 -- would pass 2^64 - 1
 pub record Feeds {S : Type 0} (takes : S → ℕ → List ℕ → Result Next Fault → S → Type 0) (old : Picking) (piece : List ℕ) (sink : S) (answer : Result Next Fault) (new : Picking) (left : S) : Type 0 where
   pub lent : Lends (as_numbered old.is_numbered takes) sink (picked old (ended_lines (old.held ++ piece))) answer left
-  pub more : answer ≡ Ok More → new ≡ fed old piece
+  pub more : answer ≡ Ok More → IsFed old piece new
   pub state : new.state ≡ fed_state answer
   pub too_long : (answer ≡ Err StreamTooLong) ↔ (2 ^ 64 ≤ old.bytes + length piece)
 

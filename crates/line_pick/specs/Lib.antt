@@ -4,5 +4,6 @@ pub mod Feeding
 pub mod HitLines
 pub mod Lending
 pub mod Matching
+pub mod OpenLines
 pub mod Picking
 pub mod Progresses

@@ -8,12 +8,13 @@ use Rattle.line_pick.specs.declared.sink.Next.TheVariants.{More, Stop}
 use Rattle.line_pick.specs.declared.state.State.{State}
 use Rattle.line_pick.specs.declared.state.State.TheVariants.{Running, Stopped, Finished, Failed}
 
--- patterns, a rule, the bytes since the last newline, the numbers of ended lines, if lines are numbered, and of bytes so far, and whether the search tunes itself
+-- patterns, a rule, the bytes since the last newline, or what decides them where no bytes are seen, the numbers of ended lines, if lines are numbered, and of bytes so far, and whether the search tunes itself
 pub record Picking : Type 0 where
   pub plan : Option Plan
   pub has_empty : Bool
   pub rule : LineRule
   pub is_numbered : Bool
+  pub has_bytes : Bool
   pub held : List ℕ
   pub lines : ℕ
   pub bytes : ℕ

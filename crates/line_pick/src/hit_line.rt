@@ -200,7 +200,7 @@ fn first_end(
 /// The next position of a search's text at which some literal ends, by the finder if there is one, and otherwise by the
 /// plan alone.
 #[inline]
-fn next_end_behind(
+pub(crate) fn next_end_behind(
     compiled: &Compiled,
     finder: &mut Option<EndFinder>,
     search: &mut TextSearch<'_>,

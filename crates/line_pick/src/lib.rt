@@ -10,6 +10,7 @@ mod hit_line;
 mod lending;
 mod line_rule;
 mod matcher;
+mod open_line;
 mod picker;
 mod progress;
 mod sink;

@@ -17,7 +17,7 @@ use flow_scan::{Compiled, EndFinder};
 use std::alloc::Global;
 use std::marker::Model;
 
-/// Emits the selected lines of a text that comes in pieces. It keeps only the current line.
+/// Emits the selected lines of a text that comes in pieces. It keeps only the current line, or what decides it.
 #[derive(Debug, Drop)]
 pub struct Picker<'p> {
     matcher: Matcher<'p>,
@@ -41,6 +41,7 @@ impl<'p> Model for Picker<'p> {
       plan = option_copied p.matcher.plan;
       has_empty = p.matcher.has_empty;
       rule = p.matcher.rule;
+      has_bytes = p.progress.has_bytes;
       held = p.progress.held.items;
       is_numbered = p.progress.is_numbered;
       lines = if p.progress.is_numbered then p.progress.lines else 0;
@@ -68,6 +69,7 @@ impl<'p> Picker<'p> {
           has_empty = has_empty;
           rule = rule;
           is_numbered = true;
+          has_bytes = true;
           held = [];
           lines = 0;
           bytes = 0;
@@ -93,6 +95,15 @@ impl<'p> Picker<'p> {
         ensures { result ≡ record self.entry { is_numbered = false; lines = 0 } }
     {
         self.progress.is_numbered = false;
+        self
+    }
+
+    /// The same picker, which from now on holds of an open line only what decides whether it is selected: about twice as
+    /// many bytes as the longest literal has. So it emits some bytes in place of a line's, to a sink that ignores them.
+    pub fn without_bytes(mut self) -> Picker<'p>
+        ensures { result ≡ record self.entry { has_bytes = false } }
+    {
+        self.progress.has_bytes = false;
         self
     }
 
@@ -129,7 +140,8 @@ impl<'p> Picker<'p> {
     }
 
     /// Takes the next piece of the text, and emits to the sink each selected line that a newline ends in it: in order,
-    /// with its number and without its newline. A picker without numbers emits it with some number.
+    /// with its number and without its newline. A picker without numbers emits it with some number, and one without bytes
+    /// emits a line that came in several pieces with some bytes.
     ///
     /// The line to which the sink answers `Stop` or a fault is the last one emitted, and `feed` returns the same
     /// answer. `StreamTooLong` comes if the bytes fed would pass 2^64 - 1, before any line is emitted. `OutOfMemory`

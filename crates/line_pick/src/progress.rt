@@ -1,9 +1,10 @@
 //! The line that no newline has ended yet, and how far a text has come.
-ghost use Rattle.std.specs.Prelude.{◌≡◌, ◌≢◌, ◌↔◌, ◌≤◌, ◌+◌, ◌^◌, ◌++◌, ◌∷◌, [], Err, IfOk, IfSome, OnOk, OnErr, Some, length, true, vec_len};
+ghost use Rattle.std.specs.Prelude.{◌≡◌, ◌≢◌, ◌↔◌, ◌≤◌, ◌+◌, ◌^◌, ◌++◌, ◌∷◌, [], Err, IfOk, IfSome, OnOk, OnErr, Some, length, slice_range, true, vec_len};
 ghost use Rattle.std.specs.Option.{option_copied};
 ghost use Rattle.lit_base.specs.Lines.{IsOnePiece, ended_lines, last_line, open_rest};
 ghost use Rattle.line_pick.specs.Lending.{Lends, Lent, answer_of, as_numbered, numbered};
 ghost use Rattle.line_pick.specs.Matching.{AreInLines, picks, list_of};
+ghost use Rattle.line_pick.specs.OpenLines.{Decides, IsKept, Keeps, most_kept};
 ghost use Rattle.line_pick.specs.Progresses.{IsSound};
 
 use crate::cutting::{split_ended, split_line};
@@ -11,6 +12,7 @@ use crate::fault::Fault;
 use crate::halt::Halt;
 use crate::lending::lend_selected;
 use crate::matcher::Matcher;
+use crate::open_line::{Part, deciding_part, is_decided, is_short};
 use crate::sink::Sink;
 use crate::text_lending::lend_text;
 use flow_scan::EndFinder;
@@ -19,8 +21,10 @@ use std::alloc::Global;
 /// The line that no newline has ended yet, and how far a text has come.
 #[derive(Debug, Drop)]
 pub(crate) struct Progress {
-    /// The bytes since the last newline.
+    /// The bytes since the last newline, or what decides them.
     pub held: Vec<u8>,
+    /// Whether the sink sees the bytes of lines. Where it does not, only what decides the open line is held.
+    pub has_bytes: bool,
     /// Whether lines are numbered. Where they are not, those that are passed over are not counted.
     pub is_numbered: bool,
     /// How many lines were ended, if they are numbered, and else no more than that.
@@ -33,12 +37,14 @@ impl Progress {
     /// The progress before any text. It takes no memory.
     pub fn new(alloc: Global) -> Progress
         ensures held { result.held.items ≡ [] }
+        ensures seen { result.has_bytes ≡ true }
         ensures numbered { result.is_numbered ≡ true }
         ensures lines { result.lines ≡ 0 }
         ensures bytes { result.bytes ≡ 0 }
     {
         Progress {
             held: Vec::new(alloc),
+            has_bytes: true,
             is_numbered: true,
             lines: 0,
             bytes: 0,
@@ -58,12 +64,13 @@ impl Progress {
         requires apart { AreInLines (option_copied matcher.plan) }
         ensures same { finder.new ≡ finder.old }
         ensures sound { IsSound self.new }
+        ensures seen { self.new.has_bytes ≡ self.old.has_bytes }
         ensures numbered { self.new.is_numbered ≡ self.old.is_numbered }
         ensures lent { Lends (as_numbered self.old.is_numbered S.takes) sink.old
             (numbered (picks matcher.entry) self.old.lines (ended_lines (self.old.held.items ++ piece.now)))
             (answer_of result) sink.new }
-        ensures held { OnOk result
-            (self.new.held.items ≡ open_rest (self.old.held.items ++ piece.now)) }
+        ensures held { OnOk result (Keeps self.old.has_bytes (picks matcher.entry) (most_kept (option_copied matcher.entry.plan)) self.new.held.items
+            (open_rest (self.old.held.items ++ piece.now))) }
         ensures lines { OnOk result (self.old.is_numbered ≡ true → self.new.lines
             ≡ self.old.lines + length (ended_lines (self.old.held.items ++ piece.now))) }
         ensures bytes { OnOk result (self.new.bytes ≡ self.old.bytes + length piece.now) }
@@ -76,7 +83,7 @@ impl Progress {
             return self.take_lines(matcher, finder, piece, sink);
         }
         match split_line(piece) {
-            None => self.hold(piece),
+            None => self.hold_open(matcher, finder, piece),
             Some((front, behind)) => {
                 self.end_line(matcher, front, sink)?;
                 self.take_lines(matcher, finder, behind, sink)
@@ -89,12 +96,80 @@ impl Progress {
         ensures ok { OnOk result (self.new.held.items ≡ self.old.held.items ++ bytes.now) }
         ensures err { OnErr result (self.new.held.items ≡ self.old.held.items) }
         ensures starved { OnErr result (result ≡ Err (Halt.Failed Fault.OutOfMemory)) }
+        ensures seen { self.new.has_bytes ≡ self.old.has_bytes }
         ensures numbered { self.new.is_numbered ≡ self.old.is_numbered }
         ensures lines { self.new.lines ≡ self.old.lines }
         ensures bytes { self.new.bytes ≡ self.old.bytes }
     {
         self.held.extend_from_slice(bytes)?;
         Ok(())
+    }
+
+    /// Takes more bytes of the open line. It holds the line, or what decides it.
+    fn hold_open(
+        &mut self,
+        matcher: Matcher<'_>,
+        finder: &mut Option<EndFinder<'_>>,
+        bytes: &[u8],
+    ) -> Result<(), Halt>
+        requires finder { IfSome finder.old (λ plan. option_copied matcher.plan ≡ Some plan) }
+        requires sound { IsSound self.old }
+        requires one { IsOnePiece bytes.now }
+        requires counted { self.old.lines + vec_len self.old.held + length bytes.now ≤ self.old.bytes }
+        ensures same { finder.new ≡ finder.old }
+        ensures sound { IsSound self.new }
+        ensures seen { self.new.has_bytes ≡ self.old.has_bytes }
+        ensures numbered { self.new.is_numbered ≡ self.old.is_numbered }
+        ensures held { OnOk result (Keeps self.old.has_bytes (picks matcher.entry) (most_kept (option_copied matcher.entry.plan)) self.new.held.items
+            (self.old.held.items ++ bytes.now)) }
+        ensures starved { OnErr result (result ≡ Err (Halt.Failed Fault.OutOfMemory)) }
+        ensures lines { self.new.lines ≡ self.old.lines }
+        ensures bytes { self.new.bytes ≡ self.old.bytes }
+    {
+        if self.has_bytes {
+            return self.hold(bytes);
+        }
+        self.hold_undecided(matcher, bytes)?;
+        self.shorten(matcher, finder);
+        Ok(())
+    }
+
+    /// Holds the bytes, unless those that it holds decide the line.
+    fn hold_undecided(&mut self, matcher: Matcher<'_>, bytes: &[u8]) -> Result<(), Halt>
+        requires sound { IsSound self.old }
+        requires one { IsOnePiece bytes.now }
+        requires counted { self.old.lines + vec_len self.old.held + length bytes.now ≤ self.old.bytes }
+        ensures sound { IsSound self.new }
+        ensures seen { self.new.has_bytes ≡ self.old.has_bytes }
+        ensures numbered { self.new.is_numbered ≡ self.old.is_numbered }
+        ensures held { OnOk result (Decides (picks matcher.entry) self.new.held.items (self.old.held.items ++ bytes.now)) }
+        ensures starved { OnErr result (result ≡ Err (Halt.Failed Fault.OutOfMemory)) }
+        ensures lines { self.new.lines ≡ self.old.lines }
+        ensures bytes { self.new.bytes ≡ self.old.bytes }
+    {
+        if is_decided(matcher, self.held.as_slice()) {
+            return Ok(());
+        }
+        self.hold(bytes)
+    }
+
+    /// Holds of the open line only what decides it, unless it holds few bytes.
+    fn shorten(&mut self, matcher: Matcher<'_>, finder: &mut Option<EndFinder<'_>>)
+        requires finder { IfSome finder.old (λ plan. option_copied matcher.plan ≡ Some plan) }
+        requires sound { IsSound self.old }
+        ensures same { finder.new ≡ finder.old }
+        ensures sound { IsSound self.new }
+        ensures seen { self.new.has_bytes ≡ self.old.has_bytes }
+        ensures numbered { self.new.is_numbered ≡ self.old.is_numbered }
+        ensures held { IsKept (picks matcher.entry) (most_kept (option_copied matcher.entry.plan)) self.new.held.items self.old.held.items }
+        ensures lines { self.new.lines ≡ self.old.lines }
+        ensures bytes { self.new.bytes ≡ self.old.bytes }
+    {
+        if is_short(matcher, self.held.as_slice()) {
+            return;
+        }
+        let part = deciding_part(matcher, finder, self.held.as_slice());
+        keep_part(&mut self.held, part);
     }
 
     /// Ends the held line with its last bytes.
@@ -109,6 +184,7 @@ impl Progress {
         requires counted { self.old.lines + vec_len self.old.held + length front.now + 1
             ≤ self.old.bytes }
         ensures sound { IsSound self.new }
+        ensures seen { self.new.has_bytes ≡ self.old.has_bytes }
         ensures numbered { self.new.is_numbered ≡ self.old.is_numbered }
         ensures lent { Lends S.takes sink.old
             (numbered (picks matcher.entry) self.old.lines ((self.old.held.items ++ front.now) ∷ []))
@@ -140,11 +216,12 @@ impl Progress {
         requires counted { self.old.lines + length text.now ≤ self.old.bytes }
         ensures same { finder.new ≡ finder.old }
         ensures sound { IsSound self.new }
+        ensures seen { self.new.has_bytes ≡ self.old.has_bytes }
         ensures numbered { self.new.is_numbered ≡ self.old.is_numbered }
         ensures lent { Lends (as_numbered self.old.is_numbered S.takes) sink.old
             (numbered (picks matcher.entry) self.old.lines (ended_lines text.now))
             (answer_of result) sink.new }
-        ensures held { OnOk result (self.new.held.items ≡ open_rest text.now) }
+        ensures held { OnOk result (Keeps self.old.has_bytes (picks matcher.entry) (most_kept (option_copied matcher.entry.plan)) self.new.held.items (open_rest text.now)) }
         ensures lines { OnOk result (self.old.is_numbered ≡ true
             → self.new.lines ≡ self.old.lines + length (ended_lines text.now)) }
         ensures bytes { self.new.bytes ≡ self.old.bytes }
@@ -154,7 +231,7 @@ impl Progress {
         let _bytes = self.bytes;
         let (ended, open) = split_ended(text);
         self.lines = lend_text(matcher, finder, ended, self.lines, self.is_numbered, sink)?;
-        self.hold(open)
+        self.hold_open(matcher, finder, open)
     }
 
     /// Emits the open line, if it is a line and selected.
@@ -171,6 +248,16 @@ impl Progress {
         let _bytes = self.bytes;
         lend_selected(matcher, self.held.as_slice(), self.lines, sink)
     }
+}
+
+/// Removes all bytes but a part.
+fn keep_part(bytes: &mut Vec<u8>, part: Part)
+    requires ordered { part.start ≤ part.end }
+    requires within { part.end ≤ length bytes.old.items }
+    ensures { bytes.new.items ≡ slice_range bytes.old.items part.start part.end }
+{
+    bytes.copy_within(part.start..part.end, 0);
+    bytes.truncate(part.end - part.start);
 }
 
 /// The number of bytes with one more piece. The only error is `StreamTooLong`.

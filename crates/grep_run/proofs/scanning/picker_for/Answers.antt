@@ -1,6 +1,6 @@
--- A picker without numbers has been fed nothing either.
-use Rattle.grep_run.proofs.ScanLemmas.{fed-bare}
+-- Nor has a picker without bytes.
+use Rattle.grep_run.proofs.ScanLemmas.{fed-unseen}
 use Rattle.grep_run.proofs.scanning.picker_for.Goals as goal
 
-pub returns-else-request-clause-fed : goal.returns-else-request-clause-fed
-returns-else-request-clause-fed c = rw c.without_numbers.ensures (fed-bare _ _ _ c.numbered_picker_for-picker.ensures.fed)
+pub returns-else-shows_lines-clause-fed : goal.returns-else-shows_lines-clause-fed
+returns-else-shows_lines-clause-fed c = rw c.without_bytes.ensures (fed-unseen _ _ c.line_picker_for-picker.ensures.seen c.line_picker_for-picker.ensures.fed)

@@ -21,17 +21,17 @@ on_more (Ok x) e p = p
 on_more (Err halt) e p = absurd (answer_to-More halt e)
 
 -- a picker as shown
-abbrev shown : Option Plan → Bool → LineRule → Bool → List ℕ → ℕ → ℕ → State → Bool → Picking
-shown plan has_empty rule is_numbered held lines bytes state learns = record { plan = plan; has_empty = has_empty; rule = rule; is_numbered = is_numbered; held = held; lines = lines; bytes = bytes; state = state; learns = learns }
+abbrev shown : Option Plan → Bool → LineRule → Bool → Bool → List ℕ → ℕ → ℕ → State → Bool → Picking
+shown plan has_empty rule is_numbered has_bytes held lines bytes state learns = record { plan = plan; has_empty = has_empty; rule = rule; is_numbered = is_numbered; has_bytes = has_bytes; held = held; lines = lines; bytes = bytes; state = state; learns = learns }
 
-same-picking : (plan : Option Plan) (has_empty : Bool) (rule : LineRule) {k k' : Bool} {h h' : List ℕ} {l l' b b' : ℕ} {s s' : State} {f f' : Bool} → k ≡ k' → h ≡ h' → l ≡ l' → b ≡ b' → s ≡ s' → f ≡ f' → shown plan has_empty rule k h l b s f ≡ shown plan has_empty rule k' h' l' b' s' f'
-same-picking plan has_empty rule {k' = k'} {h = h} {h' = h'} {l = l} {l' = l'} {b = b} {b' = b'} {s = s} {s' = s'} {f = f} numbered held lines bytes state learns =
-    ap (λ x. shown plan has_empty rule x h l b s f) numbered
-    ∙ ap (λ x. shown plan has_empty rule k' x l b s f) held
-    ∙ ap (λ x. shown plan has_empty rule k' h' x b s f) lines
-    ∙ ap (λ x. shown plan has_empty rule k' h' l' x s f) bytes
-    ∙ ap (λ x. shown plan has_empty rule k' h' l' b' x f) state
-    ∙ ap (λ x. shown plan has_empty rule k' h' l' b' s' x) learns
+same-picking : (plan : Option Plan) (has_empty : Bool) (rule : LineRule) (h : List ℕ) {k k' : Bool} {y y' : Bool} {l l' b b' : ℕ} {s s' : State} {f f' : Bool} → k ≡ k' → y ≡ y' → l ≡ l' → b ≡ b' → s ≡ s' → f ≡ f' → shown plan has_empty rule k y h l b s f ≡ shown plan has_empty rule k' y' h l' b' s' f'
+same-picking plan has_empty rule h {k' = k'} {y = y} {y' = y'} {l = l} {l' = l'} {b = b} {b' = b'} {s = s} {s' = s'} {f = f} numbered seen lines bytes state learns =
+    ap (λ x. shown plan has_empty rule x y h l b s f) numbered
+    ∙ ap (λ x. shown plan has_empty rule k' x h l b s f) seen
+    ∙ ap (λ x. shown plan has_empty rule k' y' h x b s f) lines
+    ∙ ap (λ x. shown plan has_empty rule k' y' h l' x s f) bytes
+    ∙ ap (λ x. shown plan has_empty rule k' y' h l' b' x f) state
+    ∙ ap (λ x. shown plan has_empty rule k' y' h l' b' s' x) learns
 
 pub returns-clause-running : goal.returns-clause-running
 returns-clause-running g c = rw (← c.self.view_is) (λ running.
@@ -43,9 +43,12 @@ returns-clause-running g c = rw (← c.self.view_is) (λ running.
       lent = rw c.answered-answer.ensures (Lends-moved g.S.Sink.takes (picks m) old.lines (cond old.is_numbered old.lines 0) (ended_lines (old.held.items ++ c.args.piece.now)) old.is_numbered (shown-same old.is_numbered old.lines) c.take.ensures.lent);
       more = λ e.
           let all : answer_of c.take.result ≡ Ok More = sym c.answered-answer.ensures ∙ e in
-          same-picking (option_copied m.plan) m.has_empty m.rule c.take.ensures.numbered (on_more c.take.result all c.take.ensures.held)
-          (ap (λ is_numbered. cond is_numbered new.lines 0) c.take.ensures.numbered ∙ shown-more old.is_numbered old.lines new.lines count (on_more c.take.result all c.take.ensures.lines))
-          (on_more c.take.result all c.take.ensures.bytes) (c.after_feed-self-inside.ensures ∙ ap fed_state e ∙ sym running) (ap is_some c.take.ensures.same);
+          record {
+            rest = same-picking (option_copied m.plan) m.has_empty m.rule new.held.items c.take.ensures.numbered c.take.ensures.seen
+                (ap (λ is_numbered. cond is_numbered new.lines 0) c.take.ensures.numbered ∙ shown-more old.is_numbered old.lines new.lines count (on_more c.take.result all c.take.ensures.lines))
+                (on_more c.take.result all c.take.ensures.bytes) (c.after_feed-self-inside.ensures ∙ ap fed_state e ∙ sym running) (ap is_some c.take.ensures.same);
+            held = on_more c.take.result all c.take.ensures.held;
+          };
       state = c.after_feed-self-inside.ensures;
       too_long = search rules;
     })

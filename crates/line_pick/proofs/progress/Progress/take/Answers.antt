@@ -1,11 +1,13 @@
 -- The first line of the held bytes and the piece, and the lines after it.
-use Rattle.std.proofs.Common.{◌≡◌, ◌+◌, ◌++◌, Result, Err, arith, sym, ap, ◌∙◌}
+use Rattle.std.proofs.Common.{◌≡◌, ◌+◌, ◌++◌, Result, Err, arith, sym, ap, ◌∙◌, subst}
+use Rattle.std.specs.Option.{option_copied}
 use Rattle.std.proofs.lemmas.Result.{err_from_is_err_and, on_ok_weaker}
-use Rattle.lit_base.specs.Lines.{ended_lines}
+use Rattle.lit_base.specs.Lines.{ended_lines, open_rest}
 use Rattle.lit_base.proofs.EndedLemmas.{ended_lines-none, open_rest-none}
 use Rattle.line_pick.specs.declared.halt.Halt.{Halt}
 use Rattle.line_pick.specs.Lending.{NoneLeft, numbered}
 use Rattle.line_pick.specs.Matching.{picks}
+use Rattle.line_pick.specs.OpenLines.{Keeps, most_kept}
 use Rattle.line_pick.proofs.LentLemmas.{Lends-halted, Lends-held, Lends-join, Lends-lines, Lends-refused, Lent-from_Lends, Lent-lines, OnOk-any, answer_of-StreamTooLong, answer_to-More, count-first, count-none, numbered-first}
 use Rattle.line_pick.proofs.NumberLemmas.{Lends-same, Lends-taken, Lent-taken}
 use Rattle.line_pick.proofs.Newlines.{first-held, one-append, open_rest-first}
@@ -35,19 +37,19 @@ pub returns-in-None-clause-lent : goal.returns-in-None-clause-lent
 returns-in-None-clause-lent g c =
     let held = c.args.self.now.held.items in
     let none = ended_lines-none (held ++ c.args.piece.now) (one-append held c.args.piece.now c.requires.sound.one c.in-None.ensures) in
-    Lends-held c.hold.result (Lent-lines (ap (numbered (picks c.args.matcher) c.args.self.now.lines) (sym none)) NoneLeft) c.hold.ensures.starved
+    Lends-held c.hold_open.result (Lent-lines (ap (numbered (picks c.args.matcher) c.args.self.now.lines) (sym none)) NoneLeft) c.hold_open.ensures.starved
 
 pub returns-in-None-clause-held : goal.returns-in-None-clause-held
 returns-in-None-clause-held g c =
     let held = c.args.self.now.held.items in
     let all = open_rest-none (held ++ c.args.piece.now) (one-append held c.args.piece.now c.requires.sound.one c.in-None.ensures) in
-    on_ok_weaker c.hold.result (λ e. e ∙ sym all) c.hold.ensures.ok
+    on_ok_weaker c.hold_open.result (subst (Keeps c.args.self.now.has_bytes (picks c.args.matcher) (most_kept (option_copied c.args.matcher.plan)) c.hold_open.new.self.held.items) (sym all)) c.hold_open.ensures.held
 
 pub returns-in-None-clause-lines : goal.returns-in-None-clause-lines
 returns-in-None-clause-lines g c =
     let held = c.args.self.now.held.items in
     let none = count-none (held ++ c.args.piece.now) (one-append held c.args.piece.now c.requires.sound.one c.in-None.ensures) in
-    OnOk-any c.hold.result (λ _. omega (arith, none, c.hold.ensures.lines))
+    OnOk-any c.hold_open.result (λ _. omega (arith, none, c.hold_open.ensures.lines))
 
 pub returns-in_ok-end_line-in-Some-clause-lent : goal.returns-in_ok-end_line-in-Some-clause-lent
 returns-in_ok-end_line-in-Some-clause-lent g c =
@@ -63,7 +65,9 @@ returns-in_ok-end_line-in-Some-clause-lent g c =
 pub returns-in_ok-end_line-in-Some-clause-held : goal.returns-in_ok-end_line-in-Some-clause-held
 returns-in_ok-end_line-in-Some-clause-held g c =
     let held = c.args.self.now.held.items in
-    on_ok_weaker c.take_lines-in-Some.result (λ e. e ∙ sym (open_rest-first (first-held held c.requires.sound.one c.in-Some.ensures))) c.take_lines-in-Some.ensures.held
+    let same = open_rest-first (first-held held c.requires.sound.one c.in-Some.ensures) in
+    on_ok_weaker c.take_lines-in-Some.result (λ k. subst (λ has. Keeps has (picks c.args.matcher) (most_kept (option_copied c.args.matcher.plan)) c.take_lines-in-Some.new.self.held.items (open_rest (held ++ c.args.piece.now))) c.in_ok-end_line-in-Some.ensures.seen
+    (subst (Keeps c.end_line.new.self.has_bytes (picks c.args.matcher) (most_kept (option_copied c.args.matcher.plan)) c.take_lines-in-Some.new.self.held.items) (sym same) k)) c.take_lines-in-Some.ensures.held
 
 pub returns-in_ok-end_line-in-Some-clause-lines : goal.returns-in_ok-end_line-in-Some-clause-lines
 returns-in_ok-end_line-in-Some-clause-lines g c =
