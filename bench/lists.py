@@ -422,10 +422,15 @@ def as_groups(results, ours):
 def as_rows(results, names, ours):
     lines = heads(["search"] + names, ours)
     for title, like in gathered(results, "name"):
-        times = ["%.1f" % statistics.median([result.times[name] for result in like]) if name in like[0].times else ""
-                 for name in names]
+        times = [time_of(name, like) for name in names]
         lines.append("| %s | %s | %s |" % (title, " | ".join(times), ratios(like, ours)))
     return lines
+
+
+def time_of(name, results):
+    """The median time of a program over the searches that it answers as GNU grep does; empty if there is none."""
+    times = [result.times[name] for result in results if name in result.times]
+    return "%.1f" % statistics.median(times) if times else ""
 
 
 def as_reading(results, ours):
