@@ -67,14 +67,14 @@ fn by_windows(
     progress: Progress,
     count: usize,
 ) -> Option<Progress> {
-    let mut windows = Windows::new(alloc, compiled.list()).ok()?;
+    let mut windows = Windows::new(alloc, compiled.shared_index().ok()?).ok()?;
     windows.learn(sample, EndRate::nothing());
     Some(ends_by_windows(&windows, compiled, text, progress, count))
 }
 
 /// The ends that these factors find.
 fn ends_by_windows<'a>(
-    windows: &'a Windows<'_>,
+    windows: &'a Windows,
     compiled: &'a Compiled,
     text: &'a [u8],
     progress: Progress,
@@ -106,14 +106,14 @@ fn by_shift_or(
     progress: Progress,
     count: usize,
 ) -> Option<Progress> {
-    let mut shift_or = ShiftOr::new(alloc, compiled.list()).ok()?;
+    let mut shift_or = ShiftOr::new(alloc, compiled.shared_index().ok()?).ok()?;
     shift_or.learn(sample, EndRate::nothing());
     Some(ends_by_shift_or(&shift_or, compiled, text, progress, count))
 }
 
 /// The ends that this shift-or finds.
 fn ends_by_shift_or<'a>(
-    shift_or: &'a ShiftOr<'_>,
+    shift_or: &'a ShiftOr,
     compiled: &'a Compiled,
     text: &'a [u8],
     progress: Progress,
@@ -141,7 +141,7 @@ fn by_automaton(
     progress: Progress,
     count: usize,
 ) -> Option<Progress> {
-    let mut automaton = Automaton::new(alloc, compiled.list()).ok()?;
+    let mut automaton = Automaton::new(alloc, compiled.shared_index().ok()?).ok()?;
     if automaton.learn() {
         ends_by_automaton(&automaton, text, progress, count)
     } else {
@@ -151,7 +151,7 @@ fn by_automaton(
 
 /// The ends that this automaton finds.
 fn ends_by_automaton(
-    automaton: &Automaton<'_>,
+    automaton: &Automaton,
     text: &[u8],
     progress: Progress,
     count: usize,
