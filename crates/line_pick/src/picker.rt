@@ -119,7 +119,7 @@ impl<'p> Picker<'p> {
         requires { list_of self.plan ≡ Some finder }
         ensures { result ≡ record self.entry { learns = true } }
     {
-        self.finder = Some(finder);
+        self.learn_by(finder);
         self
     }
 
