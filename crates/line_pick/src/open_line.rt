@@ -3,7 +3,7 @@ ghost use Rattle.std.specs.Prelude.{◌≡◌, ◌<◌, ◌≤◌, ◌+◌, ◌+
 ghost use Rattle.std.specs.Option.{option_copied};
 ghost use Rattle.lit_base.specs.Literals.{lengths};
 ghost use Rattle.lit_base.specs.Selected.{matches};
-ghost use Rattle.line_pick.specs.Matching.{literals_of, picks};
+ghost use Rattle.line_pick.specs.Matching.{list_of, literals_of, picks};
 ghost use Rattle.line_pick.specs.OpenLines.{IsDecided, IsDecidingPart, longest_in, longest_of, most_kept};
 
 use crate::hit_line::next_end_behind;
@@ -23,10 +23,10 @@ pub(crate) struct Part {
 /// more.
 pub(crate) fn deciding_part(
     matcher: Matcher<'_>,
-    finder: &mut Option<EndFinder<'_>>,
+    finder: &mut Option<EndFinder>,
     line: &[u8],
 ) -> Part
-    requires { IfSome finder.old (λ plan. option_copied matcher.plan ≡ Some plan) }
+    requires { IfSome finder.old (λ list. list_of (option_copied matcher.plan) ≡ Some list) }
     ensures same { finder.new ≡ finder.old }
     ensures part { IsDecidingPart (picks matcher.entry) (longest_in (option_copied matcher.entry.plan)) line.now result.start result.end }
 {
@@ -103,8 +103,8 @@ fn prefix_longer(line: &[u8], longest: usize) -> Part
 }
 
 /// The last bytes up to the first end of a literal in a line, or the last bytes of the line if there is none.
-fn hit_or_tail(compiled: &Compiled, finder: &mut Option<EndFinder<'_>>, line: &[u8]) -> Part
-    requires { IfSome finder.old (λ plan. plan ≡ compiled.now) }
+fn hit_or_tail(compiled: &Compiled, finder: &mut Option<EndFinder>, line: &[u8]) -> Part
+    requires { IfSome finder.old (λ list. list ≡ compiled.now.literals) }
     ensures same { finder.new ≡ finder.old }
     ensures part { let list = compiled.now.literals in
         IsDecidingPart (matches list.folding false list.texts) (longest_of list) line.now result.start result.end }
@@ -130,7 +130,7 @@ fn ends_with_literal(compiled: &Compiled, line: &[u8]) -> bool
     ensures { let list = compiled.now.literals in
         IsTrue result → (more : List ℕ) → matches list.folding false list.texts (line.now ++ more) ≡ true }
 {
-    let list = compiled.list();
-    list.normal_law();
-    list.first_ending(line, line.len()).is_some()
+    let index = compiled.index();
+    index.normal_law();
+    index.first_ending(line, line.len()).is_some()
 }

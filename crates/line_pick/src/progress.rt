@@ -109,10 +109,10 @@ impl Progress {
     fn hold_open(
         &mut self,
         matcher: Matcher<'_>,
-        finder: &mut Option<EndFinder<'_>>,
+        finder: &mut Option<EndFinder>,
         bytes: &[u8],
     ) -> Result<(), Halt>
-        requires finder { IfSome finder.old (λ plan. option_copied matcher.plan ≡ Some plan) }
+        requires finder { IfSome finder.old (λ list. list_of (option_copied matcher.plan) ≡ Some list) }
         requires sound { IsSound self.old }
         requires one { IsOnePiece bytes.now }
         requires counted { self.old.lines + vec_len self.old.held + length bytes.now ≤ self.old.bytes }
@@ -154,8 +154,8 @@ impl Progress {
     }
 
     /// Holds of the open line only what decides it, unless it holds few bytes.
-    fn shorten(&mut self, matcher: Matcher<'_>, finder: &mut Option<EndFinder<'_>>)
-        requires finder { IfSome finder.old (λ plan. option_copied matcher.plan ≡ Some plan) }
+    fn shorten(&mut self, matcher: Matcher<'_>, finder: &mut Option<EndFinder>)
+        requires finder { IfSome finder.old (λ list. list_of (option_copied matcher.plan) ≡ Some list) }
         requires sound { IsSound self.old }
         ensures same { finder.new ≡ finder.old }
         ensures sound { IsSound self.new }

@@ -8,6 +8,6 @@ use Rattle.line_pick.proofs.open_line.ends_with_literal.Goals as goal
 pub returns : goal.returns
 returns c = λ is more.
     let line = c.args.line.now in
-    let normal = subst IsNormal c.list-list.ensures c.normal_law.ensures in
-    let found = subst (λ (l : Literals). MatchOption c.first_ending.result (NoneEnds l line 0 (length line)) (IsFirstEnding l line 0 (length line))) c.list-list.ensures c.first_ending.ensures.first in
+    let normal = subst IsNormal c.index-index.ensures c.normal_law.ensures in
+    let found = subst (λ (l : Literals). MatchOption c.first_ending.result (NoneEnds l line 0 (length line)) (IsFirstEnding l line 0 (length line))) c.index-index.ensures c.first_ending.ensures.first in
     found-stays c.args.compiled.now.literals normal line more c.first_ending.result found (sym c.is_some.ensures ∙ is)
