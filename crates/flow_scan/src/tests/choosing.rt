@@ -1,6 +1,6 @@
 //! Searches that change their engine at random positions of a text: the plan alone, factors that a piece of the text
 //! chooses, shift-or, the automaton, a finder. Together they find what the plan alone finds.
-ghost use Rattle.std.specs.Prelude.{◌≡◌};
+ghost use Rattle.std.specs.Prelude.{◌≡◌, IfOk};
 
 use crate::compiled::Compiled;
 use crate::end_finder::EndFinder;
@@ -13,7 +13,7 @@ use crate::tests::finding::{
 use crate::tests::owning::{How, agrees};
 use crate::windowed::WindowedEnds;
 use lit_base::Fold;
-use std::alloc::Global;
+use std::alloc::{AllocError, Global};
 use text_automaton::Automaton;
 use text_windows::{EndRate, ShiftOr, Windows};
 
@@ -67,9 +67,17 @@ fn by_windows(
     progress: Progress,
     count: usize,
 ) -> Option<Progress> {
-    let mut windows = Windows::new(alloc, compiled.shared_index().ok()?).ok()?;
+    let mut windows = windows_of(alloc, compiled).ok()?;
     windows.learn(sample, EndRate::nothing());
     Some(ends_by_windows(&windows, compiled, text, progress, count))
+}
+
+/// Factors of a plan's literals, before any sample.
+fn windows_of(alloc: Global, compiled: &Compiled) -> Result<Windows, AllocError>
+    ensures { IfOk result (λ windows. windows.literals ≡ compiled.now.literals) }
+{
+    let index = compiled.shared_index()?;
+    Windows::new(alloc, index)
 }
 
 /// The ends that these factors find.
@@ -106,9 +114,17 @@ fn by_shift_or(
     progress: Progress,
     count: usize,
 ) -> Option<Progress> {
-    let mut shift_or = ShiftOr::new(alloc, compiled.shared_index().ok()?).ok()?;
+    let mut shift_or = shift_or_of(alloc, compiled).ok()?;
     shift_or.learn(sample, EndRate::nothing());
     Some(ends_by_shift_or(&shift_or, compiled, text, progress, count))
+}
+
+/// Shift-or over a plan's literals, before any sample.
+fn shift_or_of(alloc: Global, compiled: &Compiled) -> Result<ShiftOr, AllocError>
+    ensures { IfOk result (λ made. made.literals ≡ compiled.now.literals) }
+{
+    let index = compiled.shared_index()?;
+    ShiftOr::new(alloc, index)
 }
 
 /// The ends that this shift-or finds.
