@@ -10,7 +10,7 @@ use Rattle.scan_wire.specs.Messages.{Feed, Hits, ReplyParts, RequestParts}
 use Rattle.scan_wire.specs.declared.message.TheConstants.{MAX_HITS}
 use Rattle.scan_serve.specs.Answering.{Answered, Step, Stopped}
 use Rattle.scan_serve.specs.Sending.{Sends, SendsFront}
-use Rattle.scan_serve.proofs.SendLemmas.{err_weaker, front_is, front_none, sends_is, sends_none, sends_then, sends_then_front}
+use Rattle.scan_serve.proofs.SendLemmas.{front_is, front_none, sends_is, sends_none, sends_then, sends_then_front}
 use Rattle.scan_core.specs.Blocks.{AreFull, joined}
 use Rattle.scan_core.specs.Fronts.{IsFeeding, MayFeed}
 use Rattle.scan_core.specs.Sessions.{IsEvent, Serving}
