@@ -151,12 +151,12 @@ stopped_feeding s t stream piece rest place hits v w x a b may so (inr (count, g
 
 -- a request by which a session gains no ticket
 abbrev GainsNone : RequestParts → Type 0
-GainsNone request = (loaded : List Told) (after : Serving) → AgreeAfter loaded request after
+GainsNone request = (loaded : List Told) (replies : List ReplyParts) (after : Serving) → AgreeAfter loaded request replies after
 
 -- is answered beside loaded plans as it is alone
 pub answered_beside : (loaded : List Told) (s t : Serving) (request : RequestParts) (v w : Option (List ℕ)) (a b : List ℕ) → GainsNone request → Answered IsEvent s t request v w a b → Answered (IsEventBeside loaded) s t request v w a b
 answered_beside loaded s t request v w a b none answered =
-    record { replies = answered.replies; is_step = record { event = answered.is_step; agreed = none loaded t }; sent = answered.sent }
+    record { replies = answered.replies; is_step = record { event = answered.is_step; agreed = none loaded answered.replies t }; sent = answered.sent }
 
 -- and answering it stops so
 pub stopped_beside : (loaded : List Told) (s : Serving) (request : RequestParts) (v w : Option (List ℕ)) (a : List ℕ) → GainsNone request → Stopped IsEvent s request v w a → Stopped (IsEventBeside loaded) s request v w a
@@ -164,7 +164,7 @@ stopped_beside loaded s request v w a none stopped = record {
   replies = stopped.replies;
   may = elim stopped.may [
     | inl nothing ↦ inl nothing
-    | inr step ↦ inr (step.0, record { event = step.1; agreed = none loaded step.0 })
+    | inr step ↦ inr (step.0, record { event = step.1; agreed = none loaded stopped.replies step.0 })
   ];
   sent = stopped.sent;
 }

@@ -1,10 +1,11 @@
 //! Answering the requests of a session beside plans that were published before it.
-ghost use Rattle.std.specs.Prelude.{◌≡◌, ◌≢◌, All, IsTrue, OnErr, OnOk};
+ghost use Rattle.std.specs.Prelude.{◌≡◌, ◌≢◌, [], ◌∷◌, All, IsTrue, OnErr, OnOk};
 ghost use Rattle.plan_store.specs.Tickets.{IsOf};
-ghost use Rattle.scan_wire.specs.Messages.{Open, Publish, ShowPlan, lent_parts, texts_of};
+ghost use Rattle.scan_wire.specs.Messages.{Open, Publish, ShowPlan, lent_parts, reply_parts, texts_of};
 ghost use Rattle.scan_serve.specs.Answering.{Answered, Stopped};
 ghost use Rattle.scan_core.specs.Sessions.{IsEvent};
-ghost use Rattle.scan_run.specs.Beside.{AgreeWithin, IsEventBeside};
+ghost use Rattle.scan_core.specs.Together.{AgreesWith};
+ghost use Rattle.scan_run.specs.Beside.{AgreeOn, AgreeReplied, IsEventBeside};
 
 use crate::feeding::answer_feed;
 use byte_io::ByteOut;
@@ -13,19 +14,39 @@ use lit_base::{Fold, Profile};
 use plan_store::Ticket;
 use scan_core::{Session, agrees_with};
 use scan_serve::{Outbox, Stop};
-use scan_wire::Lent;
+use scan_wire::{Lent, Reply};
 use std::alloc::Global;
 use std::sync::Wait;
 
-/// The law that tickets agree with each ticket of a session of their store. It takes no memory.
-fn agree_within(loaded: &[Ticket], session: &Session<'_>)
+/// The law that tickets of a number agree with each ticket of a session of their store. It takes no memory.
+fn agree_on(loaded: &[Ticket], number: u64, session: &Session<'_>)
     requires { All (IsOf session.now.store) loaded.now }
-    ensures { AgreeWithin loaded.now session.now }
+    ensures { AgreeOn loaded.now number session.now }
 {
     let mut place = 0;
     while place < loaded.len() {
-        agrees_with(&loaded[place], session);
+        agree_of(&loaded[place], number, session);
         place += 1;
+    }
+}
+
+/// The law for one ticket, if it has the number.
+fn agree_of(ticket: &Ticket, number: u64, session: &Session<'_>)
+    requires { IsOf session.now.store ticket.now }
+    ensures { ticket.now.number ≡ number → AgreesWith ticket.now session.now }
+{
+    if session.store().number(ticket) == number {
+        agrees_with(ticket, session);
+    }
+}
+
+/// The law for the number of a plan that was published.
+fn agree_replied(loaded: &[Ticket], reply: &Reply, session: &Session<'_>)
+    requires { All (IsOf session.now.store) loaded.now }
+    ensures { AgreeReplied loaded.now (reply_parts reply.now ∷ []) session.now }
+{
+    if let Reply::Published { number } = reply {
+        agree_on(loaded, *number, session);
     }
 }
 
@@ -93,7 +114,7 @@ fn answer_publish<R: Wait, W: ByteOut>(
     let Ok(reply) = session.publish(rt, alloc, fold, profile, literals) else {
         return Err(Stop::OutOfMemory);
     };
-    agree_within(loaded, session);
+    agree_replied(loaded, &reply, session);
     outbox.push(out, &reply)
 }
 
@@ -119,7 +140,7 @@ fn answer_open<W: ByteOut>(
     let Ok(reply) = session.open(alloc, stream, number) else {
         return Err(Stop::OutOfMemory);
     };
-    agree_within(loaded, session);
+    agree_on(loaded, number, session);
     outbox.push(out, &reply)
 }
 
