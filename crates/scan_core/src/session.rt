@@ -61,7 +61,7 @@ impl<'s> Session<'s> {
     }
 
     /// The store of this session.
-    pub(crate) fn store(&self) -> &'s PlanStore
+    pub fn store(&self) -> &'s PlanStore
         ensures { result.now ≡ self.now.store }
     {
         self.store

@@ -1,35 +1,37 @@
 -- A Feed answered as its hits are found is a Feed answered.
-use Rattle.std.proofs.Common.{◌≡◌, ◌≢◌, ℕ, zero, suc, ◌-◌, ◌<◌, List, [], ◌∷◌, ◌++◌, length, map, take, drop, Option, Result, Ok, IfOk, OnErr, inl, inr, refl, sym, ap, subst, ◌∙◌, append_assoc, arith, Contains}
+use Rattle.std.proofs.Common.{◌≡◌, ◌≢◌, ℕ, zero, suc, ◌-◌, ◌<◌, List, [], ◌∷◌, ◌++◌, length, map, take, drop, Option, inl, inr, refl, sym, ap, subst, ◌∙◌, append_assoc, arith, Contains}
 use Rattle.std.proofs.lemmas.Bool.{cases_lt}
 use Rattle.std.proofs.lemmas.List.{append-nil, length-append, take-append-drop}
 use Rattle.lit_base.specs.Literals.{Literals}
 use Rattle.flow_scan.specs.Tails.{AreAdded}
+use Rattle.plan_store.specs.Tickets.{Told}
 use Rattle.scan_wire.specs.Frames.{replies_text, reply_text}
 use Rattle.scan_wire.specs.Messages.{Feed, Hits, ReplyParts, RequestParts}
 use Rattle.scan_wire.specs.declared.message.TheConstants.{MAX_HITS}
-use Rattle.scan_serve.specs.Answering.{Answered, Stopped}
+use Rattle.scan_serve.specs.Answering.{Answered, Step, Stopped}
 use Rattle.scan_serve.specs.Sending.{Sends, SendsFront}
-use Rattle.scan_serve.proofs.SendLemmas.{err_weaker, front_is, front_none, sends_is, sends_none, sends_then, sends_then_front}
+use Rattle.scan_serve.proofs.SendLemmas.{front_is, front_none, sends_is, sends_none, sends_then, sends_then_front}
 use Rattle.scan_core.specs.Blocks.{AreFull, joined}
 use Rattle.scan_core.specs.Fronts.{IsFeeding, MayFeed}
 use Rattle.scan_core.specs.Sessions.{IsEvent, Serving}
 use Rattle.scan_core.specs.Steps.{fed_replies}
 use Rattle.scan_core.proofs.BlockLemmas.{blocks_behind, blocks_exist, full-append, joined-append}
 use Rattle.scan_core.proofs.FrontLemmas.{feeding_completes, feeding_ends, feeding_more, feeding_none}
+use Rattle.scan_run.specs.Beside.{AgreeAfter, IsEventBeside, IsStepBeside}
 use Rattle.scan_run.specs.Feeding.{FeedsOn, HasFed, StopsFeeding, last_block}
 use Rattle.scan_run.proofs.TellLemmas.{front_of_more, last_is, one_text, told_both, told_last}
 
 -- one reply is the answer
-pub answered_one : (s t : Serving) (request : RequestParts) (reply : ReplyParts) (v w : Option (List ℕ)) (a b : List ℕ) → IsEvent s request (reply ∷ []) t → Sends v w a b (reply_text reply) → Answered IsEvent s t request v w a b
-answered_one s t request reply v w a b event sent = record { replies = reply ∷ []; is_step = event; sent = sends_is v w a b _ _ (one_text reply) sent }
+pub answered_one : {S : Type 0} (step : Step S) (s t : S) (request : RequestParts) (reply : ReplyParts) (v w : Option (List ℕ)) (a b : List ℕ) → step s request (reply ∷ []) t → Sends v w a b (reply_text reply) → Answered step s t request v w a b
+answered_one step s t request reply v w a b event sent = record { replies = reply ∷ []; is_step = event; sent = sends_is v w a b _ _ (one_text reply) sent }
 
 -- of the one reply a front is written
-pub stopped_one : (s t : Serving) (request : RequestParts) (reply : ReplyParts) (v w : Option (List ℕ)) (a : List ℕ) → IsEvent s request (reply ∷ []) t → SendsFront v w a (reply_text reply) → Stopped IsEvent s request v w a
-stopped_one s t request reply v w a event sent = record { replies = reply ∷ []; may = inr (t, event); sent = front_is v w a _ _ (one_text reply) sent }
+pub stopped_one : {S : Type 0} (step : Step S) (s t : S) (request : RequestParts) (reply : ReplyParts) (v w : Option (List ℕ)) (a : List ℕ) → step s request (reply ∷ []) t → SendsFront v w a (reply_text reply) → Stopped step s request v w a
+stopped_one step s t request reply v w a event sent = record { replies = reply ∷ []; may = inr (t, event); sent = front_is v w a _ _ (one_text reply) sent }
 
 -- nothing is answered
-pub stopped_none : (s : Serving) (request : RequestParts) (v : Option (List ℕ)) (a : List ℕ) → Stopped IsEvent s request v v a
-stopped_none s request v a = record { replies = []; may = inl refl; sent = front_none v a [] }
+pub stopped_none : {S : Type 0} (step : Step S) (s : S) (request : RequestParts) (v : Option (List ℕ)) (a : List ℕ) → Stopped step s request v v a
+stopped_none step s request v a = record { replies = []; may = inl refl; sent = front_none v a [] }
 
 -- no hits end in no bytes
 no_hits : (l : Literals) (tail : List ℕ) (at : ℕ) (found : List (ℕ × ℕ)) → AreAdded l tail [] at found → length found ≡ 0
@@ -145,12 +147,40 @@ stopped_feeding s t stream piece rest place hits v w x a b may so (inr (count, g
     (front_is v x a _ _ (told_both stream so.blocks told.blocks)
     (sends_then_front v w x a b (replies_text (map (Hits stream) so.blocks)) (replies_text (map (Hits stream) told.blocks)) so.sent told.sent))
 
--- what holds of the reply of a call that gave one
-pub replied : {T E : Type 0} (now told : Result T E) (x : T) (P : T → Type 0) → now ≡ told → now ≡ Ok x → IfOk told P → P x
-replied now told x P same is ok = subst (λ (r : _). IfOk r P) (sym same ∙ is) ok
+-- ---- beside loaded plans
 
--- a prefix of the one reply to the request is written
-pub stopped_reply : {T E : Type 0} (s now t : Serving) (request asked : RequestParts) (reply : ReplyParts) (r : Result T E) (v w : Option (List ℕ)) (a : List ℕ) → s ≡ now → request ≡ asked → IsEvent s request (reply ∷ []) t → OnErr r (SendsFront v w a (reply_text reply)) → OnErr r (Stopped IsEvent now asked v w a)
-stopped_reply s now t request asked reply r v w a same is event sent =
-    err_weaker r (λ front. subst (λ n. Stopped IsEvent n asked v w a) same
-    (subst (λ q. Stopped IsEvent s q v w a) is (stopped_one s t request reply v w a event front))) sent
+-- a request by which a session gains no ticket
+abbrev GainsNone : RequestParts → Type 0
+GainsNone request = (loaded : List Told) (replies : List ReplyParts) (after : Serving) → AgreeAfter loaded request replies after
+
+-- is answered beside loaded plans as it is alone
+pub answered_beside : (loaded : List Told) (s t : Serving) (request : RequestParts) (v w : Option (List ℕ)) (a b : List ℕ) → GainsNone request → Answered IsEvent s t request v w a b → Answered (IsEventBeside loaded) s t request v w a b
+answered_beside loaded s t request v w a b none answered =
+    record { replies = answered.replies; is_step = record { event = answered.is_step; agreed = none loaded answered.replies t }; sent = answered.sent }
+
+-- and answering it stops so
+pub stopped_beside : (loaded : List Told) (s : Serving) (request : RequestParts) (v w : Option (List ℕ)) (a : List ℕ) → GainsNone request → Stopped IsEvent s request v w a → Stopped (IsEventBeside loaded) s request v w a
+stopped_beside loaded s request v w a none stopped = record {
+  replies = stopped.replies;
+  may = elim stopped.may [
+    | inl nothing ↦ inl nothing
+    | inr step ↦ inr (step.0, record { event = step.1; agreed = none loaded stopped.replies step.0 })
+  ];
+  sent = stopped.sent;
+}
+
+-- a session that keeps its tickets is answered with them
+pub answered_with : (loaded : List Told) (s t : Serving) (request : RequestParts) (v w : Option (List ℕ)) (a b : List ℕ) → Answered (IsEventBeside loaded) s t request v w a b
+    → Answered IsStepBeside record { session = s; loaded = loaded } record { session = t; loaded = loaded } request v w a b
+answered_with loaded s t request v w a b answered =
+    record { replies = answered.replies; is_step = record { event = answered.is_step; kept = refl }; sent = answered.sent }
+
+pub stopped_with : (loaded : List Told) (s : Serving) (request : RequestParts) (v w : Option (List ℕ)) (a : List ℕ) → Stopped (IsEventBeside loaded) s request v w a → Stopped IsStepBeside record { session = s; loaded = loaded } request v w a
+stopped_with loaded s request v w a stopped = record {
+  replies = stopped.replies;
+  may = elim stopped.may [
+    | inl nothing ↦ inl nothing
+    | inr step ↦ inr (record { session = step.0; loaded = loaded }, record { event = step.1; kept = refl })
+  ];
+  sent = stopped.sent;
+}

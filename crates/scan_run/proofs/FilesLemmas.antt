@@ -1,9 +1,11 @@
 -- Plan files loaded one after the other.
-use Rattle.std.proofs.Common.{◌≡◌, ◌∙◌, ℕ, List, [], ◌∷◌, ◌++◌, Ok, Err, refl, sym, ap, string_bytes, subst}
+use Rattle.std.proofs.Common.{◌≡◌, ◌∙◌, ℕ, List, [], ◌∷◌, ◌++◌, All, Ok, Err, refl, sym, ap, string_bytes, subst}
 use Rattle.std.specs.Global.{Global}
 use Rattle.std.specs.declared.string.String.{String}
 use Rattle.std.proofs.lemmas.List.{map-append}
+use Rattle.std.proofs.lemmas.List.Elements.{All-append}
 use Rattle.boxcar.specs.Table.{Shelves}
+use Rattle.plan_store.specs.Tickets.{IsOf}
 use Rattle.plan_file.specs.declared.fault.Fault.{Fault}
 use Rattle.scan_run.specs.LoadingFiles.{Loading, LoadsEach, LoadsOne, StopsLoading, names_of}
 
@@ -31,3 +33,9 @@ stops-at store names before others name bytes a b c fault parts is each one = re
   loaded = each;
   stops = one;
 }
+
+-- all tickets that loading gained are of the store
+pub each-here : (store : Shelves) (names : List (List ℕ)) (a b : Loading) → All (IsOf store) a.tickets → LoadsEach store names a b → All (IsOf store) b.tickets
+each-here store [] a b here same = subst (λ (x : Loading). All (IsOf store) x.tickets) (sym same) here
+each-here store (name ∷ names) a b here (next, one, rest) =
+    each-here store names next b (subst (All (IsOf store)) (sym one.loads.loads.grown) (All-append (IsOf store) a.tickets one.loads.loads.published here one.loads.loads.here)) rest

@@ -2,6 +2,7 @@ pub mod Limits
 pub mod Feeding
 pub mod Messages
 pub mod Statuses
+pub mod Beside
 pub mod Alone
 pub mod Reports
 pub mod Loading

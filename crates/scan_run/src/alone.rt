@@ -1,28 +1,33 @@
 //! Serving one stream.
-ghost use Rattle.std.specs.Prelude.{◌≡◌};
-ghost use Rattle.scan_run.specs.Alone.{EndsAlone};
+ghost use Rattle.std.specs.Prelude.{◌≡◌, All};
+ghost use Rattle.plan_store.specs.Tickets.{IsOf};
+ghost use Rattle.scan_run.specs.Alone.{EndsAlone, MayHaveFailed};
 
-use crate::serving::serve;
+use crate::serving::serve_loaded;
 use crate::status::Status;
 use byte_io::{ByteIn, ByteOut};
-use plan_store::PlanStore;
+use plan_store::{PlanStore, Ticket};
 use std::alloc::Global;
 use std::sync::Wait;
 
-/// Serves one stream of frames to its end, as a session of the store. The status says how it ended.
+/// Serves one stream of frames to its end, as a session of the store. `loaded` are the tickets of plans that were
+/// published before. The status says how it ended.
 pub fn serve_alone<R: Wait, I: ByteIn, O: ByteOut>(
     rt: &R,
     alloc: Global,
     store: &PlanStore,
+    loaded: &[Ticket],
     input: &mut I,
     out: &mut O,
 ) -> Status
-    ensures ends { EndsAlone store.now result (I.coming input.old) (I.coming input.new)
-        (O.written out.old) (O.written out.new) }
+    requires { All (IsOf store.now) loaded.now }
+    ensures ends { EndsAlone store.now loaded.now result
+        (MayHaveFailed (I.has_failed input.new) (I.given input.old) (I.given input.new)) (O.has_failed out.new)
+        (I.coming input.old) (I.coming input.new) (O.written out.old) (O.written out.new) }
 
     // Where it ends well no read and no write has failed.
     ensures unread { result ≡ Status.Clean → I.has_failed input.new ≡ I.has_failed input.old }
     ensures unwritten { result ≡ Status.Clean → O.has_failed out.new ≡ O.has_failed out.old }
 {
-    Status::from(serve(rt, alloc, store, input, out))
+    Status::from(serve_loaded(rt, alloc, store, loaded, input, out))
 }

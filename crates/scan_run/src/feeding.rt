@@ -35,6 +35,7 @@ fn feed_on<W: ByteOut>(
         (W.written out.old) (W.written out.new) outbox.old) }
     ensures fault { result ≡ Err Stop.WriteFault → IsTrue (W.has_failed out.new) }
     ensures flag { result ≢ Err Stop.WriteFault → W.has_failed out.new ≡ W.has_failed out.old }
+    ensures store { session.new.store ≡ session.old.store }
 {
     let most = MAX_HITS - hits.len();
     let Ok(count) = session.feed_front(alloc, stream, piece, most, hits) else {
@@ -62,6 +63,7 @@ fn feed_whole<W: ByteOut>(
         (W.written out.old) (W.written out.new) outbox.old) }
     ensures fault { result ≡ Err Stop.WriteFault → IsTrue (W.has_failed out.new) }
     ensures flag { result ≢ Err Stop.WriteFault → W.has_failed out.new ≡ W.has_failed out.old }
+    ensures store { session.new.store ≡ session.old.store }
 {
     hits.clear();
     let mut rest = piece;
@@ -90,6 +92,7 @@ pub(crate) fn answer_feed<W: ByteOut>(
         (W.written out.old) (W.written out.new) outbox.old) }
     ensures fault { result ≡ Err Stop.WriteFault → IsTrue (W.has_failed out.new) }
     ensures flag { result ≢ Err Stop.WriteFault → W.has_failed out.new ≡ W.has_failed out.old }
+    ensures store { session.new.store ≡ session.old.store }
 {
     match session.place_behind(stream, piece) {
         Ok(place) => feed_whole(alloc, session, hits, stream, piece, place, outbox, out),

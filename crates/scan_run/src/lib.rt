@@ -2,6 +2,7 @@
 #![tactic(auto)]
 
 mod alone;
+mod answering;
 mod connection;
 mod connections;
 mod feeding;
@@ -22,5 +23,5 @@ pub use loading_files::load_files;
 pub use plan_file::Fault;
 pub use port::say_port;
 pub use scan_serve::Ended;
-pub use serving::{serve, serve_session};
+pub use serving::{serve, serve_loaded, serve_session};
 pub use status::Status;

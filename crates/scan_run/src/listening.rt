@@ -1,5 +1,6 @@
 //! Serving many streams at once over one store, each in a thread of its own.
-ghost use Rattle.std.specs.Prelude.{◌≡◌, ◌≢◌, ◌≤◌, ◌||◌, false, length};
+ghost use Rattle.std.specs.Prelude.{◌≡◌, ◌≢◌, ◌≤◌, ◌||◌, All, false, length};
+ghost use Rattle.plan_store.specs.Tickets.{IsOf};
 ghost use Rattle.scan_run.specs.Limits.{AreConnections};
 ghost use Rattle.scan_run.specs.Reports.{ReportsSome};
 
@@ -9,27 +10,30 @@ use crate::report::report;
 use crate::status::Status;
 use arrayvec::ArrayVec;
 use byte_io::ByteOut;
-use plan_store::PlanStore;
+use plan_store::{PlanStore, Ticket};
 use scan_serve::Ended;
 use std::alloc::Global;
 use std::net::{TcpListener, TcpStream};
 use std::sync::Wait;
 use std::thread::{self, JoinHandle, Scope, Threads};
 
-/// Accepts the given number of connections, and serves each in a thread of its own, as a session of the store. When all
-/// have ended, it reports on `out` how, a line for each in order of acceptance. Once the last one is accepted, or
-/// accepting failed, the listener is closed, so that a late client is refused.
+/// Accepts the given number of connections, and serves each in a thread of its own, as a session of the store. `loaded`
+/// are the tickets of plans that were published before. When all have ended, it reports on `out` how, a line for each in
+/// order of acceptance. Once the last one is accepted, or accepting failed, the listener is closed, so that a late
+/// client is refused.
 ///
 /// It waits for clients, and for as long as they keep their connections.
 pub fn listen<R: Threads + Wait + Sync, O: ByteOut, E: ByteOut>(
     rt: &R,
     alloc: Global,
     store: &PlanStore,
+    loaded: &[Ticket],
     listener: TcpListener,
     connections: Connections,
     out: &mut O,
     err: &mut E,
 ) -> Status
+    requires { All (IsOf store.now) loaded.now }
     ensures told { ReportsSome connections.count result (O.has_failed out.new) (E.has_failed err.new)
         (O.written out.old) (O.written out.new) (E.written err.old) (E.written err.new) }
 
@@ -37,7 +41,7 @@ pub fn listen<R: Threads + Wait + Sync, O: ByteOut, E: ByteOut>(
     ensures fault { result ≢ Status.Trouble
         → (O.has_failed out.new || E.has_failed err.new) ≡ (O.has_failed out.old || E.has_failed err.old) }
 {
-    let served = serve_all(rt, alloc, store, listener, connections.count());
+    let served = serve_all(rt, alloc, store, loaded, listener, connections.count());
     report(alloc, &served.endings, served.faulty, out, err)
 }
 
@@ -58,10 +62,12 @@ fn serve_all<R: Threads + Wait + Sync>(
     rt: &R,
     alloc: Global,
     store: &PlanStore,
+    loaded: &[Ticket],
     listener: TcpListener,
     connections: usize,
 ) -> Served
-    requires { AreConnections connections }
+    requires some { AreConnections connections }
+    requires here { All (IsOf store.now) loaded.now }
     ensures few { length result.endings.items ≤ connections }
     ensures all { result.faulty ≡ false → length result.endings.items ≡ connections }
 {
@@ -69,9 +75,17 @@ fn serve_all<R: Threads + Wait + Sync>(
         thread::scope_env(),
         rt,
         |scope|
-            requires { AreConnections connections }
+            requires { AreConnections connections × All (IsOf store.now) loaded.now }
         {
-            let (threads, faulty) = accept_all(scope, rt, alloc, store, listener, connections);
+            let (threads, faulty) = accept_all(
+                scope,
+                rt,
+                alloc,
+                store,
+                loaded,
+                listener,
+                connections,
+            );
             Served {
                 endings: join_all(rt, threads),
                 faulty,
@@ -86,10 +100,12 @@ fn accept_all<'s, E, R: Threads + Wait + Sync>(
     rt: &'s R,
     alloc: Global,
     store: &'s PlanStore,
+    loaded: &'s [Ticket],
     listener: TcpListener,
     connections: usize,
 ) -> (Serving, bool)
-    requires { AreConnections connections }
+    requires some { AreConnections connections }
+    requires here { All (IsOf store.now) loaded.now }
     ensures few { length result.0.items ≤ connections }
     ensures all { result.1 ≡ false → length result.0.items ≡ connections }
 {
@@ -98,7 +114,11 @@ fn accept_all<'s, E, R: Threads + Wait + Sync>(
         let Ok(stream) = accepted(&listener) else {
             return (threads, true);
         };
-        let thread = scope.spawn(move || serve_connection(rt, alloc, store, stream));
+        let thread = scope.spawn(
+            move || -> Ended
+                requires { All (IsOf store.now) loaded.now }
+            { serve_connection(rt, alloc, store, loaded, stream) },
+        );
         threads.push(thread.ok());
     }
     (threads, false)

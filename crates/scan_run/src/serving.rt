@@ -1,20 +1,20 @@
 //! Serving a session of a store over a stream of frames.
-ghost use Rattle.std.specs.Prelude.{◌≡◌, ◌≢◌, ◌+◌, ◌^◌, ◌≤◌, ◌⊎◌, ◌∷◌, [], IfOk, IsTrue, OnErr, OnOk};
-ghost use Rattle.scan_wire.specs.Messages.{Open, lent_parts, reply_parts};
-ghost use Rattle.scan_serve.specs.Answering.{Answered, Stopped};
+ghost use Rattle.std.specs.Prelude.{◌≡◌, ◌≢◌, ◌+◌, ◌^◌, ◌≤◌, ◌⊎◌, [], All, IsTrue};
+ghost use Rattle.plan_store.specs.Tickets.{IsOf};
 ghost use Rattle.scan_serve.specs.Serving.{EndsAs};
 ghost use Rattle.scan_core.specs.Sessions.{IsEvent, Serving, fresh};
 ghost use Rattle.scan_core.specs.Steps.{SessionParts, new_session};
 ghost use Rattle.scan_core.specs.Worlds.{Streamed};
+ghost use Rattle.scan_run.specs.Beside.{IsEventBeside};
 ghost use Rattle.scan_run.specs.Seen.{IsStepByBytes};
 
-use crate::feeding::answer_feed;
+use crate::answering::answer_request;
 use byte_io::{ByteIn, ByteOut};
 use flow_scan::Hit;
-use plan_store::PlanStore;
-use scan_core::{Fault, Session};
+use plan_store::{PlanStore, Ticket};
+use scan_core::Session;
 use scan_serve::{Answer, Ended, Outbox, Stop};
-use scan_wire::{Lent, Reply};
+use scan_wire::Lent;
 use std::alloc::Global;
 use std::marker::Model;
 use std::sync::Wait;
@@ -25,23 +25,29 @@ struct Served<'r, 's, R: Wait> {
     rt: &'r R,
     alloc: Global,
     session: Session<'s>,
+    /// Tickets of plans of its store that were published before.
+    loaded: &'r [Ticket],
     /// Hits that are not yet sent: fewer than two replies take.
     hits: Vec<Hit>,
 }
 
-/// A contract sees the session.
+/// A contract sees the session and the loaded tickets.
 impl<'r, 's, R: Wait> Model for Served<'r, 's, R> {
-    ghost use Rattle.scan_core.specs.Sessions.{Serving};
+    ghost use Rattle.std.specs.Prelude.{All};
+    ghost use Rattle.plan_store.specs.Tickets.{IsOf};
+    ghost use Rattle.scan_run.specs.Beside.{Beside};
 
-    ghost Value = { Serving };
+    ghost Value = { Beside };
 
-    ghost view = { λ s. s.session };
+    ghost view = { λ s. record { session = s.session; loaded = s.loaded.now } };
+
+    ghost invariant = { λ s. All (IsOf s.session.store) s.loaded.now };
 }
 
 impl<'r, 's, R: Wait> Answer for Served<'r, 's, R> {
-    ghost use Rattle.scan_core.specs.Sessions.{IsEvent};
+    ghost use Rattle.scan_run.specs.Beside.{IsStepBeside};
 
-    ghost step = { IsEvent };
+    ghost step = { IsStepBeside };
 
     fn answer<W: ByteOut>(
         &mut self,
@@ -49,49 +55,55 @@ impl<'r, 's, R: Wait> Answer for Served<'r, 's, R> {
         outbox: &mut Outbox,
         out: &mut W,
     ) -> Result<(), Stop> {
-        let reply = match request {
-            Lent::Feed { stream, bytes } => {
-                return answer_feed(
-                    self.alloc,
-                    &mut self.session,
-                    &mut self.hits,
-                    stream,
-                    bytes,
-                    outbox,
-                    out,
-                );
-            }
-            Lent::Publish {
-                fold,
-                profile,
-                literals,
-            } => self
-                .session
-                .publish(self.rt, self.alloc, fold, profile, &literals),
-            Lent::Open { stream, number } => opened(&mut self.session, self.alloc, stream, number),
-            Lent::Close { stream } => Ok(self.session.close(stream)),
-            Lent::ShowPlan { stream } => self.session.show_plan(stream),
-        };
-        let Ok(reply) = reply else {
-            return Err(Stop::OutOfMemory);
-        };
-        outbox.push(out, &reply)
+        answer_request(
+            self.rt,
+            self.alloc,
+            &mut self.session,
+            self.loaded,
+            &mut self.hits,
+            request,
+            outbox,
+            out,
+        )
     }
 }
 
-/// The reply to an Open. Where memory ran out nobody needs the ticket that comes with the fault.
-fn opened(
-    session: &mut Session<'_>,
+/// Serves a session as `serve_session` does. `loaded` are tickets of its store, whose plans were published before. No
+/// plan that the session gains has the number of another loaded plan.
+fn serve_beside<'s, R: Wait, I: ByteIn, O: ByteOut>(
+    rt: &R,
     alloc: Global,
-    stream: u32,
-    number: u64,
-) -> Result<Reply, Fault>
-    ensures ok { IfOk result (λ reply. IsEvent session.old (Open stream number) (reply_parts reply ∷ []) session.new) }
+    session: Session<'s>,
+    loaded: &[Ticket],
+    input: &mut I,
+    out: &mut O,
+) -> (Ended, Session<'s>)
+    requires { All (IsOf session.store) loaded.now }
+    ensures ends { EndsAs (IsEventBeside loaded.now) session.entry result.1
+        (I.coming input.old) (I.coming input.new)
+        (O.written out.old) (O.written out.new) [] result.0 }
+    ensures store { result.0 ≢ Ended.WriteFault → result.0 ≢ Ended.OutOfMemory
+        → result.1.store ≡ session.entry.store }
+    ensures read_fault { result.0 ≡ Ended.ReadFault
+        → IsTrue (I.has_failed input.new) ⊎ (I.given input.old + 2 ^ 40 ≤ I.given input.new) }
+    ensures write_fault { result.0 ≡ Ended.WriteFault → IsTrue (O.has_failed out.new) }
+    ensures unread { result.0 ≢ Ended.ReadFault → I.has_failed input.new ≡ I.has_failed input.old }
+    ensures unwritten { result.0 ≢ Ended.WriteFault → O.has_failed out.new ≡ O.has_failed out.old }
 {
-    match session.open(alloc, stream, number) {
-        Ok(reply) => Ok(reply),
-        Err((fault, _ticket)) => Err(fault),
-    }
+    let mut served = Served {
+        rt,
+        alloc,
+        session,
+        loaded,
+        hits: Vec::new(alloc),
+    };
+    let ended = scan_serve::serve(alloc, &mut served, input, out);
+    let Served {
+        session,
+        hits: _hits,
+        ..
+    } = served;
+    (ended, session)
 }
 
 /// Serves a session over a stream of frames to its end, and returns it. Requests are read from `input`, and answered in
@@ -121,19 +133,31 @@ pub fn serve_session<'s, R: Wait, I: ByteIn, O: ByteOut>(
     ensures unread { result.0 ≢ Ended.ReadFault → I.has_failed input.new ≡ I.has_failed input.old }
     ensures unwritten { result.0 ≢ Ended.WriteFault → O.has_failed out.new ≡ O.has_failed out.old }
 {
-    let mut served = Served {
-        rt,
-        alloc,
-        session,
-        hits: Vec::new(alloc),
-    };
-    let ended = scan_serve::serve(alloc, &mut served, input, out);
-    let Served {
-        session,
-        hits: _hits,
-        ..
-    } = served;
-    (ended, session)
+    serve_beside(rt, alloc, session, &[], input, out)
+}
+
+/// Serves a session of the store as `serve` does. `loaded` are tickets of plans that were published before: no plan
+/// that the session publishes or opens has the number of another loaded plan.
+pub fn serve_loaded<R: Wait, I: ByteIn, O: ByteOut>(
+    rt: &R,
+    alloc: Global,
+    store: &PlanStore,
+    loaded: &[Ticket],
+    input: &mut I,
+    out: &mut O,
+) -> Ended
+    requires { All (IsOf store.now) loaded.now }
+    ensures ends { (after : Serving) × EndsAs (IsEventBeside loaded.now) (fresh store.now) after
+        (I.coming input.old) (I.coming input.new)
+        (O.written out.old) (O.written out.new) [] result }
+    ensures read_fault { result ≡ Ended.ReadFault
+        → IsTrue (I.has_failed input.new) ⊎ (I.given input.old + 2 ^ 40 ≤ I.given input.new) }
+    ensures write_fault { result ≡ Ended.WriteFault → IsTrue (O.has_failed out.new) }
+    ensures unread { result ≢ Ended.ReadFault → I.has_failed input.new ≡ I.has_failed input.old }
+    ensures unwritten { result ≢ Ended.WriteFault → O.has_failed out.new ≡ O.has_failed out.old }
+{
+    let (ended, _session) = serve_beside(rt, alloc, Session::new(store), loaded, input, out);
+    ended
 }
 
 /// Serves a session of the store over a stream of frames to its end: requests are read from `input`,

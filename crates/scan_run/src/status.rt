@@ -11,6 +11,8 @@ pub enum Status {
     Clean,
     /// A stream ended otherwise: 1.
     Unclean,
+    /// The one stream was given up for want of memory: 1.
+    OutOfMemory,
     /// An error, with a message where one could be written: 2.
     Trouble,
 }
@@ -22,7 +24,7 @@ impl Status {
     {
         match self {
             Status::Clean => 0,
-            Status::Unclean => 1,
+            Status::Unclean | Status::OutOfMemory => 1,
             Status::Trouble => 2,
         }
     }
@@ -34,6 +36,7 @@ impl From<Ended> for Status {
     fn from(ended: Ended) -> Status {
         match ended {
             Ended::Clean => Status::Clean,
+            Ended::OutOfMemory => Status::OutOfMemory,
             _ => Status::Unclean,
         }
     }

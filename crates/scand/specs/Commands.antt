@@ -38,29 +38,29 @@ pub data ServesPort (port connections : ℕ) (status : Status) (out_failed err_f
   Unserved : status ≡ Trouble → Appends out_old out_new [] → Says err_failed err_old err_new (cannot_listen port) ⊎ Says err_failed err_old err_new out_of_memory
       → ServesPort port connections status out_failed err_failed out_old out_new err_old err_new
 
--- one client was served over a store; or connections to a port were, and nothing was read
-abbrev pub Serves : Service → Shelves → Status → Bool → Bool → Option Coming → Option Coming → Option (List ℕ) → Option (List ℕ) → Option (List ℕ) → Option (List ℕ) → Type 0
-Serves Alone store status out_failed err_failed coming_old coming_new out_old out_new err_old err_new =
-    EndsAlone store status coming_old coming_new out_old out_new × (err_new ≡ err_old)
-Serves (Listen port connections) store status out_failed err_failed coming_old coming_new out_old out_new err_old err_new =
+-- one client was served over a store, beside the loaded plans; or connections to a port were, and nothing was read
+abbrev pub Serves : Service → Shelves → List tickets.Told → Status → Type 0 → Bool → Bool → Option Coming → Option Coming → Option (List ℕ) → Option (List ℕ) → Option (List ℕ) → Option (List ℕ) → Type 0
+Serves Alone store loaded status read_fault out_failed err_failed coming_old coming_new out_old out_new err_old err_new =
+    EndsAlone store loaded status read_fault out_failed coming_old coming_new out_old out_new × (err_new ≡ err_old)
+Serves (Listen port connections) store loaded status read_fault out_failed err_failed coming_old coming_new out_old out_new err_old err_new =
     (coming_new ≡ coming_old) × ServesPort port connections.count status out_failed err_failed out_old out_new err_old err_new
 
 -- A request was served over a store with the plans of the files that it names; or a file could not be loaded, or there was
 -- no memory for a store, and nothing was served.
-pub data Runs (request : Request) (status : Status) (files_old files_new : Option Sources) (out_failed err_failed : Bool) (coming_old coming_new : Option Coming) (out_old out_new err_old err_new : Option (List ℕ)) : Type 0 where
+pub data Runs (request : Request) (status : Status) (files_old files_new : Option Sources) (read_fault : Type 0) (out_failed err_failed : Bool) (coming_old coming_new : Option Coming) (out_old out_new err_old err_new : Option (List ℕ)) : Type 0 where
   Served : (store : Shelves) (gained : List tickets.Told) (err_mid : Option (List ℕ)) → LoadsEach store (names_of request.plans.items) (state files_old [] err_old) (state files_new gained err_mid)
-      → Serves request.service store status out_failed err_failed coming_old coming_new out_old out_new err_mid err_new
-      → Runs request status files_old files_new out_failed err_failed coming_old coming_new out_old out_new err_old err_new
+      → Serves request.service store gained status read_fault out_failed err_failed coming_old coming_new out_old out_new err_mid err_new
+      → Runs request status files_old files_new read_fault out_failed err_failed coming_old coming_new out_old out_new err_old err_new
   Unplanned : (store : Shelves) (gained : List tickets.Told) (fault : plan_fault.Fault) → status ≡ Trouble → coming_new ≡ coming_old → Appends out_old out_new []
       → StopsLoading store (names_of request.plans.items) (state files_old [] err_old) (state files_new gained err_new) fault
-      → Runs request status files_old files_new out_failed err_failed coming_old coming_new out_old out_new err_old err_new
+      → Runs request status files_old files_new read_fault out_failed err_failed coming_old coming_new out_old out_new err_old err_new
   Starved : status ≡ Trouble → files_new ≡ files_old → coming_new ≡ coming_old → Appends out_old out_new [] → Says err_failed err_old err_new out_of_memory
-      → Runs request status files_old files_new out_failed err_failed coming_old coming_new out_old out_new err_old err_new
+      → Runs request status files_old files_new read_fault out_failed err_failed coming_old coming_new out_old out_new err_old err_new
 
 -- some request ended so, or the message on some words was said and nothing else was done
-pub data EndsSomehow (status : Status) (files_old files_new : Option Sources) (out_failed err_failed : Bool) (coming_old coming_new : Option Coming) (out_old out_new err_old err_new : Option (List ℕ)) : Type 0 where
-  Ran : (request : Request) → Runs request status files_old files_new out_failed err_failed coming_old coming_new out_old out_new err_old err_new
-      → EndsSomehow status files_old files_new out_failed err_failed coming_old coming_new out_old out_new err_old err_new
+pub data EndsSomehow (status : Status) (files_old files_new : Option Sources) (read_fault : Type 0) (out_failed err_failed : Bool) (coming_old coming_new : Option Coming) (out_old out_new err_old err_new : Option (List ℕ)) : Type 0 where
+  Ran : (request : Request) → Runs request status files_old files_new read_fault out_failed err_failed coming_old coming_new out_old out_new err_old err_new
+      → EndsSomehow status files_old files_new read_fault out_failed err_failed coming_old coming_new out_old out_new err_old err_new
   Unread : (fault : Fault) → status ≡ Trouble → files_new ≡ files_old → coming_new ≡ coming_old → Appends out_old out_new []
       → Says err_failed err_old err_new (message_on out_of_memory fault)
-      → EndsSomehow status files_old files_new out_failed err_failed coming_old coming_new out_old out_new err_old err_new
+      → EndsSomehow status files_old files_new read_fault out_failed err_failed coming_old coming_new out_old out_new err_old err_new

@@ -1,13 +1,15 @@
 //! What a command does.
-ghost use Rattle.std.specs.Prelude.{◌≡◌, ◌||◌, IfOk, string_bytes};
+ghost use Rattle.std.specs.Prelude.{◌≡◌, ◌||◌, All, IfOk, string_bytes};
 ghost use Rattle.byte_io.specs.Transfers.{Says};
+ghost use Rattle.plan_store.specs.Tickets.{IsOf};
 ghost use Rattle.program_words.specs.Words.{message_on};
+ghost use Rattle.scan_run.specs.Alone.{MayHaveFailed};
 ghost use Rattle.scan_run.specs.Messages.{out_of_memory};
 ghost use Rattle.scand.specs.Commands.{EndsSomehow, Runs, Serves, ServesPort, cannot_listen};
 
 use crate::words::{Request, Service, requested};
 use byte_io::{ByteIn, ByteOut, Failed, Opener, say_text};
-use plan_store::PlanStore;
+use plan_store::{PlanStore, Ticket};
 use program_words::{Fault, words};
 use scan_run::{Connections, Status, listen, load_files, say_port, serve_alone};
 use std::alloc::{AllocError, Global};
@@ -26,7 +28,8 @@ pub fn serve<R, F: Opener, I: ByteIn, O: ByteOut, E: ByteOut>(
 ) -> Status
 where
     R: Env + AllocGlobal + Threads + Wait + Sync + Net<Listener = TcpListener, Stream = TcpStream>,
-    ensures ends { EndsSomehow result (F.sources files.old) (F.sources files.new) (O.has_failed out.new) (E.has_failed err.new)
+    ensures ends { EndsSomehow result (F.sources files.old) (F.sources files.new)
+        (MayHaveFailed (I.has_failed input.new) (I.given input.old) (I.given input.new)) (O.has_failed out.new) (E.has_failed err.new)
         (I.coming input.old) (I.coming input.new) (O.written out.old) (O.written out.new) (E.written err.old) (E.written err.new) }
 
     // Who ends well had no read and no write that failed.
@@ -58,7 +61,8 @@ fn run<R, F: Opener, I: ByteIn, O: ByteOut, E: ByteOut>(
 ) -> Status
 where
     R: Threads + Wait + Sync + Net<Listener = TcpListener, Stream = TcpStream>,
-    ensures runs { Runs request.now result (F.sources files.old) (F.sources files.new) (O.has_failed out.new) (E.has_failed err.new)
+    ensures runs { Runs request.now result (F.sources files.old) (F.sources files.new)
+        (MayHaveFailed (I.has_failed input.new) (I.given input.old) (I.given input.new)) (O.has_failed out.new) (E.has_failed err.new)
         (I.coming input.old) (I.coming input.new) (O.written out.old) (O.written out.new) (E.written err.old) (E.written err.new) }
     ensures unread { result ≡ Status.Clean → I.has_failed input.new ≡ I.has_failed input.old }
     ensures fault { result ≡ Status.Clean
@@ -69,16 +73,26 @@ where
     };
     let mut tickets = Vec::new(alloc);
     match load_files(rt, alloc, &store, files, &request.plans, &mut tickets, err) {
-        Ok(()) => serve_over(rt, alloc, &store, request.service, input, out, err),
+        Ok(()) => serve_over(
+            rt,
+            alloc,
+            &store,
+            tickets.as_slice(),
+            request.service,
+            input,
+            out,
+            err,
+        ),
         Err(_) => Status::Trouble,
     }
 }
 
-/// Serves one client or connections, over a store.
+/// Serves one client or connections, over a store beside its loaded plans.
 fn serve_over<R, I: ByteIn, O: ByteOut, E: ByteOut>(
     rt: &R,
     alloc: Global,
     store: &PlanStore,
+    loaded: &[Ticket],
     service: Service,
     input: &mut I,
     out: &mut O,
@@ -86,16 +100,18 @@ fn serve_over<R, I: ByteIn, O: ByteOut, E: ByteOut>(
 ) -> Status
 where
     R: Threads + Wait + Sync + Net<Listener = TcpListener, Stream = TcpStream>,
-    ensures serves { Serves service store.now result (O.has_failed out.new) (E.has_failed err.new)
+    requires here { All (IsOf store.now) loaded.now }
+    ensures serves { Serves service store.now loaded.now result
+        (MayHaveFailed (I.has_failed input.new) (I.given input.old) (I.given input.new)) (O.has_failed out.new) (E.has_failed err.new)
         (I.coming input.old) (I.coming input.new) (O.written out.old) (O.written out.new) (E.written err.old) (E.written err.new) }
     ensures unread { result ≡ Status.Clean → I.has_failed input.new ≡ I.has_failed input.old }
     ensures fault { result ≡ Status.Clean
         → (O.has_failed out.new || E.has_failed err.new) ≡ (O.has_failed out.old || E.has_failed err.old) }
 {
     match service {
-        Service::Alone => serve_alone(rt, alloc, store, input, out),
+        Service::Alone => serve_alone(rt, alloc, store, loaded, input, out),
         Service::Listen { port, connections } => {
-            serve_port(rt, alloc, store, port, connections, out, err)
+            serve_port(rt, alloc, store, loaded, port, connections, out, err)
         }
     }
 }
@@ -105,6 +121,7 @@ fn serve_port<R, O: ByteOut, E: ByteOut>(
     rt: &R,
     alloc: Global,
     store: &PlanStore,
+    loaded: &[Ticket],
     port: u16,
     connections: Connections,
     out: &mut O,
@@ -112,6 +129,7 @@ fn serve_port<R, O: ByteOut, E: ByteOut>(
 ) -> Status
 where
     R: Threads + Wait + Sync + Net<Listener = TcpListener, Stream = TcpStream>,
+    requires here { All (IsOf store.now) loaded.now }
     ensures serves { ServesPort port connections.count result (O.has_failed out.new) (E.has_failed err.new)
         (O.written out.old) (O.written out.new) (E.written err.old) (E.written err.new) }
     ensures fault { result ≡ Status.Clean
@@ -121,9 +139,9 @@ where
         return refuse(&Fault::usage(cannot_listen(alloc, port)), err);
     };
     if port == 0 {
-        serve_chosen(rt, alloc, store, listener, connections, out, err)
+        serve_chosen(rt, alloc, store, loaded, listener, connections, out, err)
     } else {
-        listen(rt, alloc, store, listener, connections, out, err)
+        listen(rt, alloc, store, loaded, listener, connections, out, err)
     }
 }
 
@@ -133,6 +151,7 @@ fn serve_chosen<R, O: ByteOut, E: ByteOut>(
     rt: &R,
     alloc: Global,
     store: &PlanStore,
+    loaded: &[Ticket],
     listener: TcpListener,
     connections: Connections,
     out: &mut O,
@@ -140,6 +159,7 @@ fn serve_chosen<R, O: ByteOut, E: ByteOut>(
 ) -> Status
 where
     R: Threads + Wait + Sync + Net<Listener = TcpListener, Stream = TcpStream>,
+    requires here { All (IsOf store.now) loaded.now }
     ensures serves { ServesPort 0 connections.count result (O.has_failed out.new) (E.has_failed err.new)
         (O.written out.old) (O.written out.new) (E.written err.old) (E.written err.new) }
     ensures fault { result ≡ Status.Clean
@@ -149,7 +169,7 @@ where
         return refuse(&Fault::usage(cannot_listen(alloc, 0)), err);
     };
     match say_port(chosen.port(), err) {
-        Ok(()) => listen(rt, alloc, store, listener, connections, out, err),
+        Ok(()) => listen(rt, alloc, store, loaded, listener, connections, out, err),
         Err(Failed) => Status::Trouble,
     }
 }

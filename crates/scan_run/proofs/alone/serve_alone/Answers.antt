@@ -3,10 +3,17 @@ use Rattle.scan_run.proofs.StatusLemmas.{clean_ended}
 use Rattle.scan_run.proofs.alone.serve_alone.Goals as goal
 
 pub returns-clause-ends : goal.returns-clause-ends
-returns-clause-ends g c = record { after = c.serve.ensures.ends.0; ended = c.serve.result; ends = c.serve.ensures.ends.1; told = c.from.ensures }
+returns-clause-ends g c = record {
+  after = c.serve_loaded.ensures.ends.0;
+  ended = c.serve_loaded.result;
+  ends = c.serve_loaded.ensures.ends.1;
+  unread = c.serve_loaded.ensures.read_fault;
+  unwritten = c.serve_loaded.ensures.write_fault;
+  told = c.from.ensures;
+}
 
 pub returns-clause-unread : goal.returns-clause-unread
-returns-clause-unread g c = λ clean. c.serve.ensures.unread (clean_ended c.serve.result c.from.result c.from.ensures clean).0
+returns-clause-unread g c = λ clean. c.serve_loaded.ensures.unread (clean_ended c.serve_loaded.result c.from.result c.from.ensures clean).0
 
 pub returns-clause-unwritten : goal.returns-clause-unwritten
-returns-clause-unwritten g c = λ clean. c.serve.ensures.unwritten (clean_ended c.serve.result c.from.result c.from.ensures clean).1
+returns-clause-unwritten g c = λ clean. c.serve_loaded.ensures.unwritten (clean_ended c.serve_loaded.result c.from.result c.from.ensures clean).1

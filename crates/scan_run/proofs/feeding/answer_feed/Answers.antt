@@ -1,5 +1,6 @@
 use Rattle.scan_wire.specs.Messages.{Feed, reply_parts}
 use Rattle.scan_serve.proofs.SendLemmas.{err_weaker}
+use Rattle.scan_core.specs.Sessions.{IsEvent}
 use Rattle.scan_core.proofs.StepLemmas.{event_refused}
 use Rattle.scan_run.proofs.FeedLemmas.{answered_one, stopped_one}
 use Rattle.scan_run.proofs.TellLemmas.{ok_weaker}
@@ -11,7 +12,7 @@ returns-in-Err-clause-ok g c =
     let request = Feed c.args.stream c.args.piece.now in
     let reply = reply_parts c.reply.result in
     ok_weaker c.push.result
-    (answered_one s s request reply _ _ _ _ (event_refused s request c.in-Err.refusal reply c.in-Err.ensures.refused c.reply.ensures))
+    (answered_one IsEvent s s request reply _ _ _ _ (event_refused s request c.in-Err.refusal reply c.in-Err.ensures.refused c.reply.ensures))
     c.push.ensures.ok
 
 pub returns-in-Err-clause-err : goal.returns-in-Err-clause-err
@@ -20,5 +21,5 @@ returns-in-Err-clause-err g c =
     let request = Feed c.args.stream c.args.piece.now in
     let reply = reply_parts c.reply.result in
     err_weaker c.push.result
-    (stopped_one s s request reply _ _ _ (event_refused s request c.in-Err.refusal reply c.in-Err.ensures.refused c.reply.ensures))
+    (stopped_one IsEvent s s request reply _ _ _ (event_refused s request c.in-Err.refusal reply c.in-Err.ensures.refused c.reply.ensures))
     c.push.ensures.err

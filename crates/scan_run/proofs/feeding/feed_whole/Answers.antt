@@ -16,6 +16,7 @@ pub loop-rest-init : goal.loop-rest-init
 loop-rest-init g c = record {
   fed = fed_none c.args.session.now c.args.stream c.args.piece.now c.args.place c.clear.new.self.items _ c.args.outbox.now c.requires c.clear.ensures.items;
   flag = refl;
+  store = refl;
 }
 
 pub feed_on-requires-clause-open : goal.feed_on-requires-clause-open
@@ -39,6 +40,7 @@ pub loop-rest-preserved : goal.loop-rest-preserved
 loop-rest-preserved g c = record {
   fed = fed_on c.args.session.now c.loop-rest.session c.feed_on.new.session c.args.stream c.args.piece.now c.loop-rest.rest.now c.split_at.result.1.now c.in_ok-count.count c.loop-rest.hits.items c.feed_on.new.hits.items _ _ _ _ _ _ c.loop-rest.invariant.fed c.in_ok-count.ensures.ok c.split_at.ensures.back;
   flag = c.in_ok-count.ensures.flag (λ e. cc) ∙ c.loop-rest.invariant.flag;
+  store = c.in_ok-count.ensures.store ∙ c.loop-rest.invariant.store;
 }
 
 pub returns-clause-ok : goal.returns-clause-ok

@@ -1,9 +1,6 @@
--- The session returned is the session served.
-use Rattle.std.proofs.Common.{◌∙◌, ap}
-use Rattle.scan_core.specs.Sessions.{Serving}
-use Rattle.scan_run.proofs.SeenLemmas.{ends_store}
+-- Nothing is loaded.
+use Rattle.scan_run.proofs.SeenLemmas.{ends_alone}
 use Rattle.scan_run.proofs.serving.serve_session.Goals as goal
 
-pub returns-clause-store : goal.returns-clause-store
-returns-clause-store g c = λ written memory.
-    ap (λ (s : Serving). s.store) c.served.view_is ∙ ends_store c.args.session _ _ _ _ _ _ _ c.serve-ended.ensures.ends written memory
+pub returns-clause-ends : goal.returns-clause-ends
+returns-clause-ends g c = ends_alone _ _ _ _ _ _ _ _ _ c.serve_beside.ensures.ends

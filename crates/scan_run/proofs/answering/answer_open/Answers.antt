@@ -1,0 +1,21 @@
+-- The reply is written once the session agrees with the loaded plans.
+use Rattle.scan_wire.specs.Messages.{Open, reply_parts}
+use Rattle.scan_serve.proofs.SendLemmas.{err_weaker}
+use Rattle.scan_run.specs.Beside.{IsEventBeside}
+use Rattle.scan_run.proofs.FeedLemmas.{answered_one, stopped_one}
+use Rattle.scan_run.proofs.TellLemmas.{ok_weaker}
+use Rattle.scan_run.proofs.answering.answer_open.Goals as goal
+
+pub returns-clause-ok : goal.returns-clause-ok
+returns-clause-ok g c =
+    ok_weaker c.push.result
+    (answered_one (IsEventBeside c.args.loaded.now) c.args.session.now c.open.new.self (Open c.args.stream c.args.number) (reply_parts c.in-Ok.reply) _ _ _ _
+    (record { event = c.in-Ok.ensures.ok; agreed = c.agree_on.ensures }))
+    c.push.ensures.ok
+
+pub returns-clause-err : goal.returns-clause-err
+returns-clause-err g c =
+    err_weaker c.push.result
+    (stopped_one (IsEventBeside c.args.loaded.now) c.args.session.now c.open.new.self (Open c.args.stream c.args.number) (reply_parts c.in-Ok.reply) _ _ _
+    (record { event = c.in-Ok.ensures.ok; agreed = c.agree_on.ensures }))
+    c.push.ensures.err
