@@ -1,5 +1,5 @@
 #!/usr/bin/env python3
-"""Tests a release in a bare Debian, without the kit: installs the package, uses it, and purges it.
+"""Tests a release in a bare Debian, without the kit: installs the packages, uses them, and purges them.
 
     python3 tests/dist.py [--dist DIR] [--suite NAME]
 
@@ -25,9 +25,11 @@ from support.programs import TOP
 from support.servers import SECONDS, free_port
 
 SUITE = "bookworm"
+# How many packages a release has.
+PACKAGES = 4
 # The programs that the checks use in addition to Debian's essential packages.
-INCLUDED = "man-db", "bash-completion", "systemd", "python3"
-# The only fault that lintian finds in the package: the repository states no licence.
+INCLUDED = "man-db", "bash-completion", "systemd", "python3", "gcc", "libc6-dev", "pkg-config"
+# The only fault that lintian finds in a package: the repository states no licence.
 LICENCE_FAULTS = {"no-copyright-file"}
 # Folders that the package manager writes to.
 UNWATCHED = ("var/lib/dpkg", "var/lib/apt", "var/cache", "var/log", "tmp", "run", "proc", "sys", "dev")
@@ -92,22 +94,29 @@ def bootstrapped(suite, folder):
     return "a program that makes a root of Debian"
 
 
-def lintian(package):
+def lintian(packages):
     """lintian finds no error, except that there is no licence."""
     if not shutil.which("lintian"):
         print("left out: lintian, which is missing")
         return
-    done = subprocess.run(["lintian", "--allow-root", package], capture_output=True, text=True)
+    done = subprocess.run(["lintian", "--allow-root", *packages], capture_output=True, text=True)
     errors = set(re.findall(r"^E: \S+: (\S+)", done.stdout, re.M))
     yield f"errors that lintian finds: {done.stdout}", errors - LICENCE_FAULTS, set()
 
 
-def installed(root, package):
-    """The package installs, with nothing but Debian's own packages."""
-    shutil.copy(package, root.at("tmp/tried"))
-    status, shown = root.run(f"apt-get install -y --no-install-recommends ./{os.path.basename(package)}")
+def installed(root, packages):
+    """The packages install, with nothing but Debian's own packages."""
+    for package in packages:
+        shutil.copy(package, root.at("tmp/tried"))
+    files = " ".join(f"./{os.path.basename(package)}" for package in packages)
+    status, shown = root.run(f"apt-get install -y --no-install-recommends {files}")
     yield f"apt-get install: {shown[-300:]}", status, 0
-    yield "files that differ from the package's", root.run("dpkg -V litgrep"), (0, "")
+    yield "files that differ from the packages'", root.run(f"dpkg -V {' '.join(names_of(packages))}"), (0, "")
+
+
+def names_of(packages):
+    """The names of packages, by those of their files."""
+    return [os.path.basename(package).partition("_")[0] for package in packages]
 
 
 def readme_example(root):
@@ -137,6 +146,25 @@ def completion(root):
     ):
         status, shown = root.run(f"set -- {' '.join(words)}; {load}; {offer}")
         yield f"completions of {words}", (status, shown.split("\n")[1:-1]), (0, want)
+
+
+def programs_of(language):
+    """The first program in a language of docs/LIBRARY.md, and what it prints."""
+    with open(os.path.join(TOP, "docs", "LIBRARY.md"), encoding="utf-8") as file:
+        program, printed = re.search(rf"^```{language}\n(.*?)^```\n.*?^```\w*\n(.*?)^```", file.read(), re.M | re.S).groups()
+    return program, printed
+
+
+def library(root):
+    """The programs of docs/LIBRARY.md in C and Python, over the installed library."""
+    for language, name, command in (
+        ("c", "words.c", "cc -std=c99 -o words words.c $(pkg-config --cflags --libs fiolargu) && ./words"),
+        ("python", "words.py", "python3 words.py"),
+    ):
+        program, printed = programs_of(language)
+        with open(os.path.join(root.at("tmp/tried"), name), "w", encoding="utf-8") as file:
+            file.write(program)
+        yield f"the program of LIBRARY.md in {language}", root.run(command), (0, printed)
 
 
 def client(root):
@@ -174,10 +202,10 @@ def server(root):
         yield f"the program of {unit}", set(program) - {"/usr/bin/scand"}, set()
 
 
-def purged(root, before):
-    """The package is purged, and nothing of it remains."""
-    yield "a file of the package", "usr/bin/litgrep" in root.files() - before, True
-    status, shown = root.run("apt-get purge -y litgrep")
+def purged(root, packages, before):
+    """The packages are purged, and nothing of them remains."""
+    yield "a file of a package", "usr/bin/litgrep" in root.files() - before, True
+    status, shown = root.run(f"apt-get purge -y {' '.join(names_of(packages))}")
     yield f"apt-get purge: {shown[-300:]}", status, 0
     yield "what remains", sorted(root.files() - before), []
     yield "what is lost", sorted(before - root.files()), []
@@ -192,14 +220,14 @@ def archived(root, archive):
     yield "a manual of the archive", root.run("MANPATH=/opt/fiolargu/share/man man -w scand"), (0, "/opt/fiolargu/share/man/man1/scand.1\n")
 
 
-def tests(root, package, archive):
+def tests(root, packages, archive):
     """The tests, in order."""
     before = root.files()
-    yield functools.partial(lintian, package)
-    yield functools.partial(installed, root, package)
-    for test in readme_example, manuals, completion, client, server:
+    yield functools.partial(lintian, packages)
+    yield functools.partial(installed, root, packages)
+    for test in readme_example, manuals, completion, library, client, server:
         yield functools.partial(test, root)
-    yield functools.partial(purged, root, before)
+    yield functools.partial(purged, root, packages, before)
     yield functools.partial(archived, root, archive)
 
 
@@ -208,9 +236,9 @@ def main():
     parser.add_argument("--dist", default=os.path.join(TOP, "dist"), metavar="DIR", help="the folder of the release (dist/)")
     parser.add_argument("--suite", default=SUITE, help=f"the release of Debian ({SUITE})")
     options = parser.parse_args()
-    release = [sorted(glob.glob(os.path.join(options.dist, pattern))) for pattern in ("litgrep_*_amd64.deb", "fiolargu-*.tar.gz")]
-    if not all(len(found) == 1 for found in release):
-        sys.exit(f"{options.dist} is to have one package and one archive: run make dist")
+    packages, archives = (sorted(glob.glob(os.path.join(options.dist, pattern))) for pattern in ("*_amd64.deb", "fiolargu-*.tar.gz"))
+    if len(packages) != PACKAGES or len(archives) != 1:
+        sys.exit(f"{options.dist} is to have {PACKAGES} packages and one archive: run make dist")
     with tempfile.TemporaryDirectory(prefix="check-dist-") as folder:
         hindrance = bootstrapped(options.suite, os.path.join(folder, "root"))
         if hindrance:
@@ -219,7 +247,7 @@ def main():
         root = Root(os.path.join(folder, "root"))
         os.makedirs(root.at("tmp/tried"))
         os.symlink("/usr/bin", root.at("tmp/tried/bin"))
-        passed, failed = played("dist", tests(root, release[0][0], release[1][0]))
+        passed, failed = played("dist", tests(root, packages, archives[0]))
     print(f"{passed} passed, {failed} failed")
     return 1 if failed else 0
 
