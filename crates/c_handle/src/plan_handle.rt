@@ -3,7 +3,7 @@ ghost use Rattle.std.specs.Prelude.{◌≡◌, MatchOption, None, Some, Option};
 ghost use Rattle.c_handle.specs.declared.states.SharedPlan.{SharedPlan};
 ghost use Rattle.c_handle.specs.Plans.{handle_owns, held_coded};
 
-use crate::parts::Parts;
+use crate::block::Block;
 use crate::states::SharedPlan;
 use std::alloc::Global;
 use std::marker::Model;
@@ -33,25 +33,25 @@ impl PlanHandle {
         }
     }
 
-    fn of_parts(parts: Parts<SharedPlan, Global>) -> PlanHandle
-        ensures { result.held ≡ Some parts.value }
+    fn of_block(block: Block<SharedPlan, Global>) -> PlanHandle
+        ensures { result.held ≡ Some block.value }
     {
-        let Parts { ptr, alloc } = parts;
+        let Block { at, alloc } = block;
         PlanHandle {
-            at: ptr as *mut u8,
+            at: at as *mut u8,
             alloc,
         }
     }
 
-    fn into_parts(self) -> Option<Parts<SharedPlan, Global>>
-        ensures { MatchOption result (self.held ≡ None) (λ p. self.held ≡ Some p.value) }
+    fn into_block(self) -> Option<Block<SharedPlan, Global>>
+        ensures { MatchOption result (self.held ≡ None) (λ block. self.held ≡ Some block.value) }
     {
         let PlanHandle { at, alloc } = self;
         if at.is_null() {
             None
         } else {
-            Some(Parts {
-                ptr: at as *mut SharedPlan,
+            Some(Block {
+                at: at as *mut SharedPlan,
                 alloc,
             })
         }
@@ -61,16 +61,16 @@ impl PlanHandle {
     pub fn full(held: Box<SharedPlan>) -> PlanHandle
         ensures { result.held ≡ Some held.value }
     {
-        PlanHandle::of_parts(Parts::of(held))
+        PlanHandle::of_block(Block::from_box(held))
     }
 
     /// The box, unless the handle is null.
     pub fn into_box(self) -> Option<Box<SharedPlan>>
         ensures { MatchOption result (self.held ≡ None) (λ b. self.held ≡ Some b.value) }
     {
-        match self.into_parts() {
+        match self.into_block() {
             None => None,
-            Some(parts) => Some(parts.into_box()),
+            Some(block) => Some(block.into_box()),
         }
     }
 

@@ -3,7 +3,7 @@ ghost use Rattle.std.specs.Prelude.{◌≡◌, MatchOption, None, Some, Option};
 ghost use Rattle.c_handle.specs.declared.states.OpenStream.{OpenStream};
 ghost use Rattle.c_handle.specs.Streams.{handle_owns, held_coded};
 
-use crate::parts::Parts;
+use crate::block::Block;
 use crate::states::OpenStream;
 use std::alloc::Global;
 use std::marker::Model;
@@ -33,25 +33,25 @@ impl StreamHandle {
         }
     }
 
-    fn of_parts(parts: Parts<OpenStream, Global>) -> StreamHandle
-        ensures { result.held ≡ Some parts.value }
+    fn of_block(block: Block<OpenStream, Global>) -> StreamHandle
+        ensures { result.held ≡ Some block.value }
     {
-        let Parts { ptr, alloc } = parts;
+        let Block { at, alloc } = block;
         StreamHandle {
-            at: ptr as *mut u8,
+            at: at as *mut u8,
             alloc,
         }
     }
 
-    fn into_parts(self) -> Option<Parts<OpenStream, Global>>
-        ensures { MatchOption result (self.held ≡ None) (λ p. self.held ≡ Some p.value) }
+    fn into_block(self) -> Option<Block<OpenStream, Global>>
+        ensures { MatchOption result (self.held ≡ None) (λ block. self.held ≡ Some block.value) }
     {
         let StreamHandle { at, alloc } = self;
         if at.is_null() {
             None
         } else {
-            Some(Parts {
-                ptr: at as *mut OpenStream,
+            Some(Block {
+                at: at as *mut OpenStream,
                 alloc,
             })
         }
@@ -61,16 +61,16 @@ impl StreamHandle {
     pub fn full(held: Box<OpenStream>) -> StreamHandle
         ensures { result.held ≡ Some held.value }
     {
-        StreamHandle::of_parts(Parts::of(held))
+        StreamHandle::of_block(Block::from_box(held))
     }
 
     /// The box, unless the handle is null.
     pub fn into_box(self) -> Option<Box<OpenStream>>
         ensures { MatchOption result (self.held ≡ None) (λ b. self.held ≡ Some b.value) }
     {
-        match self.into_parts() {
+        match self.into_block() {
             None => None,
-            Some(parts) => Some(parts.into_box()),
+            Some(block) => Some(block.into_box()),
         }
     }
 
