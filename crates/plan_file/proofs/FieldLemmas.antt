@@ -1,177 +1,202 @@
--- A field that is read is the field that was written, and a field that was written is read again.
-use Rattle.std.proofs.Common.{◌≡◌, ℕ, zero, suc, ◌+◌, ◌^◌, ◌<◌, ◌≤◌, Bool, true, false, cond, ltb, List, [], ◌∷◌, ◌++◌, length, get_or, take, drop, Result, Ok, Err, refl, sym, ap, subst, ◌∙◌, append_assoc, arith, inl, inr}
+-- Fields of a plan file: what a reader took is the spelling of the value that it read, and a spelling is read again.
+use Rattle.std.proofs.Common.{◌≡◌, ℕ, zero, suc, ◌+◌, ◌^◌, ◌<◌, ◌≤◌, Fits, Bool, true, false, cond, ltb, List, [], ◌∷◌, ◌++◌, length, get_or, take, drop, All, Result, Ok, Err, refl, sym, ap, subst, ◌∙◌, append_assoc, arith, inl, inr}
 use Rattle.std.specs.List.{AllByRecursion}
-use Rattle.std.specs.Int.{Width, w16, w32, w64, byte_len, from_be_bytes, to_be_bytes}
+use Rattle.std.specs.Int.{Width, w8, w16, w32, w64, w128, byte_len, from_be_bytes, to_be_bytes}
 use Rattle.std.proofs.lemmas.Bool.{cases_lt, ltb-false, le-ltb}
-use Rattle.std.proofs.lemmas.List.{take_at, drop_at, take-append-drop, length-append, length-take, get_or-drop, get_or-take, get_or_past, length-drop}
+use Rattle.std.proofs.lemmas.List.{take_at, drop_at, take-append-drop, length-append, length-take-le, get_or_past}
+use Rattle.std.proofs.lemmas.List.Elements.{All-drop, All-from_get_or, All-same, All-take}
 use Rattle.std.proofs.lemmas.Nat.{be_bytes_2, be_bytes_4, be_bytes_8, from_be_bytes-to_be_bytes_2, from_be_bytes-to_be_bytes_4, from_be_bytes-to_be_bytes_8}
+use Rattle.std.proofs.lemmas.Result.{IfOk-at_ok}
+use mir.Val.{bits}
 use Rattle.plan_file.specs.declared.fault.Cause.{Cause}
 use Rattle.plan_file.specs.declared.fault.Cause.TheVariants.{Short}
 use Rattle.plan_file.specs.declared.fault.Wrong.{Wrong}
 use Rattle.plan_file.specs.Reading.{◌>>=◌, wrong_at, byte_at, number_at, bytes_at, field, numbers_at}
 use Rattle.plan_file.specs.Spelling.{numbers_text}
 
--- each is a byte
-abbrev pub IsBytes : List ℕ → Type 0
-IsBytes bytes = (i : ℕ) → get_or bytes i 0 < 256
+-- ---- steps of a reader
 
-IsBytes-drop : (n : ℕ) (bytes : List ℕ) → IsBytes bytes → IsBytes (drop n bytes)
-IsBytes-drop n bytes h i = rw get_or-drop (h (n + i))
+-- the value that a step read, from which the next step read y
+pub record Step {A B : Type 0} (read : Result A Wrong) (next : A → Result B Wrong) (y : B) : Type 0 where
+  pub value : A
+  pub first : read ≡ Ok value
+  pub second : next value ≡ Ok y
 
-IsBytes-take : (n : ℕ) (bytes : List ℕ) → IsBytes bytes → IsBytes (take n bytes)
-IsBytes-take n bytes h i =
-    elim (cases_lt i n) [
-      | inl lt ↦ rw (get_or-take n bytes i 0 lt) (h i)
-      | inr le ↦ rw (get_or_past (take n bytes) i 0 (omega (arith, length-take n bytes))) (omega arith)
+-- both of two steps read something, or the reader stopped
+pub step : {A B : Type 0} (read : Result A Wrong) (next : A → Result B Wrong) (y : B) → (read >>= next) ≡ Ok y → Step read next y
+step (Err wrong) next y is = absurd cc
+step (Ok value) next y is = record { value = value; first = refl; second = is }
+
+-- a reader that stops where a test holds went on, so the test failed
+pub went_on : {A : Type 0} (stops : Bool) (wrong : Wrong) (next : Result A Wrong) (y : A) → cond stops (Err wrong) next ≡ Ok y → (stops ≡ false) × (next ≡ Ok y)
+went_on false wrong next y is = (refl, is)
+went_on true wrong next y is = absurd cc
+
+-- a reader that goes on where a test holds went on, so the test held
+pub passed : {A : Type 0} (passes : Bool) (next : Result A Wrong) (wrong : Wrong) (y : A) → cond passes next (Err wrong) ≡ Ok y → (passes ≡ true) × (next ≡ Ok y)
+passed false next wrong y is = absurd cc
+passed true next wrong y is = (refl, is)
+
+-- a tested field was read, so its number was read and passes
+pub field_read : (bytes : List ℕ) (passes : ℕ → Bool) (cause : Cause) (read : Result (ℕ × List ℕ) Wrong) (n : ℕ × List ℕ) → field bytes passes cause read ≡ Ok n → (read ≡ Ok n) × (passes n.0 ≡ true)
+field_read bytes passes cause read n is =
+    let s = step read (λ m. cond (passes m.0) (Ok m) (Err (wrong_at cause bytes))) n is in
+    let p = passed (passes s.value.0) (Ok s.value) (wrong_at cause bytes) n s.second in
+    (s.first ∙ p.1, IfOk-at_ok (λ m. passes m.0 ≡ true) p.1 p.0)
+
+-- a number that was read and passes is a tested field
+pub field_again : (bytes : List ℕ) (passes : ℕ → Bool) (cause : Cause) (read : Result (ℕ × List ℕ) Wrong) (n : ℕ × List ℕ) → read ≡ Ok n → passes n.0 ≡ true → field bytes passes cause read ≡ Ok n
+field_again bytes passes cause read n is passes_it = rw (is, passes_it) refl
+
+-- ---- the bytes of a field
+
+-- of these bytes a reader took the text of a field, and left the rest
+abbrev pub Took : List ℕ → List ℕ → List ℕ → Type 0
+Took bytes text rest = bytes ≡ text ++ rest
+
+-- a field and the one after it are taken as one
+pub took_both : (first second rest : List ℕ) {bytes middle : List ℕ} → Took bytes first middle → Took middle second rest → Took bytes (first ++ second) rest
+took_both first second rest one two = one ∙ ap (λ (t : List ℕ). first ++ t) two ∙ sym (append_assoc first second rest)
+
+-- a file is made of bytes
+abbrev pub AreBytes : List ℕ → Type 0
+AreBytes bytes = All (λ b. b < 256) bytes
+
+-- a slice of `u8` is made of bytes
+pub slice_bytes : (bytes : List ℕ) → ((i : ℕ) → Fits w8 (get_or bytes i 0)) → AreBytes bytes
+slice_bytes bytes fit = All-from_get_or (λ b. b < 256) bytes 0 (λ i inside. omega (arith, fit i))
+
+-- the zero that is read past the end is a byte as well
+byte_below : (bytes : List ℕ) → AreBytes bytes → (i : ℕ) → get_or bytes i 0 < 256
+byte_below bytes are i =
+    elim (cases_lt i (length bytes)) [
+      | inl inside ↦ are i 0 inside
+      | inr past ↦ omega (arith, get_or_past bytes i 0 past)
     ]
 
--- the value of a step that did not fail
-pub bind_ok : {A B : Type 0} (r : Result A Wrong) (f : A → Result B Wrong) (y : B) → (r >>= f) ≡ Ok y → (x : A) × (r ≡ Ok x) × (f x ≡ Ok y)
-bind_ok (Ok x) f y e = (x, refl, e)
-bind_ok (Err d) f y e = absurd cc
+-- a field that was taken of bytes is made of bytes
+field_bytes : (text rest : List ℕ) {bytes : List ℕ} → Took bytes text rest → AreBytes bytes → AreBytes text
+field_bytes text rest {bytes} took are =
+    let front : take (length text) bytes ≡ text = ap (take (length text)) took ∙ take_at text rest (length text) refl in
+    All-same (λ b. b < 256) text (take (length text) bytes) (sym front) (All-take (λ b. b < 256) (length text) bytes are)
 
--- a test that did not fail
-pub guard_ok : {A : Type 0} (b : Bool) (d : Wrong) (x y : A) → cond b (Err d) (Ok x) ≡ Ok y → (b ≡ false) × (x ≡ y)
-guard_ok true d x y e = absurd cc
-guard_ok false d x y e = (refl, cc)
+-- what is left of bytes is made of bytes
+pub rest_bytes : (text rest : List ℕ) {bytes : List ℕ} → Took bytes text rest → AreBytes bytes → AreBytes rest
+rest_bytes text rest {bytes} took are =
+    let back : drop (length text) bytes ≡ rest = ap (drop (length text)) took ∙ drop_at text rest (length text) refl in
+    All-same (λ b. b < 256) rest (drop (length text) bytes) (sym back) (All-drop (λ b. b < 256) (length text) bytes are)
 
--- a test that passed
-pub passed_ok : {A : Type 0} (b : Bool) (d : Wrong) (x y : A) → cond b (Ok x) (Err d) ≡ Ok y → (b ≡ true) × (x ≡ y)
-passed_ok true d x y e = (refl, cc)
-passed_ok false d x y e = absurd cc
+-- ---- fields of a fixed size
 
-abbrev done : {A : Type 0} → A → Result A Wrong
-done x = Ok x
+-- the field of n bytes at the front, as the value of its bytes
+abbrev sized : {A : Type 0} → ℕ → (List ℕ → A) → List ℕ → Result (A × List ℕ) Wrong
+sized n value bytes = cond (ltb (length bytes) n) (Err (wrong_at Short bytes)) (Ok (value (take n bytes), drop n bytes))
 
-pub ok_is : {A : Type 0} (x y : A) → done x ≡ done y → x ≡ y
-ok_is x y e = cc
+-- the bytes of a sized field that was read
+record Sized {A : Type 0} (n : ℕ) (value : List ℕ → A) (bytes : List ℕ) (x : A × List ℕ) : Type 0 where
+  text : List ℕ
+  len : length text ≡ n
+  took : Took bytes text x.1
+  value_is : value text ≡ x.0
 
--- a field that was read, whose number passed
-pub field_ok : (bytes : List ℕ) (passes : ℕ → Bool) (cause : Cause) (read : Result (ℕ × List ℕ) Wrong) (n : ℕ × List ℕ) → field bytes passes cause read ≡ Ok n → (read ≡ Ok n) × (passes n.0 ≡ true)
-field_ok bytes passes cause (Ok m) n e =
-    let p = passed_ok (passes m.0) (wrong_at cause bytes) m n e in
-    (ap (λ (x : ℕ × List ℕ). Ok x) p.1, ap (λ (x : ℕ × List ℕ). passes x.0) (sym p.1) ∙ p.0)
-field_ok bytes passes cause (Err w) n e = absurd cc
+-- a sized field was read, so its bytes are there
+sized_read : {A : Type 0} (n : ℕ) (value : List ℕ → A) (bytes : List ℕ) (x : A × List ℕ) → sized n value bytes ≡ Ok x → Sized n value bytes x
+sized_read n value bytes x is =
+    let whole = went_on (ltb (length bytes) n) (wrong_at Short bytes) (Ok (value (take n bytes), drop n bytes)) x is in
+    IfOk-at_ok (Sized n value bytes) whole.1 (record {
+      text = take n bytes;
+      len = length-take-le n bytes (ltb-false _ _ whole.0);
+      took = sym (take-append-drop n bytes);
+      value_is = refl;
+    })
 
--- a number that passes is read
-pub field_again : (bytes : List ℕ) (passes : ℕ → Bool) (cause : Cause) (read : Result (ℕ × List ℕ) Wrong) (n : ℕ × List ℕ) → read ≡ Ok n → passes n.0 ≡ true → field bytes passes cause read ≡ Ok n
-field_again bytes passes cause read n e p = rw (e, p) refl
+-- where the bytes of a sized field are there, it is read
+sized_again : {A : Type 0} (n : ℕ) (value : List ℕ → A) (text rest : List ℕ) → length text ≡ n → sized n value (text ++ rest) ≡ Ok (value text, rest)
+sized_again n value text rest len =
+    let enough : n ≤ length (text ++ rest) = omega (arith, len, length-append text rest) in
+    rw (le-ltb _ _ enough, take_at text rest n len, drop_at text rest n len) refl
 
--- what a reader took from the front
-pub record Takes (bytes text rest : List ℕ) : Type 0 where
-  pub parts : bytes ≡ text ++ rest
-  pub rest_fits : IsBytes rest
+-- a byte was read, so it stands at the front
+pub byte_read : (bytes : List ℕ) (x : ℕ × List ℕ) → byte_at bytes ≡ Ok x → Took bytes (x.0 ∷ []) x.1
+byte_read [] x is = absurd cc
+byte_read (b ∷ rest) x is = IfOk-at_ok (λ y. Took (b ∷ rest) (y.0 ∷ []) y.1) is refl
 
-pub Takes-then : (a x b y c : List ℕ) → Takes a x b → Takes b y c → Takes a (x ++ y) c
-Takes-then a x b y c p q = record { parts = p.parts ∙ ap (λ (t : List ℕ). x ++ t) q.parts ∙ sym (append_assoc x y c); rest_fits = q.rest_fits }
+-- a count of bytes was read, so they stand at the front
+pub bytes_read : (n : ℕ) (bytes : List ℕ) (x : List ℕ × List ℕ) → bytes_at n bytes ≡ Ok x → Took bytes x.0 x.1 × (length x.0 ≡ n)
+bytes_read n bytes x is =
+    let s = sized_read n (λ text. text) bytes x is in
+    subst (λ (text : List ℕ). Took bytes text x.1 × (length text ≡ n)) s.value_is (s.took, s.len)
 
--- ---- bytes
-
-IsBytes-rest : (b : ℕ) (bytes : List ℕ) → IsBytes (b ∷ bytes) → IsBytes bytes
-IsBytes-rest b bytes h i = h (suc i)
-
-pub byte_takes : (bytes : List ℕ) (x : ℕ × List ℕ) → IsBytes bytes → byte_at bytes ≡ Ok x → Takes bytes (x.0 ∷ []) x.1
-byte_takes [] x fits e = absurd cc
-byte_takes (b ∷ rest) x fits e =
-    subst (λ (y : ℕ × List ℕ). Takes (b ∷ rest) (y.0 ∷ []) y.1) (ok_is (b, rest) x e) (record { parts = refl; rest_fits = IsBytes-rest b rest fits })
-
-pub bytes_takes : (n : ℕ) (bytes : List ℕ) (x : List ℕ × List ℕ) → IsBytes bytes → bytes_at n bytes ≡ Ok x → Takes bytes x.0 x.1 × (length x.0 ≡ n)
-bytes_takes n bytes x fits e =
-    let g = guard_ok (ltb (length bytes) n) (wrong_at Short bytes) (take n bytes, drop n bytes) x e in
-    let long : n ≤ length bytes = ltb-false _ _ g.0 in
-    subst (λ (y : List ℕ × List ℕ). Takes bytes y.0 y.1 × (length y.0 ≡ n)) g.1 (record { parts = sym (take-append-drop n bytes); rest_fits = IsBytes-drop n bytes fits }, omega (arith, length-take n bytes))
-
-pub bytes_len : (n : ℕ) (bytes : List ℕ) (x : List ℕ × List ℕ) → bytes_at n bytes ≡ Ok x → length x.0 ≡ n
-bytes_len n bytes x e =
-    let g = guard_ok (ltb (length bytes) n) (wrong_at Short bytes) (take n bytes, drop n bytes) x e in
-    let long : n ≤ length bytes = ltb-false _ _ g.0 in
-    subst (λ (y : List ℕ × List ℕ). length y.0 ≡ n) g.1 (omega (arith, length-take n bytes))
-
+-- bytes at the front are read
 pub bytes_again : (text rest : List ℕ) → bytes_at (length text) (text ++ rest) ≡ Ok (text, rest)
-bytes_again text rest =
-    let long : ltb (length (text ++ rest)) (length text) ≡ false = le-ltb _ _ (omega (arith, length-append text rest)) in
-    rw (long, take_at text rest (length text) refl, drop_at text rest (length text) refl) refl
+bytes_again text rest = sized_again (length text) (λ t. t) text rest refl
 
 -- ---- numbers
 
-pub record IsWide (w : Width) (limit : ℕ) : Type 0 where
-  pub len : (n : ℕ) → length (to_be_bytes w n) ≡ byte_len w
-  pub back : (bytes : List ℕ) → length bytes ≡ byte_len w → IsBytes bytes → to_be_bytes w (from_be_bytes w bytes) ≡ bytes
-  pub again : (n : ℕ) → n < limit → from_be_bytes w (to_be_bytes w n) ≡ n
-  pub below : (bytes : List ℕ) → IsBytes bytes → from_be_bytes w bytes < limit
+-- the widths of the numbers in a plan file
+abbrev pub IsFieldWidth : Width → Type 0
+IsFieldWidth w8 = ⊥
+IsFieldWidth w16 = Unit {0}
+IsFieldWidth w32 = Unit {0}
+IsFieldWidth w64 = Unit {0}
+IsFieldWidth w128 = ⊥
 
-pub wide16 : IsWide w16 (2 ^ 16)
-wide16 = record {
-  len = λ n. refl;
-  back = λ bytes len fits. be_bytes_2 bytes _ len fits refl;
-  again = λ n lt. from_be_bytes-to_be_bytes_2 n lt;
-  below = λ bytes fits. omega (arith, fits 0, fits 1);
-}
+-- as many bytes as a width has are the spelling of a number of the width
+spells : (w : Width) → IsFieldWidth w → (text : List ℕ) → length text ≡ byte_len w → AreBytes text → (to_be_bytes w (from_be_bytes w text) ≡ text) × (from_be_bytes w text < 2 ^ bits w)
+spells w8 is text len are = absurd is
+spells w16 is text len are = (be_bytes_2 text _ len (byte_below text are) refl, omega (arith, byte_below text are 0, byte_below text are 1))
+spells w32 is text len are =
+    let b = byte_below text are in
+    (be_bytes_4 text _ len b refl, omega (arith, b 0, b 1, b 2, b 3))
+spells w64 is text len are =
+    let b = byte_below text are in
+    (be_bytes_8 text _ len b refl, omega (arith, b 0, b 1, b 2, b 3, b 4, b 5, b 6, b 7))
+spells w128 is text len are = absurd is
 
-pub wide32 : IsWide w32 (2 ^ 32)
-wide32 = record {
-  len = λ n. refl;
-  back = λ bytes len fits. be_bytes_4 bytes _ len fits refl;
-  again = λ n lt. from_be_bytes-to_be_bytes_4 n lt;
-  below = λ bytes fits. omega (arith, fits 0, fits 1, fits 2, fits 3);
-}
+-- the spelling of a number of a width has as many bytes, and is the number's
+spelled : (w : Width) → IsFieldWidth w → (n : ℕ) → n < 2 ^ bits w → (length (to_be_bytes w n) ≡ byte_len w) × (from_be_bytes w (to_be_bytes w n) ≡ n)
+spelled w8 is n small = absurd is
+spelled w16 is n small = (refl, from_be_bytes-to_be_bytes_2 n small)
+spelled w32 is n small = (refl, from_be_bytes-to_be_bytes_4 n small)
+spelled w64 is n small = (refl, from_be_bytes-to_be_bytes_8 n small)
+spelled w128 is n small = absurd is
 
-pub wide64 : IsWide w64 (2 ^ 64)
-wide64 = record {
-  len = λ n. refl;
-  back = λ bytes len fits. be_bytes_8 bytes _ len fits refl;
-  again = λ n lt. from_be_bytes-to_be_bytes_8 n lt;
-  below = λ bytes fits. omega (arith, fits 0, fits 1, fits 2, fits 3, fits 4, fits 5, fits 6, fits 7);
-}
+-- a number was read, so its spelling stands at the front
+pub number_read : (w : Width) → IsFieldWidth w → (bytes : List ℕ) (x : ℕ × List ℕ) → AreBytes bytes → number_at w bytes ≡ Ok x → Took bytes (to_be_bytes w x.0) x.1 × (x.0 < 2 ^ bits w)
+number_read w width bytes x are is =
+    let s = sized_read (byte_len w) (from_be_bytes w) bytes x is in
+    let number = spells w width s.text s.len (field_bytes s.text x.1 s.took are) in
+    subst (λ (n : ℕ). Took bytes (to_be_bytes w n) x.1 × (n < 2 ^ bits w)) s.value_is (s.took ∙ ap (λ (t : List ℕ). t ++ x.1) (sym number.0), number.1)
 
-pub number_takes : (w : Width) (limit : ℕ) (wide : IsWide w limit) (bytes : List ℕ) (x : ℕ × List ℕ) → IsBytes bytes → number_at w bytes ≡ Ok x → Takes bytes (to_be_bytes w x.0) x.1 × (x.0 < limit)
-number_takes w limit wide bytes x fits e =
-    let front = take (byte_len w) bytes in
-    let g = guard_ok (ltb (length bytes) (byte_len w)) (wrong_at Short bytes) (from_be_bytes w front, drop (byte_len w) bytes) x e in
-    let long : byte_len w ≤ length bytes = ltb-false _ _ g.0 in
-    let spelled : to_be_bytes w (from_be_bytes w front) ≡ front = wide.back front (omega (arith, length-take (byte_len w) bytes)) (IsBytes-take (byte_len w) bytes fits) in
-    let whole : Takes bytes (to_be_bytes w (from_be_bytes w front)) (drop (byte_len w) bytes) = record { parts = rw spelled (sym (take-append-drop (byte_len w) bytes)); rest_fits = IsBytes-drop (byte_len w) bytes fits } in
-    subst (λ (y : ℕ × List ℕ). Takes bytes (to_be_bytes w y.0) y.1 × (y.0 < limit)) g.1 (whole, wide.below front (IsBytes-take (byte_len w) bytes fits))
-
-pub number_again : (w : Width) (limit : ℕ) (wide : IsWide w limit) (n : ℕ) (rest : List ℕ) → n < limit → number_at w (to_be_bytes w n ++ rest) ≡ Ok (n, rest)
-number_again w limit wide n rest lt =
-    let len = wide.len n in
-    let long : ltb (length (to_be_bytes w n ++ rest)) (byte_len w) ≡ false = le-ltb _ _ (omega (arith, length-append (to_be_bytes w n) rest)) in
-    rw (long, take_at (to_be_bytes w n) rest (byte_len w) len, drop_at (to_be_bytes w n) rest (byte_len w) len, wide.again n lt) refl
-
--- how many bytes a number leaves
+-- a number was read, so it left that many bytes less
 pub number_rest : (w : Width) (bytes : List ℕ) (x : ℕ × List ℕ) → number_at w bytes ≡ Ok x → length bytes ≡ byte_len w + length x.1
-number_rest w bytes x e =
-    let g = guard_ok (ltb (length bytes) (byte_len w)) (wrong_at Short bytes) (from_be_bytes w (take (byte_len w) bytes), drop (byte_len w) bytes) x e in
-    let long : byte_len w ≤ length bytes = ltb-false _ _ g.0 in
-    subst (λ (y : ℕ × List ℕ). length bytes ≡ byte_len w + length y.1) g.1 (omega (arith, length-drop (byte_len w) bytes))
+number_rest w bytes x is =
+    let s = sized_read (byte_len w) (from_be_bytes w) bytes x is in
+    omega (arith, ap length s.took, length-append s.text x.1, s.len)
 
--- and how many bytes remain after n bytes
-pub bytes_rest : (n : ℕ) (bytes : List ℕ) (x : List ℕ × List ℕ) → bytes_at n bytes ≡ Ok x → length bytes ≡ n + length x.1
-bytes_rest n bytes x e =
-    let g = guard_ok (ltb (length bytes) n) (wrong_at Short bytes) (take n bytes, drop n bytes) x e in
-    let long : n ≤ length bytes = ltb-false _ _ g.0 in
-    subst (λ (y : List ℕ × List ℕ). length bytes ≡ n + length y.1) g.1 (omega (arith, length-drop n bytes))
+-- the spelling of a number is read
+pub number_again : (w : Width) → IsFieldWidth w → (n : ℕ) (rest : List ℕ) → n < 2 ^ bits w → number_at w (to_be_bytes w n ++ rest) ≡ Ok (n, rest)
+number_again w width n rest small =
+    let number = spelled w width n small in
+    sized_again (byte_len w) (from_be_bytes w) (to_be_bytes w n) rest number.0 ∙ ap (λ (m : ℕ). Ok (m, rest)) number.1
 
--- ---- numbers one after the other
-
-pub numbers_take : (w : Width) (limit : ℕ) (wide : IsWide w limit) (n : ℕ) (bytes : List ℕ) (x : List ℕ × List ℕ) → IsBytes bytes → numbers_at w n bytes ≡ Ok x
-    → Takes bytes (numbers_text w x.0) x.1 × (length x.0 ≡ n) × AllByRecursion (λ m. m < limit) x.0
+-- a count of numbers was read, so their spellings stand at the front
+pub numbers_read : (w : Width) → IsFieldWidth w → (n : ℕ) (bytes : List ℕ) (x : List ℕ × List ℕ) → AreBytes bytes → numbers_at w n bytes ≡ Ok x
+    → Took bytes (numbers_text w x.0) x.1 × (length x.0 ≡ n) × AllByRecursion (λ m. m < 2 ^ bits w) x.0
 unfolding numbers_at
-numbers_take w limit wide zero bytes x fits e =
-    subst (λ (y : List ℕ × List ℕ). Takes bytes (numbers_text w y.0) y.1 × (length y.0 ≡ 0) × AllByRecursion (λ m. m < limit) y.0) (ok_is ([], bytes) x e) (record { parts = refl; rest_fits = fits }, refl, tt)
-numbers_take w limit wide (suc n) bytes x fits e =
-    let a = bind_ok (number_at w bytes) (λ first. numbers_at w n first.1 >>= λ others. Ok (first.0 ∷ others.0, others.1)) x e in
-    let b = bind_ok (numbers_at w n a.0.1) (λ others. Ok (a.0.0 ∷ others.0, others.1)) x a.2 in
-    let t = number_takes w limit wide bytes a.0 fits a.1 in
-    let u = numbers_take w limit wide n a.0.1 b.0 t.0.rest_fits b.1 in
-    let both = Takes-then bytes (to_be_bytes w a.0.0) a.0.1 (numbers_text w b.0.0) b.0.1 t.0 u.0 in
-    subst (λ (y : List ℕ × List ℕ). Takes bytes (numbers_text w y.0) y.1 × (length y.0 ≡ suc n) × AllByRecursion (λ m. m < limit) y.0) (ok_is (a.0.0 ∷ b.0.0, b.0.1) x b.2)
-    (both, omega (arith, u.1), (t.1, u.2))
+numbers_read w width zero bytes x are is = IfOk-at_ok (λ y. Took bytes (numbers_text w y.0) y.1 × (length y.0 ≡ 0) × AllByRecursion (λ m. m < 2 ^ bits w) y.0) is (refl, refl, tt)
+numbers_read w width (suc n) bytes x are is =
+    let a = step (number_at w bytes) (λ first. numbers_at w n first.1 >>= λ others. Ok (first.0 ∷ others.0, others.1)) x is in
+    let b = step (numbers_at w n a.value.1) (λ others. Ok (a.value.0 ∷ others.0, others.1)) x a.second in
+    let first = number_read w width bytes a.value are a.first in
+    let others = numbers_read w width n a.value.1 b.value (rest_bytes (to_be_bytes w a.value.0) a.value.1 first.0 are) b.first in
+    IfOk-at_ok (λ y. Took bytes (numbers_text w y.0) y.1 × (length y.0 ≡ suc n) × AllByRecursion (λ m. m < 2 ^ bits w) y.0) {r = Ok (a.value.0 ∷ b.value.0, b.value.1)} b.second
+    (took_both (to_be_bytes w a.value.0) (numbers_text w b.value.0) b.value.1 first.0 others.0, omega (arith, others.1), (first.1, others.2))
 
-pub numbers_again : (w : Width) (limit : ℕ) (wide : IsWide w limit) (ns rest : List ℕ) → AllByRecursion (λ m. m < limit) ns → numbers_at w (length ns) (numbers_text w ns ++ rest) ≡ Ok (ns, rest)
+-- the spellings of numbers are read
+pub numbers_again : (w : Width) → IsFieldWidth w → (ns rest : List ℕ) → AllByRecursion (λ m. m < 2 ^ bits w) ns → numbers_at w (length ns) (numbers_text w ns ++ rest) ≡ Ok (ns, rest)
 unfolding numbers_at
-numbers_again w limit wide [] rest fits = refl
-numbers_again w limit wide (n ∷ ns) rest fits =
-    let regrouped : numbers_text w (n ∷ ns) ++ rest ≡ to_be_bytes w n ++ (numbers_text w ns ++ rest) = append_assoc (to_be_bytes w n) (numbers_text w ns) rest in
-    ap (numbers_at w (suc (length ns))) regrouped ∙ rw (number_again w limit wide n (numbers_text w ns ++ rest) fits.0, numbers_again w limit wide ns rest fits.1) refl
+numbers_again w width [] rest small = refl
+numbers_again w width (n ∷ ns) rest small =
+    let after = numbers_text w ns ++ rest in
+    ap (numbers_at w (suc (length ns))) (append_assoc (to_be_bytes w n) (numbers_text w ns) rest) ∙ rw (number_again w width n after small.0, numbers_again w width ns rest small.1) refl

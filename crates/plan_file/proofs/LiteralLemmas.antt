@@ -8,7 +8,9 @@ use Rattle.std.specs.Int.{w16, to_be_bytes}
 use Rattle.std.proofs.lemmas.Bool.{ltb-false, le-ltb, eq-eqb, eqb-true, ne_eqb}
 use Rattle.std.proofs.lemmas.Bool.Decides.{nat_tests}
 use Rattle.std.proofs.lemmas.List.Elements.{All-from_recursion, recursion_from_All}
+use Rattle.std.proofs.lemmas.List.{length-append}
 use Rattle.std.proofs.lemmas.List.Sums.{position_or_len_is, sum_by-cons}
+use Rattle.std.proofs.lemmas.Result.{IfOk-at_ok}
 use Rattle.lit_base.specs.declared.fold.Fold.{Fold}
 use Rattle.lit_base.specs.declared.limits.TheConstants.{MAX_LITERALS, MAX_LITERAL_LEN, MAX_LIST_LEN}
 use Rattle.lit_base.specs.Folding.{folded, folded_text}
@@ -18,7 +20,7 @@ use Rattle.plan_file.specs.declared.fault.Cause.TheVariants.{Literal, Order}
 use Rattle.plan_file.specs.declared.fault.Wrong.{Wrong}
 use Rattle.plan_file.specs.Reading.{◌>>=◌, wrong_at, number_at, bytes_at, field, folded_len, literal_at, literals_at}
 use Rattle.plan_file.specs.Spelling.{literal_text}
-use Rattle.plan_file.proofs.FieldLemmas.{IsBytes, Takes, Takes-then, bind_ok, passed_ok, ok_is, field_ok, field_again, bytes_takes, bytes_again, bytes_len, number_takes, number_again, wide16, bytes_rest, number_rest}
+use Rattle.plan_file.proofs.FieldLemmas.{AreBytes, Took, took_both, rest_bytes, step, went_on, passed, field_read, field_again, bytes_read, bytes_again, number_read, number_again, number_rest}
 
 -- ---- folded bytes at the front
 
@@ -86,11 +88,6 @@ less_from Less e = refl
 less_from Equal e = (cc)
 less_from Greater e = (cc)
 
--- a test that did not fail, before another one
-guard_then : {A : Type 0} (b : Bool) (d : Wrong) (next : Result A Wrong) (y : A) → cond b (Err d) next ≡ Ok y → (b ≡ false) × (next ≡ Ok y)
-guard_then true d next y e = absurd cc
-guard_then false d next y e = (refl, e)
-
 -- a literal that was read
 record Parts (fold : Fold) (room : ℕ) (before bytes : List ℕ) (x : List ℕ × List ℕ) : Type 0 where
   len : ℕ
@@ -105,24 +102,27 @@ parts fold room before bytes x e =
     let tested : List ℕ → List ℕ × List ℕ → Result (List ℕ × List ℕ) Wrong = λ rest text.
     cond (ltb (folded_len fold text.0) (length text.0)) (Err (wrong_at Literal (drop (folded_len fold text.0) rest)))
     (cond (is_lt (literal_cmp before text.0)) (Ok text) (Err (wrong_at Order bytes))) in
-    let a = bind_ok (field bytes (in_range room) Literal (number_at w16 bytes)) (λ len. bytes_at len.0 len.1 >>= tested len.1) x e in
-    let f = field_ok bytes (in_range room) Literal (number_at w16 bytes) a.0 a.1 in
-    let b = bind_ok (bytes_at a.0.0 a.0.1) (tested a.0.1) x a.2 in
-    let g = guard_then (ltb (folded_len fold b.0.0) (length b.0.0)) (wrong_at Literal (drop (folded_len fold b.0.0) a.0.1)) (cond (is_lt (literal_cmp before b.0.0)) (Ok b.0) (Err (wrong_at Order bytes))) x b.2 in
-    let p = passed_ok (is_lt (literal_cmp before b.0.0)) (wrong_at Order bytes) b.0 x g.1 in
-    let len = bytes_len a.0.0 a.0.1 b.0 b.1 in
-    let range = in_range_tells room a.0.0 f.1 in
-    subst (Parts fold room before bytes) p.1 (record {
-      len = a.0.0;
-      rest = a.0.1;
+    let a = step (field bytes (in_range room) Literal (number_at w16 bytes)) (λ len. bytes_at len.0 len.1 >>= tested len.1) x e in
+    let f = field_read bytes (in_range room) Literal (number_at w16 bytes) a.value a.first in
+    let len = a.value.0 in
+    let rest = a.value.1 in
+    let b = step (bytes_at len rest) (tested rest) x a.second in
+    let text = b.value.0 in
+    let whole = went_on (ltb (folded_len fold text) (length text)) (wrong_at Literal (drop (folded_len fold text) rest)) (cond (is_lt (literal_cmp before text)) (Ok b.value) (Err (wrong_at Order bytes))) x b.second in
+    let above = passed (is_lt (literal_cmp before text)) (Ok b.value) (wrong_at Order bytes) x whole.1 in
+    let size = (bytes_read len rest b.value b.first).1 in
+    let range = in_range_tells room len f.1 in
+    IfOk-at_ok (Parts fold room before bytes) above.1 (record {
+      len = len;
+      rest = rest;
       number = f.0;
-      taken = b.1;
+      taken = b.first;
       next = record {
-        some = omega (arith, len, range.0);
-        short = omega (arith, len, range.1);
-        fits = omega (arith, len, range.2);
-        folded = folded_whole fold b.0.0 (ltb-false _ _ g.0);
-        after = less_from (literal_cmp before b.0.0) p.0;
+        some = omega (arith, size, range.0);
+        short = omega (arith, size, range.1);
+        fits = omega (arith, size, range.2);
+        folded = folded_whole fold text (ltb-false _ _ whole.0);
+        after = less_from (literal_cmp before text) above.0;
       };
     })
 
@@ -134,15 +134,16 @@ literal_next fold room before bytes x e = (parts fold room before bytes x e).nex
 pub literal_rest : (fold : Fold) (room : ℕ) (before bytes : List ℕ) (x : List ℕ × List ℕ) → literal_at fold room before bytes ≡ Ok x → length bytes ≡ 2 + length x.0 + length x.1
 literal_rest fold room before bytes x e =
     let p = parts fold room before bytes x e in
-    omega (arith, number_rest w16 bytes (p.len, p.rest) p.number, bytes_len p.len p.rest x p.taken, bytes_rest p.len p.rest x p.taken)
+    let t = bytes_read p.len p.rest x p.taken in
+    omega (arith, number_rest w16 bytes (p.len, p.rest) p.number, t.1, ap length t.0, length-append x.0 x.1)
 
-pub literal_takes : (fold : Fold) (room : ℕ) (before bytes : List ℕ) (x : List ℕ × List ℕ) → IsBytes bytes → literal_at fold room before bytes ≡ Ok x → Takes bytes (literal_text x.0) x.1
-literal_takes fold room before bytes x fits e =
+-- its length and its bytes stand at the front
+pub literal_read : (fold : Fold) (room : ℕ) (before bytes : List ℕ) (x : List ℕ × List ℕ) → AreBytes bytes → literal_at fold room before bytes ≡ Ok x → Took bytes (literal_text x.0) x.1
+literal_read fold room before bytes x are e =
     let p = parts fold room before bytes x e in
-    let t = number_takes w16 (2 ^ 16) wide16 bytes (p.len, p.rest) fits p.number in
-    let u = bytes_takes p.len p.rest x t.0.rest_fits p.taken in
-    let both = Takes-then bytes (to_be_bytes w16 p.len) p.rest x.0 x.1 t.0 u.0 in
-    subst (λ (k : ℕ). Takes bytes (to_be_bytes w16 k ++ x.0) x.1) (sym u.1) both
+    let number = number_read w16 tt bytes (p.len, p.rest) are p.number in
+    let text = bytes_read p.len p.rest x p.taken in
+    subst (λ (k : ℕ). Took bytes (to_be_bytes w16 k ++ x.0) x.1) (sym text.1) (took_both (to_be_bytes w16 p.len) x.0 x.1 number.0 text.0)
 
 pub literal_again : (fold : Fold) (room : ℕ) (before text rest : List ℕ) → IsNext fold room before text → literal_at fold room before (literal_text text ++ rest) ≡ Ok (text, rest)
 unfolding literal_at
@@ -150,7 +151,7 @@ literal_again fold room before text rest next =
     let bytes = literal_text text ++ rest in
     let small : length text < 2 ^ 16 = omega (arith, next.short) in
     let regrouped : bytes ≡ to_be_bytes w16 (length text) ++ (text ++ rest) = append_assoc (to_be_bytes w16 (length text)) text rest in
-    let number : number_at w16 bytes ≡ Ok (length text, text ++ rest) = ap (number_at w16) regrouped ∙ number_again w16 (2 ^ 16) wide16 (length text) (text ++ rest) small in
+    let number : number_at w16 bytes ≡ Ok (length text, text ++ rest) = ap (number_at w16) regrouped ∙ number_again w16 tt (length text) (text ++ rest) small in
     let len = field_again bytes (in_range room) Literal (number_at w16 bytes) (length text, text ++ rest) number (in_range_from room (length text) next.some next.short next.fits) in
     let whole : ltb (folded_len fold text) (length text) ≡ false = le-ltb _ _ (omega (arith, folded_len_whole fold text next.folded)) in
     rw (len, bytes_again text rest, whole, next.after) refl
@@ -164,24 +165,25 @@ Follow fold room before (t ∷ ts) = IsNext fold room before t × Follow fold (r
 
 pub literals_follow : (fold : Fold) (n room : ℕ) (before bytes : List ℕ) (x : List (List ℕ) × List ℕ) → literals_at fold n room before bytes ≡ Ok x → (length x.0 ≡ n) × Follow fold room before x.0
 unfolding literals_at
-literals_follow fold zero room before bytes x e = subst (λ (y : List (List ℕ) × List ℕ). (length y.0 ≡ 0) × Follow fold room before y.0) (ok_is ([], bytes) x e) (refl, tt)
+literals_follow fold zero room before bytes x e = IfOk-at_ok (λ y. (length y.0 ≡ 0) × Follow fold room before y.0) e (refl, tt)
 literals_follow fold (suc n) room before bytes x e =
-    let a = bind_ok (literal_at fold room before bytes) (λ first. literals_at fold n (room - length first.0) first.0 first.1 >>= λ others. Ok (first.0 ∷ others.0, others.1)) x e in
-    let b = bind_ok (literals_at fold n (room - length a.0.0) a.0.0 a.0.1) (λ others. Ok (a.0.0 ∷ others.0, others.1)) x a.2 in
-    let u = literals_follow fold n (room - length a.0.0) a.0.0 a.0.1 b.0 b.1 in
-    subst (λ (y : List (List ℕ) × List ℕ). (length y.0 ≡ suc n) × Follow fold room before y.0) {x = (a.0.0 ∷ b.0.0, b.0.1)} (ok_is (a.0.0 ∷ b.0.0, b.0.1) x b.2)
-    (omega (arith, u.0), (literal_next fold room before bytes a.0 a.1, u.1))
+    let a = step (literal_at fold room before bytes) (λ first. literals_at fold n (room - length first.0) first.0 first.1 >>= λ others. Ok (first.0 ∷ others.0, others.1)) x e in
+    let first = a.value in
+    let b = step (literals_at fold n (room - length first.0) first.0 first.1) (λ others. Ok (first.0 ∷ others.0, others.1)) x a.second in
+    let others = literals_follow fold n (room - length first.0) first.0 first.1 b.value b.first in
+    IfOk-at_ok (λ y. (length y.0 ≡ suc n) × Follow fold room before y.0) {r = Ok (first.0 ∷ b.value.0, b.value.1)} b.second (omega (arith, others.0), (literal_next fold room before bytes first a.first, others.1))
 
-pub literals_take : (fold : Fold) (n room : ℕ) (before bytes : List ℕ) (x : List (List ℕ) × List ℕ) → IsBytes bytes → literals_at fold n room before bytes ≡ Ok x → Takes bytes (flat_map literal_text x.0) x.1
+-- their spellings stand at the front
+pub literals_read : (fold : Fold) (n room : ℕ) (before bytes : List ℕ) (x : List (List ℕ) × List ℕ) → AreBytes bytes → literals_at fold n room before bytes ≡ Ok x → Took bytes (flat_map literal_text x.0) x.1
 unfolding literals_at
-literals_take fold zero room before bytes x fits e = subst (λ (y : List (List ℕ) × List ℕ). Takes bytes (flat_map literal_text y.0) y.1) (ok_is ([], bytes) x e) (record { parts = refl; rest_fits = fits })
-literals_take fold (suc n) room before bytes x fits e =
-    let a = bind_ok (literal_at fold room before bytes) (λ first. literals_at fold n (room - length first.0) first.0 first.1 >>= λ others. Ok (first.0 ∷ others.0, others.1)) x e in
-    let b = bind_ok (literals_at fold n (room - length a.0.0) a.0.0 a.0.1) (λ others. Ok (a.0.0 ∷ others.0, others.1)) x a.2 in
-    let t = literal_takes fold room before bytes a.0 fits a.1 in
-    let u = literals_take fold n (room - length a.0.0) a.0.0 a.0.1 b.0 t.rest_fits b.1 in
-    let both = Takes-then bytes (literal_text a.0.0) a.0.1 (flat_map literal_text b.0.0) b.0.1 t u in
-    subst (λ (y : List (List ℕ) × List ℕ). Takes bytes (flat_map literal_text y.0) y.1) {x = (a.0.0 ∷ b.0.0, b.0.1)} (ok_is (a.0.0 ∷ b.0.0, b.0.1) x b.2) both
+literals_read fold zero room before bytes x are e = IfOk-at_ok (λ y. Took bytes (flat_map literal_text y.0) y.1) e refl
+literals_read fold (suc n) room before bytes x are e =
+    let a = step (literal_at fold room before bytes) (λ first. literals_at fold n (room - length first.0) first.0 first.1 >>= λ others. Ok (first.0 ∷ others.0, others.1)) x e in
+    let first = a.value in
+    let b = step (literals_at fold n (room - length first.0) first.0 first.1) (λ others. Ok (first.0 ∷ others.0, others.1)) x a.second in
+    let took = literal_read fold room before bytes first are a.first in
+    let others = literals_read fold n (room - length first.0) first.0 first.1 b.value (rest_bytes (literal_text first.0) first.1 took are) b.first in
+    IfOk-at_ok (λ y. Took bytes (flat_map literal_text y.0) y.1) {r = Ok (first.0 ∷ b.value.0, b.value.1)} b.second (took_both (literal_text first.0) (flat_map literal_text b.value.0) b.value.1 took others)
 
 pub literals_again : (fold : Fold) (room : ℕ) (before : List ℕ) (texts : List (List ℕ)) (rest : List ℕ) → Follow fold room before texts → literals_at fold (length texts) room before (flat_map literal_text texts ++ rest) ≡ Ok (texts, rest)
 unfolding literals_at

@@ -6,6 +6,7 @@ use Rattle.std.specs.Int.{Width, w16, w32, w64, byte_len}
 use Rattle.std.proofs.lemmas.Bool.{le-ltb}
 use Rattle.std.proofs.lemmas.List.{length-append, length-drop, length-replicate, take-append-le, drop-append-le}
 use Rattle.std.proofs.lemmas.List.Elements.{recursion_from_All}
+use Rattle.std.proofs.lemmas.Result.{IfOk-at_ok}
 use Rattle.lit_base.specs.declared.fold.Fold.{Fold}
 use Rattle.lit_base.specs.declared.limits.TheConstants.{MAX_LIST_LEN}
 use Rattle.lit_base.specs.declared.profile.Profile.{Profile}
@@ -22,7 +23,7 @@ use Rattle.plan_file.specs.FirstFaults.{IsFirstFault, IsWrong, IsWrongEntry, IsW
 use Rattle.plan_file.specs.Reading.{◌>>=◌, wrong_at, byte_at, number_at, bytes_at, field, numbers_at, folded_len, literal_at, literals_at, fold_of, profile_of, list_at, certificate_at, plan_at, version_of, head_at}
 use Rattle.plan_file.specs.Spelling.{plan_text, head_text, limit_of, IsFile, IsPlan}
 use Rattle.plan_file.proofs.DeviceLemmas.{length-head_text}
-use Rattle.plan_file.proofs.FieldLemmas.{bind_ok, bytes_len, field_ok, ok_is}
+use Rattle.plan_file.proofs.FieldLemmas.{bytes_read, field_read, step}
 use Rattle.plan_file.proofs.LiteralLemmas.{in_range, in_range_tells, literal_next, literal_rest, literals_follow}
 use Rattle.plan_file.proofs.PlanLemmas.{at_most, between, is_count, is_few, is_flag, is_number, limit_few, plan_again}
 
@@ -124,12 +125,12 @@ literal_steady fold room before bytes tail le =
     (λ len. bytes_at len.0 len.1 >>= tested bytes len.1) (λ len. bytes_at len.0 len.1 >>= tested (bytes ++ tail) len.1) le
     (field_steady 2 bytes tail (in_range room) Literal (number_at w16 bytes) (number_at w16 (bytes ++ tail)) (number_steady w16 bytes tail (omega (arith, le))))
     (λ len is enough.
-    let range = in_range_tells room len.0 (field_ok bytes (in_range room) Literal (number_at w16 bytes) len is).1 in
+    let range = in_range_tells room len.0 (field_read bytes (in_range room) Literal (number_at w16 bytes) len is).1 in
     looser (len.0 + 0) room len.1 tail (bytes_at len.0 len.1 >>= tested bytes len.1) (bytes_at len.0 (len.1 ++ tail) >>= tested (bytes ++ tail) (len.1 ++ tail)) (omega (arith, range.2))
     (bind_steady len.0 0 len.1 tail (bytes_at len.0 len.1) (bytes_at len.0 (len.1 ++ tail)) (tested bytes len.1) (tested (bytes ++ tail) (len.1 ++ tail)) (omega (arith, range.2, enough)) (bytes_steady len.0 len.1 tail (omega (arith, range.2, enough)))
     (λ text at some.
     let k = folded_len fold text.0 in
-    let within : k ≤ length len.1 = omega (arith, folded_le fold text.0, bytes_len len.0 len.1 text at, range.2, enough) in
+    let within : k ≤ length len.1 = omega (arith, folded_le fold text.0, (bytes_read len.0 len.1 text at).1, range.2, enough) in
     test_steady 0 text.1 tail (ltb k (length text.0)) (Err (wrong_at Literal (drop k len.1))) (cond (is_lt (literal_cmp before text.0)) (Ok text) (Err (wrong_at Order bytes)))
     (Err (wrong_at Literal (drop k (len.1 ++ tail)))) (cond (is_lt (literal_cmp before text.0)) (Ok (text.0, text.1 ++ tail)) (Err (wrong_at Order (bytes ++ tail))))
     (ap (λ (t : List ℕ). bad (wrong_at Literal t)) (drop-append-le k len.1 tail within) ∙ ap bad (wrong_shift Literal (drop k len.1) tail))
@@ -183,7 +184,7 @@ list_steady version bytes tail le =
     (λ flags is enough. bind_steady 2 (most + 0) flags.1 tail (field flags.1 (is_count limit) Count (number_at w16 flags.1)) (field (flags.1 ++ tail) (is_count limit) Count (number_at w16 (flags.1 ++ tail))) (counted flags) (counted flags) enough
     (field_steady 2 flags.1 tail (is_count limit) Count (number_at w16 flags.1) (number_at w16 (flags.1 ++ tail)) (number_steady w16 flags.1 tail (omega (arith, enough))))
     (λ n at some.
-    let few = (between 1 limit n.0 (field_ok flags.1 (is_count limit) Count (number_at w16 flags.1) n at).1).1 in
+    let few = (between 1 limit n.0 (field_read flags.1 (is_count limit) Count (number_at w16 flags.1) n at).1).1 in
     bind_steady most 0 n.1 tail (literals_at (fold_of flags.0) n.0 MAX_LIST_LEN [] n.1) (literals_at (fold_of flags.0) n.0 MAX_LIST_LEN [] (n.1 ++ tail)) (behind flags) (behind flags) some
     (looser (2 * n.0 + MAX_LIST_LEN) most n.1 tail (literals_at (fold_of flags.0) n.0 MAX_LIST_LEN [] n.1) (literals_at (fold_of flags.0) n.0 MAX_LIST_LEN [] (n.1 ++ tail)) (omega (arith, few, limit_few version)) (literals_steady (fold_of flags.0) n.0 MAX_LIST_LEN [] n.1 tail (omega (arith, few, limit_few version, some))))
     (λ texts so here. (refl, omega arith)))))
@@ -196,13 +197,14 @@ list_few version bytes x e =
     let made : ℕ × List ℕ → List (List ℕ) × List ℕ → (Profile × Literals) × List ℕ = λ flags texts. ((profile_of flags.0, record { folding = fold_of flags.0; texts = texts.0 }), texts.1) in
     let behind : ℕ × List ℕ → List (List ℕ) × List ℕ → Result ((Profile × Literals) × List ℕ) Wrong = λ flags texts. Ok (made flags texts) in
     let counted : ℕ × List ℕ → ℕ × List ℕ → Result ((Profile × Literals) × List ℕ) Wrong = λ flags n. literals_at (fold_of flags.0) n.0 MAX_LIST_LEN [] n.1 >>= behind flags in
-    let a = bind_ok (field bytes (is_flag version) Flags (byte_at bytes)) (λ flags. field flags.1 (is_count limit) Count (number_at w16 flags.1) >>= counted flags) x e in
-    let b = bind_ok (field a.0.1 (is_count limit) Count (number_at w16 a.0.1)) (counted a.0) x a.2 in
-    let g = field_ok a.0.1 (is_count limit) Count (number_at w16 a.0.1) b.0 b.1 in
-    let d = bind_ok (literals_at (fold_of a.0.0) b.0.0 MAX_LIST_LEN [] b.0.1) (behind a.0) x b.2 in
-    let follow = literals_follow (fold_of a.0.0) b.0.0 MAX_LIST_LEN [] b.0.1 d.0 d.1 in
-    let range = between 1 limit b.0.0 g.1 in
-    subst (λ (y : (Profile × Literals) × List ℕ). length y.0.1.texts ≤ limit) {x = made a.0 d.0} (ok_is (made a.0 d.0) x d.2) (omega (arith, follow.0, range.1))
+    let a = step (field bytes (is_flag version) Flags (byte_at bytes)) (λ flags. field flags.1 (is_count limit) Count (number_at w16 flags.1) >>= counted flags) x e in
+    let flags = a.value.0 in
+    let b = step (field a.value.1 (is_count limit) Count (number_at w16 a.value.1)) (counted a.value) x a.second in
+    let count = b.value.0 in
+    let d = step (literals_at (fold_of flags) count MAX_LIST_LEN [] b.value.1) (behind a.value) x b.second in
+    let number = field_read a.value.1 (is_count limit) Count (number_at w16 a.value.1) b.value b.first in
+    let follow = literals_follow (fold_of flags) count MAX_LIST_LEN [] b.value.1 d.value d.first in
+    IfOk-at_ok (λ y. length y.0.1.texts ≤ limit) {r = Ok (made a.value d.value)} d.second (omega (arith, follow.0, (between 1 limit count number.1).1))
 
 -- ---- certificates and entries, of up to sixteen runs and 4,096 literals
 
@@ -225,7 +227,7 @@ certificate_steady profile n bytes tail few le =
     bind_steady 1 524328 bytes tail (field bytes (is_count rows) Runs (byte_at bytes)) (field (bytes ++ tail) (is_count rows) Runs (byte_at (bytes ++ tail))) first first le
     (field_steady 1 bytes tail (is_count rows) Runs (byte_at bytes) (byte_at (bytes ++ tail)) (byte_steady bytes tail (omega (arith, le))))
     (λ runs is enough.
-    let most = (between 1 rows runs.0 (field_ok bytes (is_count rows) Runs (byte_at bytes) runs is).1).1 in
+    let most = (between 1 rows runs.0 (field_read bytes (is_count rows) Runs (byte_at bytes) runs is).1).1 in
     bind_steady 32 524296 runs.1 tail (numbers_at w16 runs.0 runs.1) (numbers_at w16 runs.0 (runs.1 ++ tail)) second second enough
     (looser (runs.0 * 2) 32 runs.1 tail (numbers_at w16 runs.0 runs.1) (numbers_at w16 runs.0 (runs.1 ++ tail)) (omega (arith, most, few_runs profile)) (numbers_steady w16 runs.0 runs.1 tail (omega (arith, most, few_runs profile, enough))))
     (λ ends at some. bind_steady 8 524288 ends.1 tail (number_at w64 ends.1) (number_at w64 (ends.1 ++ tail)) (third ends.0) (third ends.0) some (number_steady w64 ends.1 tail (omega (arith, some)))
@@ -268,10 +270,11 @@ head_few bytes x e =
     let made : ℕ → ℕ × List ℕ → (Version × ℕ) × List ℕ = λ version count. ((version_of version, count.0), count.1) in
     let third : ℕ × List ℕ → Result ((Version × ℕ) × List ℕ) Wrong = λ version. field version.1 is_few Count (number_at w16 version.1) >>= λ count. Ok (made version.0 count) in
     let second : ℕ × List ℕ → Result ((Version × ℕ) × List ℕ) Wrong = λ magic. field magic.1 (is_count 2) wrong_version (number_at w16 magic.1) >>= third in
-    let a = bind_ok (field bytes (is_number 0x4C504C46) Magic (number_at w32 bytes)) second x e in
-    let b = bind_ok (field a.0.1 (is_count 2) wrong_version (number_at w16 a.0.1)) third x a.2 in
-    let d = bind_ok (field b.0.1 is_few Count (number_at w16 b.0.1)) (λ count. Ok (made b.0.0 count)) x b.2 in
-    subst (λ (y : (Version × ℕ) × List ℕ). y.0.1 ≤ 64) {x = made b.0.0 d.0} (ok_is (made b.0.0 d.0) x d.2) (at_most d.0.0 64 (field_ok b.0.1 is_few Count (number_at w16 b.0.1) d.0 d.1).1)
+    let a = step (field bytes (is_number 0x4C504C46) Magic (number_at w32 bytes)) second x e in
+    let b = step (field a.value.1 (is_count 2) wrong_version (number_at w16 a.value.1)) third x a.second in
+    let d = step (field b.value.1 is_few Count (number_at w16 b.value.1)) (λ count. Ok (made b.value.0 count)) x b.second in
+    let count = field_read b.value.1 is_few Count (number_at w16 b.value.1) d.value d.first in
+    IfOk-at_ok (λ y. y.0.1 ≤ 64) {r = Ok (made b.value.0 d.value)} d.second (at_most d.value.0 64 count.1)
 
 -- ---- whole texts
 

@@ -1,4 +1,4 @@
--- Values read one after the other, as a loop does.
+-- What a loop has read, and what is left to read.
 use Rattle.std.proofs.Common.{◌≡◌, ℕ, suc, ◌-◌, ◌+◌, ◌≤◌, ◌<◌, List, [], ◌∷◌, ◌++◌, length, sum_by, Result, Ok, Err, refl, sym, ap, subst, ◌∙◌, append_assoc, arith}
 use Rattle.std.specs.Int.{Width}
 use Rattle.std.proofs.lemmas.List.{append-nil, length-append}
@@ -11,44 +11,52 @@ use Rattle.plan_file.specs.declared.fault.Wrong.{Wrong}
 use Rattle.plan_file.specs.Faults.{IfWrong}
 use Rattle.plan_file.specs.Reading.{◌>>=◌, number_at, numbers_at, literal_at, literals_at}
 
--- the items read before, and the rest still to read
-abbrev pub with_front : {A : Type 0} → List A → Result (List A × List ℕ) Wrong → Result (List A × List ℕ) Wrong
-with_front front read = read >>= λ x. Ok (front ++ x.0, x.1)
+-- ---- items
 
-regroup : {A : Type 0} (front : List A) (n : A) (read : Result (List A × List ℕ) Wrong) → with_front front (read >>= λ x. Ok (n ∷ x.0, x.1)) ≡ with_front (front ++ n ∷ []) read
-regroup {A} front n (Ok x) = ap (λ (ns : List A). Ok (ns, x.1)) (simp append_assoc)
-regroup front n (Err f) = refl
+-- items that were read, continued by those that are read of the rest
+abbrev pub continued : {A : Type 0} → List A → Result (List A × List ℕ) Wrong → Result (List A × List ℕ) Wrong
+continued items read = read >>= λ others. Ok (items ++ others.0, others.1)
 
--- nothing was read before
-pub no_front : {A : Type 0} (read : Result (List A × List ℕ) Wrong) → with_front [] read ≡ read
-no_front (Ok x) = refl
-no_front (Err f) = refl
+-- before the first item a loop has what it is to read
+pub continued_none : {A : Type 0} (read : Result (List A × List ℕ) Wrong) → continued [] read ≡ read
+continued_none (Err wrong) = refl
+continued_none (Ok others) = refl
+
+-- an item that was read passes from the others to the items before them
+one_item : {A : Type 0} (items : List A) (item : A) (read : Result (List A × List ℕ) Wrong) → continued items (read >>= λ others. Ok (item ∷ others.0, others.1)) ≡ continued (items ++ item ∷ []) read
+one_item items item (Err wrong) = refl
+one_item {A} items item (Ok others) = ap (λ (all : List A). Ok (all, others.1)) (sym (append_assoc items (item ∷ []) others.0))
+
+-- before the end of a loop one item and the later ones are left
+one_left : (count i : ℕ) → i < count → count - i ≡ suc (count - (i + 1))
+one_left count i more = omega (arith, more)
+
+-- at the end of a loop nothing is left
+none_left : (count i : ℕ) → count ≤ i → count - i ≡ 0
+none_left count i end = omega (arith, end)
+
+-- where reading one item stops, reading all of them stops at the same fault
+pub stops : {A B : Type 0} (one : Result A Wrong) (all : Result B Wrong) (e : Stop) → ((wrong : Wrong) → one ≡ Err wrong → all ≡ Err wrong) → IfWrong (λ wrong. one ≡ Err wrong) e → IfWrong (λ wrong. all ≡ Err wrong) e
+stops one all stop.OutOfMemory same is = tt
+stops one all (stop.Wrong wrong) same is = same wrong is
 
 -- ---- numbers
 
-pub numbers_go_on : (w : Width) (front : List ℕ) (count i : ℕ) (bytes : List ℕ) (n : ℕ) (after : List ℕ) (total : Result (List ℕ × List ℕ) Wrong) → i < count → number_at w bytes ≡ Ok (n, after)
-    → with_front front (numbers_at w (count - i) bytes) ≡ total → with_front (front ++ n ∷ []) (numbers_at w (count - (i + 1)) after) ≡ total
+-- a number more is read
+pub numbers_more : (w : Width) (items : List ℕ) (count i : ℕ) (bytes : List ℕ) (n : ℕ) (after : List ℕ) → i < count → number_at w bytes ≡ Ok (n, after)
+    → continued items (numbers_at w (count - i) bytes) ≡ continued (items ++ n ∷ []) (numbers_at w (count - (i + 1)) after)
 unfolding numbers_at
-numbers_go_on w front count i bytes n after total lt h so_far =
-    let k : count - i ≡ suc (count - (i + 1)) = omega arith in
-    let one : with_front front (numbers_at w (count - i) bytes) ≡ with_front (front ++ n ∷ []) (numbers_at w (count - (i + 1)) after) = rw (k, h) (regroup front n (numbers_at w (count - (i + 1)) after)) in
-    sym one ∙ so_far
+numbers_more w items count i bytes n after more is = rw (one_left count i more, is) (one_item items n (numbers_at w (count - (i + 1)) after))
 
-pub numbers_end : (w : Width) (e : Stop) (front : List ℕ) (count i : ℕ) (bytes : List ℕ) (total : Result (List ℕ × List ℕ) Wrong) → i < count → IfWrong (λ f. number_at w bytes ≡ Err f) e
-    → with_front front (numbers_at w (count - i) bytes) ≡ total → IfWrong (λ f. total ≡ Err f) e
+-- a number is not read
+pub numbers_stop : (w : Width) (items : List ℕ) (count i : ℕ) (bytes : List ℕ) (wrong : Wrong) → i < count → number_at w bytes ≡ Err wrong → continued items (numbers_at w (count - i) bytes) ≡ Err wrong
 unfolding numbers_at
-numbers_end w stop.OutOfMemory front count i bytes total lt h so_far = tt
-numbers_end w (stop.Wrong f) front count i bytes total lt h so_far =
-    let k : count - i ≡ suc (count - (i + 1)) = omega arith in
-    let one : with_front front (numbers_at w (count - i) bytes) ≡ Err f = rw (k, h) refl in
-    sym so_far ∙ one
+numbers_stop w items count i bytes wrong more is = rw (one_left count i more, is) refl
 
-pub numbers_done : (w : Width) (front : List ℕ) (count i : ℕ) (bytes : List ℕ) (total : Result (List ℕ × List ℕ) Wrong) → count ≤ i → with_front front (numbers_at w (count - i) bytes) ≡ total → total ≡ Ok (front, bytes)
+-- all numbers are read
+pub numbers_all : (w : Width) (items : List ℕ) (count i : ℕ) (bytes : List ℕ) → count ≤ i → continued items (numbers_at w (count - i) bytes) ≡ Ok (items, bytes)
 unfolding numbers_at
-numbers_done w front count i bytes total le so_far =
-    let k : count - i ≡ 0 = omega arith in
-    let one : with_front front (numbers_at w (count - i) bytes) ≡ Ok (front, bytes) = rw k (ap (λ (ns : List ℕ). Ok (ns, bytes)) (append-nil front)) in
-    sym so_far ∙ one
+numbers_all w items count i bytes end = rw (none_left count i end) (ap (λ (all : List ℕ). Ok (all, bytes)) (append-nil items))
 
 -- ---- literals
 
@@ -56,48 +64,44 @@ numbers_done w front count i bytes total le so_far =
 pub record Left (fold : Fold) (count i room : ℕ) (before rest : List ℕ) (texts : List (List ℕ)) (total : Result (List (List ℕ) × List ℕ) Wrong) : Type 0 where
   pub number : length texts ≡ i
   pub total_len : room + sum_by length texts ≡ MAX_LIST_LEN
-  pub left : with_front texts (literals_at fold (count - i) room before rest) ≡ total
+  pub left : continued texts (literals_at fold (count - i) room before rest) ≡ total
 
+-- no literal was read
 pub left_none : (fold : Fold) (count room : ℕ) (bytes : List ℕ) → room ≡ MAX_LIST_LEN → Left fold count 0 room [] bytes [] (literals_at fold count MAX_LIST_LEN [] bytes)
 left_none fold count room bytes is = record {
   number = refl;
   total_len = omega (arith, is);
-  left = no_front (literals_at fold (count - 0) room [] bytes) ∙ ap (λ (r : ℕ). literals_at fold (count - 0) r [] bytes) is ∙ ap (λ (k : ℕ). literals_at fold k MAX_LIST_LEN [] bytes) (omega arith);
+  left = continued_none (literals_at fold (count - 0) room [] bytes) ∙ ap (λ (r : ℕ). literals_at fold (count - 0) r [] bytes) is ∙ ap (λ (k : ℕ). literals_at fold k MAX_LIST_LEN [] bytes) (omega arith);
 }
 
+-- the length of one more literal
 sum_by-push : (ts : List (List ℕ)) (t : List ℕ) → sum_by length (ts ++ t ∷ []) ≡ sum_by length ts + length t
 sum_by-push [] t = omega (arith, sum_by-cons {X = List ℕ} length t [])
 sum_by-push (u ∷ us) t = omega (arith, sum_by-push us t, sum_by-cons {X = List ℕ} length u us, sum_by-cons {X = List ℕ} length u (us ++ t ∷ []))
 
-literals_go_on : (fold : Fold) (room : ℕ) (before : List ℕ) (front : List (List ℕ)) (count i : ℕ) (bytes text after : List ℕ) (total : Result (List (List ℕ) × List ℕ) Wrong) → i < count → literal_at fold room before bytes ≡ Ok (text, after)
-    → with_front front (literals_at fold (count - i) room before bytes) ≡ total → with_front (front ++ text ∷ []) (literals_at fold (count - (i + 1)) (room - length text) text after) ≡ total
+-- a literal more is read
+literals_more : (fold : Fold) (room : ℕ) (before : List ℕ) (texts : List (List ℕ)) (count i : ℕ) (bytes text after : List ℕ) → i < count → literal_at fold room before bytes ≡ Ok (text, after)
+    → continued texts (literals_at fold (count - i) room before bytes) ≡ continued (texts ++ text ∷ []) (literals_at fold (count - (i + 1)) (room - length text) text after)
 unfolding literals_at
-literals_go_on fold room before front count i bytes text after total lt h so_far =
-    let k : count - i ≡ suc (count - (i + 1)) = omega arith in
-    let one : with_front front (literals_at fold (count - i) room before bytes) ≡ with_front (front ++ text ∷ []) (literals_at fold (count - (i + 1)) (room - length text) text after) = rw (k, h) (regroup front text (literals_at fold (count - (i + 1)) (room - length text) text after)) in
-    sym one ∙ so_far
+literals_more fold room before texts count i bytes text after more is =
+    rw (one_left count i more, is) (one_item texts text (literals_at fold (count - (i + 1)) (room - length text) text after))
 
-pub left_more : (fold : Fold) (room : ℕ) (before : List ℕ) (front more : List (List ℕ)) (count i : ℕ) (bytes text after : List ℕ) (total : Result (List (List ℕ) × List ℕ) Wrong) → length text ≤ room → i < count → literal_at fold room before bytes ≡ Ok (text, after)
-    → Left fold count i room before bytes front total → more ≡ front ++ text ∷ [] → Left fold count (i + 1) (room - length text) text after more total
-left_more fold room before front more count i bytes text after total fits lt h so_far is =
-    subst (λ (ts : List (List ℕ)). Left fold count (i + 1) (room - length text) text after ts total) (sym is) (record {
-      number = omega (arith, length-append front (text ∷ []), so_far.number);
-      total_len = omega (arith, sum_by-push front text, so_far.total_len, fits);
-      left = literals_go_on fold room before front count i bytes text after total lt h so_far.left;
+-- a literal is not read
+pub literals_stop : (fold : Fold) (room : ℕ) (before : List ℕ) (texts : List (List ℕ)) (count i : ℕ) (bytes : List ℕ) (wrong : Wrong) → i < count → literal_at fold room before bytes ≡ Err wrong → continued texts (literals_at fold (count - i) room before bytes) ≡ Err wrong
+unfolding literals_at
+literals_stop fold room before texts count i bytes wrong more is = rw (one_left count i more, is) refl
+
+-- all literals are read
+pub literals_all : (fold : Fold) (room : ℕ) (before : List ℕ) (texts : List (List ℕ)) (count i : ℕ) (bytes : List ℕ) → count ≤ i → continued texts (literals_at fold (count - i) room before bytes) ≡ Ok (texts, bytes)
+unfolding literals_at
+literals_all fold room before texts count i bytes end = rw (none_left count i end) (ap (λ (all : List (List ℕ)). Ok (all, bytes)) (append-nil texts))
+
+-- a literal more was read
+pub left_more : (fold : Fold) (room : ℕ) (before : List ℕ) (texts longer : List (List ℕ)) (count i : ℕ) (bytes text after : List ℕ) (total : Result (List (List ℕ) × List ℕ) Wrong) → length text ≤ room → i < count → literal_at fold room before bytes ≡ Ok (text, after)
+    → Left fold count i room before bytes texts total → longer ≡ texts ++ text ∷ [] → Left fold count (i + 1) (room - length text) text after longer total
+left_more fold room before texts longer count i bytes text after total fits more is so_far longer_is =
+    subst (λ (ts : List (List ℕ)). Left fold count (i + 1) (room - length text) text after ts total) (sym longer_is) (record {
+      number = omega (arith, length-append texts (text ∷ []), so_far.number);
+      total_len = omega (arith, sum_by-push texts text, so_far.total_len, fits);
+      left = sym (literals_more fold room before texts count i bytes text after more is) ∙ so_far.left;
     })
-
-pub literals_end : (fold : Fold) (e : Stop) (room : ℕ) (before : List ℕ) (front : List (List ℕ)) (count i : ℕ) (bytes : List ℕ) (total : Result (List (List ℕ) × List ℕ) Wrong) → i < count → IfWrong (λ f. literal_at fold room before bytes ≡ Err f) e
-    → Left fold count i room before bytes front total → IfWrong (λ f. total ≡ Err f) e
-unfolding literals_at
-literals_end fold stop.OutOfMemory room before front count i bytes total lt h so_far = tt
-literals_end fold (stop.Wrong f) room before front count i bytes total lt h so_far =
-    let k : count - i ≡ suc (count - (i + 1)) = omega arith in
-    let one : with_front front (literals_at fold (count - i) room before bytes) ≡ Err f = rw (k, h) refl in
-    sym so_far.left ∙ one
-
-pub literals_done : (fold : Fold) (room : ℕ) (before : List ℕ) (front : List (List ℕ)) (count i : ℕ) (bytes : List ℕ) (total : Result (List (List ℕ) × List ℕ) Wrong) → count ≤ i → Left fold count i room before bytes front total → total ≡ Ok (front, bytes)
-unfolding literals_at
-literals_done fold room before front count i bytes total le so_far =
-    let k : count - i ≡ 0 = omega arith in
-    let one : with_front front (literals_at fold (count - i) room before bytes) ≡ Ok (front, bytes) = rw k (ap (λ (ts : List (List ℕ)). Ok (ts, bytes)) (append-nil front)) in
-    sym so_far.left ∙ one

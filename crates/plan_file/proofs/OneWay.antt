@@ -19,18 +19,17 @@ use Rattle.plan_file.specs.Spelling.{plan_text, ArePlans, IsFile, IsFileOf, IsPl
 use Rattle.plan_file.proofs.PlanLemmas.{head_again, plan_again}
 use Rattle.plan_file.proofs.PlaceLemmas.{wrong_within}
 
-abbrev done : {A : Type 0} → A → Result A Wrong
-done x = Ok x
+-- a reader reads one value
+one_value : {A : Type 0} {read : Result A Wrong} {x y : A} → read ≡ Ok x → read ≡ Ok y → x ≡ y
+one_value here there = cc
 
-abbrev fail : {A : Type 0} → Wrong → Result A Wrong
-fail w = Err w
+-- a reader stops at one fault
+one_stop : {A : Type 0} {read : Result A Wrong} {w v : Wrong} → read ≡ Err w → read ≡ Err v → w ≡ v
+one_stop here there = cc
 
-ok_same : {A : Type 0} (x y : A) → done x ≡ done y → x ≡ y
-ok_same x y e = cc
-
--- no answer is both
-not_both : {A : Type 0} (x : A) (w : Wrong) → done x ≡ Err w → ⊥
-not_both x w e = absurd cc
+-- a reader that stops reads no value
+not_both : {A : Type 0} {read : Result A Wrong} {x : A} {w : Wrong} → read ≡ Ok x → read ≡ Err w → ⊥
+not_both here there = absurd cc
 
 cons_same : {A : Type 0} {x y : A} {xs ys : List A} → x ≡ y → xs ≡ ys → x ∷ xs ≡ y ∷ ys
 cons_same p q = (cc)
@@ -43,23 +42,20 @@ read_at version p bytes rest is e = ap (plan_at version) e ∙ plan_again versio
 
 -- and not wrong
 right_entry : (version : Version) (p : Plan) (bytes rest : List ℕ) (w : Wrong) → IsPlan version p → bytes ≡ plan_text p ++ rest → IsWrongEntry version bytes w → ⊥
-right_entry version p bytes rest w is e (inl f) = not_both (p, rest) w (sym (read_at version p bytes rest is e) ∙ f)
+right_entry version p bytes rest w is e (inl f) = not_both (read_at version p bytes rest is e) f
 right_entry version p bytes rest w is e (inr h) =
     let read = h.1 in
-    let same : read.plan ≡ p = ap (λ (x : Plan × List ℕ). x.0) (ok_same (read.plan, read.rest) (p, rest) (sym read.whole ∙ read_at version p bytes rest is e)) in
+    let same : read.plan ≡ p = ap (λ (x : Plan × List ℕ). x.0) (one_value read.whole (read_at version p bytes rest is e)) in
     certified_or_fails (buckets p.certificate.profile) p.literals p.certificate h.0 is.certified (subst (λ (q : Plan). IsFirstFailure q.literals q.certificate h.0) same read.first)
 
 -- one thing is wrong with an entry
 one_entry : (version : Version) (bytes : List ℕ) (w v : Wrong) → IsWrongEntry version bytes w → IsWrongEntry version bytes v → w ≡ v
-one_entry version bytes w v (inl e) (inl f) = wrong_same w v (sym e ∙ f)
-  where
-    wrong_same : (x y : Wrong) → fail {A = Plan × List ℕ} x ≡ fail {A = Plan × List ℕ} y → x ≡ y
-    wrong_same x y h = cc
-one_entry version bytes w v (inl e) (inr k) = absurd (not_both (k.1.plan, k.1.rest) w (sym k.1.whole ∙ e))
-one_entry version bytes w v (inr h) (inl f) = absurd (not_both (h.1.plan, h.1.rest) v (sym h.1.whole ∙ f))
+one_entry version bytes w v (inl e) (inl f) = one_stop e f
+one_entry version bytes w v (inl e) (inr k) = absurd (not_both k.1.whole e)
+one_entry version bytes w v (inr h) (inl f) = absurd (not_both h.1.whole f)
 one_entry version bytes w v (inr h) (inr k) =
     let p = h.1.plan in
-    let same : k.1.plan ≡ p = ap (λ (x : Plan × List ℕ). x.0) (ok_same (k.1.plan, k.1.rest) (p, h.1.rest) (sym k.1.whole ∙ h.1.whole)) in
+    let same : k.1.plan ≡ p = ap (λ (x : Plan × List ℕ). x.0) (one_value k.1.whole h.1.whole) in
     let reasons : h.0 ≡ k.0 = same_failure (buckets p.certificate.profile) p.literals p.certificate h.0 k.0 h.1.first (subst (λ (q : Plan). IsFirstFailure q.literals q.certificate k.0) same k.1.first) in
     h.2 ∙ ap (λ (reason : Reason). wrong_at (NotCertified reason) bytes) reasons ∙ sym k.2
 
@@ -82,7 +78,7 @@ record SameFirst (p q : Plan) (s t : List ℕ) : Type 0 where
 
 same_first : (version : Version) (p q : Plan) (s t : List ℕ) → IsPlan version p → IsPlan version q → plan_text p ++ s ≡ plan_text q ++ t → SameFirst p q s t
 same_first version p q s t ip iq e =
-    let both : (p, s) ≡ (q, t) = ok_same (p, s) (q, t) (sym (read_at version p (plan_text p ++ s) s ip refl) ∙ read_at version q (plan_text p ++ s) t iq e) in
+    let both : (p, s) ≡ (q, t) = one_value (read_at version p (plan_text p ++ s) s ip refl) (read_at version q (plan_text p ++ s) t iq e) in
     record { plan = ap (λ (x : Plan × List ℕ). x.0) both; rest = ap (λ (x : Plan × List ℕ). x.1) both }
 
 -- the text of a plan and others, and what follows
@@ -140,7 +136,7 @@ pub one_list : (text : List ℕ) (ps qs : List Plan) → IsFile text ps → IsFi
 one_list text ps qs f g =
     let one : Head = ((f.version, length ps), flat_map plan_text ps) in
     let other : Head = ((g.version, length qs), flat_map plan_text qs) in
-    let both : one ≡ other = ok_same one other (sym (head_of f.version text ps f.file) ∙ head_of g.version text qs g.file) in
+    let both : one ≡ other = one_value (head_of f.version text ps f.file) (head_of g.version text qs g.file) in
     let versions : g.version ≡ f.version = sym (ap (λ (x : Head). x.0.0) both) in
     let each : All (IsPlan f.version) qs = subst (λ (version : Version). All (IsPlan version) qs) versions g.file.are.each in
     same_plans f.version ps qs (by_recursion f.version ps f.file.are.each) (by_recursion f.version qs each) (ap (λ (x : Head). x.0.1) both) (ap (λ (x : Head). x.1) both)
@@ -151,26 +147,23 @@ WrongBehind w head = IsWrongBehind head.0.0 head.0.1 head.1 w
 
 -- then nothing is wrong with it
 pub none_wrong : (text : List ℕ) (ps : List Plan) (w : Wrong) → IsFile text ps → IsWrong text w → ⊥
-none_wrong text ps w f (inl e) = not_both ((f.version, length ps), flat_map plan_text ps) w (sym (head_of f.version text ps f.file) ∙ e)
+none_wrong text ps w f (inl e) = not_both (head_of f.version text ps f.file) e
 none_wrong text ps w f (inr h) =
     let here : Head = ((f.version, length ps), flat_map plan_text ps) in
     let there : Head = ((h.0, h.1), h.2) in
-    let both : there ≡ here = ok_same there here (sym h.3 ∙ head_of f.version text ps f.file) in
+    let both : there ≡ here = one_value h.3 (head_of f.version text ps f.file) in
     let behind : WrongBehind w here = subst (WrongBehind w) both h.4 in
     right_behind f.version ps behind.plans behind.rest w (by_recursion f.version ps f.file.are.each) (by_recursion f.version behind.plans behind.each) behind.within behind.text_is behind.wrong
 
 -- one thing is wrong with a text
 pub one_wrong : (text : List ℕ) (w v : Wrong) → IsWrong text w → IsWrong text v → w ≡ v
-one_wrong text w v (inl e) (inl f) = head_same w v (sym e ∙ f)
-  where
-    head_same : (x y : Wrong) → fail {A = Head} x ≡ fail {A = Head} y → x ≡ y
-    head_same x y h = cc
-one_wrong text w v (inl e) (inr k) = absurd (not_both ((k.0, k.1), k.2) w (sym k.3 ∙ e))
-one_wrong text w v (inr h) (inl f) = absurd (not_both ((h.0, h.1), h.2) v (sym h.3 ∙ f))
+one_wrong text w v (inl e) (inl f) = one_stop e f
+one_wrong text w v (inl e) (inr k) = absurd (not_both k.3 e)
+one_wrong text w v (inr h) (inl f) = absurd (not_both h.3 f)
 one_wrong text w v (inr h) (inr k) =
     let one : Head = ((h.0, h.1), h.2) in
     let other : Head = ((k.0, k.1), k.2) in
-    let both : other ≡ one = ok_same other one (sym k.3 ∙ h.3) in
+    let both : other ≡ one = one_value k.3 h.3 in
     let first : WrongBehind w one = h.4 in
     let second : WrongBehind v one = subst (WrongBehind v) both k.4 in
     one_behind h.0 h.1 first.plans second.plans first.rest second.rest w v (by_recursion h.0 first.plans first.each) (by_recursion h.0 second.plans second.each) first.within second.within

@@ -5,6 +5,7 @@ use Rattle.std.specs.Int.{w16, w32, w64, to_be_bytes}
 use Rattle.std.proofs.lemmas.Bool.Decides.{nat_tests}
 use Rattle.std.proofs.lemmas.Bool.{eqb-true}
 use Rattle.std.proofs.lemmas.List.Elements.{All-from_recursion, recursion_from_All}
+use Rattle.std.proofs.lemmas.Result.{IfOk-at_ok}
 use Rattle.lit_base.specs.declared.fold.Fold.{Fold}
 use Rattle.lit_base.specs.declared.fold.Fold.TheVariants.{No, Ascii}
 use Rattle.lit_base.specs.declared.limits.TheConstants.{MAX_LIST_LEN}
@@ -20,8 +21,8 @@ use Rattle.plan_file.specs.declared.version.Version.{Version}
 use Rattle.plan_file.specs.declared.version.Version.TheVariants.{One, Two}
 use Rattle.plan_file.specs.Reading.{◌>>=◌, byte_at, number_at, field, numbers_at, literals_at, last_flags, fold_of, profile_of, list_at, certificate_at, plan_at, version_of, head_at}
 use Rattle.plan_file.specs.Spelling.{CanTell, flags_of, limit_of, numbers_text, literal_text, literals_text, certificate_text, plan_text, head_text, version_number, HasFields}
-use Rattle.plan_file.proofs.FieldLemmas.{IsBytes, Takes, Takes-then, bind_ok, ok_is, field_ok, field_again, byte_takes, number_takes, number_again, numbers_take, numbers_again, wide16, wide32, wide64}
-use Rattle.plan_file.proofs.LiteralLemmas.{literals_take, literals_follow, literals_again, normal_from, follow_normal}
+use Rattle.plan_file.proofs.FieldLemmas.{AreBytes, Took, took_both, rest_bytes, step, field_read, field_again, byte_read, number_read, number_again, numbers_read, numbers_again}
+use Rattle.plan_file.proofs.LiteralLemmas.{literals_read, literals_follow, literals_again, normal_from, follow_normal}
 
 -- ---- flags
 
@@ -92,39 +93,44 @@ limit_few Two = omega arith
 
 -- the literals that were read
 pub record ListRead (version : Version) (bytes : List ℕ) (x : (Profile × Literals) × List ℕ) : Type 0 where
-  pub takes : Takes bytes (literals_text x.0.0 x.0.1) x.1
+  pub took : Took bytes (literals_text x.0.0 x.0.1) x.1
   pub normal : IsNormal x.0.1
   pub some : 1 ≤ length x.0.1.texts
   pub few : length x.0.1.texts ≤ limit_of version
   pub profile : CanTell version x.0.0
 
-pub list_takes : (version : Version) (bytes : List ℕ) (x : (Profile × Literals) × List ℕ) → IsBytes bytes → list_at version bytes ≡ Ok x → ListRead version bytes x
+-- the literals were read, so their spelling stands at the front
+pub list_read : (version : Version) (bytes : List ℕ) (x : (Profile × Literals) × List ℕ) → AreBytes bytes → list_at version bytes ≡ Ok x → ListRead version bytes x
 unfolding list_at
-list_takes version bytes x fits e =
+list_read version bytes x are e =
     let limit = limit_of version in
     let made : ℕ × List ℕ → List (List ℕ) × List ℕ → (Profile × Literals) × List ℕ = λ flags texts. ((profile_of flags.0, record { folding = fold_of flags.0; texts = texts.0 }), texts.1) in
     let behind : ℕ × List ℕ → ℕ × List ℕ → Result ((Profile × Literals) × List ℕ) Wrong = λ flags n. literals_at (fold_of flags.0) n.0 MAX_LIST_LEN [] n.1 >>= λ texts. Ok (made flags texts) in
-    let a = bind_ok (field bytes (is_flag version) Flags (byte_at bytes)) (λ flags. field flags.1 (is_count limit) Count (number_at w16 flags.1) >>= behind flags) x e in
-    let f = field_ok bytes (is_flag version) Flags (byte_at bytes) a.0 a.1 in
-    let b = bind_ok (field a.0.1 (is_count limit) Count (number_at w16 a.0.1)) (behind a.0) x a.2 in
-    let g = field_ok a.0.1 (is_count limit) Count (number_at w16 a.0.1) b.0 b.1 in
-    let d = bind_ok (literals_at (fold_of a.0.0) b.0.0 MAX_LIST_LEN [] b.0.1) (λ texts. Ok (made a.0 texts)) x b.2 in
-    let t0 = byte_takes bytes a.0 fits f.0 in
-    let t1 = number_takes w16 (2 ^ 16) wide16 a.0.1 b.0 t0.rest_fits g.0 in
-    let t2 = literals_take (fold_of a.0.0) b.0.0 MAX_LIST_LEN [] b.0.1 d.0 t1.0.rest_fits d.1 in
-    let follow = literals_follow (fold_of a.0.0) b.0.0 MAX_LIST_LEN [] b.0.1 d.0 d.1 in
-    let range = between 1 limit b.0.0 g.1 in
-    let known = at_most a.0.0 (last_flags version) f.1 in
-    let e12 = Takes-then a.0.1 (to_be_bytes w16 b.0.0) b.0.1 (flat_map literal_text d.0.0) d.0.1 t1.0 t2 in
-    let e02 = Takes-then bytes (a.0.0 ∷ []) a.0.1 (to_be_bytes w16 b.0.0 ++ flat_map literal_text d.0.0) d.0.1 t0 e12 in
-    let counted = subst (λ (k : ℕ). Takes bytes (a.0.0 ∷ (to_be_bytes w16 k ++ flat_map literal_text d.0.0)) d.0.1) (sym follow.0) e02 in
-    let flagged = subst (λ (k : ℕ). Takes bytes (k ∷ (to_be_bytes w16 (length d.0.0) ++ flat_map literal_text d.0.0)) d.0.1) (flags_again a.0.0 (omega (arith, known, last_few version))) counted in
-    subst (ListRead version bytes) {x = made a.0 d.0} (ok_is (made a.0 d.0) x d.2) (record {
-      takes = flagged;
-      normal = normal_from (fold_of a.0.0) d.0.0 (omega (arith, follow.0, range.1, limit_few version)) follow.1;
+    let a = step (field bytes (is_flag version) Flags (byte_at bytes)) (λ flags. field flags.1 (is_count limit) Count (number_at w16 flags.1) >>= behind flags) x e in
+    let flags = a.value.0 in
+    let b = step (field a.value.1 (is_count limit) Count (number_at w16 a.value.1)) (behind a.value) x a.second in
+    let count = b.value.0 in
+    let d = step (literals_at (fold_of flags) count MAX_LIST_LEN [] b.value.1) (λ texts. Ok (made a.value texts)) x b.second in
+    let texts = d.value.0 in
+    let flag = field_read bytes (is_flag version) Flags (byte_at bytes) a.value a.first in
+    let number = field_read a.value.1 (is_count limit) Count (number_at w16 a.value.1) b.value b.first in
+    let t0 = byte_read bytes a.value flag.0 in
+    let are1 = rest_bytes (flags ∷ []) a.value.1 t0 are in
+    let t1 = (number_read w16 tt a.value.1 b.value are1 number.0).0 in
+    let t2 = literals_read (fold_of flags) count MAX_LIST_LEN [] b.value.1 d.value (rest_bytes (to_be_bytes w16 count) b.value.1 t1 are1) d.first in
+    let follow = literals_follow (fold_of flags) count MAX_LIST_LEN [] b.value.1 d.value d.first in
+    let size : length texts ≡ count = follow.0 in
+    let range = between 1 limit count number.1 in
+    let known = at_most flags (last_flags version) flag.1 in
+    let all = took_both (flags ∷ []) (to_be_bytes w16 count ++ flat_map literal_text texts) d.value.1 t0 (took_both (to_be_bytes w16 count) (flat_map literal_text texts) d.value.1 t1 t2) in
+    let counted = subst (λ (k : ℕ). Took bytes (flags ∷ (to_be_bytes w16 k ++ flat_map literal_text texts)) d.value.1) (sym {a = length texts} size) all in
+    let flagged = subst (λ (k : ℕ). Took bytes (k ∷ (to_be_bytes w16 (length texts) ++ flat_map literal_text texts)) d.value.1) (flags_again flags (omega (arith, known, last_few version))) counted in
+    IfOk-at_ok (ListRead version bytes) {r = Ok (made a.value d.value)} d.second (record {
+      took = flagged;
+      normal = normal_from (fold_of flags) texts (omega (arith, follow.0, range.1, limit_few version)) follow.1;
       some = omega (arith, follow.0, range.0);
       few = omega (arith, follow.0, range.1);
-      profile = flags_can version a.0.0 known;
+      profile = flags_can version flags known;
     })
 
 list_again_with : (version : Version) (profile : Profile) (fold : Fold) (texts : List (List ℕ)) (rest : List ℕ) → IsNormal (record { folding = fold; texts = texts }) → 1 ≤ length texts → length texts ≤ limit_of version → CanTell version profile
@@ -134,7 +140,7 @@ list_again_with version profile fold texts rest normal some few can =
     let limit = limit_of version in
     let behind = flat_map literal_text texts ++ rest in
     let bytes = to_be_bytes w16 (length texts) ++ behind in
-    let n = field_again bytes (is_count limit) Count (number_at w16 bytes) (length texts, behind) (number_again w16 (2 ^ 16) wide16 (length texts) behind (omega (arith, normal.few))) (between_from 1 limit (length texts) some few) in
+    let n = field_again bytes (is_count limit) Count (number_at w16 bytes) (length texts, behind) (number_again w16 tt (length texts) behind (omega (arith, normal.few))) (between_from 1 limit (length texts) some few) in
     rw (flags_pass version fold profile can, n, fold_told fold profile, profile_told fold profile, literals_again fold MAX_LIST_LEN [] texts rest (follow_normal (record { folding = fold; texts = texts }) normal)) refl
 
 pub list_again : (version : Version) (profile : Profile) (l : Literals) (rest : List ℕ) → IsNormal l → 1 ≤ length l.texts → length l.texts ≤ limit_of version → CanTell version profile → list_at version (literals_text profile l ++ rest) ≡ Ok ((profile, l), rest)
@@ -157,38 +163,43 @@ pub record CertificateFits (n : ℕ) (c : CertificateParts) : Type 0 where
 
 -- a certificate that was read
 pub record CertificateRead (profile : Profile) (n : ℕ) (bytes : List ℕ) (x : CertificateParts × List ℕ) : Type 0 where
-  pub takes : Takes bytes (certificate_text x.0) x.1
+  pub took : Took bytes (certificate_text x.0) x.1
   pub fits : CertificateFits n x.0
   pub told : x.0.profile ≡ profile
 
-pub certificate_takes : (profile : Profile) (n : ℕ) (bytes : List ℕ) (x : CertificateParts × List ℕ) → IsBytes bytes → certificate_at profile n bytes ≡ Ok x → CertificateRead profile n bytes x
+-- a certificate was read, so its spelling stands at the front
+pub certificate_read : (profile : Profile) (n : ℕ) (bytes : List ℕ) (x : CertificateParts × List ℕ) → AreBytes bytes → certificate_at profile n bytes ≡ Ok x → CertificateRead profile n bytes x
 unfolding certificate_at
-certificate_takes profile n bytes x fits e =
+certificate_read profile n bytes x are e =
     let most = buckets profile in
     let made : List ℕ → ℕ → List ℕ × List ℕ → CertificateParts × List ℕ = λ ends cost hs. (record { profile = profile; ends = ends; cost = cost; potentials = hs.0 }, hs.1) in
-    let a = bind_ok (field bytes (is_count most) Runs (byte_at bytes)) (λ runs. numbers_at w16 runs.0 runs.1 >>= λ ends. number_at w64 ends.1 >>= λ cost. numbers_at w64 (most * n) cost.1 >>= λ hs. Ok (made ends.0 cost.0 hs)) x e in
-    let f = field_ok bytes (is_count most) Runs (byte_at bytes) a.0 a.1 in
-    let b = bind_ok (numbers_at w16 a.0.0 a.0.1) (λ ends. number_at w64 ends.1 >>= λ cost. numbers_at w64 (most * n) cost.1 >>= λ hs. Ok (made ends.0 cost.0 hs)) x a.2 in
-    let d = bind_ok (number_at w64 b.0.1) (λ cost. numbers_at w64 (most * n) cost.1 >>= λ hs. Ok (made b.0.0 cost.0 hs)) x b.2 in
-    let h = bind_ok (numbers_at w64 (most * n) d.0.1) (λ hs. Ok (made b.0.0 d.0.0 hs)) x d.2 in
-    let t0 = byte_takes bytes a.0 fits f.0 in
-    let t1 = numbers_take w16 (2 ^ 16) wide16 a.0.0 a.0.1 b.0 t0.rest_fits b.1 in
-    let t2 = number_takes w64 (2 ^ 64) wide64 b.0.1 d.0 t1.0.rest_fits d.1 in
-    let t3 = numbers_take w64 (2 ^ 64) wide64 (most * n) d.0.1 h.0 t2.0.rest_fits h.1 in
-    let range = between 1 most a.0.0 f.1 in
-    let e23 = Takes-then b.0.1 (to_be_bytes w64 d.0.0) d.0.1 (numbers_text w64 h.0.0) h.0.1 t2.0 t3.0 in
-    let e13 = Takes-then a.0.1 (numbers_text w16 b.0.0) b.0.1 (to_be_bytes w64 d.0.0 ++ numbers_text w64 h.0.0) h.0.1 t1.0 e23 in
-    let e03 = Takes-then bytes (a.0.0 ∷ []) a.0.1 (numbers_text w16 b.0.0 ++ (to_be_bytes w64 d.0.0 ++ numbers_text w64 h.0.0)) h.0.1 t0 e13 in
-    let counted = subst (λ (k : ℕ). Takes bytes (k ∷ (numbers_text w16 b.0.0 ++ (to_be_bytes w64 d.0.0 ++ numbers_text w64 h.0.0))) h.0.1) (sym t1.1) e03 in
-    subst (CertificateRead profile n bytes) {x = made b.0.0 d.0.0 h.0} (ok_is (made b.0.0 d.0.0 h.0) x h.2) (record {
-      takes = counted;
+    let a = step (field bytes (is_count most) Runs (byte_at bytes)) (λ runs. numbers_at w16 runs.0 runs.1 >>= λ ends. number_at w64 ends.1 >>= λ cost. numbers_at w64 (most * n) cost.1 >>= λ hs. Ok (made ends.0 cost.0 hs)) x e in
+    let b = step (numbers_at w16 a.value.0 a.value.1) (λ ends. number_at w64 ends.1 >>= λ cost. numbers_at w64 (most * n) cost.1 >>= λ hs. Ok (made ends.0 cost.0 hs)) x a.second in
+    let d = step (number_at w64 b.value.1) (λ cost. numbers_at w64 (most * n) cost.1 >>= λ hs. Ok (made b.value.0 cost.0 hs)) x b.second in
+    let h = step (numbers_at w64 (most * n) d.value.1) (λ hs. Ok (made b.value.0 d.value.0 hs)) x d.second in
+    let runs = field_read bytes (is_count most) Runs (byte_at bytes) a.value a.first in
+    let ends_text = numbers_text w16 b.value.0 in
+    let cost_text = to_be_bytes w64 d.value.0 in
+    let rows_text = numbers_text w64 h.value.0 in
+    let t0 = byte_read bytes a.value runs.0 in
+    let are1 = rest_bytes (a.value.0 ∷ []) a.value.1 t0 are in
+    let ends = numbers_read w16 tt a.value.0 a.value.1 b.value are1 b.first in
+    let are2 = rest_bytes ends_text b.value.1 ends.0 are1 in
+    let cost = number_read w64 tt b.value.1 d.value are2 d.first in
+    let rows = numbers_read w64 tt (most * n) d.value.1 h.value (rest_bytes cost_text d.value.1 cost.0 are2) h.first in
+    let size : length b.value.0 ≡ a.value.0 = ends.1 in
+    let range = between 1 most a.value.0 runs.1 in
+    let numbers = took_both ends_text (cost_text ++ rows_text) h.value.1 ends.0 (took_both cost_text rows_text h.value.1 cost.0 rows.0) in
+    let all = took_both (a.value.0 ∷ []) (ends_text ++ (cost_text ++ rows_text)) h.value.1 t0 numbers in
+    IfOk-at_ok (CertificateRead profile n bytes) {r = Ok (made b.value.0 d.value.0 h.value)} h.second (record {
+      took = subst (λ (k : ℕ). Took bytes (k ∷ (ends_text ++ (cost_text ++ rows_text))) h.value.1) (sym {a = length b.value.0} size) all;
       fits = record {
-        some_ends = omega (arith, t1.1, range.0);
-        few_ends = omega (arith, t1.1, range.1);
-        small_ends = t1.2;
-        small_cost = t2.1;
-        potentials = t3.1;
-        small_potentials = t3.2;
+        some_ends = omega (arith, ends.1, range.0);
+        few_ends = omega (arith, ends.1, range.1);
+        small_ends = ends.2;
+        small_cost = cost.1;
+        potentials = rows.1;
+        small_potentials = rows.2;
       };
       told = refl;
     })
@@ -202,29 +213,32 @@ certificate_again n c rest fits =
     let ends = numbers_text w16 c.ends ++ cost in
     let regrouped : certificate_text c ++ rest ≡ length c.ends ∷ ends =
     ap (λ (t : List ℕ). length c.ends ∷ t) (append_assoc (numbers_text w16 c.ends) (to_be_bytes w64 c.cost ++ numbers_text w64 c.potentials) rest ∙ ap (λ (t : List ℕ). numbers_text w16 c.ends ++ t) (append_assoc (to_be_bytes w64 c.cost) (numbers_text w64 c.potentials) rest)) in
-    let potentials : numbers_at w64 (most * n) hs ≡ Ok (c.potentials, rest) = ap (λ (k : ℕ). numbers_at w64 k hs) (sym fits.potentials) ∙ numbers_again w64 (2 ^ 64) wide64 c.potentials rest fits.small_potentials in
+    let potentials : numbers_at w64 (most * n) hs ≡ Ok (c.potentials, rest) = ap (λ (k : ℕ). numbers_at w64 k hs) (sym fits.potentials) ∙ numbers_again w64 tt c.potentials rest fits.small_potentials in
     ap (certificate_at c.profile n) regrouped
-    ∙ rw (between_from 1 most (length c.ends) fits.some_ends fits.few_ends, numbers_again w16 (2 ^ 16) wide16 c.ends cost fits.small_ends, number_again w64 (2 ^ 64) wide64 c.cost hs fits.small_cost, potentials) refl
+    ∙ rw (between_from 1 most (length c.ends) fits.some_ends fits.few_ends, numbers_again w16 tt c.ends cost fits.small_ends, number_again w64 tt c.cost hs fits.small_cost, potentials) refl
 
 -- ---- entries
 
 -- an entry that was read
 pub record PlanRead (version : Version) (bytes : List ℕ) (x : Plan × List ℕ) : Type 0 where
-  pub takes : Takes bytes (plan_text x.0) x.1
+  pub took : Took bytes (plan_text x.0) x.1
   pub fields : HasFields version x.0
 
-pub plan_takes : (version : Version) (bytes : List ℕ) (x : Plan × List ℕ) → IsBytes bytes → plan_at version bytes ≡ Ok x → PlanRead version bytes x
+-- an entry was read, so its spelling stands at the front
+pub plan_read : (version : Version) (bytes : List ℕ) (x : Plan × List ℕ) → AreBytes bytes → plan_at version bytes ≡ Ok x → PlanRead version bytes x
 unfolding plan_at plan_text
-plan_takes version bytes x fits e =
+plan_read version bytes x are e =
     let made : Literals → CertificateParts × List ℕ → Plan × List ℕ = λ l c. (record { literals = l; certificate = c.0 }, c.1) in
-    let a = bind_ok (list_at version bytes) (λ l. certificate_at l.0.0 (length l.0.1.texts) l.1 >>= λ c. Ok (made l.0.1 c)) x e in
-    let literals = a.0.0.1 in
-    let b = bind_ok (certificate_at a.0.0.0 (length literals.texts) a.0.1) (λ c. Ok (made literals c)) x a.2 in
-    let l = list_takes version bytes a.0 fits a.1 in
-    let c = certificate_takes a.0.0.0 (length literals.texts) a.0.1 b.0 l.takes.rest_fits b.1 in
-    let told = subst (λ (profile : Profile). Takes bytes (literals_text profile literals) a.0.1) (sym c.told) l.takes in
-    subst (PlanRead version bytes) {x = made literals b.0} (ok_is (made literals b.0) x b.2) (record {
-      takes = Takes-then bytes (literals_text b.0.0.profile literals) a.0.1 (certificate_text b.0.0) b.0.1 told c.takes;
+    let a = step (list_at version bytes) (λ l. certificate_at l.0.0 (length l.0.1.texts) l.1 >>= λ c. Ok (made l.0.1 c)) x e in
+    let profile = a.value.0.0 in
+    let literals = a.value.0.1 in
+    let b = step (certificate_at profile (length literals.texts) a.value.1) (λ c. Ok (made literals c)) x a.second in
+    let certificate = b.value.0 in
+    let l = list_read version bytes a.value are a.first in
+    let c = certificate_read profile (length literals.texts) a.value.1 b.value (rest_bytes (literals_text profile literals) a.value.1 l.took are) b.first in
+    let told = subst (λ (profile : Profile). Took bytes (literals_text profile literals) a.value.1) (sym c.told) l.took in
+    IfOk-at_ok (PlanRead version bytes) {r = Ok (made literals b.value)} b.second (record {
+      took = took_both (literals_text certificate.profile literals) (certificate_text certificate) b.value.1 told c.took;
       fields = record {
         normal = l.normal;
         some = l.some;
@@ -232,10 +246,10 @@ plan_takes version bytes x fits e =
         profile = subst (CanTell version) (sym c.told) l.profile;
         some_ends = c.fits.some_ends;
         few_ends = c.fits.few_ends;
-        small_ends = All-from_recursion (λ e. e < 2 ^ 16) b.0.0.ends c.fits.small_ends;
+        small_ends = All-from_recursion (λ e. e < 2 ^ 16) certificate.ends c.fits.small_ends;
         small_cost = c.fits.small_cost;
         potentials = c.fits.potentials;
-        small_potentials = All-from_recursion (λ h. h < 2 ^ 64) b.0.0.potentials c.fits.small_potentials;
+        small_potentials = All-from_recursion (λ h. h < 2 ^ 64) certificate.potentials c.fits.small_potentials;
       };
     })
 
@@ -282,27 +296,28 @@ version_small : (version : Version) → version_number version < 2 ^ 16
 version_small One = omega arith
 version_small Two = omega arith
 
-pub head_takes : (bytes : List ℕ) (x : (Version × ℕ) × List ℕ) → IsBytes bytes → head_at bytes ≡ Ok x → Takes bytes (head_text x.0.0 x.0.1) x.1 × (x.0.1 ≤ 64)
+-- a head was read, so its spelling stands at the front
+pub head_read : (bytes : List ℕ) (x : (Version × ℕ) × List ℕ) → AreBytes bytes → head_at bytes ≡ Ok x → Took bytes (head_text x.0.0 x.0.1) x.1 × (x.0.1 ≤ 64)
 unfolding head_at head_text
-head_takes bytes x fits e =
+head_read bytes x are e =
     let made : ℕ → ℕ × List ℕ → (Version × ℕ) × List ℕ = λ version count. ((version_of version, count.0), count.1) in
     let third : ℕ × List ℕ → Result ((Version × ℕ) × List ℕ) Wrong = λ version. field version.1 is_few Count (number_at w16 version.1) >>= λ count. Ok (made version.0 count) in
-    let a = bind_ok (field bytes (is_number 0x4C504C46) Magic (number_at w32 bytes)) (λ magic. field magic.1 (is_count 2) wrong_version (number_at w16 magic.1) >>= third) x e in
-    let f = field_ok bytes (is_number 0x4C504C46) Magic (number_at w32 bytes) a.0 a.1 in
-    let b = bind_ok (field a.0.1 (is_count 2) wrong_version (number_at w16 a.0.1)) third x a.2 in
-    let g = field_ok a.0.1 (is_count 2) wrong_version (number_at w16 a.0.1) b.0 b.1 in
-    let d = bind_ok (field b.0.1 is_few Count (number_at w16 b.0.1)) (λ count. Ok (made b.0.0 count)) x b.2 in
-    let h = field_ok b.0.1 is_few Count (number_at w16 b.0.1) d.0 d.1 in
-    let t0 = number_takes w32 (2 ^ 32) wide32 bytes a.0 fits f.0 in
-    let t1 = number_takes w16 (2 ^ 16) wide16 a.0.1 b.0 t0.0.rest_fits g.0 in
-    let t2 = number_takes w16 (2 ^ 16) wide16 b.0.1 d.0 t1.0.rest_fits h.0 in
-    let range = between 1 2 b.0.0 g.1 in
-    let number = version_number (version_of b.0.0) in
-    let e12 = Takes-then a.0.1 (to_be_bytes w16 b.0.0) b.0.1 (to_be_bytes w16 d.0.0) d.0.1 t1.0 t2.0 in
-    let versioned = subst (λ (v : ℕ). Takes a.0.1 (to_be_bytes w16 v ++ to_be_bytes w16 d.0.0) d.0.1) (version_again b.0.0 range.0 range.1) e12 in
-    let e02 = Takes-then bytes (to_be_bytes w32 a.0.0) a.0.1 (to_be_bytes w16 number ++ to_be_bytes w16 d.0.0) d.0.1 t0.0 versioned in
-    let whole = subst (λ (m : ℕ). Takes bytes (to_be_bytes w32 m ++ (to_be_bytes w16 number ++ to_be_bytes w16 d.0.0)) d.0.1) (eqb-true _ _ f.1) e02 in
-    subst (λ (y : (Version × ℕ) × List ℕ). Takes bytes (head_text y.0.0 y.0.1) y.1 × (y.0.1 ≤ 64)) {x = made b.0.0 d.0} (ok_is (made b.0.0 d.0) x d.2) (whole, at_most d.0.0 64 h.1)
+    let a = step (field bytes (is_number 0x4C504C46) Magic (number_at w32 bytes)) (λ magic. field magic.1 (is_count 2) wrong_version (number_at w16 magic.1) >>= third) x e in
+    let b = step (field a.value.1 (is_count 2) wrong_version (number_at w16 a.value.1)) third x a.second in
+    let d = step (field b.value.1 is_few Count (number_at w16 b.value.1)) (λ count. Ok (made b.value.0 count)) x b.second in
+    let magic = field_read bytes (is_number 0x4C504C46) Magic (number_at w32 bytes) a.value a.first in
+    let version = field_read a.value.1 (is_count 2) wrong_version (number_at w16 a.value.1) b.value b.first in
+    let count = field_read b.value.1 is_few Count (number_at w16 b.value.1) d.value d.first in
+    let t0 = (number_read w32 tt bytes a.value are magic.0).0 in
+    let are1 = rest_bytes (to_be_bytes w32 a.value.0) a.value.1 t0 are in
+    let t1 = (number_read w16 tt a.value.1 b.value are1 version.0).0 in
+    let t2 = (number_read w16 tt b.value.1 d.value (rest_bytes (to_be_bytes w16 b.value.0) b.value.1 t1 are1) count.0).0 in
+    let range = between 1 2 b.value.0 version.1 in
+    let counted = to_be_bytes w16 d.value.0 in
+    let numbered = subst (λ (v : ℕ). Took a.value.1 (to_be_bytes w16 v ++ counted) d.value.1) (version_again b.value.0 range.0 range.1) (took_both (to_be_bytes w16 b.value.0) counted d.value.1 t1 t2) in
+    let all = took_both (to_be_bytes w32 a.value.0) (to_be_bytes w16 (version_number (version_of b.value.0)) ++ counted) d.value.1 t0 numbered in
+    let whole = subst (λ (m : ℕ). Took bytes (to_be_bytes w32 m ++ (to_be_bytes w16 (version_number (version_of b.value.0)) ++ counted)) d.value.1) (eqb-true _ _ magic.1) all in
+    IfOk-at_ok (λ y. Took bytes (head_text y.0.0 y.0.1) y.1 × (y.0.1 ≤ 64)) {r = Ok (made b.value.0 d.value)} d.second (whole, at_most d.value.0 64 count.1)
 
 pub head_again : (version : Version) (count : ℕ) (rest : List ℕ) → count ≤ 64 → head_at (head_text version count ++ rest) ≡ Ok ((version, count), rest)
 unfolding head_at head_text
@@ -313,4 +328,4 @@ head_again version count rest few =
     let regrouped : head_text version count ++ rest ≡ to_be_bytes w32 0x4C504C46 ++ versioned =
     append_assoc (to_be_bytes w32 0x4C504C46) (to_be_bytes w16 number ++ to_be_bytes w16 count) rest ∙ ap (λ (t : List ℕ). to_be_bytes w32 0x4C504C46 ++ t) (append_assoc (to_be_bytes w16 number) (to_be_bytes w16 count) rest) in
     ap head_at regrouped
-    ∙ rw (number_again w32 (2 ^ 32) wide32 0x4C504C46 versioned (omega arith), number_again w16 (2 ^ 16) wide16 number counted (version_small version), version_passes version, number_again w16 (2 ^ 16) wide16 count rest (omega (arith, few)), below_from count 64 few, version_told version) refl
+    ∙ rw (number_again w32 tt 0x4C504C46 versioned (omega arith), number_again w16 tt number counted (version_small version), version_passes version, number_again w16 tt count rest (omega (arith, few)), below_from count 64 few, version_told version) refl

@@ -13,8 +13,8 @@ use Rattle.plan_file.specs.Faults.{IfWrong}
 use Rattle.plan_file.specs.FirstFaults.{AreEntries, IsWrong, IsWrongBehind, IsWrongEntry, IsWrongNext}
 use Rattle.plan_file.specs.Reading.{head_at, wrong_at}
 use Rattle.plan_file.specs.Spelling.{head_text, plan_text, IsFile, IsPlan}
-use Rattle.plan_file.proofs.FieldLemmas.{IsBytes}
-use Rattle.plan_file.proofs.PlanLemmas.{head_takes}
+use Rattle.plan_file.proofs.FieldLemmas.{AreBytes}
+use Rattle.plan_file.proofs.PlanLemmas.{head_read}
 
 -- ---- reading one after the other
 
@@ -72,14 +72,14 @@ all_read version count i bytes plans rest done le s none = record {
 }
 
 -- a head and as many plans as it says are the text
-pub whole : (version : Version) (count : ℕ) (text rest : List ℕ) (plans : List Plan) → IsBytes text → head_at text ≡ Ok ((version, count), rest) → AreEntries version count rest plans → IsFile text plans
-whole version count text rest plans fits head are =
-    let h = head_takes text ((version, count), rest) fits head in
+pub whole : (version : Version) (count : ℕ) (text rest : List ℕ) (plans : List Plan) → AreBytes text → head_at text ≡ Ok ((version, count), rest) → AreEntries version count rest plans → IsFile text plans
+whole version count text rest plans bytes head are =
+    let h = head_read text ((version, count), rest) bytes head in
     record {
       version = version;
       file = record {
         are = record { few = omega (arith, h.1, are.count_is); each = are.each };
-        spelled = h.0.parts ∙ ap (λ (t : List ℕ). head_text version count ++ t) are.text_is ∙ ap (λ (k : ℕ). head_text version k ++ flat_map plan_text plans) (sym are.count_is);
+        spelled = h.0 ∙ ap (λ (t : List ℕ). head_text version count ++ t) are.text_is ∙ ap (λ (k : ℕ). head_text version k ++ flat_map plan_text plans) (sym are.count_is);
       };
     }
 

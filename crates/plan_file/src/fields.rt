@@ -21,37 +21,30 @@ pub fn first_byte(bytes: &[u8]) -> Result<(u8, &[u8]), Stop>
 pub fn first_u16(bytes: &[u8]) -> Result<(u16, &[u8]), Stop>
     ensures { Gives (λ x. (x.0, x.1.now)) result (number_at w16 bytes.now) }
 {
-    if bytes.len() < 2 {
-        return Err(stop_at(bytes, Cause::Short));
+    match bytes.split_first_chunk::<2>() {
+        None => Err(stop_at(bytes, Cause::Short)),
+        Some((number, rest)) => Ok((u16::from_be_bytes(*number), rest)),
     }
-    let (front, rest) = bytes.split_at(2);
-    Ok((u16::from_be_bytes([front[0], front[1]]), rest))
 }
 
 /// The number in four bytes at the front, and the bytes after it.
 pub fn first_u32(bytes: &[u8]) -> Result<(u32, &[u8]), Stop>
     ensures { Gives (λ x. (x.0, x.1.now)) result (number_at w32 bytes.now) }
 {
-    if bytes.len() < 4 {
-        return Err(stop_at(bytes, Cause::Short));
+    match bytes.split_first_chunk::<4>() {
+        None => Err(stop_at(bytes, Cause::Short)),
+        Some((number, rest)) => Ok((u32::from_be_bytes(*number), rest)),
     }
-    let (front, rest) = bytes.split_at(4);
-    let number = u32::from_be_bytes([front[0], front[1], front[2], front[3]]);
-    Ok((number, rest))
 }
 
 /// The number in eight bytes at the front, and the bytes after it.
 pub fn first_u64(bytes: &[u8]) -> Result<(u64, &[u8]), Stop>
     ensures { Gives (λ x. (x.0, x.1.now)) result (number_at w64 bytes.now) }
 {
-    if bytes.len() < 8 {
-        return Err(stop_at(bytes, Cause::Short));
+    match bytes.split_first_chunk::<8>() {
+        None => Err(stop_at(bytes, Cause::Short)),
+        Some((number, rest)) => Ok((u64::from_be_bytes(*number), rest)),
     }
-    let (front, rest) = bytes.split_at(8);
-    let number = u64::from_be_bytes([
-        front[0], front[1], front[2], front[3], front[4], front[5], front[6], front[7],
-    ]);
-    Ok((number, rest))
 }
 
 /// `count` bytes at the front, and the bytes after them.

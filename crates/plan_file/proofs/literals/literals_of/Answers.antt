@@ -1,15 +1,16 @@
-use Rattle.std.proofs.Common.{[], arith}
+use Rattle.std.proofs.Common.{[], ◌∙◌, arith, sym}
 use Rattle.std.proofs.lemmas.Result.{err_from_is_err_and}
 use Rattle.lit_base.specs.declared.limits.TheConstants.{MAX_LIST_LEN}
-use Rattle.plan_file.specs.Reading.{literals_at}
-use Rattle.plan_file.proofs.LoopLemmas.{left_more, literals_end, literals_done}
+use Rattle.plan_file.specs.Reading.{literal_at, literals_at}
+use Rattle.plan_file.proofs.LoopLemmas.{left_more, literals_all, literals_stop, stops}
 use Rattle.plan_file.proofs.LiteralLemmas.{literal_next}
 use Rattle.plan_file.proofs.literals.literals_of.Goals as goal
 
 pub returns-in_err-literal : goal.returns-in_err-literal
 returns-in_err-literal c =
     let p = err_from_is_err_and c.from_residual.result c.from_residual.ensures.1 in
-    rw (p.1, p.2) (literals_end c.args.fold c.in_err-literal.field-0.0 c.loop.room c.loop.before.now c.loop.list c.args.count c.loop.counter c.loop.rest.now (literals_at c.args.fold c.args.count MAX_LIST_LEN [] c.args.bytes.now) c.loop-test.true c.in_err-literal.ensures c.loop.invariant)
+    rw (p.1, p.2) (stops (literal_at c.args.fold c.loop.room c.loop.before.now c.loop.rest.now) (literals_at c.args.fold c.args.count MAX_LIST_LEN [] c.args.bytes.now) c.in_err-literal.field-0.0
+    (λ wrong is. sym c.loop.invariant.left ∙ literals_stop c.args.fold c.loop.room c.loop.before.now c.loop.list c.args.count c.loop.counter c.loop.rest.now wrong c.loop-test.true is) c.in_err-literal.ensures)
 
 pub push-requires-clause-short : goal.push-requires-clause-short
 push-requires-clause-short c =
@@ -26,4 +27,4 @@ loop-preserved c =
     c.loop-test.true c.in_ok-literal.ensures c.loop.invariant c.in_ok-push.ensures.ok
 
 pub returns : goal.returns
-returns c = literals_done c.args.fold c.loop.room c.loop.before.now c.loop.list c.args.count c.loop.counter c.loop.rest.now (literals_at c.args.fold c.args.count MAX_LIST_LEN [] c.args.bytes.now) c.loop-test.false c.loop.invariant
+returns c = sym c.loop.invariant.left ∙ literals_all c.args.fold c.loop.room c.loop.before.now c.loop.list c.args.count c.loop.counter c.loop.rest.now c.loop-test.false
