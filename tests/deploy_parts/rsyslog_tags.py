@@ -142,8 +142,9 @@ def killed():
                 os.kill(helper, signal.SIGKILL)
         got = in_order(daemon.lines("all.log", 20000))
         yield "messages", [line.split(b"|")[0] for line in got] == messages, True
-        untagged = sum(line != text + b"|" + wanted(text) for line, text in zip(got, messages))
-        yield f"{untagged} messages without tags, at most one for each kill", untagged <= 10, True
+        others = [(line, text) for line, text in zip(got, messages) if line != text + b"|" + wanted(text)]
+        yield "tags that are wrong", [line for line, text in others if line != text + b"||"], []
+        yield f"{len(others)} messages without tags, while no program ran", len(others) < len(messages) // 2, True
         yield "another program", set(before).isdisjoint(daemon.helpers()), True
 
 
