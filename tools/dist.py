@@ -50,7 +50,7 @@ PACKAGES = (
         "search for many literals at once: library", "The library that programs load.",
     ),
     Package(
-        "python3-fiolargu", "python", r"/usr/lib/python3/|/usr/share/fiolargu/clients/python/", "python3, libfiolargu0 (>= {version})",
+        "python3-fiolargu", "python", r"/usr/lib/python3/|/usr/share/fiolargu/(clients/python|deploy/rsyslog)/", "python3, libfiolargu0 (>= {version})",
         "search for many literals at once: for Python", "The module for Python 3.",
     ),
     Package(
