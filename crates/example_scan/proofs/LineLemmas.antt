@@ -4,7 +4,7 @@ use Rattle.std.proofs.Math.Nat.{add-sub_cancel}
 use Rattle.std.specs.List.{slice_get}
 use Rattle.std.specs.Option.{unwrap_or}
 use Rattle.lit_base.specs.Literals.{Literals}
-use Rattle.flow_scan.specs.Starts.{StartsAt}
+use Rattle.lit_plan.specs.Starts.{StartsAt}
 use Rattle.example_scan.specs.Lines.{hit_line, line_text, literal_of}
 
 -- a literal that stands there is the hit's

@@ -3,7 +3,9 @@ use list_index::ListIndex;
 use lit_base::{Fold, LitList, RawList};
 use std::alloc::Global;
 use std::sync::Arc;
-use text_windows::{EndRate, ShiftOr, Windows, cut_runs};
+use shift_search::{ShiftOr, cut_runs};
+use text_ends::EndRate;
+use window_search::Windows;
 
 /// Literals of each length that is marked in its own way.
 const WORDS: [&[u8]; 5] = [b"q", b"xy", b"fox", b"over", b"lazy dogs"];

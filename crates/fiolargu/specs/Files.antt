@@ -1,7 +1,7 @@
 -- What the bytes of a plan file hold.
 use Rattle.std.specs.Prelude.{◌≡◌, ℕ, ◌<◌, List, length, Option, Some}
 use Rattle.std.specs.List.{slice_get}
-use Rattle.flow_scan.specs.Plans.{Plan}
+use Rattle.lit_plan.specs.Plans.{Plan}
 use Rattle.plan_file.specs.FirstFaults.{IsFirstFault}
 use Rattle.plan_file.specs.Spelling.{IsFile}
 use Rattle.plan_file.specs.declared.fault.Cause.{Cause}

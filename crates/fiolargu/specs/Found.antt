@@ -3,7 +3,7 @@ use Rattle.std.specs.Prelude.{◌≡◌, ℕ, ◌≤◌, ◌<◌, ◌⊎◌, Lis
 use Rattle.std.specs.List.{slice_get}
 use Rattle.lit_base.specs.Literals.{Literals}
 use Rattle.lit_base.specs.NextEnds.{IsNextEnd, NoEndAfter}
-use Rattle.flow_scan.specs.Plans.{Plan}
+use Rattle.lit_plan.specs.Plans.{Plan}
 use Rattle.flow_scan.specs.Scanners.{Scanning}
 use Rattle.c_handle.specs.declared.states.SharedPlan.{SharedPlan}
 use Rattle.c_handle.specs.declared.states.OpenStream.{OpenStream}

@@ -3,7 +3,7 @@ use Rattle.std.specs.Prelude.{◌≡◌, ℕ, ◌-◌, List, map, length, slice_
 use Rattle.lit_base.specs.Assignments.{NoAssignmentBelow}
 use Rattle.lit_base.specs.NormalForm.{normal_form}
 use Rattle.lit_base.specs.Profiles.{buckets}
-use Rattle.flow_scan.specs.Plans.{Plan}
+use Rattle.lit_plan.specs.Plans.{Plan}
 use Rattle.list_plan.specs.Planned.{IsPlanned}
 use Rattle.plan_file.specs.Reading.{fold_of, profile_of}
 use Rattle.lit_base.specs.Literals.{lengths}

@@ -1,7 +1,7 @@
 //! Exports that read and write plan files, and the version.
 ghost use Rattle.std.specs.Prelude.{◌≡◌, ◌≤◌, ◌<◌, ◌⊎◌, ◌↔◌, ℕ, List, [], ◌∷◌, IfErr, IfOk, IfSome, None, Some, length, take};
 ghost use Rattle.std.specs.List.{slice_get};
-ghost use Rattle.flow_scan.specs.Plans.{Plan};
+ghost use Rattle.lit_plan.specs.Plans.{Plan};
 ghost use Rattle.plan_file.specs.FirstFaults.{IsFirstFault};
 ghost use Rattle.plan_file.specs.Spelling.{IsFile, spelling};
 ghost use Rattle.plan_file.specs.declared.fault.Cause.{Cause};

@@ -1,7 +1,7 @@
 //! Exports that search texts in memory, and what writes hits for C.
 ghost use Rattle.std.specs.Prelude.{◌≡◌, ◌-◌, ◌≤◌, ◌<◌, ◌⊎◌, ◌↔◌, ℕ, [], IfSome, None, Some, length, map, take};
 ghost use Rattle.std.specs.List.{slice_get};
-ghost use Rattle.flow_scan.specs.Tails.{StopsAt};
+ghost use Rattle.text_ends.specs.HitsBehind.{StopsAt};
 ghost use Rattle.fiolargu.specs.Found.{HaveLengths, IsNextOrNone, hit_of, length_of, plan_of};
 ghost use Rattle.fiolargu.specs.declared.statuses.TheConstants.{NULL_HANDLE, OK, OUT_OF_MEMORY, OUT_OF_RANGE, SMALL_BUFFER};
 

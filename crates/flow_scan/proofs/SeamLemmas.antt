@@ -6,7 +6,7 @@ use Rattle.std.proofs.lemmas.List.{append_assoc, length-append, length-drop, len
 use Rattle.std.proofs.lemmas.Bool.{cases_lt}
 use Rattle.flow_scan.specs.Seams.{Seaming}
 use Rattle.flow_scan.specs.Tails.{last_bytes}
-use Rattle.flow_scan.proofs.Occurring.{last_len}
+use Rattle.flow_scan.proofs.LastBytes.{last_len}
 use Rattle.flow_scan.proofs.TailSteps.{last_of_short}
 
 -- two boundaries with the same parts are equal

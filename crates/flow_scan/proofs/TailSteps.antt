@@ -6,9 +6,12 @@ use Rattle.std.proofs.lemmas.List.{append-nil, append_assoc, length-append, leng
 use Rattle.lit_base.specs.Literals.{Literals}
 use Rattle.lit_base.specs.Occurrences.{IsHits, Occurs}
 use Rattle.lit_base.specs.NextEnds.{NoEndAfter}
-use Rattle.flow_scan.specs.Tails.{AreAdded, AreHitsBehind, AreSteps, Continues, GainsHits, GainsHitsBehind, HasBounds, carry_of, last_bytes}
-use Rattle.flow_scan.proofs.Occurring.{last_len, occurs_behind, occurs_behind_all, occurs_behind_last, occurs_of_front}
-use Rattle.flow_scan.proofs.HitLists.{hits_joined, hits_none, none_past}
+use Rattle.flow_scan.specs.Tails.{AreAdded, AreSteps, GainsHits, last_bytes}
+use Rattle.text_ends.specs.HitsBehind.{AreHitsBehind, Continues, GainsHitsBehind}
+use Rattle.lit_plan.specs.Bounds.{HasBounds, carry_of}
+use Rattle.flow_scan.proofs.LastBytes.{last_len, occurs_behind_all, occurs_behind_last}
+use Rattle.text_ends.proofs.Occurring.{occurs_behind, occurs_of_front}
+use Rattle.text_ends.proofs.HitLists.{hits_joined, hits_none, none_past}
 
 -- the hits that a piece adds after the last bytes of a text are those that it adds after the text
 pub added_behind_all : (l : Literals) (text piece : List ℕ) (at : ℕ) (found : List (ℕ × ℕ)) → HasBounds l → AreAdded l (last_bytes (carry_of l) text) piece at found → AreAdded l text piece at found
@@ -74,16 +77,6 @@ steps_behind l text at (piece ∷ pieces) hits b s =
 pub steps_are_hits : (l : Literals) (base : ℕ) (pieces : List (List ℕ)) (hits : List (ℕ × ℕ)) → HasBounds l → AreSteps l [] base pieces hits → AreHitsBehind l (concat pieces) 0 base hits
 steps_are_hits l base pieces hits b s = steps_behind l [] base pieces hits b (subst (λ t. AreSteps l t base pieces hits) (sym (last_of_short (carry_of l) [] (omega arith))) s)
 
--- counted from 0, they are the hits of the text
-pub hits_from_start : (l : Literals) (text : List ℕ) (hits : List (ℕ × ℕ)) → HasBounds l → AreHitsBehind l text 0 0 hits → IsHits l text hits
-hits_from_start l text hits b all = record {
-  rising = all.rising;
-  members = λ place end. (
-    λ inside. let w = (all.members place end).0 inside in subst (λ e. Occurs l text place e) (omega arith) w.1,
-    λ o. (all.members place end).1 (omega (arith, b.some place o.literal o.stands, o.begins), subst (λ e. Occurs l text place e) (omega arith) o),
-  );
-}
-
 -- of a longer piece: the hits that its first bytes add after a tail, and then the hits of the piece alone after them
 pub added_in_place : (l : Literals) (tail piece : List ℕ) (at : ℕ) (found rest : List (ℕ × ℕ)) → HasBounds l → carry_of l ≤ length piece → AreAdded l tail (take (carry_of l) piece) at found → AreHitsBehind l piece (carry_of l) (at + carry_of l) rest → AreAdded l tail piece at (found ++ rest)
 added_in_place l tail piece at found rest b long early late =
@@ -110,30 +103,6 @@ quiet_front l tail piece n none end after here =
 pub quiet_rest : (l : Literals) (tail piece : List ℕ) (n : ℕ) → NoEndAfter l (tail ++ piece) (length tail) → NoEndAfter l piece n
 quiet_rest l tail piece n none end after here =
     none (length tail + end) (omega (arith, after)) (here.0, occurs_behind l tail piece here.0 end here.1)
-
--- from no hits on, they are all that a list gained
-pub gained_all : (l : Literals) (text : List ℕ) (from at : ℕ) (old new : List (ℕ × ℕ)) → old ≡ [] → GainsHitsBehind l text from at old new → AreHitsBehind l text from at new
-gained_all l text from at old new none gains =
-    let same : gains.found ≡ new = sym (gains.grown ∙ ap (λ hs. hs ++ gains.found) none) in
-    subst (AreHitsBehind l text from at) same gains.added
-
--- the hits of a text are those after its start
-hits_to_start : (l : Literals) (text : List ℕ) (hits : List (ℕ × ℕ)) → HasBounds l → IsHits l text hits → AreHitsBehind l text 0 0 hits
-hits_to_start l text hits b all = record {
-  rising = all.rising;
-  members = λ place end. (
-    λ inside. let o = (all.members place end).0 inside in
-        (omega (arith, b.some place o.literal o.stands, o.begins), subst (λ e. Occurs l text place e) (omega arith) o),
-    λ w. (all.members place end).1 (subst (λ e. Occurs l text place e) (omega arith) w.1),
-  );
-}
-
--- the hits after a position continue the hits up to there
-pub hits_continued : (l : Literals) (text : List ℕ) (from : ℕ) (hits : List (ℕ × ℕ)) → HasBounds l → from ≤ length text → AreHitsBehind l text from from hits → Continues l text from hits
-hits_continued l text from hits b within later front early =
-    let told : from ≡ 0 + (from - 0) = omega arith in
-    hits_from_start l text (front ++ hits) b
-    (hits_joined l text 0 from 0 front hits (omega arith) within (hits_to_start l (take from text) front b early) (subst (λ x. AreHitsBehind l text from x hits) told later))
 
 -- the hits of a text, and those that a piece adds after its last bytes, are the hits of both
 pub hits_fed : (l : Literals) (text piece : List ℕ) (place : ℕ) (old new : List (ℕ × ℕ)) → HasBounds l → place ≡ length text → AreHitsBehind l text 0 0 old → GainsHits l (last_bytes (carry_of l) text) piece place old new → AreHitsBehind l (text ++ piece) 0 0 new

@@ -1,11 +1,3 @@
-pub mod Extensions
-pub mod Faults
-pub mod HitsAt
-pub mod Plans
 pub mod Scanners
 pub mod Seams
-pub mod Searched
-pub mod Starts
 pub mod Tails
-pub mod Walks
-pub mod Windowed

@@ -1,6 +1,6 @@
 -- What a contract sees of a `Scanner` or a `Stream`, and what a piece makes of it.
 use Rattle.std.specs.Prelude.{◌≡◌, ℕ, ◌+◌, ◌^◌, ◌<◌, List, [], ◌++◌, length, min}
-use Rattle.flow_scan.specs.Plans.{Plan}
+use Rattle.lit_plan.specs.Plans.{Plan}
 use Rattle.flow_scan.specs.Seams.{Seaming}
 use Rattle.flow_scan.specs.Tails.{last_bytes, tail_after}
 

@@ -2,46 +2,21 @@
 //! stream is cut.
 #![tactic(auto)]
 
-mod carry;
-mod claiming;
-mod compiled;
-mod end_finder;
-mod endings;
-mod ends;
-mod extensions;
-mod fault;
-mod hit;
-mod hit_search;
-mod learning;
-mod met;
-mod prices;
 mod progress;
-mod sampling;
 mod scanner;
 mod scanning;
 mod seam;
-mod searching;
-mod shifted;
-mod strategy;
 mod stream;
-mod text_search;
-mod told;
 mod tuned_plan;
-mod tuning;
 mod until;
-mod windowed;
 
-pub use compiled::{Compiled, least_law};
-pub use end_finder::EndFinder;
-pub use fault::Fault;
-pub use hit::Hit;
+pub use lit_plan::{Compiled, Fault, least_law};
 pub use scanner::Scanner;
 pub use scanning::{pieces_law, scan_all, scan_behind, scan_pieces};
-pub use searching::next_end;
 pub use stream::Stream;
-pub use text_search::TextSearch;
+pub use text_ends::Hit;
+pub use text_search::{EndFinder, LEAST_SAMPLE, TextSearch, next_end};
 pub use tuned_plan::TunedPlan;
-pub use tuning::LEAST_SAMPLE;
 pub use until::scan_until;
 
 #[cfg(test)]

@@ -1,15 +1,16 @@
 //! The state of a scan of a stream, without its plan.
 ghost use Rattle.std.specs.Prelude.{◌≡◌, ◌↔◌, ◌+◌, ◌-◌, ◌^◌, ◌<◌, ◌≤◌, ◌⊎◌, ◌++◌, [], IfErr, IfOk, IsErrOf, IsOk, IsOkUnless, OnErr, length, min, take};
-ghost use Rattle.flow_scan.specs.declared.fault.Fault.TheVariants.{OutOfMemory, StreamTooLong};
+ghost use Rattle.lit_plan.specs.declared.fault.Fault.TheVariants.{OutOfMemory, StreamTooLong};
 ghost use Rattle.lit_base.specs.NextEnds.{NoEndAfter};
-ghost use Rattle.flow_scan.specs.HitsAt.{Extends};
+ghost use Rattle.text_ends.specs.HitsAt.{Extends};
 ghost use Rattle.flow_scan.specs.Scanners.{Reached, advanced, started_at};
-ghost use Rattle.flow_scan.specs.Tails.{StopsIn, carry_of};
+ghost use Rattle.flow_scan.specs.Tails.{StopsIn};
+ghost use Rattle.lit_plan.specs.Bounds.{carry_of};
 
-use crate::compiled::Compiled;
-use crate::fault::Fault;
-use crate::hit::Hit;
-use crate::hit_search::HitSearch;
+use lit_plan::Compiled;
+use lit_plan::Fault;
+use text_ends::Hit;
+use text_search::HitSearch;
 use crate::seam::Seam;
 use std::alloc::{AllocError, Global};
 use std::marker::Model;

@@ -1,15 +1,16 @@
 //! Scans a stream that comes in pieces.
 ghost use Rattle.std.specs.Prelude.{◌≡◌, ◌↔◌, ◌+◌, ◌-◌, ◌^◌, ◌≤◌, ◌⊎◌, ◌++◌, IfErr, IfOk, IsErrOf, IsOkUnless, OnErr, OnOk, length, min, take};
-ghost use Rattle.flow_scan.specs.declared.fault.Fault.TheVariants.{OutOfMemory, StreamTooLong};
+ghost use Rattle.lit_plan.specs.declared.fault.Fault.TheVariants.{OutOfMemory, StreamTooLong};
 ghost use Rattle.lit_base.specs.NextEnds.{NoEndAfter};
 ghost use Rattle.flow_scan.specs.Scanners.{Scanning, fed, started};
-ghost use Rattle.flow_scan.specs.Tails.{GainsHits, StopsIn, carry_of};
+ghost use Rattle.flow_scan.specs.Tails.{GainsHits, StopsIn};
+ghost use Rattle.lit_plan.specs.Bounds.{carry_of};
 
-use crate::compiled::Compiled;
-use crate::end_finder::EndFinder;
-use crate::fault::Fault;
-use crate::hit::Hit;
-use crate::hit_search::PlainSearch;
+use lit_plan::Compiled;
+use text_search::EndFinder;
+use lit_plan::Fault;
+use text_ends::Hit;
+use text_search::PlainSearch;
 use crate::progress::Progress;
 use std::alloc::Global;
 use std::marker::Model;
@@ -26,7 +27,7 @@ pub struct Scanner<'p> {
 impl<'p> Model for Scanner<'p> {
     ghost use Rattle.std.specs.Prelude.{◌≡◌};
     ghost use Rattle.flow_scan.specs.Scanners.{Scanning, scanning};
-    ghost use Rattle.flow_scan.specs.Tails.{carry_of};
+    ghost use Rattle.lit_plan.specs.Bounds.{carry_of};
 
     ghost Value = { Scanning };
 

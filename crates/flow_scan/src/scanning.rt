@@ -4,16 +4,16 @@ ghost use Rattle.std.specs.List.{concat};
 ghost use Rattle.lit_base.specs.Assignments.{NoAssignmentBelow};
 ghost use Rattle.lit_base.specs.Profiles.{buckets};
 ghost use Rattle.lit_base.specs.Occurrences.{IsHits};
-ghost use Rattle.flow_scan.specs.declared.fault.Fault.TheVariants.{OutOfMemory, StreamTooLong};
+ghost use Rattle.lit_plan.specs.declared.fault.Fault.TheVariants.{OutOfMemory, StreamTooLong};
 ghost use Rattle.lit_base.specs.NextEnds.{NoEndAfter};
-ghost use Rattle.flow_scan.specs.Tails.{AreHitsBehind, Continues, PiecesLaw, bytes_of};
+ghost use Rattle.text_ends.specs.HitsBehind.{AreHitsBehind, Continues};
+ghost use Rattle.flow_scan.specs.Tails.{PiecesLaw, bytes_of};
 
-use crate::carry::carry;
-use crate::compiled::{Compiled, least_law};
-use crate::endings::SievedEnds;
-use crate::ends::add_hits_of;
-use crate::fault::Fault;
-use crate::hit::Hit;
+use lit_plan::carry;
+use lit_plan::{Compiled, least_law};
+use text_ends::add_hits_of;
+use lit_plan::Fault;
+use text_ends::Hit;
 use crate::scanner::Scanner;
 use lit_base::LitList;
 use std::alloc::Global;
@@ -50,7 +50,7 @@ pub fn scan_behind(
     let _carry = compiled.carry();
     let mut hits = Vec::new(alloc);
     let at = from as u64;
-    let mut ends = SievedEnds::behind(compiled, text, from);
+    let mut ends = compiled.ends_behind(text, from);
     add_hits_of(&mut ends, text, from, at, usize::MAX, &mut hits)?;
     Ok(hits)
 }

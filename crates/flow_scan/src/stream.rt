@@ -1,16 +1,17 @@
 //! A scan of a stream that shares its plan.
 ghost use Rattle.std.specs.Prelude.{◌≡◌, ◌↔◌, ◌+◌, ◌-◌, ◌^◌, ◌≤◌, ◌⊎◌, ◌++◌, IfErr, IfOk, IsErrOf, IsOkUnless, OnErr, length, min, take};
 ghost use Rattle.std.specs.Arc.{arc_value};
-ghost use Rattle.flow_scan.specs.declared.fault.Fault.TheVariants.{OutOfMemory, StreamTooLong};
+ghost use Rattle.lit_plan.specs.declared.fault.Fault.TheVariants.{OutOfMemory, StreamTooLong};
 ghost use Rattle.lit_base.specs.NextEnds.{NoEndAfter};
 ghost use Rattle.flow_scan.specs.Scanners.{Scanning, fed, started};
-ghost use Rattle.flow_scan.specs.Tails.{StopsIn, carry_of};
+ghost use Rattle.flow_scan.specs.Tails.{StopsIn};
+ghost use Rattle.lit_plan.specs.Bounds.{carry_of};
 
-use crate::compiled::Compiled;
-use crate::end_finder::EndFinder;
-use crate::fault::Fault;
-use crate::hit::Hit;
-use crate::learning::make_if_long;
+use lit_plan::Compiled;
+use text_search::EndFinder;
+use lit_plan::Fault;
+use text_ends::Hit;
+use text_search::make_if_long;
 use crate::progress::Progress;
 use std::alloc::Global;
 use std::marker::Model;
@@ -28,7 +29,7 @@ pub struct Stream {
 impl Model for Stream {
     ghost use Rattle.std.specs.Prelude.{◌≡◌, IfSome};
     ghost use Rattle.flow_scan.specs.Scanners.{Scanning, scanning};
-    ghost use Rattle.flow_scan.specs.Tails.{carry_of};
+    ghost use Rattle.lit_plan.specs.Bounds.{carry_of};
 
     ghost Value = { Scanning };
 

@@ -5,4 +5,3 @@ mod going_on;
 mod owning;
 mod scanned;
 mod streamed;
-mod ways;

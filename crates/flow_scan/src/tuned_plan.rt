@@ -1,16 +1,16 @@
 //! A plan with what its searches have learned.
 ghost use Rattle.std.specs.Prelude.{◌≡◌, ◌≤◌, IfOk, IfSome, IsOk, IsOkUnless, length};
 ghost use Rattle.std.specs.Arc.{arc_value};
-ghost use Rattle.flow_scan.specs.declared.fault.Fault.TheVariants.{OutOfMemory};
-ghost use Rattle.flow_scan.specs.HitsAt.{Extends};
+ghost use Rattle.lit_plan.specs.declared.fault.Fault.TheVariants.{OutOfMemory};
+ghost use Rattle.text_ends.specs.HitsAt.{Extends};
 ghost use Rattle.lit_base.specs.NextEnds.{NoEndAfter};
-ghost use Rattle.flow_scan.specs.Tails.{StopsAt};
+ghost use Rattle.text_ends.specs.HitsBehind.{StopsAt};
 
-use crate::compiled::Compiled;
-use crate::end_finder::EndFinder;
-use crate::fault::Fault;
-use crate::hit::Hit;
-use crate::learning::make_if_long;
+use lit_plan::Compiled;
+use text_search::EndFinder;
+use lit_plan::Fault;
+use text_ends::Hit;
+use text_search::make_if_long;
 use crate::until::scan_until;
 use std::alloc::{AllocError, Global};
 use std::marker::Model;
@@ -27,7 +27,7 @@ pub struct TunedPlan {
 
 impl Model for TunedPlan {
     ghost use Rattle.std.specs.Prelude.{◌≡◌, IfSome};
-    ghost use Rattle.flow_scan.specs.Plans.{Plan};
+    ghost use Rattle.lit_plan.specs.Plans.{Plan};
 
     ghost Value = { Plan };
 

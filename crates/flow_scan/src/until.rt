@@ -1,15 +1,14 @@
 //! Scans of a text that stop after enough hits.
 ghost use Rattle.std.specs.Prelude.{◌≤◌, IfOk, IsOk, IsOkUnless, length};
-ghost use Rattle.flow_scan.specs.declared.fault.Fault.TheVariants.{OutOfMemory};
-ghost use Rattle.flow_scan.specs.HitsAt.{Extends};
+ghost use Rattle.lit_plan.specs.declared.fault.Fault.TheVariants.{OutOfMemory};
+ghost use Rattle.text_ends.specs.HitsAt.{Extends};
 ghost use Rattle.lit_base.specs.NextEnds.{NoEndAfter};
-ghost use Rattle.flow_scan.specs.Tails.{StopsAt};
+ghost use Rattle.text_ends.specs.HitsBehind.{StopsAt};
 
-use crate::compiled::Compiled;
-use crate::endings::SievedEnds;
-use crate::ends::add_hits_of;
-use crate::fault::Fault;
-use crate::hit::Hit;
+use lit_plan::Compiled;
+use text_ends::add_hits_of;
+use lit_plan::Fault;
+use text_ends::Hit;
 
 /// Adds to `out` the hits of a text that end after `from`, up to the first end by which `out` gained at least `most`
 /// hits. Returns this end, or the text's length. A scan from there continues with the next hit. So `out` gains at most
@@ -31,7 +30,7 @@ pub fn scan_until(
     // Where nothing ends after the position, it takes no memory.
     ensures quiet { NoEndAfter compiled.now.literals text.now from → IsOk result }
 {
-    let mut ends = SievedEnds::behind(compiled, text, from);
+    let mut ends = compiled.ends_behind(text, from);
     let stop = add_hits_of(&mut ends, text, from, from as u64, most, out)?;
     Ok(stop)
 }

@@ -8,7 +8,7 @@ use Rattle.lit_base.specs.Selected.{is_selected, matches}
 use Rattle.lit_base.specs.Folding.{folded_text}
 use Rattle.lit_base.proofs.MatchLemmas.{matching}
 use Rattle.lit_base.proofs.EndedLemmas.{ended_lines-append, ended_lines-newline, open_rest-append, open_rest-newline}
-use Rattle.flow_scan.specs.Plans.{Plan}
+use Rattle.lit_plan.specs.Plans.{Plan}
 use Rattle.line_pick.specs.declared.matcher.Matcher.{Matcher}
 use Rattle.line_pick.specs.HitLines.{AllMiss, IsFirstHitLine}
 use Rattle.line_pick.specs.Lending.{numbered}

@@ -16,8 +16,8 @@ use Rattle.lit_base.specs.Selected.{is_selected, matches}
 use Rattle.lit_base.proofs.EndedLemmas.{ended_lines-newline, ended_lines-none, open_rest-apart, open_rest-newline, open_rest-none}
 use Rattle.lit_base.proofs.MatchLemmas.{matching}
 use Rattle.lit_base.proofs.PieceLemmas.{null_if}
-use Rattle.flow_scan.specs.Plans.{Plan}
-use Rattle.flow_scan.proofs.Occurring.{occurs_behind, occurs_in_front, occurs_in_rest, occurs_of_front}
+use Rattle.lit_plan.specs.Plans.{Plan}
+use Rattle.text_ends.proofs.Occurring.{occurs_behind, occurs_in_front, occurs_in_rest, occurs_of_front}
 use Rattle.line_pick.specs.Lending.{numbered}
 use Rattle.line_pick.specs.Matching.{fold_of, literals_of, literals_and_null}
 use Rattle.line_pick.specs.OpenLines.{Decides, IsDecided, IsDecidingPart}

@@ -14,7 +14,7 @@ use Rattle.lit_base.proofs.MatchLemmas.{matching}
 use Rattle.lit_base.proofs.NormalForms.{folded_text-folded_text}
 use Rattle.lit_base.proofs.Members.{In, contains_from_in, in_from_contains}
 use Rattle.lit_base.proofs.PieceLemmas.{null_if}
-use Rattle.flow_scan.specs.Plans.{Plan}
+use Rattle.lit_plan.specs.Plans.{Plan}
 use Rattle.line_pick.specs.Matching.{AreInLines, StandingLaw, StandsFor, fold_of, literals_of, literals_and_null}
 use Rattle.line_pick.proofs.Patterns.{null-misses, null-matches, null-occurs, null-whole, none-matches}
 

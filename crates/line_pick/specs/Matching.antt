@@ -7,7 +7,7 @@ use Rattle.lit_base.specs.Lines.{IsOnePiece}
 use Rattle.lit_base.specs.Literals.{Literals}
 use Rattle.lit_base.specs.NormalForm.{IsNormalForm}
 use Rattle.lit_base.specs.Selected.{is_selected, matches}
-use Rattle.flow_scan.specs.Plans.{Plan}
+use Rattle.lit_plan.specs.Plans.{Plan}
 use Rattle.line_pick.specs.declared.line_rule.LineRule.{LineRule}
 use Rattle.line_pick.specs.declared.matcher.Matcher.{Matcher}
 

@@ -2,7 +2,7 @@
 use Rattle.std.specs.Prelude.{◌≡◌, ◌<◌, ◌≤◌, ◌+◌, ◌-◌, ◌*◌, ℕ, Bool, true, false, List, ◌++◌, length, slice_index, slice_range, Option, None, Some}
 use Rattle.lit_base.specs.Lines.{IsOnePiece}
 use Rattle.lit_base.specs.Literals.{Literals, lengths}
-use Rattle.flow_scan.specs.Plans.{Plan}
+use Rattle.lit_plan.specs.Plans.{Plan}
 
 -- the length of the longest literal, which is the last one; 0 where there is none
 abbrev pub longest_of : Literals → ℕ

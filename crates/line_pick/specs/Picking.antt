@@ -1,6 +1,6 @@
 -- What a contract sees of a `Picker`: its patterns and rule, the line that no newline has ended yet, and how far it has come.
 use Rattle.std.specs.Prelude.{ℕ, Bool, List, Option, None, Some, Result, Ok, Err}
-use Rattle.flow_scan.specs.Plans.{Plan}
+use Rattle.lit_plan.specs.Plans.{Plan}
 use Rattle.line_pick.specs.declared.fault.Fault.{Fault}
 use Rattle.line_pick.specs.declared.line_rule.LineRule.{LineRule}
 use Rattle.line_pick.specs.declared.sink.Next.{Next}

@@ -2,5 +2,6 @@ pub mod Chains
 pub mod Checks
 pub mod EndingCursors
 pub mod EndingViews
+pub mod Extensions
 pub mod Marks
 pub mod Suffixes

@@ -1,11 +1,14 @@
 //! Lists of literals, with tables for a search.
-ghost use Rattle.std.specs.Prelude.{◌≡◌, ◌+◌, ◌-◌, ◌<◌, ◌≤◌, ◌↔◌, [], All, IfOk, IfSome, IsTrue, MatchOption, length, slice_index, slice_index_or};
+ghost use Rattle.std.specs.Prelude.{◌≡◌, ℕ, ◌+◌, ◌-◌, ◌<◌, ◌≤◌, ◌↔◌, List, [], All, IfOk, IfSome, IsTrue, MatchOption, length, slice_index, slice_index_or};
 ghost use Rattle.std.specs.List.Sorted.{IsNonDecreasing};
 ghost use Rattle.lit_base.specs.Literals.{lengths, IsNormal};
+ghost use Rattle.lit_base.specs.NextEnds.{NoEndUpTo};
 ghost use Rattle.lit_base.specs.Occurrences.{IsFirstEnding, NoneEnds, Occurs};
+ghost use Rattle.list_index.specs.Extensions.{AreExtensions};
 ghost use Rattle.lit_base.specs.declared.limits.TheConstants.{MAX_LITERALS};
 
 use crate::endings::Endings;
+use crate::extensions::Extensions;
 use crate::suffixes::Suffixes;
 use lit_base::{Fold, LitList};
 use std::alloc::{AllocError, Global};
@@ -18,21 +21,25 @@ use std::sync::Arc;
 pub struct ListIndex {
     pub(crate) list: LitList,
     pub(crate) suffixes: Suffixes,
+    extensions: Option<Extensions>,
 }
 
 impl Model for ListIndex {
     ghost use Rattle.lit_base.specs.Literals.{Literals, IsNormal};
     ghost use Rattle.list_index.specs.Checks.{AreSuffixesOf};
+    ghost use Rattle.list_index.specs.Extensions.{AreExtensions};
+    ghost use Rattle.std.specs.Prelude.{IfSome};
 
     ghost Value = { Literals };
 
     ghost view = { λ x. x.list };
 
-    ghost invariant = { λ x. IsNormal x.list × AreSuffixesOf x.list x.suffixes };
+    ghost invariant = { λ x. IsNormal x.list × AreSuffixesOf x.list x.suffixes
+        × IfSome x.extensions (λ found. AreExtensions x.list found.heads found.links) };
 }
 
 impl ListIndex {
-    /// The index of a list, which a plan and its engines share. It takes 72 KiB, and memory for each literal. `Err` if
+    /// The index of a list, which a plan and its engines share. It takes 76 KiB, and memory for each literal. `Err` if
     /// memory is short.
     pub fn new(alloc: Global, list: LitList) -> Result<Arc<ListIndex>, AllocError>
         ensures { IfOk result (λ index. index.value ≡ list) }
@@ -46,7 +53,13 @@ impl ListIndex {
     {
         list.normal_law();
         let suffixes = Suffixes::new(alloc, &list)?;
-        Ok(ListIndex { list, suffixes })
+        let mut index = ListIndex {
+            list,
+            suffixes,
+            extensions: None,
+        };
+        index.extensions = Extensions::of(&index);
+        Ok(index)
     }
 
     /// The list.
@@ -180,6 +193,26 @@ impl ListIndex {
         } else {
             None
         }
+    }
+
+    /// The output links of the list, if it has them.
+    #[inline]
+    pub fn extensions(&self) -> Option<&Extensions>
+        ensures { IfSome result (λ found. AreExtensions self.now found.now.heads found.now.links) }
+    {
+        self.extensions.as_ref()
+    }
+
+    /// A position from `from` on up to which no literal can end, since each is longer. A search that begins there skips
+    /// the single probes near the start of a text.
+    pub fn skip_short_ends(&self, from: usize) -> usize
+        ensures ahead { from ≤ result }
+        ensures none { (text : List ℕ) → NoEndUpTo self.now text from result }
+    {
+        if self.is_empty() {
+            return from;
+        }
+        from.max(self.shortest().saturating_sub(1))
     }
 
     /// Whether the literal at a place ends at `end` in the text.

@@ -2,10 +2,12 @@
 #![tactic(auto)]
 
 mod endings;
+mod extensions;
 mod index;
 mod suffixes;
 
 pub use endings::Endings;
+pub use extensions::Extensions;
 pub use index::ListIndex;
 pub use suffixes::{
     HASH_BITS, case_bits, hash_of, is_marked, last_bits, last_word, mark, mark_literal, suffix_key,

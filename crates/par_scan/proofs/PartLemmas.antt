@@ -7,7 +7,7 @@ use Rattle.std.proofs.lemmas.Option.{slice_get_within, get_or_from_slice_get}
 use Rattle.lit_base.specs.Literals.{IsNormal, Literals}
 use Rattle.lit_base.specs.Occurrences.{IsHits, Occurs}
 use Rattle.lit_base.specs.NextEnds.{NoEndAfter}
-use Rattle.flow_scan.proofs.Occurring.{occurs_of_front}
+use Rattle.text_ends.proofs.Occurring.{occurs_of_front}
 
 -- where nothing ends in a text, nothing ends in its front
 pub none_in_front : (l : Literals) (text : List ℕ) (m : ℕ) → NoEndAfter l text 0 → NoEndAfter l (take m text) 0

@@ -2,8 +2,8 @@
 ghost use Rattle.std.specs.Prelude.{◌≡◌, ◌+◌, ◌-◌, ◌*◌, ◌<◌, ◌≤◌, IfOk, IfSome, IsOk, IsOkUnless, length};
 ghost use Rattle.lit_base.specs.Occurrences.{IsHits};
 ghost use Rattle.lit_base.specs.NextEnds.{NoEndAfter};
-ghost use Rattle.flow_scan.specs.Tails.{Continues};
-ghost use Rattle.flow_scan.specs.declared.fault.Fault.TheVariants as flow;
+ghost use Rattle.text_ends.specs.HitsBehind.{Continues};
+ghost use Rattle.lit_plan.specs.declared.fault.Fault.TheVariants as flow;
 ghost use Rattle.par_scan.specs.declared.fault.Fault.TheVariants.{OutOfMemory};
 ghost use denote.Param.Send.{IsSync};
 

@@ -6,7 +6,7 @@ use Rattle.std.specs.Io.KnownBytes.{Appends}
 use Rattle.std.proofs.lemmas.List.{append-nil, length-append}
 use Rattle.byte_io.specs.Devices.{Coming, Clean, Faulty}
 use Rattle.byte_io.specs.Transfers.{AppendsPrefix, FaultFollows, ReadsAll}
-use Rattle.flow_scan.specs.Plans.{Plan}
+use Rattle.lit_plan.specs.Plans.{Plan}
 use Rattle.plan_file.specs.declared.version.Version.{Version}
 use Rattle.plan_file.specs.Spelling.{head_text, spelling, plan_text}
 use Rattle.std.specs.List.{flat_map}

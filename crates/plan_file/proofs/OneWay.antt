@@ -7,7 +7,7 @@ use Rattle.lit_base.specs.Profiles.{buckets}
 use Rattle.lit_cert.specs.declared.reason.Reason.{Reason}
 use Rattle.lit_cert.specs.Certified.{IsFirstFailure}
 use Rattle.lit_cert.proofs.Failures.{certified_or_fails, same_failure}
-use Rattle.flow_scan.specs.Plans.{Plan}
+use Rattle.lit_plan.specs.Plans.{Plan}
 use Rattle.plan_file.specs.declared.fault.Cause.{Cause}
 use Rattle.plan_file.specs.declared.fault.Cause.TheVariants.{NotCertified}
 use Rattle.plan_file.specs.declared.fault.Wrong.{Wrong}

@@ -10,7 +10,7 @@ use Rattle.lit_base.specs.declared.profile.Profile.{Profile}
 use Rattle.lit_base.specs.Literals.{Literals, literal_cmp}
 use Rattle.lit_base.specs.Profiles.{buckets}
 use Rattle.lit_cert.specs.Certificates.{CertificateParts}
-use Rattle.flow_scan.specs.Plans.{Plan}
+use Rattle.lit_plan.specs.Plans.{Plan}
 use Rattle.plan_file.specs.declared.fault.Cause.{Cause}
 use Rattle.plan_file.specs.declared.fault.Cause.TheVariants.{Short, Magic, Version as wrong_version, Count, Flags, Literal, Order, Runs}
 use Rattle.plan_file.specs.declared.fault.Wrong.{Wrong}

@@ -1,6 +1,6 @@
 //! Plans read back from a text that is held whole.
 ghost use Rattle.std.specs.Prelude.{◌≡◌, ◌≢◌, ℕ, ◌≤◌, ◌++◌, List, IfErr, IfOk, IsOkAnd};
-ghost use Rattle.flow_scan.specs.Plans.{Plan};
+ghost use Rattle.lit_plan.specs.Plans.{Plan};
 ghost use Rattle.plan_file.specs.declared.fault.Cause.{Cause};
 ghost use Rattle.plan_file.specs.Faults.{Gives, IfBadFile, IfWrong};
 ghost use Rattle.plan_file.specs.FirstFaults.{AreEntries, IsFirstFault, IsWrong, IsWrongBehind, IsWrongEntry};

@@ -4,7 +4,7 @@ ghost use Rattle.std.specs.Io.KnownBytes.{Appends};
 ghost use Rattle.byte_io.specs.Transfers.{AppendsPrefix};
 ghost use Rattle.lit_base.specs.Literals.{IsNormal};
 ghost use Rattle.lit_base.specs.declared.profile.Profile.TheVariants.{Eight};
-ghost use Rattle.flow_scan.specs.Plans.{Plan};
+ghost use Rattle.lit_plan.specs.Plans.{Plan};
 ghost use Rattle.plan_file.specs.Faults.{IsWritersFault};
 ghost use Rattle.std.specs.List.{flat_map};
 ghost use Rattle.std.specs.Int.{w16, w32, w64};

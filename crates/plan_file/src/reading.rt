@@ -1,7 +1,7 @@
 //! Plans read from a device.
 ghost use Rattle.std.specs.Prelude.{◌≡◌, ◌≢◌, ℕ, ◌+◌, ◌++◌, ◌^◌, ◌<◌, ◌≤◌, List, length, IsTrue, IfOk, IfErr, IfSome, IsOkAnd, OnOk};
 ghost use Rattle.byte_io.specs.Devices.{Clean, EndsHere, Faulty, Told};
-ghost use Rattle.flow_scan.specs.Plans.{Plan};
+ghost use Rattle.lit_plan.specs.Plans.{Plan};
 ghost use Rattle.plan_file.specs.declared.fault.Cause.{Cause};
 ghost use Rattle.plan_file.specs.Faults.{IsReadersFault};
 ghost use Rattle.plan_file.specs.FirstFaults.{IsFirstFault};

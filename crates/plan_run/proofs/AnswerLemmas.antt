@@ -7,7 +7,7 @@ use Rattle.byte_io.specs.Devices.{Clean, Coming, EndsHere, Faulty, Told}
 use Rattle.byte_io.specs.Sources.{AreShort, Ask, Content, IsShort, Named, Sources, after, after_all, ask_of, coming_of, taken_by}
 use Rattle.byte_io.proofs.OpenerLemmas.{short-after}
 use Rattle.byte_io.proofs.ToldLemmas.{Told-then, Told-weaker}
-use Rattle.flow_scan.specs.Plans.{Plan}
+use Rattle.lit_plan.specs.Plans.{Plan}
 use Rattle.lit_base.specs.Cuts.{CutsFrom}
 use Rattle.lit_base.specs.Literals.{Literals}
 use Rattle.lit_base.specs.Profiles.{buckets}

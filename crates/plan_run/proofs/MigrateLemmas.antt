@@ -14,7 +14,7 @@ use Rattle.lit_base.specs.declared.profile.Profile.{Profile}
 use Rattle.lit_base.specs.declared.profile.Profile.TheVariants.{Eight, Sixteen}
 use Rattle.lit_cert.specs.Certificates.{CertificateParts}
 use Rattle.lit_cert.specs.Certified.{IsCertified}
-use Rattle.flow_scan.specs.Plans.{Plan}
+use Rattle.lit_plan.specs.Plans.{Plan}
 use Rattle.list_plan.specs.Planned.{IsPlanned}
 use Rattle.plan_file.specs.declared.fault.Cause.{Cause}
 use Rattle.plan_file.specs.declared.fault.Fault.{Fault}

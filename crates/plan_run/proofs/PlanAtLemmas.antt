@@ -2,7 +2,7 @@
 use Rattle.std.proofs.Common.{◌≡◌, ℕ, ◌<◌, ◌≤◌, List, length, get_or, Bor, Option, Result, Err, refl}
 use Rattle.std.proofs.KnownBytes.{Appends-nil}
 use Rattle.std.proofs.lemmas.Option.{slice_get_past, slice_get_read}
-use Rattle.flow_scan.specs.Plans.{Plan}
+use Rattle.lit_plan.specs.Plans.{Plan}
 use Rattle.plan_run.specs.Answers.{Answer, IsPlanAnswerAt, NoneThere, OneThere}
 use Rattle.plan_run.specs.Running.{Tells}
 use Rattle.plan_run.specs.declared.status.Status.{Status}

@@ -3,7 +3,7 @@ use Rattle.std.specs.Prelude.{◌≡◌, ℕ, Bool, true, false, List, [], ◌�
 use Rattle.std.specs.List.{slice_get}
 use Rattle.std.specs.Str.{bytes_eq}
 use Rattle.byte_io.specs.Sources.{Ask, Content, Created, Named, Sources, after, after_all, ask_of, can_create, taken_by}
-use Rattle.flow_scan.specs.Plans as plan
+use Rattle.lit_plan.specs.Plans as plan
 use Rattle.list_plan.specs.Planned.{IsPlanned}
 use Rattle.lit_base.specs.Costs.{run_cost}
 use Rattle.lit_base.specs.Literals.{Literals, lengths}

@@ -3,7 +3,7 @@ use Rattle.std.specs.Prelude.{◌≡◌, ◌⊎◌, ℕ, List, [], ◌∷◌, le
 use Rattle.std.specs.List.{AllZip}
 use Rattle.std.specs.Option.{option_map}
 use Rattle.byte_io.specs.Sources.{Content, Sources, after, ask_of, taken_by}
-use Rattle.flow_scan.specs.Plans.{Plan}
+use Rattle.lit_plan.specs.Plans.{Plan}
 use Rattle.lit_base.specs.Faults.{number_of}
 use Rattle.lit_base.specs.Literals.{Literals}
 use Rattle.lit_base.specs.NormalForm.{IsPlaceOf, normal_form}

@@ -2,7 +2,7 @@
 use Rattle.std.specs.Prelude.{◌≡◌, ℕ, ◌+◌, ◌≤◌, true, false, List, [], ◌∷◌, ◌++◌, codes, decimal, Option, Some, None}
 use Rattle.std.specs.List.{AllZip}
 use Rattle.byte_io.specs.Sources.{Content}
-use Rattle.flow_scan.specs.Plans.{Plan}
+use Rattle.lit_plan.specs.Plans.{Plan}
 use Rattle.lit_base.specs.declared.profile.Profile.TheVariants.{Sixteen}
 use Rattle.list_plan.specs.Planned.{IsPlanned}
 use Rattle.plan_file.specs.declared.fault.Cause.{Cause}

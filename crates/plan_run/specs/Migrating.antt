@@ -2,7 +2,7 @@
 use Rattle.std.specs.Prelude.{◌≡◌, ◌⊎◌, ℕ, true, false, List, Option, Some, None, Result, Ok, Err}
 use Rattle.std.specs.Global.{Vec}
 use Rattle.byte_io.specs.Sources.{Sources, after, ask_of, can_create, taken_by}
-use Rattle.flow_scan.specs.Plans.{Plan}
+use Rattle.lit_plan.specs.Plans.{Plan}
 use Rattle.plan_run.specs.Messages.{unusable}
 use Rattle.plan_run.specs.Migrated.{AreMigrated, IsSourceOf, migrated_lines}
 use Rattle.plan_run.specs.PlanFiles.{HoldsFront, HoldsPlans}

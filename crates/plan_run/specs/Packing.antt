@@ -3,7 +3,7 @@ use Rattle.std.specs.Prelude.{◌≡◌, ◌⊎◌, ℕ, Bool, true, false, List
 use Rattle.std.specs.Io.KnownBytes.{Appends}
 use Rattle.byte_io.specs.Sources.{Sources, after, ask_of, can_create}
 use Rattle.byte_io.specs.Transfers.{AppendsPrefix}
-use Rattle.flow_scan.specs.Plans.{Plan}
+use Rattle.lit_plan.specs.Plans.{Plan}
 use Rattle.plan_run.specs.declared.notation.Reading.{Reading}
 use Rattle.lit_base.specs.declared.profile.Profile.{Profile}
 use Rattle.plan_file.specs.Spelling.{ArePlans, spelling}

@@ -1,7 +1,7 @@
 -- What a file holds that was made for plans.
 use Rattle.std.specs.Prelude.{◌≡◌, ℕ, List, [], Option, Some}
 use Rattle.byte_io.specs.Transfers.{AppendsPrefix}
-use Rattle.flow_scan.specs.Plans.{Plan}
+use Rattle.lit_plan.specs.Plans.{Plan}
 use Rattle.plan_file.specs.Spelling.{ArePlans, spelling}
 use Rattle.plan_file.specs.declared.version.Version.TheVariants.{Two}
 

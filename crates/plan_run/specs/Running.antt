@@ -4,7 +4,7 @@ use Rattle.std.specs.Io.KnownBytes.{Appends}
 use Rattle.std.specs.Global.{Vec}
 use Rattle.byte_io.specs.Transfers.{AppendsFront, Says}
 use Rattle.byte_io.specs.Sources.{Ask, AsksFront, Content, Sources, after_all}
-use Rattle.flow_scan.specs.Plans.{Plan}
+use Rattle.lit_plan.specs.Plans.{Plan}
 use Rattle.lit_base.specs.Literals.{Literals}
 use Rattle.plan_run.specs.declared.notation.Reading.{Reading}
 use Rattle.lit_base.specs.declared.lit_list.Normal.{Normal}

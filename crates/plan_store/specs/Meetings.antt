@@ -1,7 +1,7 @@
 -- What a thread meets of a plan that was published.
 use Rattle.std.specs.Prelude.{◌≡◌, ℕ}
 use Rattle.boxcar.specs.Table.{Shelves}
-use Rattle.flow_scan.specs.Plans.{Plan}
+use Rattle.lit_plan.specs.Plans.{Plan}
 use Rattle.plan_store.specs.Tickets.{IsOf, Told}
 
 -- the ticket is of this store, and shows this plan

@@ -1,7 +1,7 @@
 -- What a contract sees of a `Ticket`, and which store it is of.
 use Rattle.std.specs.Prelude.{◌≡◌, ℕ}
 use Rattle.boxcar.specs.Table.{Shelves, id_at}
-use Rattle.flow_scan.specs.Plans.{Plan}
+use Rattle.lit_plan.specs.Plans.{Plan}
 
 -- the plan that was published and its number, and where it stands: the shelf, and the name that the shelf has in its store
 pub record Told : Type 0 where

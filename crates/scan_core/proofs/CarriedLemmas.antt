@@ -7,8 +7,9 @@ use Rattle.std.proofs.lemmas.Option.{get_or_from_slice_get, none-some, same_Some
 use Rattle.lit_base.specs.Literals.{IsNormal, Literals, lengths}
 use Rattle.lit_base.specs.Occurrences.{Occurs}
 use Rattle.lit_base.proofs.LengthLemmas.{last_greatest}
-use Rattle.flow_scan.specs.Plans as plans
-use Rattle.flow_scan.specs.Tails.{AreAdded, HasBounds, carry_of, last_bytes, tail_after}
+use Rattle.lit_plan.specs.Plans as plans
+use Rattle.flow_scan.specs.Tails.{AreAdded, last_bytes, tail_after}
+use Rattle.lit_plan.specs.Bounds.{HasBounds, carry_of}
 use Rattle.flow_scan.proofs.TailSteps.{added_behind_all, last_of_last, last_of_short}
 use Rattle.scan_wire.specs.Messages.{RequestParts, Publish, Open, Feed, Close, ShowPlan}
 use Rattle.scan_core.specs.declared.limits.TheConstants.{MAX_STREAMS}

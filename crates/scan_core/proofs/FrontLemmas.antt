@@ -9,7 +9,8 @@ use Rattle.std.proofs.Math.ListN.{set}
 use Rattle.std.proofs.lemmas.List.{append-nil, append_assoc, length-append}
 use Rattle.std.proofs.lemmas.Option.{none-some, same_Some}
 use Rattle.flow_scan.specs.Scanners.{Scanning, fed}
-use Rattle.flow_scan.specs.Tails.{AreAdded, carry_of, last_bytes, tail_after}
+use Rattle.flow_scan.specs.Tails.{AreAdded, last_bytes, tail_after}
+use Rattle.lit_plan.specs.Bounds.{carry_of}
 use Rattle.flow_scan.proofs.TailSteps.{added_behind_all, added_joined, added_nothing, last_of_last, last_of_short}
 use Rattle.scan_wire.specs.Messages.{Feed}
 use Rattle.scan_wire.specs.declared.message.TheConstants.{MAX_HITS}

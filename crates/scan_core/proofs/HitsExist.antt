@@ -11,9 +11,9 @@ use Rattle.std.proofs.lemmas.Slice.Eq.{bytes_eq-Decides}
 use Rattle.lit_base.specs.Folding.{folded_text}
 use Rattle.lit_base.specs.Literals.{Literals}
 use Rattle.lit_base.specs.Occurrences.{IsFirstEnding, Occurs}
-use Rattle.flow_scan.specs.HitsAt.{AreHitsAt}
-use Rattle.flow_scan.specs.Tails.{AreHitsBehind}
-use Rattle.flow_scan.proofs.HitLists.{AreHitsAtBefore, hits_at_ended, hits_at_more, hits_at_none, hits_further, hits_none, none_past}
+use Rattle.text_ends.specs.HitsAt.{AreHitsAt}
+use Rattle.text_ends.specs.HitsBehind.{AreHitsBehind}
+use Rattle.text_ends.proofs.HitLists.{AreHitsAtBefore, hits_at_ended, hits_at_more, hits_at_none, hits_further, hits_none, none_past}
 
 -- what a test decides holds or not
 holds_or : (b : Bool) (P : Type 0) → Decides b P → P ⊎ (¬ P)

@@ -10,7 +10,7 @@ use Rattle.std.proofs.lemmas.Option.{none-some, same_Some}
 use Rattle.lit_base.specs.Literals.{Literals}
 use Rattle.lit_base.specs.Occurrences.{hit_cmp}
 use Rattle.lit_base.proofs.SortedLists.{same_elements}
-use Rattle.flow_scan.specs.Plans as plans
+use Rattle.lit_plan.specs.Plans as plans
 use Rattle.flow_scan.proofs.TailSteps.{concat_push}
 use Rattle.scan_wire.specs.Messages.{RequestParts, ReplyParts, Publish, Open, Feed, Close, ShowPlan, Opened}
 use Rattle.scan_wire.specs.declared.message.TheConstants.{MAX_HITS}

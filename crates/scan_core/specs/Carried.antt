@@ -1,6 +1,7 @@
 -- A session seen by the state of its scanners, and the same session seen by all bytes that its streams were fed.
 use Rattle.std.specs.Prelude.{◌≡◌, ℕ, List, [], ◌∷◌, length}
-use Rattle.flow_scan.specs.Tails.{HasBounds, carry_of, last_bytes}
+use Rattle.lit_plan.specs.Bounds.{HasBounds, carry_of}
+use Rattle.flow_scan.specs.Tails.{last_bytes}
 use Rattle.scan_wire.specs.Messages.{RequestParts}
 use Rattle.scan_core.specs.Sessions.{Bound, by_tails}
 use Rattle.scan_core.specs.Steps.{IsStep, Outcome, SessionParts}

@@ -3,7 +3,8 @@ use Rattle.std.specs.Prelude.{◌≡◌, ℕ, ◌+◌, ◌^◌, ◌<◌, ◌≤�
 use Rattle.std.specs.Prelude.{nat_eq}
 use Rattle.std.specs.Map.{set_value}
 use Rattle.flow_scan.specs.Scanners.{Scanning, fed}
-use Rattle.flow_scan.specs.Tails.{AreAdded, HasBounds, StopsIn, carry_of}
+use Rattle.flow_scan.specs.Tails.{AreAdded, StopsIn}
+use Rattle.lit_plan.specs.Bounds.{HasBounds, carry_of}
 use Rattle.scan_core.specs.Sessions.{Bound, Serving, parts_of}
 use Rattle.scan_core.specs.Steps.{stream_at}
 

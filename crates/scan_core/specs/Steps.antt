@@ -8,7 +8,7 @@ use Rattle.lit_base.specs.Literals.{IsNormal}
 use Rattle.lit_base.specs.NormalForm.{normal_form}
 use Rattle.lit_cert.specs.Certified.{IsCertified}
 use Rattle.list_plan.specs.Planned.{IsPlanned}
-use Rattle.flow_scan.specs.Plans as plans
+use Rattle.lit_plan.specs.Plans as plans
 use Rattle.scan_wire.specs.Messages.{RequestParts, ReplyParts, Publish, Open, Feed, Close, ShowPlan, Published, Opened, Hits, Fed, Closed, Plan, Refused}
 use Rattle.scan_wire.specs.declared.message.TheConstants.{MAX_HITS}
 use Rattle.scan_core.specs.declared.limits.TheConstants.{MAX_STREAMS}

@@ -12,8 +12,8 @@ use Rattle.byte_io.specs.Devices.{Clean, Coming, Faulty}
 use Rattle.byte_io.specs.Sources.{Content, OpensAs, Sources, coming_of, source_of}
 use Rattle.byte_io.specs.Transfers.{AppendsPrefix}
 use Rattle.byte_io.specs.declared.opener.Missing.{Missing}
-use Rattle.flow_scan.specs.Plans.{Plan}
-use Rattle.flow_scan.specs.declared.compiled.Compiled.{Compiled}
+use Rattle.lit_plan.specs.Plans.{Plan}
+use Rattle.lit_plan.specs.declared.compiled.Compiled.{Compiled}
 use Rattle.plan_file.specs.declared.fault.Cause.{Cause}
 use Rattle.plan_file.specs.declared.fault.Fault.{Fault}
 use Rattle.plan_file.specs.declared.fault.Fault.TheVariants.{OutOfMemory, BadPlanFile, ReadFault, WriteFault}

@@ -5,7 +5,7 @@ use Rattle.boxcar.specs.Table.{Shelves}
 use Rattle.byte_io.specs.Devices.{Clean, Coming, EndsHere, Faulty, Told}
 use Rattle.byte_io.specs.Sources.{Sources, coming_of, source_of}
 use Rattle.byte_io.specs.Transfers.{AppendsPrefix}
-use Rattle.flow_scan.specs.Plans.{Plan}
+use Rattle.lit_plan.specs.Plans.{Plan}
 use Rattle.plan_file.specs.declared.fault.Cause.{Cause}
 use Rattle.plan_file.specs.declared.fault.Fault.{Fault}
 use Rattle.plan_file.specs.declared.fault.Fault.TheVariants.{OutOfMemory, BadPlanFile, ReadFault, WriteFault}

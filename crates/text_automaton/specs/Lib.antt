@@ -2,3 +2,4 @@ pub mod Automata
 pub mod Fronts
 pub mod Stages
 pub mod Tables
+pub mod ToldWalks

@@ -74,6 +74,14 @@ impl Automaton {
         })
     }
 
+    /// The list.
+    #[inline(always)]
+    pub(crate) fn list(&self) -> &ListIndex
+        ensures { result.now ≡ self.now.literals }
+    {
+        &self.index
+    }
+
     /// The number of states that it has room for: one for each byte of the literals and one more, at most
     /// `MOST_STATES`.
     pub fn room(&self) -> usize

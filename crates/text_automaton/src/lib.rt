@@ -7,6 +7,8 @@ mod making;
 mod reading;
 mod tables;
 mod telling;
+mod told;
 
 pub use automaton::Automaton;
 pub use reading::Reading;
+pub use told::ToldEnds;

@@ -2,20 +2,22 @@
 //! chooses, shift-or, the automaton, a finder. Together they find what the plan alone finds.
 ghost use Rattle.std.specs.Prelude.{◌≡◌, IfOk};
 
-use crate::compiled::Compiled;
-use crate::end_finder::EndFinder;
-use crate::ends::Ends;
-use crate::searching::next_end;
-use crate::shifted::ShiftedEnds;
+use lit_plan::Compiled;
+use text_search::EndFinder;
+use text_ends::Ends;
+use text_search::next_end;
+use shift_search::ShiftedEnds;
 use crate::tests::finding::{
     CAPITALS, Draws, FIGURES, Told, WORDS, pieces_of, plain_in, plan_of_pieces, text_of, with_end,
 };
 use crate::tests::owning::{How, agrees};
-use crate::windowed::WindowedEnds;
+use window_search::WindowedEnds;
 use lit_base::Fold;
 use std::alloc::{AllocError, Global};
 use text_automaton::Automaton;
-use text_windows::{EndRate, ShiftOr, Windows};
+use shift_search::ShiftOr;
+use text_ends::EndRate;
+use window_search::Windows;
 
 /// The position that a search has reached, and its ends so far.
 type Progress = (usize, Told);

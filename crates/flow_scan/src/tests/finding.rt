@@ -2,9 +2,9 @@
 //! the text, so that it has many near-misses.
 ghost use Rattle.std.specs.Prelude.{◌≡◌};
 
-use crate::compiled::Compiled;
-use crate::end_finder::EndFinder;
-use crate::searching::next_end;
+use lit_plan::Compiled;
+use text_search::EndFinder;
+use text_search::next_end;
 use crate::tests::owning::{How, agrees};
 use list_index::ListIndex;
 use lit_base::{Fold, LitList, Profile, RawList};

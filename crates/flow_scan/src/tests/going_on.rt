@@ -2,11 +2,11 @@
 ghost use Rattle.std.specs.Prelude.{◌≡◌};
 
 use super::finding::{CAPITALS, Draws, Told, WORDS, pieces_of, plan_of_pieces, text_of, with_end};
-use crate::compiled::Compiled;
-use crate::end_finder::EndFinder;
-use crate::searching::next_end;
+use lit_plan::Compiled;
+use text_search::EndFinder;
+use text_search::next_end;
 use crate::tests::owning::{How, agrees};
-use crate::text_search::TextSearch;
+use text_search::TextSearch;
 use lit_base::Fold;
 use std::alloc::Global;
 

@@ -2,8 +2,8 @@
 //! finder may be dropped, which takes long.
 ghost use Rattle.std.specs.Prelude.{◌≡◌};
 
-use crate::compiled::Compiled;
-use crate::end_finder::EndFinder;
+use lit_plan::Compiled;
+use text_search::EndFinder;
 use crate::tests::choosing::changes_the_same;
 use crate::tests::finding::find_the_same;
 use crate::tests::going_on::go_on_the_same;

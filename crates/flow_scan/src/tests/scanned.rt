@@ -1,9 +1,9 @@
 //! Scans by a finder and by the plan alone give the same hits.
 ghost use Rattle.std.specs.Prelude.{◌≡◌};
 
-use crate::compiled::Compiled;
-use crate::end_finder::EndFinder;
-use crate::hit::Hit;
+use lit_plan::Compiled;
+use text_search::EndFinder;
+use text_ends::Hit;
 use crate::scanning::scan_all;
 use crate::tests::finding::{
     CAPITALS, Draws, FIGURES, WORDS, pieces_of, plan_of, plan_of_pieces, text_of,

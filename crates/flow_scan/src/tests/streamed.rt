@@ -2,12 +2,12 @@
 ghost use Rattle.std.specs.Prelude.{◌≡◌};
 
 use super::finding::{CAPITALS, Draws, FIGURES, WORDS, pieces_of, plan_of_pieces, text_of};
-use crate::compiled::Compiled;
-use crate::end_finder::EndFinder;
-use crate::hit::Hit;
+use lit_plan::Compiled;
+use text_search::EndFinder;
+use text_ends::Hit;
 use crate::scanner::Scanner;
 use crate::scanning::scan_all;
-use crate::strategy::Engine;
+use text_search::Engine;
 use crate::tests::owning::{How, agrees};
 use lit_base::Fold;
 use std::alloc::Global;

@@ -1,4 +1,4 @@
-use Rattle.text_windows.specs.Looks.{AreLooksBehind}
+use Rattle.shift_search.specs.Looks.{AreLooksBehind}
 use Rattle.filter_tests.proofs.windows.found_by.Given as goal
 
 -- the probes belong to a search after the end found last

@@ -2,8 +2,9 @@
 use Rattle.std.proofs.Common.{◌≡◌, ◌+◌, ◌-◌, ◌++◌, length, take, arith}
 use Rattle.std.proofs.lemmas.Bool.{false≢true}
 use Rattle.std.proofs.lemmas.List.{length-append, length-take}
-use Rattle.flow_scan.specs.Tails.{StopsAt, carry_of}
-use Rattle.flow_scan.proofs.HitLists.{gained_both, gained_more}
+use Rattle.text_ends.specs.HitsBehind.{StopsAt}
+use Rattle.lit_plan.specs.Bounds.{carry_of}
+use Rattle.text_ends.proofs.HitLists.{gained_both, gained_more}
 use Rattle.flow_scan.proofs.TailSteps.{quiet_front, quiet_rest}
 use Rattle.flow_scan.proofs.Stops.{stopped_in_front, stopped_in_place}
 use Rattle.flow_scan.proofs.progress.add_piece.Goals as goal

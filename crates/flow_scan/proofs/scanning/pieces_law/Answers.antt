@@ -1,4 +1,5 @@
-use Rattle.flow_scan.proofs.TailSteps.{hits_from_start, steps_are_hits}
+use Rattle.lit_plan.proofs.WholeTexts.{hits_from_start}
+use Rattle.flow_scan.proofs.TailSteps.{steps_are_hits}
 use Rattle.flow_scan.specs.Tails.{bytes_of}
 use Rattle.std.specs.List.{concat}
 use Rattle.flow_scan.proofs.scanning.pieces_law.Goals as goal

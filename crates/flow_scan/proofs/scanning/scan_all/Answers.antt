@@ -1,5 +1,5 @@
 -- All hits of a text end after its start.
-use Rattle.flow_scan.proofs.TailSteps.{hits_from_start}
+use Rattle.lit_plan.proofs.WholeTexts.{hits_from_start}
 use Rattle.flow_scan.proofs.scanning.scan_all.Goals as goal
 
 pub returns-clause-ok : goal.returns-clause-ok

@@ -1,16 +1,17 @@
 -- All hits after the position were added to an empty list.
 use Rattle.std.proofs.Common.{◌≡◌, ◌<◌, length, ap, arith}
 use Rattle.std.proofs.lemmas.Bool.{false≢true}
-use Rattle.flow_scan.specs.Walks.{Walk}
-use Rattle.flow_scan.specs.Tails.{AreHitsBehind}
-use Rattle.flow_scan.proofs.Stops.{all_searched}
-use Rattle.flow_scan.proofs.TailSteps.{gained_all, hits_continued}
+use Rattle.text_ends.specs.Walks.{Walk}
+use Rattle.text_ends.specs.HitsBehind.{AreHitsBehind}
+use Rattle.text_ends.proofs.Stops.{all_searched}
+use Rattle.text_ends.proofs.Stops.{gained_all}
+use Rattle.lit_plan.proofs.WholeTexts.{hits_continued}
 use Rattle.flow_scan.proofs.scanning.scan_behind.Goals as goal
 use Rattle.flow_scan.proofs.scanning.scan_behind.Goals.{In_ok-add_hits_of}
 
 -- the walk is over the plan's literals
-same : (c : In_ok-add_hits_of) → c.behind-ends.result.literals ≡ c.args.compiled.now.literals
-same c = ap (λ (w : Walk). w.literals) c.behind-ends.ensures
+same : (c : In_ok-add_hits_of) → c.ends_behind-ends.result.literals ≡ c.args.compiled.now.literals
+same c = ap (λ (w : Walk). w.literals) c.ends_behind-ends.ensures
 
 found : (c : In_ok-add_hits_of) → AreHitsBehind c.args.compiled.now.literals c.args.text.now c.args.from c.args.from c.add_hits_of.new.out.items
 found c =
@@ -31,4 +32,4 @@ returns-clause-continues c =
 
 pub returns-in_err-add_hits_of-clause-quiet : goal.returns-in_err-add_hits_of-clause-quiet
 returns-in_err-add_hits_of-clause-quiet c = λ none.
-    absurd (false≢true ((rw (ap (λ (w : Walk). w.literals) c.behind-ends.ensures) at c.in_err-add_hits_of.ensures.quiet) none))
+    absurd (false≢true ((rw (ap (λ (w : Walk). w.literals) c.ends_behind-ends.ensures) at c.in_err-add_hits_of.ensures.quiet) none))

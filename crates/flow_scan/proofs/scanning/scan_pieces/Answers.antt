@@ -6,12 +6,15 @@ use Rattle.std.proofs.lemmas.List.{length-append, map_more, take-append-drop, ma
 use Rattle.std.proofs.lemmas.Bool.{cases_lt}
 use Rattle.std.proofs.lemmas.List.Folds.{concat-append}
 use Rattle.std.proofs.lemmas.Result.{err_from_is_err_and}
-use Rattle.flow_scan.specs.declared.fault.Fault.TheVariants.{StreamTooLong}
-use Rattle.flow_scan.specs.Plans.{Plan}
+use Rattle.lit_plan.specs.declared.fault.Fault.TheVariants.{StreamTooLong}
+use Rattle.lit_plan.specs.Plans.{Plan}
 use Rattle.flow_scan.specs.Scanners.{Scanning, fed}
-use Rattle.flow_scan.specs.Tails.{AreHitsBehind, GainsHits, HasBounds, bytes_of, carry_of, last_bytes}
-use Rattle.flow_scan.proofs.HitLists.{hits_none, none_past}
-use Rattle.flow_scan.proofs.TailSteps.{concat_push, hits_fed, hits_from_start, last_of_last, last_of_short}
+use Rattle.text_ends.specs.HitsBehind.{AreHitsBehind}
+use Rattle.flow_scan.specs.Tails.{GainsHits, bytes_of, last_bytes}
+use Rattle.lit_plan.specs.Bounds.{HasBounds, carry_of}
+use Rattle.text_ends.proofs.HitLists.{hits_none, none_past}
+use Rattle.flow_scan.proofs.TailSteps.{concat_push, hits_fed, last_of_last, last_of_short}
+use Rattle.lit_plan.proofs.WholeTexts.{hits_from_start}
 use Rattle.flow_scan.proofs.scanning.scan_pieces.Goals as goal
 
 -- the pieces so far and one more, joined

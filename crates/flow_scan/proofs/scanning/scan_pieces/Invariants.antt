@@ -1,6 +1,8 @@
 use Rattle.std.proofs.Common.{◌≡◌, ◌<◌, ◌^◌, length, take}
 use Rattle.std.specs.List.{concat}
-use Rattle.flow_scan.specs.Tails.{AreHitsBehind, bytes_of, carry_of, last_bytes}
+use Rattle.text_ends.specs.HitsBehind.{AreHitsBehind}
+use Rattle.flow_scan.specs.Tails.{bytes_of, last_bytes}
+use Rattle.lit_plan.specs.Bounds.{carry_of}
 use Rattle.flow_scan.proofs.scanning.scan_pieces.Given as goal
 
 -- the hits are those of the pieces fed, the scanner has their last bytes, and there are not too many

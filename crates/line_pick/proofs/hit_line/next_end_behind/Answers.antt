@@ -1,7 +1,7 @@
 -- The finder's list is the plan's, and the search is one of the text by the plan.
 use Rattle.std.proofs.Common.{◌≡◌, ◌∙◌, Option, IfSome, ap, subst, sym}
 use Rattle.lit_base.specs.Literals.{Literals}
-use Rattle.flow_scan.specs.Searched.{Searched}
+use Rattle.text_search.specs.Searched.{Searched}
 use Rattle.line_pick.proofs.hit_line.next_end_behind.Goals as goal
 
 pub next_end_of-requires : goal.next_end_of-requires

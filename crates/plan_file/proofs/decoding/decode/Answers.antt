@@ -1,6 +1,6 @@
 use Rattle.std.proofs.Common.{ℕ, Result, Err}
 use Rattle.std.specs.Global.{Vec}
-use Rattle.flow_scan.specs.declared.compiled.Compiled.{Compiled}
+use Rattle.lit_plan.specs.declared.compiled.Compiled.{Compiled}
 use Rattle.plan_file.specs.declared.fault.Cause.{Cause}
 use Rattle.plan_file.specs.declared.fault.Fault.{Fault}
 use Rattle.plan_file.specs.declared.fault.Fault.TheVariants.{BadPlanFile}

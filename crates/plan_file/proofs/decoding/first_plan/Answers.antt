@@ -2,7 +2,7 @@ use Rattle.std.proofs.Common.{◌≡◌, ◌++◌, refl, sym, ap, ◌∙◌, sub
 use Rattle.lit_base.specs.Literals.{Literals}
 use Rattle.lit_cert.specs.Certificates.{CertificateParts}
 use Rattle.lit_cert.specs.Certified.{IsCertified}
-use Rattle.flow_scan.specs.Plans.{Plan}
+use Rattle.lit_plan.specs.Plans.{Plan}
 use Rattle.plan_file.specs.Spelling.{IsPlan, plan_text}
 use Rattle.plan_file.proofs.FieldLemmas.{slice_bytes}
 use Rattle.plan_file.proofs.PlanLemmas.{plan_read}

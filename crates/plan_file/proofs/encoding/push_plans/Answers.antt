@@ -1,7 +1,7 @@
 -- One more entry is appended, and its plan can stand in a file.
 use Rattle.std.proofs.Common.{◌≡◌, ◌<◌, length, get_or, rules, subst}
 use Rattle.std.proofs.lemmas.List.Elements.{All-more}
-use Rattle.flow_scan.specs.Plans.{Plan}
+use Rattle.lit_plan.specs.Plans.{Plan}
 use Rattle.plan_file.specs.declared.version.Version.TheVariants.{Two}
 use Rattle.plan_file.specs.Spelling.{IsPlan}
 use Rattle.plan_file.proofs.StreamLemmas.{entries_more}

@@ -1,7 +1,7 @@
 use Rattle.std.proofs.Common.{◌≡◌, ◌≢◌, ◌<◌, ℕ, List, ap, length, arith, Result, Err}
 use Rattle.std.specs.Global.{Vec}
 use Rattle.byte_io.specs.declared.transfer.ReadError.{ReadError}
-use Rattle.flow_scan.specs.declared.compiled.Compiled.{Compiled}
+use Rattle.lit_plan.specs.declared.compiled.Compiled.{Compiled}
 use Rattle.plan_file.specs.declared.fault.Cause.{Cause}
 use Rattle.plan_file.specs.declared.fault.Fault.{Fault}
 use Rattle.plan_file.specs.declared.fault.Fault.TheVariants.{BadPlanFile, OutOfMemory}

@@ -1,5 +1,5 @@
 -- A plan of the file is judged, or there is none.
-use Rattle.flow_scan.specs.Plans.{Plan}
+use Rattle.lit_plan.specs.Plans.{Plan}
 use Rattle.plan_run.specs.Answers.{Answer, IsVerdict, refuses}
 use Rattle.plan_run.proofs.AnswerLemmas.{plan-at-had, plan-at-stopped}
 use Rattle.plan_run.proofs.judging.answer_check_plan.Goals as goal

@@ -1,5 +1,5 @@
 -- The plan of this number is judged, or there is none.
-use Rattle.flow_scan.specs.Plans.{Plan}
+use Rattle.lit_plan.specs.Plans.{Plan}
 use Rattle.plan_run.specs.Answers.{Answer, IsVerdict}
 use Rattle.plan_run.proofs.PlanAtLemmas.{plan-at-none, plan-at-one}
 use Rattle.plan_run.proofs.judging.check_plan.Goals as goal

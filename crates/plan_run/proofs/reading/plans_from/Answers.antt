@@ -1,7 +1,7 @@
 -- The bytes that were read are the bytes of the file.
 use Rattle.std.proofs.Common.{Result, Err, ap}
 use Rattle.std.specs.Global.{Vec}
-use Rattle.flow_scan.specs.Plans.{Plan}
+use Rattle.lit_plan.specs.Plans.{Plan}
 use Rattle.plan_file.specs.declared.fault.Fault.{Fault}
 use Rattle.plan_run.proofs.MigrateLemmas.{plans-read, plans-unread, plans-wrong}
 use Rattle.plan_run.proofs.reading.plans_from.Goals as goal

@@ -3,7 +3,7 @@ use Rattle.std.proofs.Common.{◌≡◌, List, ℕ, Result, Err, subst}
 use Rattle.std.specs.Prelude.{string_bytes}
 use Rattle.byte_io.specs.Devices.{Told}
 use Rattle.byte_io.specs.Sources.{AreShort, after, ask_of, taken_by}
-use Rattle.flow_scan.specs.Plans.{Plan}
+use Rattle.lit_plan.specs.Plans.{Plan}
 use Rattle.lit_base.specs.declared.profile.Profile.TheVariants.{Eight}
 use Rattle.plan_run.specs.Running.{TakesPlan}
 use Rattle.plan_run.specs.declared.stop.Stop.{Stop}

@@ -2,7 +2,7 @@
 use Rattle.std.proofs.Common.{◌++◌, length, subst, IsOkUnless}
 use Rattle.lit_base.specs.NextEnds.{NoEndAfter}
 use Rattle.flow_scan.specs.Scanners.{Scanning}
-use Rattle.flow_scan.specs.declared.fault.Fault.TheVariants.{StreamTooLong}
+use Rattle.lit_plan.specs.declared.fault.Fault.TheVariants.{StreamTooLong}
 use Rattle.flow_scan.proofs.scanner.Scanner.feed_until.Goals as goal
 
 pub returns-clause-quiet : goal.returns-clause-quiet

@@ -1,9 +1,9 @@
 -- Nothing ends in the piece after the scan's tail, which is its progress's tail; the plan is the shared plan.
 use Rattle.std.proofs.Common.{◌++◌, length, ap, subst, IsOkUnless}
 use Rattle.lit_base.specs.NextEnds.{NoEndAfter}
-use Rattle.flow_scan.specs.Plans.{Plan}
+use Rattle.lit_plan.specs.Plans.{Plan}
 use Rattle.flow_scan.specs.Scanners.{Scanning}
-use Rattle.flow_scan.specs.declared.fault.Fault.TheVariants.{StreamTooLong}
+use Rattle.lit_plan.specs.declared.fault.Fault.TheVariants.{StreamTooLong}
 use Rattle.flow_scan.proofs.stream.Stream.feed_until.Goals as goal
 
 pub returns-clause-quiet : goal.returns-clause-quiet

@@ -2,7 +2,7 @@
 use Rattle.std.proofs.Common.{refl, sym, ◌∙◌, subst}
 use Rattle.std.proofs.lemmas.Bool.{false≢true}
 use Rattle.lit_base.specs.NextEnds.{NoEndAfter}
-use Rattle.flow_scan.specs.Plans.{Plan}
+use Rattle.lit_plan.specs.Plans.{Plan}
 use Rattle.flow_scan.proofs.tuned_plan.TunedPlan.scan_until.Goals as goal
 use Rattle.flow_scan.proofs.tuned_plan.TunedPlan.scan_until.Goals.{in-Some+in_ok-add_spans-in-Some, in-None}
 

@@ -3,7 +3,7 @@ use Rattle.std.proofs.Common.{rules, ◌≡◌, ℕ, Bool, List, ◌++◌, Optio
 use Rattle.std.specs.Prelude.{is_some}
 use Rattle.std.specs.Option.{option_copied}
 use Rattle.lit_base.specs.Lines.{ended_lines}
-use Rattle.flow_scan.specs.Plans.{Plan}
+use Rattle.lit_plan.specs.Plans.{Plan}
 use Rattle.line_pick.specs.declared.halt.Halt.{Halt}
 use Rattle.line_pick.specs.declared.line_rule.LineRule.{LineRule}
 use Rattle.line_pick.specs.declared.sink.Next.TheVariants.{More}

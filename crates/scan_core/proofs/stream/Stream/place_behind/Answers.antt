@@ -1,7 +1,7 @@
 use Rattle.std.proofs.Math.Nat.{min-le_right}
 use Rattle.std.proofs.Common.{◌≡◌, ℕ, ◌-◌, sym, ap, ◌∙◌, subst, arith}
-use Rattle.flow_scan.specs.Plans.{Plan}
-use Rattle.flow_scan.specs.Tails.{HasBounds, carry_of}
+use Rattle.lit_plan.specs.Plans.{Plan}
+use Rattle.lit_plan.specs.Bounds.{HasBounds, carry_of}
 use Rattle.scan_core.specs.Fronts.{IsKept}
 use Rattle.scan_core.specs.Sessions.{Bound}
 use Rattle.scan_core.proofs.CarriedLemmas.{bounds_of_normal}

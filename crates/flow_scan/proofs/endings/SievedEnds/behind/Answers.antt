@@ -1,5 +1,0 @@
--- The candidates come from the plan's prefilter.
-use Rattle.flow_scan.proofs.endings.SievedEnds.behind.Goals as goal
-
-pub invariant_of-result : goal.invariant_of-result
-invariant_of-result c = (rw c.new-candidates.ensures.sieve c.sieve.ensures, c.new-candidates.ensures.text)

@@ -1,0 +1,17 @@
+-- The prefilter is that of the index's list.
+use Rattle.std.proofs.Common.{◌∙◌, subst}
+use Rattle.lit_base.specs.Literals.{Literals}
+use Rattle.lit_cert.specs.Certificates.{CertificateParts}
+use Rattle.nib_mask.specs.Candidates.{CoversBy}
+use Rattle.lane_filter.specs.Sieves.{IsSieveOf, Passes}
+use Rattle.lit_plan.proofs.compiled.Compiled.certified.Goals as goal
+
+pub invariant_of-result : goal.invariant_of-result
+invariant_of-result c =
+    let same = c.list.ensures ∙ c.deref.ensures in
+    record {
+      certified = c.requires;
+      sieved = subst (λ (p : CertificateParts). IsSieveOf c.args.index.value p.ends c.of-sieve.result) c.certificate.view_is
+          (subst (λ (l : Literals). IsSieveOf l c.certificate.inside.ends.items c.of-sieve.result) same c.of-sieve.ensures.sieve);
+      covers = subst (λ (l : Literals). CoversBy l (Passes c.of-sieve.result)) same c.of-sieve.ensures.covers;
+    }

@@ -1,0 +1,16 @@
+//! The search by shift-or over buckets of literals: the bytes before an end rule it out.
+#![tactic(auto)]
+
+mod blocks;
+mod confirming;
+mod entries;
+mod joining;
+mod looking;
+mod looks;
+mod runs;
+mod shift_or;
+mod shifted;
+
+pub use runs::cut_runs;
+pub use shift_or::{SHIFT_OR_COST, ShiftOr};
+pub use shifted::ShiftedEnds;

@@ -1,0 +1,641 @@
+//! Shift-or over buckets of literals, as in Hyperscan's FDR: the bytes before an end rule it out. Costs are in tenths
+//! of a nanosecond.
+ghost use Rattle.std.specs.Prelude.{◌≡◌, ℕ, ◌+◌, ◌-◌, ◌*◌, ◌<◌, ◌≤◌, ◌⊎◌, IfOk, IfSome, MatchOption, length, max, slice_index, false};
+ghost use Rattle.shift_search.specs.Blocks.{AreNoted};
+ghost use Rattle.lit_base.specs.NextEnds.{Finds, IsFirstFound, NoEndUpTo};
+ghost use Rattle.shift_search.specs.ShiftOr.{AreEntriesOf, NoneOf, RulesOut, RulesOutWords};
+ghost use Rattle.shift_search.specs.Looks.{AreLooks, AreLooksBehind, IsVerified};
+ghost use Rattle.shift_search.specs.declared.blocks.TheConstants.{GROUP, GROUPS};
+ghost use Rattle.shift_search.specs.declared.shift_or.TheConstants.{FRONT};
+
+use crate::blocks::{GROUP, GROUPS, look_at_block, note_words};
+use crate::confirming::{CONFIRM_BITS, Confirms};
+use crate::entries::{ENTRIES, PLACES, fill_all};
+use crate::joining::{lacking, last_alone, last_of};
+use crate::looking::{Stride, four_looks, looks_by};
+use crate::looks::{Looks, Verified, bits_behind};
+use crate::runs::cut_runs;
+use lane_filter::split_lowest;
+use list_index::{ListIndex, hash_of, is_marked, last_bits, last_word};
+use std::alloc::{AllocError, Global};
+use std::marker::Model;
+use std::simd::prelude::*;
+use std::sync::Arc;
+use text_ends::EndRate;
+
+/// Probes at each of 1,024 positions, in tenths of a nanosecond, if all ends are ruled out.
+const EACH_COST: usize = 4300;
+
+/// Probes at every second of 1,024 positions, in tenths of a nanosecond, if all ends are ruled out. No estimate of
+/// shift-or is below it. Probes take about 0.28 ns a byte, but factors too cost more than their estimate. Measured with
+/// twenty lists of 30 rare literals: six take 0.69 to 0.91 of the time that a value of 2,900 gives, and the others as
+/// long.
+pub const SHIFT_OR_COST: usize = 2100;
+
+/// A false positive, for each bucket.
+const LEFT_COST: usize = 190;
+
+/// A false positive in a text with so few ends that most of it is searched by blocks. Measured: with 90 and with 120
+/// all but one of 24 lists use the same stride, and they take 0.74 to 1.02 of the time that 190 gives.
+const LEFT_IN_BLOCK_COST: usize = 100;
+
+/// The extra cost of an end in a scan, compared with factors. Chosen by forcing either engine for 26 lists of 30 to
+/// 1,000 frequent literals. The engine with the lower estimate was faster for 23 of them, and took at most 1.19 times
+/// as long for the others.
+const HIT_COST: usize = 300;
+
+/// A new start after an end.
+const START_COST: usize = 190;
+
+/// One position of this many is counted in a sample.
+const SPARSE: usize = 31;
+
+/// Bytes at the start of a text that are searched without probes. After them, eight positions can be probed before the
+/// first end, with eight bytes before each.
+const FRONT: usize = 15;
+
+/// Bytes. At a group with an end that was not ruled out, a search tries blocks if it has gone this far and the last
+/// such group is nearer than this. A nearer end is found without blocks, since a block with an end is probed twice.
+/// Measured: with fewer such groups, blocks took 1.03 to 1.06 times as long.
+const NEAR: usize = 1024;
+
+/// A position up to which nothing ends, what the last probes rule out after it, and from where on blocks may be tried.
+#[derive(Clone, Copy)]
+struct Quiet {
+    at: usize,
+    carried: u64,
+    far: usize,
+}
+
+/// Shift-or over the buckets of a list.
+///
+/// There is an entry for each pair of bytes, in either case if case is ignored. It says which ends the pair rules out:
+/// bit `8 * ahead + bucket` is set if no literal of the bucket ends `ahead` positions after the pair. The entries of
+/// all positions, or of every second one, are shifted by their distance to an end and combined. Few ends are then not
+/// ruled out.
+///
+/// It takes all its memory when it is made, but writes the entries only when it is first tuned. So a search that is
+/// never tuned need not write half a megabyte.
+#[derive(Debug, Drop)]
+pub struct ShiftOr {
+    index: Arc<ListIndex>,
+    /// The bucket of each literal.
+    buckets: Vec<u8>,
+    /// The second check of the buckets of an end.
+    confirms: Confirms,
+    /// Empty, with room for all, until it is first tuned.
+    entries: Vec<u64>,
+    stride: Stride,
+}
+
+impl Model for ShiftOr {
+    ghost use Rattle.std.specs.Prelude.{◌≡◌, ◌<◌, ◌≤◌, length, vec_capacity, vec_len};
+    ghost use Rattle.shift_search.specs.ShiftOr.{AreConfirmsOf, AreEntriesOf, Bucketing};
+    ghost use Rattle.shift_search.specs.declared.entries.TheConstants.{ENTRIES};
+
+    ghost Value = { Bucketing };
+
+    ghost view = { λ s. record { literals = s.index.value; buckets = s.buckets.items } };
+
+    ghost invariant = { λ s. (ENTRIES ≤ vec_capacity s.entries)
+        × (0 < vec_len s.entries → AreEntriesOf s.index.value s.buckets.items s.entries.items)
+        × (vec_len s.buckets ≡ length s.index.value.texts)
+        × AreConfirmsOf s.index.value s.buckets.items s.confirms };
+}
+
+impl ShiftOr {
+    /// Shift-or for a list. It rules out nothing before it is tuned.
+    pub fn new(alloc: Global, index: Arc<ListIndex>) -> Result<ShiftOr, AllocError>
+        ensures { IfOk result (λ made. made.literals ≡ index.value) }
+    {
+        let list = index.list();
+        let mut buckets = Vec::from_elem(alloc, 0, list.len())?;
+        cut_runs(list, &mut buckets);
+        let confirms = Confirms::new(alloc, list, &buckets)?;
+        let entries = Vec::with_capacity(alloc, ENTRIES)?;
+        Ok(ShiftOr {
+            index,
+            buckets,
+            confirms,
+            entries,
+            stride: Stride::One,
+        })
+    }
+
+    /// The list.
+    #[inline(always)]
+    pub(crate) fn list(&self) -> &ListIndex
+        ensures { result.now ≡ self.now.literals }
+    {
+        &self.index
+    }
+
+    /// Makes the entries, if they are missing, and chooses the stride. Returns the estimate of a search for 1,024 bytes
+    /// of a text like the sample, in tenths of a nanosecond, with ends at this rate. The work that factors also do at
+    /// each end is not included.
+    pub fn learn(&mut self, sample: &[u8], rate: EndRate) -> usize
+        ensures { self.new ≡ self.old }
+    {
+        self.fill();
+        let Some(entries) = self.made_entries() else {
+            // Unreachable: the entries are made.
+            return usize::MAX;
+        };
+        let by_one = self.cost(entries, sample, Stride::One, rate);
+        let by_two = self.cost(entries, sample, Stride::Two, rate);
+        self.stride = if by_two < by_one {
+            Stride::Two
+        } else {
+            Stride::One
+        };
+        by_one.min(by_two)
+    }
+
+    /// Makes the entries, if they are missing.
+    fn fill(&mut self)
+        ensures { self.new ≡ self.old }
+    {
+        if self.entries.is_empty() {
+            fill_all(self.index.list(), &self.buckets, &mut self.entries);
+        }
+    }
+
+    /// The entries, if they are made.
+    #[inline(always)]
+    fn made_entries(&self) -> Option<&[u64]>
+        ensures { IfSome result (λ entries. AreEntriesOf self.now.literals self.now.buckets entries.now) }
+    {
+        if self.entries.is_empty() {
+            return None;
+        }
+        Some(self.entries.as_slice())
+    }
+
+    /// The cost of a search of `count` bytes with `left` false positives and the ends `found`, in tenths of a
+    /// nanosecond. The work that factors also do at each end is not included.
+    pub fn cost_of(&self, count: usize, left: usize, found: EndRate) -> usize {
+        cost_of(count, left, found, self.stride)
+    }
+
+    /// The estimate of a search at this stride for 1,024 bytes of a text like the sample, with ends at this rate.
+    fn cost(&self, entries: &[u64], sample: &[u8], stride: Stride, rate: EndRate) -> usize
+        requires entries { AreEntriesOf self.now.literals self.now.buckets entries.now }
+    {
+        let (left, all) = self.count_left(entries, sample, stride);
+        let ends = left.saturating_mul(1024) / all.max(1);
+        cost_of(1024, ends.saturating_sub(rate.ends), rate, stride)
+    }
+
+    /// How many of some ends in a sample are not ruled out at this stride, counted for each bucket, and how many ends
+    /// these are. They are the last of eight ends, which all probes that cover them have judged.
+    fn count_left(&self, entries: &[u64], sample: &[u8], stride: Stride) -> (usize, usize)
+        requires entries { AreEntriesOf self.now.literals self.now.buckets entries.now }
+    {
+        let told = match stride {
+            Stride::One => 1,
+            Stride::Two => 2,
+        };
+        let (mut left, mut all) = (0usize, 0usize);
+        for stretch in sample.chunks(SPARSE) {
+            if stretch.len() == SPARSE {
+                let at = SPARSE - (PLACES - 1);
+                let looks = looks_by(entries, stretch, at, stride);
+                let unruled = !looks.here >> (64 - 8 * told);
+                left = left.saturating_add(unruled.count_ones() as usize);
+                all = all.saturating_add(told);
+            }
+        }
+        (left, all)
+    }
+
+    /// The state of a search after a position.
+    #[inline]
+    pub fn looks_behind(&self, text: &[u8], from: usize) -> Looks
+        ensures { AreLooksBehind self.now text.now from result }
+    {
+        let start = from.max(FRONT);
+        let carried = if start > text.len() {
+            0
+        } else {
+            self.carried_to(text, start + 1)
+        };
+        Looks {
+            at: start - (PLACES - 1),
+            unruled: 0,
+            carried,
+        }
+    }
+
+    /// What the probes at the eight positions before `at` rule out from `at` on. Nothing without entries.
+    fn carried_to(&self, text: &[u8], at: usize) -> u64
+        requires behind { 12 ≤ at }
+        requires inside { at ≤ length text.now + 1 }
+        ensures { RulesOut self.now text.now at result }
+    {
+        let Some(entries) = self.made_entries() else {
+            return 0;
+        };
+        looks_by(entries, text, at - PLACES, self.stride).behind
+    }
+
+    /// The first position of the text after `from` at which some literal ends, wherever it begins, with the first such
+    /// literal. `looks` is the state of a search after `from`, and then its state after this end. Adds the false
+    /// positives, counted for each bucket, to `left`. It takes no memory.
+    #[inline(never)]
+    pub fn next_by(
+        &self,
+        text: &[u8],
+        from: usize,
+        looks: &mut Looks,
+        left: &mut usize,
+    ) -> Option<(usize, usize)>
+        requires { AreLooksBehind self.now text.now from looks.old }
+        ensures next { Finds self.now.literals text.now from (length text.now) result }
+        ensures looks { IfSome result (λ found. AreLooksBehind self.now text.now found.0 looks.new) }
+    {
+        let Some(entries) = self.made_entries() else {
+            return self.next_plainly(text, from, looks);
+        };
+        match self.stride {
+            Stride::One => self.next_by_step::<1>(entries, text, from, looks, left),
+            Stride::Two => self.next_by_step::<2>(entries, text, from, looks, left),
+        }
+    }
+
+    /// As `next_by`, without entries, which rules out nothing.
+    #[inline(never)]
+    fn next_plainly(&self, text: &[u8], from: usize, looks: &mut Looks) -> Option<(usize, usize)>
+        ensures next { Finds self.now.literals text.now from (length text.now) result }
+        ensures looks { IfSome result (λ found. AreLooksBehind self.now text.now found.0 looks.new) }
+    {
+        let found = self.first_between(text, from, text.len());
+        if let Some((end, _)) = found {
+            *looks = self.looks_behind(text, end);
+        }
+        found
+    }
+
+    /// As `next_by`, at stride `STEP`, by 32 positions a turn.
+    #[inline(always)]
+    fn next_by_step<const STEP: usize>(
+        &self,
+        entries: &[u64],
+        text: &[u8],
+        from: usize,
+        looks: &mut Looks,
+        left: &mut usize,
+    ) -> Option<(usize, usize)>
+        requires entries { AreEntriesOf self.now.literals self.now.buckets entries.now }
+        requires looks { AreLooksBehind self.now text.now from looks.old }
+        ensures next { Finds self.now.literals text.now from (length text.now) result }
+        ensures looks { IfSome result (λ found. AreLooksBehind self.now text.now found.0 looks.new) }
+    {
+        if let Some(found) = self.end_in_front(text, from) {
+            return Some(found);
+        }
+        if let Some(found) = self.end_left(text, *looks, left) {
+            *looks = found.looks;
+            return Some((found.end, found.first));
+        }
+        // Single variables hold the state, and functions return new ones. Otherwise it is stored at each turn.
+        let mut at = looks.at;
+        let mut before = last_alone(looks.carried);
+        let (mut far, mut opened) = (at.saturating_add(NEAR), at);
+        // A turn needs 32 more positions after a block of eight.
+        let last_four = text.len().saturating_sub(5 * PLACES - 1);
+        'fours: while at <= last_four {
+            let ahead = at + PLACES;
+            let now = four_looks::<STEP>(entries, text, ahead);
+            let ruled = now.with_those_before(before);
+            before = now.behind;
+            at += 4 * PLACES;
+            if lacking(ruled) != 0 {
+                let carried = last_of(before);
+                if let Some(found) = self.verify_four(text, ahead, ruled, carried, left) {
+                    *looks = found.looks;
+                    return Some((found.end, found.first));
+                }
+                let here = Quiet { at, carried, far };
+                let quiet = self.skip_if_open::<STEP>(opened, entries, text, here, left);
+                at = quiet.at;
+                before = last_alone(quiet.carried);
+                far = quiet.far;
+                opened = at;
+            }
+        }
+        let rest = Looks {
+            at,
+            unruled: 0,
+            carried: last_of(before),
+        };
+        self.next_by_eights(entries, text, from, rest, looks, left)
+    }
+
+    /// Continues as `skip_blocks` does, if blocks may be tried here and the last group with an end that was not ruled
+    /// out is near.
+    #[inline(always)]
+    fn skip_if_open<const STEP: usize>(
+        &self,
+        opened: usize,
+        entries: &[u64],
+        text: &[u8],
+        here: Quiet,
+        left: &mut usize,
+    ) -> Quiet
+        requires entries { AreEntriesOf self.now.literals self.now.buckets entries.now }
+        requires carried { RulesOut self.now text.now (here.at + 8) here.carried }
+        ensures after { here.at ≤ result.at }
+        ensures within { here.at ≡ result.at ⊎ (result.at + 7 ≤ length text.now) }
+        ensures none { NoEndUpTo self.now.literals text.now (here.at + 7) (result.at + 7) }
+        ensures carried { RulesOut self.now text.now (result.at + 8) result.carried }
+    {
+        if here.at < here.far || here.at.saturating_sub(opened) >= NEAR {
+            return here;
+        }
+        self.skip_blocks::<STEP>(entries, text, here.at, here.carried, left)
+    }
+
+    /// Continues block by block while nothing ends in a block and some groups are noted. Nothing ends up to the start.
+    #[inline(never)]
+    fn skip_blocks<const STEP: usize>(
+        &self,
+        entries: &[u64],
+        text: &[u8],
+        from: usize,
+        carried: u64,
+        left: &mut usize,
+    ) -> Quiet
+        requires entries { AreEntriesOf self.now.literals self.now.buckets entries.now }
+        requires carried { RulesOut self.now text.now (from + 8) carried }
+        ensures after { from ≤ result.at }
+        ensures within { from ≡ result.at ⊎ (result.at + 7 ≤ length text.now) }
+        ensures none { NoEndUpTo self.now.literals text.now (from + 7) (result.at + 7) }
+        ensures carried { RulesOut self.now text.now (result.at + 8) result.carried }
+    {
+        let mut words = [0u64; 4 * GROUPS];
+        let mut groups = [0usize; GROUPS];
+        let mut numbers = [0usize; 4 * GROUPS];
+        let mut at = from;
+        let mut before = last_alone(carried);
+        let last = text.len().saturating_sub(GROUP * GROUPS + (PLACES - 1));
+        let mut is_open = true;
+        'quiet: while is_open && at < last {
+            let ahead = at + PLACES;
+            let noted = look_at_block::<STEP>(
+                entries,
+                text,
+                ahead,
+                before,
+                &mut words,
+                &mut groups,
+            );
+            let count = note_words(&words, &groups, noted.count, &mut numbers);
+            let mut vain = 0;
+            if self.has_end(text, ahead, &words, &numbers, count, &mut vain) {
+                break;
+            }
+            *left = left.saturating_add(vain);
+            before = noted.behind;
+            at += GROUP * GROUPS;
+            is_open = count != 0;
+        }
+        Quiet {
+            at,
+            carried: last_of(before),
+            // If an end stopped the blocks, the search finds it before it tries blocks again.
+            far: at.saturating_add(NEAR),
+        }
+    }
+
+    /// Whether a literal ends in a block, by the words that are noted. Adds the false positives, counted for each
+    /// bucket, to `vain`.
+    #[inline(always)]
+    fn has_end(
+        &self,
+        text: &[u8],
+        at: usize,
+        words: &[u64],
+        numbers: &[usize],
+        count: usize,
+        vain: &mut usize,
+    ) -> bool
+        requires eight { 8 ≤ at }
+        requires inside { at + (GROUP * GROUPS - 1) ≤ length text.now }
+        requires words { length words.now ≡ 4 * GROUPS }
+        requires few { count ≤ length numbers.now }
+        requires noted { AreNoted self.now text.now at GROUPS words.now numbers.now count }
+        ensures { result ≡ false → NoEndUpTo self.now.literals text.now (at - 1) (at + (GROUP * GROUPS - 1)) }
+    {
+        for slot in 0..count {
+            let word = numbers[slot];
+            let looks = Looks {
+                at: at + PLACES * word,
+                unruled: !words[word],
+                carried: 0,
+            };
+            if let Some(_found) = self.first_verified(text, looks, vain) {
+                return true;
+            }
+        }
+        false
+    }
+
+    /// As `next_by`, after probes that left no end, by eight positions a turn: the last positions of a text.
+    #[inline(never)]
+    fn next_by_eights(
+        &self,
+        entries: &[u64],
+        text: &[u8],
+        from: usize,
+        rest: Looks,
+        looks: &mut Looks,
+        left: &mut usize,
+    ) -> Option<(usize, usize)>
+        requires entries { AreEntriesOf self.now.literals self.now.buckets entries.now }
+        requires some { 8 ≤ rest.at }
+        requires near { max from FRONT ≤ rest.at + 7 }
+        requires within { rest.at + 7 ≤ max (max from FRONT) (length text.now) }
+        requires none { NoEndUpTo self.now.literals text.now from (rest.at + 7) }
+        requires carried { RulesOut self.now text.now (rest.at + 8) rest.carried }
+        ensures next { Finds self.now.literals text.now from (length text.now) result }
+        ensures looks { IfSome result (λ found. AreLooksBehind self.now text.now found.0 looks.new) }
+    {
+        let mut at = rest.at;
+        let mut carried = rest.carried;
+        let last = text.len().saturating_sub(2 * PLACES - 1);
+        'eights: while at <= last {
+            at += PLACES;
+            let now = looks_by(entries, text, at, self.stride);
+            let unruled = !(now.here | carried);
+            carried = now.behind;
+            let left_here = Looks {
+                at,
+                unruled,
+                carried,
+            };
+            if let Some(found) = self.end_left(text, left_here, left) {
+                *looks = found.looks;
+                return Some((found.end, found.first));
+            }
+        }
+        let found = self.first_between(text, at + (PLACES - 1), text.len());
+        if let Some((end, _)) = found {
+            *looks = self.looks_behind(text, end);
+        }
+        found
+    }
+
+    /// The first end after a position among those that are searched without probes.
+    #[inline(always)]
+    fn end_in_front(&self, text: &[u8], from: usize) -> Option<(usize, usize)>
+        ensures { MatchOption result
+            (NoEndUpTo self.now.literals text.now from (max from FRONT))
+            (λ found. (found.0 ≤ FRONT) × IsFirstFound self.now.literals text.now from found.0 found.1) }
+    {
+        if from >= FRONT {
+            return None;
+        }
+        self.first_between(text, from, text.len().min(FRONT))
+    }
+
+    /// The first end that probes did not rule out and at which some literal ends, with the first such literal.
+    #[inline(always)]
+    fn end_left(&self, text: &[u8], looks: Looks, left: &mut usize) -> Option<Verified>
+        requires eight { 8 ≤ looks.at }
+        requires inside { 0 < looks.unruled → looks.at + 7 ≤ length text.now }
+        ensures { (start : ℕ) → AreLooks self.now text.now start looks → MatchOption result
+            (NoEndUpTo self.now.literals text.now start (looks.at + 7))
+            (IsVerified self.now text.now start) }
+    {
+        if looks.unruled == 0 {
+            return None;
+        }
+        self.verify(text, looks, left)
+    }
+
+    /// As `first_verified`, in a call.
+    #[inline(never)]
+    fn verify(&self, text: &[u8], looks: Looks, left: &mut usize) -> Option<Verified>
+        requires eight { 8 ≤ looks.at }
+        requires inside { looks.at + 7 ≤ length text.now }
+        ensures { (start : ℕ) → AreLooks self.now text.now start looks → MatchOption result
+            (NoEndUpTo self.now.literals text.now start (looks.at + 7))
+            (IsVerified self.now text.now start) }
+    {
+        self.first_verified(text, looks, left)
+    }
+
+    /// The first of eight ends that probes did not rule out and at which some literal ends, with the first such
+    /// literal.
+    #[inline(always)]
+    fn first_verified(&self, text: &[u8], looks: Looks, left: &mut usize) -> Option<Verified>
+        requires eight { 8 ≤ looks.at }
+        requires inside { looks.at + 7 ≤ length text.now }
+        ensures { (start : ℕ) → AreLooks self.now text.now start looks → MatchOption result
+            (NoEndUpTo self.now.literals text.now start (looks.at + 7))
+            (IsVerified self.now text.now start) }
+    {
+        let mut unruled = looks.unruled;
+        'ends: while unruled != 0 {
+            let (bit, others) = split_lowest(unruled);
+            let end = looks.at + bit / 8;
+            if self.may_end(text, end, bit % 8) {
+                if let Some(first) = self.index.next_ending(text, end, 0) {
+                    let unruled = bits_behind(others, bit / 8);
+                    return Some(Verified {
+                        end,
+                        first,
+                        looks: Looks { unruled, ..looks },
+                    });
+                }
+            }
+            *left = left.saturating_add(1);
+            unruled = others;
+        }
+        None
+    }
+
+    /// As `first_verified`, for four words in a row with eight positions each. `ruled` has the bits that are ruled out
+    /// there, and `behind` the bits after the last word.
+    #[inline(never)]
+    fn verify_four(
+        &self,
+        text: &[u8],
+        at: usize,
+        ruled: u64x4,
+        behind: u64,
+        left: &mut usize,
+    ) -> Option<Verified>
+        requires eight { 8 ≤ at }
+        requires inside { at + 31 ≤ length text.now }
+        requires ruled { RulesOutWords self.now text.now at ruled }
+        requires behind { RulesOut self.now text.now (at + 32) behind }
+        ensures { (start : ℕ) → start < at → NoEndUpTo self.now.literals text.now start (at - 1) → MatchOption result
+            (NoEndUpTo self.now.literals text.now start (at + 31))
+            (IsVerified self.now text.now start) }
+    {
+        let [first, second, third, fourth] = ruled.to_array();
+        let words = [first, second, third, fourth, behind];
+        let mut unseen = lacking(ruled);
+        'words: while unseen != 0 {
+            let (word, others) = split_lowest(unseen);
+            let looks = Looks {
+                at: at + PLACES * word,
+                unruled: !words[word],
+                carried: words[word + 1],
+            };
+            if let Some(found) = self.first_verified(text, looks, left) {
+                return Some(found);
+            }
+            unseen = others;
+        }
+        None
+    }
+
+    /// Whether a literal of a bucket may end at a position, by a hash of the key before it.
+    #[inline(always)]
+    fn may_end(&self, text: &[u8], end: usize, bucket: usize) -> bool
+        requires bucket { bucket < 8 }
+        requires eight { 8 ≤ end }
+        requires inside { end ≤ length text.now }
+        ensures { result ≡ false → NoneOf self.now text.now bucket end }
+    {
+        let width = self.confirms.widths[bucket];
+        let key = (last_word(text, end) & last_bits(width)) | self.confirms.case_bits;
+        is_marked(self.confirms.table[hash_of(CONFIRM_BITS, key)], bucket)
+    }
+
+    /// The first end after `from` and up to `last`, with the first literal that ends there, without probes.
+    fn first_between(&self, text: &[u8], from: usize, last: usize) -> Option<(usize, usize)>
+        requires { last ≤ length text.now }
+        ensures first { Finds self.now.literals text.now from last result }
+        ensures within { IfSome result (λ found. found.0 ≤ last) }
+    {
+        for seen in from..last {
+            if let Some(first) = self.index.next_ending(text, seen + 1, 0) {
+                return Some((seen + 1, first));
+            }
+        }
+        None
+    }
+}
+
+/// The cost of a search at this stride of `count` bytes, with `left` false positives and the ends `found`.
+fn cost_of(count: usize, left: usize, found: EndRate, stride: Stride) -> usize {
+    let cost = match stride {
+        Stride::One => EACH_COST,
+        Stride::Two => SHIFT_OR_COST,
+    };
+    let looks = count.saturating_mul(cost) / 1024;
+    let scanned = found.ends.saturating_sub(found.starts);
+    let is_by_blocks = found.ends.saturating_mul(NEAR + GROUP * GROUPS) < count;
+    let price = if is_by_blocks {
+        LEFT_IN_BLOCK_COST
+    } else {
+        LEFT_COST
+    };
+    looks
+        .saturating_add(left.saturating_mul(price))
+        .saturating_add(scanned.saturating_mul(HIT_COST))
+        .saturating_add(found.starts.saturating_mul(START_COST))
+}

@@ -1,0 +1,121 @@
+//! The positions of a text at which literals end, one after another, found by a prefilter alone.
+ghost use Rattle.std.specs.Prelude.{◌≡◌, ◌≤◌, IfSome, MatchOption, length};
+ghost use Rattle.lit_base.specs.Occurrences.{IsFirstEnding};
+ghost use Rattle.nib_mask.specs.Candidates.{CoversBy};
+ghost use Rattle.lane_filter.specs.Sieves.{Passes};
+ghost use Rattle.lit_base.specs.NextEnds.{IsNextEnd, NoEndAfter};
+
+use lane_filter::{Candidates, Sieve};
+use list_index::ListIndex;
+use std::alloc::AllocError;
+use std::marker::Model;
+use text_ends::{Ends, Hit, Tally, add_hits_at};
+
+/// The ends in a text, found by a prefilter alone.
+#[derive(Drop)]
+pub struct SievedEnds<'a> {
+    list: &'a ListIndex,
+    text: &'a [u8],
+    candidates: Candidates<'a>,
+    tally: Tally,
+}
+
+impl<'a> Model for SievedEnds<'a> {
+    ghost use Rattle.std.specs.Prelude.{◌≡◌};
+    ghost use Rattle.nib_mask.specs.Candidates.{CoversBy};
+    ghost use Rattle.lane_filter.specs.Sieves.{Passes};
+    ghost use Rattle.text_ends.specs.Walks.{Walk};
+
+    ghost Value = { Walk };
+
+    ghost view = { λ w. record { literals = w.list.now; text = w.text.now; from = w.candidates.from } };
+
+    ghost invariant = { λ w. CoversBy w.list.now (Passes w.candidates.sieve)
+        × (w.candidates.text ≡ w.text.now) };
+}
+
+impl<'a> SievedEnds<'a> {
+    /// The ends after a position, by a prefilter for the literals of the list. It reads nothing yet.
+    #[inline]
+    pub fn behind(
+        list: &'a ListIndex,
+        sieve: &'a Sieve,
+        text: &'a [u8],
+        from: usize,
+    ) -> SievedEnds<'a>
+        requires covers { CoversBy list.now (Passes sieve.now) }
+        requires inside { from ≤ length text.now }
+        ensures { result ≡ record { literals = list.now; text = text.now; from = from } }
+    {
+        let candidates = Candidates::new(sieve, text, from);
+        SievedEnds {
+            list,
+            text,
+            candidates,
+            tally: Tally::nothing(),
+        }
+    }
+
+    /// The counters so far.
+    pub fn tally(&self) -> Tally {
+        self.tally
+    }
+}
+
+impl<'a> Ends for SievedEnds<'a> {
+    ghost walk = { λ w. w };
+
+    ghost tells = { λ w end first. IsFirstEnding w.literals w.text 0 end first };
+
+    #[inline(always)]
+    fn next_end(&mut self) -> Option<(usize, usize)> {
+        let found = next_verified(
+            self.list,
+            self.text,
+            &mut self.candidates,
+            &mut self.tally,
+        );
+        self.tally.count_ends(usize::from(found.is_some()));
+        found
+    }
+
+    #[inline(always)]
+    fn add_hits_at(
+        &self,
+        end: usize,
+        told: usize,
+        at: u64,
+        out: &mut Vec<Hit>,
+    ) -> Result<(), AllocError> {
+        add_hits_at(self.list, self.text, end, told, at, out)
+    }
+}
+
+/// The first position after the last returned candidate at which some literal ends, with the first such literal. The
+/// candidates come from a prefilter for the literals. Counts candidates at which nothing ends in `tally`. It takes no
+/// memory.
+#[inline]
+pub fn next_verified(
+    list: &ListIndex,
+    text: &[u8],
+    candidates: &mut Candidates,
+    tally: &mut Tally,
+) -> Option<(usize, usize)>
+    requires covers { CoversBy list.now (Passes candidates.old.sieve) }
+    requires text { candidates.old.text ≡ text.now }
+    ensures sieve { candidates.new.sieve ≡ candidates.old.sieve }
+    ensures text { candidates.new.text ≡ candidates.old.text }
+    ensures next { MatchOption result
+        (NoEndAfter list.now text.now candidates.old.from)
+        (λ found. IsNextEnd list.now text.now candidates.old.from found.0) }
+    ensures first { IfSome result (λ found. IsFirstEnding list.now text.now 0 found.0 found.1) }
+    ensures reached { IfSome result (λ found. candidates.new.from ≡ found.0) }
+{
+    while let Some(end) = candidates.next() {
+        if let Some(first) = list.first_ending(text, end) {
+            return Some((end, first));
+        }
+        tally.pass_one();
+    }
+    None
+}

@@ -1,0 +1,101 @@
+-- Where a search through a text stops, and what a list of hits has gained by then.
+use Rattle.std.proofs.Common.{◌≡◌, ℕ, ◌+◌, ◌-◌, ◌<◌, ◌≤◌, List, [], ◌++◌, length, take, inl, inr, sym, ap, ◌∙◌, subst, arith}
+use Rattle.std.proofs.lemmas.Bool.{cases_lt}
+use Rattle.std.proofs.lemmas.List.{append-nil, length-take, take-take, take_all}
+use Rattle.lit_base.specs.Literals.{Literals}
+use Rattle.lit_base.specs.NextEnds.{IsNextEnd, NoEndAfter}
+use Rattle.text_ends.specs.HitsAt.{GainsHitsAt}
+use Rattle.text_ends.specs.HitsBehind.{AreHitsBehind, GainsHitsBehind, StopsAt}
+use Rattle.text_ends.proofs.HitLists.{gained_both, gained_more, hits_ended, hits_further, hits_joined, hits_none, none_past}
+
+-- a search that gained fewer hits than it asked for reached the text's end
+pub to_end : (l : Literals) (text : List ℕ) (from at most stop : ℕ) (old new : List (ℕ × ℕ)) → StopsAt l text from at most stop old new → length new < length old + most → stop ≡ length text
+to_end l text from at most stop old new search few = elim (cases_lt stop (length text)) [
+  | inl sooner ↦ absurd (omega (arith, search.enough sooner, few))
+  | inr there ↦ omega (arith, there, search.within)
+]
+
+-- where a search wants more hits than a list can hold, it covers the whole text
+pub all_searched : (l : Literals) (text : List ℕ) (from at most stop : ℕ) (old new : List (ℕ × ℕ)) → length new < most → StopsAt l text from at most stop old new → GainsHitsBehind l text from at old new
+all_searched l text from at most stop old new small search =
+    let there : stop ≡ length text = to_end l text from at most stop old new search (omega (arith, small)) in
+    subst (λ t. GainsHitsBehind l t from at old new) (take_all stop text (omega (arith, there))) search.gained
+
+-- a list that gained the hits up to a position of a text, and then those after it, gained the text's
+pub gained_joined : (l : Literals) (text : List ℕ) (from m at : ℕ) (old middle new : List (ℕ × ℕ)) → from ≤ m → m ≤ length text
+    → GainsHitsBehind l (take m text) from at old middle → GainsHitsBehind l text m (at + (m - from)) middle new → GainsHitsBehind l text from at old new
+gained_joined l text from m at old middle new starts within early late = record {
+  found = early.found ++ late.found;
+  grown = gained_both old middle new early.found late.found early.grown late.grown;
+  added = hits_joined l text from m at early.found late.found starts within early.added late.added;
+}
+
+-- so too where it stops before the text's end each time
+pub gained_further : (l : Literals) (text : List ℕ) (from m stop : ℕ) (old middle new : List (ℕ × ℕ)) → from ≤ m → m ≤ stop → stop ≤ length text
+    → GainsHitsBehind l (take m text) from from old middle → GainsHitsBehind l (take stop text) m m middle new → GainsHitsBehind l (take stop text) from from old new
+gained_further l text from m stop old middle new starts further within early late =
+    let front : take m (take stop text) ≡ take m text = take-take m stop text further in
+    let told : m ≡ from + (m - from) = omega (arith, starts) in
+    gained_joined l (take stop text) from m from old middle new starts (omega (arith, further, within, length-take stop text))
+    (subst (λ t. GainsHitsBehind l t from from old middle) (sym front) early)
+    (subst (λ x. GainsHitsBehind l (take stop text) m x middle new) told late)
+
+-- so too where the later search covers a span of the text
+pub span_gained : (l : Literals) (text : List ℕ) (from m span most stop : ℕ) (old middle new : List (ℕ × ℕ)) → from ≤ m → span ≤ length text
+    → GainsHitsBehind l (take m text) from from old middle → StopsAt l (take span text) m m most stop middle new → GainsHitsBehind l (take stop text) from from old new
+span_gained l text from m span most stop old middle new starts within early late =
+    let inside : stop ≤ span = omega (arith, late.within, length-take span text) in
+    let front : take stop (take span text) ≡ take stop text = take-take stop span text inside in
+    gained_further l text from m stop old middle new starts late.after (omega (arith, inside, within)) early (subst (λ t. GainsHitsBehind l t m m middle new) front late.gained)
+
+-- and it stops at the end of the text or after enough hits
+pub stopped_further : (l : Literals) (text : List ℕ) (from m span most stop : ℕ) (old middle new : List (ℕ × ℕ)) → from ≤ m → span ≤ length text → length middle ≤ length old + most
+    → GainsHitsBehind l (take m text) from from old middle → StopsAt l (take span text) m m (most - (length middle - length old)) stop middle new
+    → (stop < length text → length old + most ≤ length new) → StopsAt l text from from most stop old new
+stopped_further l text from m span most stop old middle new starts within room early late enough =
+    let more = gained_more old middle early.found early.grown in
+    record {
+      after = omega (arith, starts, late.after);
+      within = omega (arith, late.within, length-take span text, within);
+      gained = span_gained l text from m span (most - (length middle - length old)) stop old middle new starts within early late;
+      enough = enough;
+      few = omega (arith, late.few, room, more);
+    }
+
+-- a search of a span that gained too few hits reached its end
+pub span_end : (l : Literals) (text : List ℕ) (m span most stop : ℕ) (old middle new : List (ℕ × ℕ)) → span ≤ length text → length old ≤ length middle → length middle ≤ length old + most
+    → StopsAt l (take span text) m m (most - (length middle - length old)) stop middle new → length new - length old < most → stop ≡ span
+span_end l text m span most stop old middle new within more room late few =
+    to_end l (take span text) m m (most - (length middle - length old)) stop middle new late (omega (arith, few, more, room)) ∙ length-take span text ∙ omega (arith, within)
+
+-- nothing is gained where a search begins
+pub gained_nothing : (l : Literals) (text : List ℕ) (from at : ℕ) (old : List (ℕ × ℕ)) → GainsHitsBehind l (take from text) from at old old
+gained_nothing l text from at old = record {
+  found = [];
+  grown = sym (append-nil old);
+  added = hits_none l (take from text) from at (none_past l (take from text) from (omega (arith, length-take from text)));
+}
+
+-- the hits up to a position and those at the next one are the hits up to there
+pub gained_here : (l : Literals) (text : List ℕ) (from m end at : ℕ) (old middle new : List (ℕ × ℕ)) → from ≤ m → IsNextEnd l text m end
+    → GainsHitsBehind l (take m text) from at old middle → GainsHitsAt l text end (at + (end - from)) middle new → GainsHitsBehind l (take end text) from at old new
+gained_here l text from m end at old middle new starts next early late = record {
+  found = early.found ++ late.found;
+  grown = gained_both old middle new early.found late.found early.grown late.grown;
+  added = hits_further l text from m end at early.found late.found starts next.after next.within next.first early.added late.added;
+}
+
+-- the hits up to a position after which nothing ends are all hits
+pub gained_ended : (l : Literals) (text : List ℕ) (from m at : ℕ) (old new : List (ℕ × ℕ)) → from ≤ m → m ≤ length text → NoEndAfter l text m
+    → GainsHitsBehind l (take m text) from at old new → GainsHitsBehind l text from at old new
+gained_ended l text from m at old new starts within none early = record {
+  found = early.found;
+  grown = early.grown;
+  added = hits_ended l text from m at early.found starts within none early.added;
+}
+
+-- from no hits on, they are all that a list gained
+pub gained_all : (l : Literals) (text : List ℕ) (from at : ℕ) (old new : List (ℕ × ℕ)) → old ≡ [] → GainsHitsBehind l text from at old new → AreHitsBehind l text from at new
+gained_all l text from at old new none gains =
+    let same : gains.found ≡ new = sym (gains.grown ∙ ap (λ hs. hs ++ gains.found) none) in
+    subst (AreHitsBehind l text from at) same gains.added

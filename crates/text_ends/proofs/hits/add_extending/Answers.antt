@@ -1,0 +1,60 @@
+-- One literal after the other is added, until no other ends there.
+use Rattle.std.proofs.Common.{◌+◌, ℕ, List, [], ◌∷◌, ◌++◌, length, ap, arith}
+use Rattle.std.proofs.lemmas.List.{length-append}
+use Rattle.std.proofs.lemmas.Option.{slice_get_within}
+use Rattle.lit_base.specs.Occurrences.{IsFirstEnding}
+use Rattle.text_ends.proofs.HitLists.{gained_both, gained_one, hits_at_ended, hits_at_more, hits_at_none}
+use Rattle.text_ends.proofs.hits.add_extending.Goals as goal
+
+pub loop-place-init : goal.loop-place-init
+loop-place-init c =
+    let first = c.requires.first in
+    let one : List (ℕ × ℕ) = (c.args.first, c.args.at) ∷ [] in
+    record {
+      here = first.occurs;
+      found = one;
+      grown = gained_one c.args.out.now.items c.push.new.self.items c.hit_of.result (c.args.first, c.args.at) c.in_ok-push.ensures.items c.hit_of.ensures;
+      added = hits_at_more c.args.list.now c.args.text.now c.args.end c.args.at 0 c.args.first []
+          (hits_at_none c.args.list.now c.args.text.now c.args.end c.args.at) first;
+      counted = slice_get_within c.args.list.now.texts c.args.first first.occurs.literal first.occurs.stands;
+      few = omega arith;
+    }
+
+pub hit_of-requires-in-Some : goal.hit_of-requires-in-Some
+hit_of-requires-in-Some c =
+    let next = c.in-Some.ensures in
+    slice_get_within c.args.list.now.texts c.in-Some.place next.occurs.literal next.occurs.stands
+
+pub loop-place-preserved : goal.loop-place-preserved
+loop-place-preserved c =
+    let before = c.loop-place.invariant in
+    let hit : ℕ × ℕ = (c.in-Some.place, c.args.at) in
+    let next : IsFirstEnding c.args.list.now c.args.text.now (c.loop-place.last + 1) c.args.end c.in-Some.place = c.in-Some.ensures in
+    record {
+      here = next.occurs;
+      found = before.found ++ hit ∷ [];
+      grown = gained_both c.args.out.now.items c.loop-place.out.items c.push-in-Some.new.self.items before.found (hit ∷ []) before.grown
+          (gained_one c.loop-place.out.items c.push-in-Some.new.self.items c.hit_of-in-Some.result hit c.in_ok-push-2.ensures.items c.hit_of-in-Some.ensures);
+      added = hits_at_more c.args.list.now c.args.text.now c.args.end c.args.at (c.loop-place.last + 1) c.in-Some.place before.found before.added next;
+      counted = slice_get_within c.args.list.now.texts c.in-Some.place next.occurs.literal next.occurs.stands;
+      few = omega (arith, length-append before.found (hit ∷ []), before.few, next.counted);
+    }
+
+pub loop-place-smaller : goal.loop-place-smaller
+loop-place-smaller c =
+    let next : IsFirstEnding c.args.list.now c.args.text.now (c.loop-place.last + 1) c.args.end c.in-Some.place = c.in-Some.ensures in
+    omega (arith, next.counted, slice_get_within c.args.list.now.texts c.in-Some.place next.occurs.literal next.occurs.stands)
+
+pub returns-clause-ok : goal.returns-clause-ok
+returns-clause-ok c =
+    let all = c.loop-place.invariant in
+    record {
+      found = all.found;
+      grown = all.grown;
+      added = hits_at_ended c.args.list.now c.args.text.now c.args.end c.args.at (c.loop-place.last + 1) all.found all.added c.in_default.ensures;
+    }
+
+pub returns-clause-few : goal.returns-clause-few
+returns-clause-few c =
+    let all = c.loop-place.invariant in
+    omega (arith, ap length all.grown, length-append c.args.out.now.items all.found, all.few, all.counted)

@@ -1,0 +1,3 @@
+pub mod HitsAt
+pub mod HitsBehind
+pub mod Walks

@@ -1,0 +1,69 @@
+//! The loop over the ends in a text, which adds the hits at each. It works with every engine.
+ghost use Rattle.std.specs.Prelude.{◌≡◌, ℕ, ◌+◌, ◌-◌, ◌^◌, ◌<◌, ◌≤◌, IfOk, IfSome, IsOk, MatchOption, OnOk, length};
+ghost use Rattle.lit_base.specs.NextEnds.{IsNextEnd, NoEndAfter};
+ghost use Rattle.text_ends.specs.HitsAt.{Extends, GainsHitsAt};
+ghost use Rattle.text_ends.specs.HitsBehind.{StopsAt};
+ghost use Rattle.text_ends.specs.Walks.{Walk};
+
+use crate::hit::Hit;
+use std::alloc::AllocError;
+
+/// A walk over the positions of one text at which some literal ends.
+pub trait Ends {
+    ghost walk: { Self → Walk };
+
+    /// The number that comes with an end identifies the literals there: it is the first of them, or a state of an
+    /// automaton.
+    ghost tells: { Self → ℕ → ℕ → Type 0 };
+
+    /// The next position at which some literal ends, with the number that identifies the literals there. The walk moves
+    /// to this position. It takes no memory.
+    fn next_end(&mut self) -> Option<(usize, usize)>
+        ensures next { let before = walk self.old in MatchOption result
+            (NoEndAfter before.literals before.text before.from)
+            (λ found. IsNextEnd before.literals before.text before.from found.0) }
+        ensures tells { IfSome result (λ found. tells self.new found.0 found.1) }
+        ensures moved { IfSome result (λ found. walk self.new ≡ record (walk self.old) { from = found.0 }) };
+
+    /// Adds the hits at an end that was found, counted as `at`. When memory is refused, earlier hits stay added.
+    fn add_hits_at(
+        &self,
+        end: usize,
+        told: usize,
+        at: u64,
+        out: &mut Vec<Hit>,
+    ) -> Result<(), AllocError>
+        requires { tells self.now end told }
+        ensures ok { OnOk result (GainsHitsAt (walk self.now).literals (walk self.now).text end at out.old.items out.new.items) }
+        ensures few { OnOk result (length out.new.items ≤ length out.old.items + length (walk self.now).literals.texts) }
+        ensures kept { Extends out.old.items out.new.items };
+}
+
+/// Adds the hits that end in the text after `from`, up to the first end by which `out` gained at least `most` hits. The
+/// walk starts at `from`, which counts as `at`. Returns this end, or the text's length. Memory is refused only after a
+/// hit was found; earlier hits then stay added.
+pub fn add_hits_of<E: Ends>(
+    ends: &mut E,
+    text: &[u8],
+    from: usize,
+    at: u64,
+    most: usize,
+    out: &mut Vec<Hit>,
+) -> Result<usize, AllocError>
+    requires text { (E.walk ends.old).text ≡ text.now }
+    requires from { (E.walk ends.old).from ≡ from }
+    requires inside { from ≤ length text.now }
+    requires room { at + (length text.now - from) < 2 ^ 64 }
+    ensures ok { IfOk result (λ stop. StopsAt (E.walk ends.old).literals text.now from at most stop out.old.items out.new.items) }
+    ensures kept { Extends out.old.items out.new.items }
+    ensures quiet { NoEndAfter (E.walk ends.old).literals text.now from → IsOk result }
+{
+    let before = out.len();
+    while let Some((end, told)) = ends.next_end() {
+        ends.add_hits_at(end, told, at + (end - from) as u64, out)?;
+        if out.len() - before >= most {
+            return Ok(end);
+        }
+    }
+    Ok(text.len())
+}

@@ -1,0 +1,508 @@
+//! A search through texts that tunes itself to them.
+ghost use Rattle.std.specs.Prelude.{◌≡◌, ◌+◌, ◌-◌, ◌^◌, ◌<◌, ◌≤◌, IfOk, IfSome, IsOk, IsOkUnless, MatchOption, length};
+ghost use Rattle.std.specs.Option.{IfNone};
+ghost use Rattle.lit_plan.specs.declared.fault.Fault.TheVariants.{OutOfMemory};
+ghost use Rattle.text_ends.specs.HitsAt.{Extends};
+ghost use Rattle.lit_base.specs.NextEnds.{IsNextEnd, NoEndAfter};
+ghost use Rattle.text_ends.specs.HitsBehind.{AreHitsBehind, Continues, StopsAt};
+
+use crate::hit_search::HitSearch;
+use crate::prices::{cost_by_automaton, cost_by_plan, cost_by_windows, cost_of_dense_ends};
+use crate::sampling::Sample;
+use crate::strategy::{
+    Engine, Step, Strategy, Wanted, has_use, least_gathered, sample_len, span_behind,
+    wants_automaton, wants_automaton_first, wants_shift_or,
+};
+use crate::text_search::TextSearch;
+use lit_plan::{Compiled, Fault};
+use shift_search::{ShiftOr, ShiftedEnds};
+use std::alloc::{AllocError, Global};
+use std::marker::Model;
+use text_automaton::{Automaton, ToldEnds};
+use text_ends::{EndRate, Ends, Hit, add_hits_of};
+use window_search::{WindowedEnds, Windows};
+
+/// A search through the texts of one run for the literals of a plan. It begins as `next_end` does. When false positives
+/// and ends have cost too much, it tunes itself to a sample of the text. It then compares the estimates of factors,
+/// shift-or and, for scans, the automaton, and changes to the cheapest if this promises a gain. Its results do not
+/// depend on this. It takes all its memory when it is made.
+#[derive(Debug, Drop)]
+pub struct EndFinder {
+    windows: Windows,
+    shift_or: ShiftOr,
+    automaton: Automaton,
+    /// Bytes gathered from short pieces of a stream. The finder takes the sample out while it tunes.
+    sample: Option<Sample>,
+    strategy: Strategy,
+}
+
+impl Model for EndFinder {
+    ghost use Rattle.std.specs.Prelude.{◌≡◌};
+    ghost use Rattle.lit_base.specs.Literals.{Literals};
+
+    ghost Value = { Literals };
+
+    ghost view = { λ s. s.windows.literals };
+
+    ghost invariant = { λ s. (s.shift_or.literals ≡ s.windows.literals) × (s.automaton.literals ≡ s.windows.literals) };
+}
+
+impl EndFinder {
+    /// A search by a plan, before any text.
+    pub fn new(alloc: Global, compiled: &Compiled) -> Result<EndFinder, AllocError>
+        ensures { IfOk result (λ finder. finder ≡ compiled.now.literals) }
+    {
+        let windows = Windows::new(alloc, compiled.shared_index()?)?;
+        let shift_or = ShiftOr::new(alloc, compiled.shared_index()?)?;
+        let automaton = Automaton::new(alloc, compiled.shared_index()?)?;
+        let sample = Sample::new(alloc)?;
+        Ok(EndFinder {
+            windows,
+            shift_or,
+            automaton,
+            sample: Some(sample),
+            strategy: Strategy::new(),
+        })
+    }
+
+    /// As `new`, or `None` if the plan has at most three literals. They are searched for by two or three bytes of each,
+    /// whatever the text.
+    pub fn new_unless_few(
+        alloc: Global,
+        compiled: &Compiled,
+    ) -> Result<Option<EndFinder>, AllocError>
+        ensures plan { IfOk result (λ finder. IfSome finder (λ literals. literals ≡ compiled.now.literals)) }
+        ensures few { IfOk result (λ finder. IfNone finder (length compiled.now.literals.texts ≤ 3)) }
+        ensures many { IfOk result (λ finder. IfSome finder (λ _. 3 < length compiled.now.literals.texts)) }
+    {
+        if !has_use(compiled.list().len()) {
+            return Ok(None);
+        }
+        Ok(Some(EndFinder::new(alloc, compiled)?))
+    }
+
+    /// The engine in use.
+    #[inline(always)]
+    pub fn engine(&self) -> Engine {
+        self.strategy.engine()
+    }
+
+    /// The first position of the text after `from` at which some literal ends, wherever it begins, or `None`. It takes
+    /// no memory.
+    pub fn next_end(&mut self, compiled: &Compiled, text: &[u8], from: usize) -> Option<usize>
+        requires { self.old ≡ compiled.now.literals }
+        ensures same { self.new ≡ self.old }
+        ensures next { MatchOption result
+            (NoEndAfter compiled.now.literals text.now from)
+            (IsNextEnd compiled.now.literals text.now from) }
+    {
+        self.next_end_of(&mut TextSearch::new(compiled, text), from)
+    }
+
+    /// The first position of a search's text after `from` at which some literal ends, wherever it begins, or `None`. As
+    /// `next_end` of the text, but faster for one end after another. It takes no memory.
+    pub fn next_end_of(&mut self, search: &mut TextSearch<'_>, from: usize) -> Option<usize>
+        requires { self.old ≡ search.old.plan.literals }
+        ensures same { self.new ≡ self.old }
+        ensures search { search.new ≡ search.old }
+        ensures next { MatchOption result
+            (NoEndAfter search.old.plan.literals search.old.text from)
+            (IsNextEnd search.old.plan.literals search.old.text from) }
+    {
+        let text = search.text();
+        let compiled = search.compiled();
+        let start = compiled.index().skip_short_ends(from);
+        if start >= text.len() {
+            return None;
+        }
+        self.learn_if_due(compiled, text, start, Wanted::Ends);
+        match self.next_behind(search, start) {
+            Some((end, _)) => Some(end),
+            None => None,
+        }
+    }
+
+    /// As `next_end_of`, by the engine in use.
+    fn next_behind(&mut self, search: &mut TextSearch<'_>, from: usize) -> Option<(usize, usize)>
+        requires plan { self.old ≡ search.old.plan.literals }
+        requires inside { from < length search.old.text }
+        ensures same { self.new ≡ self.old }
+        ensures search { search.new ≡ search.old }
+        ensures next { MatchOption result
+            (NoEndAfter search.old.plan.literals search.old.text from)
+            (λ found. IsNextEnd search.old.plan.literals search.old.text from found.0) }
+    {
+        match self.engine() {
+            Engine::Windows => self.next_windowed(search.compiled(), search.text(), from),
+            Engine::ShiftOr => self.next_shifted(search.compiled(), search.text(), from),
+            Engine::Automaton | Engine::Plan => self.next_by_plan(search, from),
+        }
+    }
+
+    /// As `next_end_of`, by the plan.
+    fn next_by_plan(&mut self, search: &mut TextSearch<'_>, from: usize) -> Option<(usize, usize)>
+        requires plan { self.old ≡ search.old.plan.literals }
+        requires inside { from ≤ length search.old.text }
+        ensures same { self.new ≡ self.old }
+        ensures search { search.new ≡ search.old }
+        ensures next { MatchOption result
+            (NoEndAfter search.old.plan.literals search.old.text from)
+            (λ found. IsNextEnd search.old.plan.literals search.old.text from found.0) }
+    {
+        let before = search.missed();
+        let found = search.next_after(from);
+        let missed = search.missed().saturating_sub(before);
+        let count = passed(search.text(), from, found);
+        self.strategy
+            .note(count, cost_by_plan(missed, 0), rate_of(found));
+        found
+    }
+
+    /// The hits of a text that end after `from`, as `scan_behind` gives them. It may tune itself before each span of
+    /// the text. The only refusal is `OutOfMemory`.
+    pub fn scan_behind(
+        &mut self,
+        alloc: Global,
+        compiled: &Compiled,
+        text: &[u8],
+        from: usize,
+    ) -> Result<Vec<Hit>, Fault>
+        requires plan { self.old ≡ compiled.now.literals }
+        requires inside { from ≤ length text.now }
+        ensures same { self.new ≡ self.old }
+        ensures ok { IfOk result (λ hits. AreHitsBehind compiled.now.literals text.now from from hits.items) }
+        ensures continues { IfOk result (λ hits. Continues compiled.now.literals text.now from hits.items) }
+        ensures refused { IsOkUnless result OutOfMemory }
+
+        // Where nothing ends after the position, it takes no memory.
+        ensures quiet { NoEndAfter compiled.now.literals text.now from → IsOk result }
+    {
+        let _carry = compiled.carry();
+        let mut hits = Vec::new(alloc);
+        self.add_spans(compiled, text, from, usize::MAX, &mut hits)?;
+        Ok(hits)
+    }
+
+    /// Adds the hits of a text that end after `from`, up to the first end by which `out` gained at least `most` hits, as
+    /// `scan_until` does. It tunes itself on the way, before each span of the text.
+    pub fn add_spans(
+        &mut self,
+        compiled: &Compiled,
+        text: &[u8],
+        from: usize,
+        most: usize,
+        out: &mut Vec<Hit>,
+    ) -> Result<usize, AllocError>
+        requires plan { self.old ≡ compiled.now.literals }
+        requires inside { from ≤ length text.now }
+        ensures same { self.new ≡ self.old }
+        ensures ok { IfOk result (λ stop. StopsAt compiled.now.literals text.now from from most stop out.old.items out.new.items) }
+        ensures kept { Extends out.old.items out.new.items }
+        ensures quiet { NoEndAfter compiled.now.literals text.now from → IsOk result }
+    {
+        let before = out.len();
+        let mut place = from;
+        'spans: while place < text.len() {
+            self.learn_if_sure(compiled, text, place);
+            let stop = text
+                .len()
+                .min(place.saturating_add(span_behind(place - from)));
+            let (front, _) = text.split_at(stop);
+            let left = most - (out.len() - before);
+            let end = self.add_hits(compiled, front, place, place as u64, left, out)?;
+            if out.len() - before >= most {
+                return Ok(end);
+            }
+            place = end;
+        }
+        Ok(text.len())
+    }
+
+    /// Adds hits by the plan, as `add_hits` does.
+    fn add_hits_plainly(
+        &mut self,
+        compiled: &Compiled,
+        text: &[u8],
+        from: usize,
+        at: u64,
+        most: usize,
+        out: &mut Vec<Hit>,
+    ) -> Result<usize, AllocError>
+        requires plan { self.old ≡ compiled.now.literals }
+        requires inside { from ≤ length text.now }
+        requires room { at + (length text.now - from) < 2 ^ 64 }
+        ensures same { self.new ≡ self.old }
+        ensures ok { IfOk result (λ stop. StopsAt compiled.now.literals text.now from at most stop out.old.items out.new.items) }
+        ensures kept { Extends out.old.items out.new.items }
+        ensures quiet { NoEndAfter compiled.now.literals text.now from → IsOk result }
+    {
+        let mut ends = compiled.ends_behind(text, from);
+        let stop = add_hits_of(&mut ends, text, from, at, most, out)?;
+        let tally = ends.tally();
+        let spent = cost_by_plan(tally.passed, tally.ends);
+        self.strategy
+            .note(stop - from, spent, EndRate::of_scan(tally.ends));
+        Ok(stop)
+    }
+
+    /// Adds hits by factors, as `add_hits` does.
+    fn add_hits_windowed(
+        &mut self,
+        compiled: &Compiled,
+        text: &[u8],
+        from: usize,
+        at: u64,
+        most: usize,
+        out: &mut Vec<Hit>,
+    ) -> Result<usize, AllocError>
+        requires plan { self.old ≡ compiled.now.literals }
+        requires inside { from ≤ length text.now }
+        requires room { at + (length text.now - from) < 2 ^ 64 }
+        ensures same { self.new ≡ self.old }
+        ensures ok { IfOk result (λ stop. StopsAt compiled.now.literals text.now from at most stop out.old.items out.new.items) }
+        ensures kept { Extends out.old.items out.new.items }
+        ensures quiet { NoEndAfter compiled.now.literals text.now from → IsOk result }
+    {
+        let mut ends = WindowedEnds::behind(&self.windows, text, from);
+        let stop = add_hits_of(&mut ends, text, from, at, most, out)?;
+        let tally = ends.tally();
+        let found = EndRate::of_scan(tally.ends);
+        let spent = cost_by_windows(&self.windows, stop - from, tally, found);
+        self.strategy.note(stop - from, spent, found);
+        Ok(stop)
+    }
+
+    /// As `next_end`, by factors.
+    fn next_windowed(
+        &mut self,
+        compiled: &Compiled,
+        text: &[u8],
+        from: usize,
+    ) -> Option<(usize, usize)>
+        requires plan { self.old ≡ compiled.now.literals }
+        requires inside { from < length text.now }
+        ensures same { self.new ≡ self.old }
+        ensures next { MatchOption result
+            (NoEndAfter compiled.now.literals text.now from)
+            (λ found. IsNextEnd compiled.now.literals text.now from found.0) }
+    {
+        let mut ends = WindowedEnds::behind(&self.windows, text, from);
+        let found = ends.next_end();
+        let tally = ends.tally();
+        let count = passed(text, from, found);
+        let spent = cost_by_windows(&self.windows, count, tally, rate_of(found));
+        self.strategy.note(count, spent, rate_of(found));
+        found
+    }
+
+    /// Adds hits by shift-or, as `add_hits` does.
+    fn add_hits_shifted(
+        &mut self,
+        compiled: &Compiled,
+        text: &[u8],
+        from: usize,
+        at: u64,
+        most: usize,
+        out: &mut Vec<Hit>,
+    ) -> Result<usize, AllocError>
+        requires plan { self.old ≡ compiled.now.literals }
+        requires inside { from ≤ length text.now }
+        requires room { at + (length text.now - from) < 2 ^ 64 }
+        ensures same { self.new ≡ self.old }
+        ensures ok { IfOk result (λ stop. StopsAt compiled.now.literals text.now from at most stop out.old.items out.new.items) }
+        ensures kept { Extends out.old.items out.new.items }
+        ensures quiet { NoEndAfter compiled.now.literals text.now from → IsOk result }
+    {
+        let mut ends = ShiftedEnds::behind(&self.shift_or, text, from);
+        let stop = add_hits_of(&mut ends, text, from, at, most, out)?;
+        let tally = ends.tally();
+        let found = EndRate::of_scan(tally.ends);
+        let spent = self.shift_or.cost_of(stop - from, tally.marked, found);
+        self.strategy.note(stop - from, spent, found);
+        Ok(stop)
+    }
+
+    /// As `next_end`, by shift-or.
+    fn next_shifted(
+        &mut self,
+        compiled: &Compiled,
+        text: &[u8],
+        from: usize,
+    ) -> Option<(usize, usize)>
+        requires plan { self.old ≡ compiled.now.literals }
+        requires inside { from < length text.now }
+        ensures same { self.new ≡ self.old }
+        ensures next { MatchOption result
+            (NoEndAfter compiled.now.literals text.now from)
+            (λ found. IsNextEnd compiled.now.literals text.now from found.0) }
+    {
+        let mut ends = ShiftedEnds::behind(&self.shift_or, text, from);
+        let found = ends.next_end();
+        let count = passed(text, from, found);
+        let marked = ends.tally().marked;
+        let spent = self.shift_or.cost_of(count, marked, rate_of(found));
+        self.strategy.note(count, spent, rate_of(found));
+        found
+    }
+
+    /// Adds hits by the automaton, as `add_hits` does, or by the plan if the automaton is not made.
+    fn add_hits_told(
+        &mut self,
+        compiled: &Compiled,
+        text: &[u8],
+        from: usize,
+        at: u64,
+        most: usize,
+        out: &mut Vec<Hit>,
+    ) -> Result<usize, AllocError>
+        requires plan { self.old ≡ compiled.now.literals }
+        requires inside { from ≤ length text.now }
+        requires room { at + (length text.now - from) < 2 ^ 64 }
+        ensures same { self.new ≡ self.old }
+        ensures ok { IfOk result (λ stop. StopsAt compiled.now.literals text.now from at most stop out.old.items out.new.items) }
+        ensures kept { Extends out.old.items out.new.items }
+        ensures quiet { NoEndAfter compiled.now.literals text.now from → IsOk result }
+    {
+        let Some(reading) = self.automaton.reading_behind(text, from) else {
+            return self.add_hits_plainly(compiled, text, from, at, most, out);
+        };
+        let mut ends = ToldEnds::of(&self.automaton, text, reading);
+        let stop = add_hits_of(&mut ends, text, from, at, most, out)?;
+        let found = ends.ends();
+        let spent = self.cost_to_tell(compiled, stop - from, found);
+        self.strategy
+            .note(stop - from, spent, EndRate::of_scan(found));
+        Ok(stop)
+    }
+
+    /// Tunes itself to the text after `from`, if the rest is expected to gain by that.
+    fn learn_if_sure(&mut self, compiled: &Compiled, text: &[u8], from: usize)
+        requires { from ≤ length text.now }
+        ensures { self.new ≡ self.old }
+    {
+        if self.strategy.tunes_before(text.len() - from) {
+            self.learn(compiled, text, from, Wanted::Hits);
+        }
+    }
+
+    /// Tunes itself to the text after `from`, if it is due and the text is long enough for a sample. A search for hits
+    /// gathers a shorter text.
+    #[inline(always)]
+    fn learn_if_due(&mut self, compiled: &Compiled, text: &[u8], from: usize, wanted: Wanted)
+        requires { from ≤ length text.now }
+        ensures { self.new ≡ self.old }
+    {
+        match self.strategy.step(text.len() - from, wanted) {
+            Step::GoOn => (),
+            Step::Gather => self.gather(compiled, text, from),
+            Step::Tune => self.learn(compiled, text, from, wanted),
+        }
+    }
+
+    /// Gathers the bytes of a piece after `from`, unless they are too short, and tunes itself once the sample is full.
+    #[inline(never)]
+    fn gather(&mut self, compiled: &Compiled, text: &[u8], from: usize)
+        requires { from ≤ length text.now }
+        ensures { self.new ≡ self.old }
+    {
+        let (_, rest) = text.split_at(from);
+        if rest.len() < least_gathered(compiled.index().len()) {
+            return;
+        }
+        let Some(mut sample) = self.sample.take() else {
+            return;
+        };
+        if sample.add(rest) {
+            self.learn(compiled, sample.text(), 0, Wanted::Hits);
+            sample.clear();
+        }
+        self.sample = Some(sample);
+    }
+
+    /// Tunes itself to a sample of the text after `from`.
+    #[inline(never)]
+    fn learn(&mut self, compiled: &Compiled, text: &[u8], from: usize, wanted: Wanted)
+        requires { from ≤ length text.now }
+        ensures { self.new ≡ self.old }
+    {
+        let (_, behind) = text.split_at(from);
+        let most = sample_len(compiled.index().len());
+        let (sample, _) = behind.split_at(behind.len().min(most));
+        let rate = self.strategy.rate();
+        let dense = cost_of_dense_ends(rate);
+        let by_windows = self.windows.learn(sample, rate).saturating_add(dense);
+        let told = self.cost_if_told(compiled, wanted, rate);
+        let is_told = self.makes_automaton(wants_automaton_first(told, by_windows));
+        let by_shift_or = if !is_told && wants_shift_or(by_windows) {
+            self.shift_or.learn(sample, rate).saturating_add(dense)
+        } else {
+            usize::MAX
+        };
+        let is_best = wants_automaton(told, by_windows, by_shift_or);
+        let by_automaton = if self.makes_automaton(is_best) {
+            told
+        } else {
+            usize::MAX
+        };
+        self.strategy.choose(by_windows, by_shift_or, by_automaton);
+    }
+
+    /// Builds the tables of the automaton if it is wanted. Returns whether they are built.
+    fn makes_automaton(&mut self, is_wanted: bool) -> bool
+        ensures { self.new ≡ self.old }
+    {
+        if !is_wanted {
+            return false;
+        }
+        self.automaton.learn()
+    }
+
+    /// The estimate of a scan by the automaton for 1,024 bytes with ends at this rate; `usize::MAX` for single ends,
+    /// which the automaton does not search for.
+    fn cost_if_told(&self, compiled: &Compiled, wanted: Wanted, rate: EndRate) -> usize {
+        match wanted {
+            Wanted::Hits => self.cost_to_tell(compiled, 1024, rate.ends),
+            Wanted::Ends => usize::MAX,
+        }
+    }
+
+    /// The cost of a scan by the automaton for `count` bytes with `ends` ends.
+    fn cost_to_tell(&self, compiled: &Compiled, count: usize, ends: usize) -> usize {
+        cost_by_automaton(self.automaton.room(), compiled.carry(), count, ends)
+    }
+}
+
+impl HitSearch for EndFinder {
+    ghost serves = { λ finder literals. finder ≡ literals };
+
+    fn add_hits(
+        &mut self,
+        compiled: &Compiled,
+        text: &[u8],
+        from: usize,
+        at: u64,
+        most: usize,
+        out: &mut Vec<Hit>,
+    ) -> Result<usize, AllocError> {
+        self.learn_if_due(compiled, text, from, Wanted::Hits);
+        match self.strategy.engine_for(text.len() - from) {
+            Engine::Windows => self.add_hits_windowed(compiled, text, from, at, most, out),
+            Engine::ShiftOr => self.add_hits_shifted(compiled, text, from, at, most, out),
+            Engine::Automaton => self.add_hits_told(compiled, text, from, at, most, out),
+            Engine::Plan => self.add_hits_plainly(compiled, text, from, at, most, out),
+        }
+    }
+}
+
+/// The rate that a search for one end adds.
+fn rate_of(found: Option<(usize, usize)>) -> EndRate {
+    EndRate::of_searches(usize::from(found.is_some()))
+}
+
+/// How many bytes after `from` a search has passed.
+fn passed(text: &[u8], from: usize, found: Option<(usize, usize)>) -> usize {
+    match found {
+        Some((end, _)) => end.saturating_sub(from),
+        None => text.len().saturating_sub(from),
+    }
+}

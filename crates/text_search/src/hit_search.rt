@@ -1,0 +1,57 @@
+//! Searches for the hits of a text: by a plan alone, or by a finder.
+ghost use Rattle.std.specs.Prelude.{◌≡◌, ◌+◌, ◌-◌, ◌^◌, ◌<◌, ◌≤◌, IfOk, IsOk, length};
+ghost use Rattle.text_ends.specs.HitsAt.{Extends};
+ghost use Rattle.lit_base.specs.NextEnds.{NoEndAfter};
+ghost use Rattle.lit_base.specs.Literals.{Literals};
+ghost use Rattle.text_ends.specs.HitsBehind.{StopsAt};
+
+use lit_plan::Compiled;
+use std::alloc::AllocError;
+use text_ends::{Hit, add_hits_of};
+
+/// A search for the hits of a text by a plan.
+pub trait HitSearch {
+    /// It searches by plans of these literals.
+    ghost serves: { Self → Literals → Type 0 };
+
+    /// Adds the hits that end in the text after `from`, which counts as `at`, up to the first end by which `out` gained
+    /// at least `most` hits. Returns this end, or the text's length. Memory is refused only after a hit was found;
+    /// earlier hits then stay added.
+    fn add_hits(
+        &mut self,
+        compiled: &Compiled,
+        text: &[u8],
+        from: usize,
+        at: u64,
+        most: usize,
+        out: &mut Vec<Hit>,
+    ) -> Result<usize, AllocError>
+        requires plan { serves self.old compiled.now.literals }
+        requires inside { from ≤ length text.now }
+        requires room { at + (length text.now - from) < 2 ^ 64 }
+        ensures plan { serves self.new compiled.now.literals }
+        ensures ok { IfOk result (λ stop. StopsAt compiled.now.literals text.now from at most stop out.old.items out.new.items) }
+        ensures kept { Extends out.old.items out.new.items }
+        ensures quiet { NoEndAfter compiled.now.literals text.now from → IsOk result };
+}
+
+/// The search by a plan alone.
+#[derive(Drop)]
+pub struct PlainSearch;
+
+impl HitSearch for PlainSearch {
+    ghost serves = { λ search literals. literals ≡ literals };
+
+    fn add_hits(
+        &mut self,
+        compiled: &Compiled,
+        text: &[u8],
+        from: usize,
+        at: u64,
+        most: usize,
+        out: &mut Vec<Hit>,
+    ) -> Result<usize, AllocError> {
+        let mut ends = compiled.ends_behind(text, from);
+        add_hits_of(&mut ends, text, from, at, most, out)
+    }
+}

@@ -1,0 +1,340 @@
+//! The only module that chooses an engine. A choice changes the time of a search, never its result.
+//!
+//! | question | when | depends on | function |
+//! |---|---|---|---|
+//! | Does a list need a finder? | once | the number of literals | [`has_use`] |
+//! | Which engine searches the next bytes? | before a span or a piece | the engine in use, the bytes available | [`Strategy::engine_for`] |
+//! | Tune now, or gather bytes first? | before each search | the loss, the bytes available | [`Strategy::step`], [`Strategy::tunes_before`] |
+//! | Which engines are worth preparing, and from how much text? | when it tunes | the number of literals, the estimates so far | [`sample_len`], [`wants_shift_or`], [`wants_automaton`] |
+//! | Which engine is best, and which is next? | after tuning | the estimates | [`Strategy::choose`] |
+//! | Change to the next best? | every 64 KiB | the measured cost, the estimate of the other | `Strategy::reconsider` |
+
+ghost use Rattle.std.specs.Prelude.{◌<◌, ◌↔◌, IsTrue};
+
+use crate::tuning::{
+    FEW, FEW_BY_MASKS, FIRST_SPANS, LEARNED_COST, LEAST_CHOSEN, LEAST_GATHERED,
+    LEAST_GATHERED_OF_FEW, LEAST_LOSS, LEAST_SAMPLE, LEAST_TOLD, MOST_WAIT, MOST_WITHOUT_FINDER,
+    PLAIN_COST, SAMPLE, SAMPLE_OF_FEW, SPAN, SURE, TRIAL,
+};
+use shift_search::SHIFT_OR_COST;
+use text_ends::EndRate;
+use window_search::SIEVE_COST;
+
+/// What searches a text.
+#[derive(Clone, Copy, Debug, PartialEq, Eq)]
+pub enum Engine {
+    /// The plan alone.
+    Plan,
+    /// Factors of the literals, chosen from a sample.
+    Windows,
+    /// Shift-or over buckets of the literals.
+    ShiftOr,
+    /// The automaton of the literals: for scans alone.
+    Automaton,
+}
+
+/// The result that a search has to give.
+#[derive(Clone, Copy)]
+pub(crate) enum Wanted {
+    /// One end after the other.
+    Ends,
+    /// All hits after a position.
+    Hits,
+}
+
+/// What a finder does before it searches on.
+#[derive(Clone, Copy)]
+pub(crate) enum Step {
+    /// Nothing.
+    GoOn,
+    /// It gathers a piece that is too short for a sample.
+    Gather,
+    /// It tunes itself to the given text.
+    Tune,
+}
+
+/// Whether a list of `len` literals gains by a finder. A shorter list is searched for by two or three bytes of each
+/// literal, whatever the text.
+pub(crate) fn has_use(len: usize) -> bool
+    ensures { IsTrue result ↔ (3 < len) }
+{
+    len > MOST_WITHOUT_FINDER
+}
+
+/// The longest sample, in bytes, for a list of `len` literals.
+pub(crate) fn sample_len(len: usize) -> usize {
+    if len <= FEW { SAMPLE_OF_FEW } else { SAMPLE }
+}
+
+/// The shortest piece, in bytes after those at its boundary, that is gathered for a list of `len` literals.
+pub(crate) fn least_gathered(len: usize) -> usize {
+    if len <= FEW_BY_MASKS {
+        LEAST_GATHERED_OF_FEW
+    } else {
+        LEAST_GATHERED
+    }
+}
+
+/// How many bytes of a text in memory one engine scans next, after `passed` bytes.
+pub(crate) fn span_behind(passed: usize) -> usize
+    ensures { 0 < result }
+{
+    if passed < SPAN {
+        SPAN / FIRST_SPANS
+    } else {
+        SPAN
+    }
+}
+
+/// Whether to build the automaton before shift-or is tried: its estimate is below the estimate of factors and the least
+/// cost of shift-or.
+pub(crate) fn wants_automaton_first(by_automaton: usize, by_windows: usize) -> bool {
+    wants_automaton(by_automaton, by_windows, SHIFT_OR_COST)
+}
+
+/// Whether to try shift-or on the sample: the estimate of factors is above its least cost.
+pub(crate) fn wants_shift_or(by_windows: usize) -> bool {
+    SHIFT_OR_COST < by_windows
+}
+
+/// Whether to build the automaton: its estimate is below both others.
+pub(crate) fn wants_automaton(by_automaton: usize, by_windows: usize, by_shift_or: usize) -> bool {
+    by_automaton < by_windows.min(by_shift_or)
+}
+
+/// What an engine may take for 1,024 bytes, given its estimate.
+fn allowed_for(cost: usize) -> usize {
+    cost.saturating_add(cost / 2).saturating_add(LEARNED_COST)
+}
+
+/// An engine, and its estimate for 1,024 bytes in tenths of a nanosecond.
+#[derive(Clone, Copy, Debug)]
+struct Estimate {
+    engine: Engine,
+    cost: usize,
+}
+
+/// The estimate of no engine: the highest.
+const NO_ENGINE: Estimate = Estimate {
+    engine: Engine::Plan,
+    cost: usize::MAX,
+};
+
+/// Two estimates, the better one first.
+fn in_order(one: Estimate, other: Estimate) -> (Estimate, Estimate) {
+    if other.cost < one.cost {
+        (other, one)
+    } else {
+        (one, other)
+    }
+}
+
+/// What a finder has measured since it chose its engine: the bytes, their cost, and by how much the cost exceeds the
+/// allowance.
+#[derive(Clone, Copy, Debug)]
+pub(crate) struct Strategy {
+    engine: Engine,
+    /// The next best engine.
+    other: Estimate,
+    passed: usize,
+    spent: usize,
+    ends: usize,
+    starts: usize,
+    /// The engine is reconsidered after this many bytes.
+    trial: usize,
+    /// The allowance for 1,024 bytes.
+    allowed: usize,
+    lost: usize,
+    /// The loss at which it tunes.
+    most_lost: usize,
+}
+
+impl Strategy {
+    /// The state before any text.
+    pub fn new() -> Strategy {
+        Strategy {
+            engine: Engine::Plan,
+            other: NO_ENGINE,
+            passed: 0,
+            spent: 0,
+            ends: 0,
+            starts: 0,
+            trial: TRIAL,
+            allowed: PLAIN_COST,
+            lost: 0,
+            most_lost: LEAST_LOSS,
+        }
+    }
+
+    /// The engine in use.
+    #[inline(always)]
+    pub fn engine(&self) -> Engine {
+        self.engine
+    }
+
+    /// The engine for the next `rest` bytes of a scan. A short rest goes to the plan.
+    #[inline(always)]
+    pub fn engine_for(&self, rest: usize) -> Engine {
+        match self.engine {
+            Engine::Automaton if rest < LEAST_TOLD => Engine::Plan,
+            _ if rest < LEAST_CHOSEN => Engine::Plan,
+            engine => engine,
+        }
+    }
+
+    /// What to do before the next search, of `at_hand` bytes.
+    #[inline(always)]
+    pub fn step(&self, at_hand: usize, wanted: Wanted) -> Step {
+        if !self.is_due() {
+            return Step::GoOn;
+        }
+        match wanted {
+            _ if at_hand >= LEAST_SAMPLE => Step::Tune,
+            Wanted::Hits => Step::Gather,
+            Wanted::Ends => Step::GoOn,
+        }
+    }
+
+    /// Whether to tune before the next span of a text in memory, with `rest` bytes to go.
+    pub fn tunes_before(&self, rest: usize) -> bool {
+        rest >= LEAST_SAMPLE && self.is_due_before(rest)
+    }
+
+    /// Whether the engine in use was tuned.
+    fn has_learned(&self) -> bool {
+        match self.engine {
+            Engine::Plan => false,
+            Engine::Windows | Engine::ShiftOr | Engine::Automaton => true,
+        }
+    }
+
+    /// Whether the loss has reached the limit.
+    #[inline(always)]
+    fn is_due(&self) -> bool {
+        self.lost >= self.most_lost
+    }
+
+    /// As `is_due`, in a text with `rest` bytes to go. Under the plan, the loss expected in the rest counts too.
+    fn is_due_before(&self, rest: usize) -> bool {
+        let likely = self.lost.saturating_mul(rest / self.passed.max(1));
+        self.is_due() || !self.has_learned() && likely >= self.most_lost.saturating_mul(SURE)
+    }
+
+    /// Adds `spent`, the cost of `passed` bytes, and the ends found in them. This may change the engine.
+    #[inline]
+    pub fn note(&mut self, passed: usize, spent: usize, found: EndRate) {
+        self.passed = self.passed.saturating_add(passed);
+        self.spent = self.spent.saturating_add(spent);
+        self.ends = self.ends.saturating_add(found.ends);
+        self.starts = self.starts.saturating_add(found.starts);
+        let allowed = passed.saturating_mul(self.allowed) / 1024;
+        self.lost = self.lost.saturating_add(spent).saturating_sub(allowed);
+        if self.passed >= self.trial {
+            self.trial = self.passed.saturating_add(TRIAL);
+            self.reconsider();
+        }
+    }
+
+    /// Changes to the next best engine if its estimate is an eighth below the measured cost of this engine. Both
+    /// estimates come from a small sample; the measured cost then replaces this engine's estimate.
+    #[inline(never)]
+    fn reconsider(&mut self) {
+        let taken = self.taken();
+        if self.other.cost < taken - taken / 8 {
+            let left = Estimate {
+                engine: self.engine,
+                cost: taken,
+            };
+            self.go(self.other);
+            self.other = left;
+        }
+    }
+
+    /// Changes to an engine.
+    fn go(&mut self, estimate: Estimate) {
+        self.engine = estimate.engine;
+        self.allowed = allowed_for(estimate.cost);
+        self.begin();
+    }
+
+    /// Sets the counters to 0.
+    fn begin(&mut self) {
+        self.passed = 0;
+        self.spent = 0;
+        self.ends = 0;
+        self.starts = 0;
+        self.lost = 0;
+        self.trial = TRIAL;
+    }
+
+    /// Takes the three estimates for 1,024 bytes, and changes to the engine with the lowest, unless the plan is in use
+    /// and this is not clearly better. An engine that was not prepared has the estimate `usize::MAX`.
+    pub fn choose(&mut self, by_windows: usize, by_shift_or: usize, by_automaton: usize) {
+        let windows = Estimate {
+            engine: Engine::Windows,
+            cost: by_windows,
+        };
+        let shift_or = Estimate {
+            engine: Engine::ShiftOr,
+            cost: by_shift_or,
+        };
+        let automaton = Estimate {
+            engine: Engine::Automaton,
+            cost: by_automaton,
+        };
+        let (best, other) = in_order(windows, shift_or);
+        if automaton.cost < best.cost {
+            self.choose_first(automaton, best);
+        } else {
+            let (other, _) = in_order(other, automaton);
+            self.choose_first(best, other);
+        }
+    }
+
+    /// As `choose`, given the best and the next best estimate.
+    fn choose_first(&mut self, best: Estimate, other: Estimate) {
+        let is_better = self.is_better(best.cost, allowed_for(best.cost));
+        self.most_lost = if is_better {
+            (self.most_lost / 2).max(LEAST_LOSS)
+        } else {
+            self.most_lost.saturating_mul(2).min(LEAST_LOSS * MOST_WAIT)
+        };
+        if is_better || self.has_learned() {
+            self.go(best);
+            self.other = other;
+        } else {
+            self.begin();
+        }
+    }
+
+    /// Whether an estimate is clearly better. Under the plan it has to be an eighth below the measured cost. Under
+    /// another engine its allowance has to be an eighth below the allowance in use, or below half of the measured cost.
+    /// Estimates are often too low: frequent literals cost factors more than a sample shows.
+    fn is_better(&self, cost: usize, allowed: usize) -> bool {
+        let taken = self.taken();
+        if self.has_learned() {
+            allowed < self.allowed - self.allowed / 8 || allowed < taken / 2
+        } else {
+            cost < taken - taken / 8
+        }
+    }
+
+    /// The ends since the last choice, and the starts of a search after them, for 1,024 bytes.
+    pub fn rate(&self) -> EndRate {
+        let passed = self.passed.max(1);
+        EndRate {
+            ends: self.ends.saturating_mul(1024) / passed,
+            starts: self.starts.saturating_mul(1024) / passed,
+        }
+    }
+
+    /// The measured cost of 1,024 bytes since the last choice.
+    fn taken(&self) -> usize {
+        let taken = self.spent.saturating_mul(1024) / self.passed.max(1);
+        if self.has_learned() {
+            taken
+        } else {
+            taken.saturating_add(SIEVE_COST)
+        }
+    }
+}

@@ -1,0 +1,116 @@
+//! The engine that a tuned search uses next.
+use crate::prices::{cost_by_automaton, cost_by_plan, cost_of_dense_ends};
+use crate::strategy::{Engine, Strategy};
+use text_ends::EndRate;
+
+/// Bytes after which a search may change its engine.
+const BYTES: usize = 65536;
+
+/// A tuned search with these estimates for factors and shift-or, after the plan took far more.
+fn promised(by_windows: usize, by_shift_or: usize) -> Strategy {
+    promised_three(by_windows, by_shift_or, usize::MAX)
+}
+
+/// The same with an estimate for the automaton too.
+fn promised_three(by_windows: usize, by_shift_or: usize, by_automaton: usize) -> Strategy {
+    let mut strategy = Strategy::new();
+    strategy.note(BYTES, 1 << 30, EndRate::nothing());
+    strategy.choose(by_windows, by_shift_or, by_automaton);
+    strategy
+}
+
+/// The engines in use after `BYTES` bytes at the cost `first` for 1,024, and after as many more at the cost `second`.
+fn ways_behind(mut strategy: Strategy, first: usize, second: usize) -> [Engine; 2] {
+    strategy.note(
+        BYTES,
+        first.saturating_mul(BYTES / 1024),
+        EndRate::nothing(),
+    );
+    let before = strategy.engine();
+    strategy.note(
+        BYTES,
+        second.saturating_mul(BYTES / 1024),
+        EndRate::nothing(),
+    );
+    [before, strategy.engine()]
+}
+
+#[test]
+fn goes_by_what_promises_less(rt: HostRuntime) {
+    assert_eq!(rt; promised(8_000, 9_000).engine(), Engine::Windows);
+    assert_eq!(rt; promised(9_000, 8_000).engine(), Engine::ShiftOr);
+    assert_eq!(rt; promised(8_000, usize::MAX).engine(), Engine::Windows);
+    assert_eq!(rt;
+        promised_three(8_000, 9_000, 7_000).engine(),
+        Engine::Automaton
+    );
+    assert_eq!(rt;
+        promised_three(8_000, 9_000, 8_500).engine(),
+        Engine::Windows
+    );
+}
+
+#[test]
+fn goes_over_to_what_promises_next_to_least(rt: HostRuntime) {
+    assert_eq!(rt;
+        ways_behind(promised_three(8_000, usize::MAX, 7_000), 20_000, 30_000),
+        [Engine::Windows, Engine::Automaton]
+    );
+    assert_eq!(rt;
+        ways_behind(promised_three(8_000, 12_000, 9_000), 20_000, 10_000),
+        [Engine::Automaton, Engine::Automaton]
+    );
+}
+
+#[test]
+fn goes_on_while_the_promise_is_kept(rt: HostRuntime) {
+    assert_eq!(rt;
+        ways_behind(promised(8_000, 9_000), 10_000, 10_000),
+        [Engine::Windows, Engine::Windows]
+    );
+}
+
+#[test]
+fn goes_over_where_the_other_way_promises_less_than_was_taken(rt: HostRuntime) {
+    assert_eq!(rt;
+        ways_behind(promised(8_000, 9_000), 20_000, 10_000),
+        [Engine::ShiftOr, Engine::ShiftOr]
+    );
+}
+
+#[test]
+fn comes_back_where_the_other_way_takes_more(rt: HostRuntime) {
+    assert_eq!(rt;
+        ways_behind(promised(8_000, 9_000), 20_000, 30_000),
+        [Engine::ShiftOr, Engine::Windows]
+    );
+}
+
+#[test]
+fn takes_no_way_that_was_not_learned(rt: HostRuntime) {
+    assert_eq!(rt;
+        ways_behind(promised(8_000, usize::MAX), 1 << 30, 1 << 30),
+        [Engine::Windows, Engine::Windows]
+    );
+}
+
+#[test]
+fn takes_ends_that_stand_close_together_for_as_much_by_windows(rt: HostRuntime) {
+    assert_eq!(rt; cost_by_plan(0, 100), 50_000);
+    assert_eq!(rt; cost_by_plan(3, 1), 1_700);
+    assert_eq!(rt; cost_of_dense_ends(EndRate::of_scan(340)), 0);
+    assert_eq!(rt;
+        cost_of_dense_ends(EndRate::of_scan(341)),
+        cost_by_plan(0, 341)
+    );
+    assert_eq!(rt; cost_of_dense_ends(EndRate::of_searches(341)), 0);
+}
+
+#[test]
+fn takes_the_automaton_for_less_where_ends_are_frequent(rt: HostRuntime) {
+    assert_eq!(rt; cost_by_automaton(100, 0, 1024, 0), 9_500);
+    assert_eq!(rt; cost_by_automaton(1024, 0, 2048, 10), 14_000);
+    assert_eq!(rt; cost_by_automaton(8192, 0, 1024, 10), 8_084);
+    assert_eq!(rt; cost_by_automaton(8192, 10, 1024, 45), 0);
+    assert_eq!(rt; cost_by_automaton(8192, 4094, 1024, 45), 88_840);
+}

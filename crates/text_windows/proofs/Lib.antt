@@ -1,4 +1,0 @@
-pub mod WindowLemmas
-pub mod ShiftOrLemmas
-pub mod JoiningLemmas
-pub mod BlockLemmas

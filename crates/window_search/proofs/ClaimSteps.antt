@@ -1,0 +1,173 @@
+-- Pending ends, one probe further.
+use Rattle.std.proofs.Common.{◌≡◌, ◌⊎◌, ℕ, ◌+◌, ◌-◌, ◌*◌, ◌%◌, ◌^◌, ◌<◌, ◌≤◌, List, All, length, Option, Some, None, MatchOption, inl, inr, ap, ◌∙◌, subst, arith}
+use Rattle.std.specs.Int.{bit_at}
+use Rattle.std.specs.Int.RustNames.{bit_or}
+use Rattle.std.proofs.lemmas.Bool.{cases_lt}
+use Rattle.std.proofs.lemmas.Nat.Bits.{bit_at-zero}
+use Rattle.std.proofs.lemmas.Option.{slice_get_within}
+use Rattle.lit_base.specs.Literals.{Literals}
+use Rattle.lit_base.specs.Occurrences.{HasEnd, Occurs}
+use Rattle.nib_mask.specs.Candidates.{IsCandidate}
+use Rattle.nib_mask.specs.Fronts.{CoversFronts}
+use Rattle.nib_mask.specs.declared.masks.Masks.{Masks}
+use Rattle.lane_filter.specs.Bits.{SplitsLowest}
+use Rattle.lane_filter.specs.Lanes.{TellsBits}
+use Rattle.window_search.specs.Windows.{AreMarks, AreMarksOf, AreWithin, Windowing, offset_at}
+use Rattle.window_search.proofs.WindowLemmas.{literal_is}
+use Rattle.lit_base.specs.NextEnds.{IsNextEnd, NoEndUpTo}
+use Rattle.window_search.specs.Windowed.{AreClaimed, AreClaims}
+use Rattle.window_search.specs.declared.windowed.Claims.{Claims}
+use Rattle.window_search.proofs.MarkSteps.{marked_above, marked_below}
+
+-- a literal that ends in a text stands in its list
+pub listed : (l : Literals) (text : List ℕ) (place end : ℕ) → Occurs l text place end → place < length l.texts
+listed l text place end occurs = slice_get_within l.texts place occurs.literal occurs.stands
+
+-- its last factor ends at most seven bytes before its end, and after the text's start
+pub window_near : (w : Windowing) → AreWithin w → (text : List ℕ) (place end : ℕ) → Occurs w.literals text place end → (offset_at w place ≤ 7) × (offset_at w place < end)
+window_near w within text place end occurs =
+    let is = within.all place (listed w.literals text place end occurs) in
+    let len = ap (λ (t : List ℕ). length t) (literal_is w.literals text place end occurs) in
+    (omega (arith, is.near, within.some), omega (arith, is.within, within.some, len, occurs.begins))
+
+-- what stands eight positions before a position, or further back, has no pending end after it
+pub none_claimed : (w : Windowing) (text : List ℕ) (from : ℕ) → AreWithin w → AreClaimed w text from (from - 7) (from - 7 + 1) 0
+none_claimed w text from within place end occurs after behind before =
+    let near = window_near w within text place end occurs in
+    absurd (omega (arith, near, after, before))
+
+-- an end without a bit is no end
+pub unclaimed : (w : Windowing) (text : List ℕ) (from seen last : ℕ) → from ≤ seen → AreClaimed w text from seen (last + 1) 0 → NoEndUpTo w.literals text seen last
+unclaimed w text from seen last sooner none end after within here =
+    let set = none here.0 end here.1 (omega (arith, after, sooner)) after (omega (arith, within)) in
+    absurd (omega (arith, set, bit_at-zero (end - (seen + 1))))
+
+-- hash bits for all factors of a literal include its last factor
+pub marks_of_last : (w : Windowing) (text : List ℕ) (at marks : ℕ) → 0 < w.stride → AreMarks w text at marks → AreMarksOf 1 w text at marks
+marks_of_last w text at marks some are place back far near occurs = are place back far (omega (arith, near, some)) occurs
+
+module _ (w : Windowing) (text : List ℕ) where
+  -- without a bit, nothing is pending after a later position either
+  pub none_further : (from seen later next : ℕ) → seen ≤ later → AreClaimed w text from seen next 0 → AreClaimed w text from later next 0
+  none_further from seen later next ahead none place end occurs after behind before =
+      let set = none place end occurs after (omega (arith, behind, ahead)) before in
+      absurd (omega (arith, set, bit_at-zero (end - (seen + 1))))
+
+  -- a probe without hash bits adds no pending end
+  pub none_marked : (from seen at stride marks : ℕ) → marks ≡ 0 → AreMarksOf stride w text at marks → AreClaimed w text from seen at 0 → AreClaimed w text from seen (at + stride) 0
+  none_marked from seen at stride marks none are claimed place end occurs after behind before = elim (cases_lt end (at + offset_at w place)) [
+    | inl sooner ↦ claimed place end occurs after behind sooner
+    | inr later ↦
+        let there : end ≡ at + (end - at) = omega (arith, later) in
+        let set = are place (end - at) (omega (arith, later)) (omega (arith, later, before)) (subst (Occurs w.literals text place) there occurs) in
+        absurd (omega (arith, ap (λ m. bit_at m (end - at)) none, set, bit_at-zero (end - at)))
+  ]
+
+  -- a probe adds the pending ends of as many factors as the stride has positions
+  pub claims_further : (from seen back stride marks look : ℕ) → back < 56 → ((place : ℕ) → place < length w.literals.texts → offset_at w place + stride ≤ 8) → AreMarksOf stride w text (seen + 1 + back) look
+      → AreClaimed w text from seen (seen + 1 + back) marks → AreClaimed w text from seen (seen + 1 + (back + stride)) (bit_or marks (look * 2 ^ back % 2 ^ 64))
+  claims_further from seen back stride marks look few near are claimed place end occurs after behind before =
+      let short : end - (seen + 1) < 64 = omega (arith, near place (listed w.literals text place end occurs), few, before, behind) in
+      elim (cases_lt end (seen + 1 + back + offset_at w place)) [
+        | inl sooner ↦ marked_below marks look back (end - (seen + 1)) short (claimed place end occurs after behind sooner)
+        | inr later ↦
+            let ahead : ℕ = end - (seen + 1 + back) in
+            let there : end ≡ seen + 1 + back + ahead = omega (arith, later) in
+            let set = are place ahead (omega (arith, later)) (omega (arith, later, before)) (subst (Occurs w.literals text place) there occurs) in
+            let above : end - (seen + 1) - back ≡ ahead = omega (arith, later) in
+            marked_above marks look back (end - (seen + 1)) short (omega (arith, later)) (ap (bit_at look) above ∙ set)
+      ]
+
+-- after a text's start, a position passes if the last factor of a literal ends there
+module _ (w : Windowing) (masks : Masks) (text : List ℕ) (seen passing : ℕ) (covers : CoversFronts w.literals (length w.literals.texts) w.offsets masks) (within : AreWithin w) (bytes : All (λ b. b < 256) text) (tells : TellsBits (IsCandidate masks text) (seen + 1) 64 passing) where
+  pub passes : (place end : ℕ) → Occurs w.literals text place end → seen < end - offset_at w place → end - offset_at w place ≤ seen + 64 → bit_at passing (end - offset_at w place - (seen + 1)) ≡ 1
+  passes place end occurs behind inside =
+      let before = listed w.literals text place end occurs in
+      let is = within.all place before in
+      let there : end - offset_at w place ≡ seen + 1 + (end - offset_at w place - (seen + 1)) = omega (arith, behind) in
+      (tells (end - offset_at w place - (seen + 1))).1 (omega (arith, behind, inside), subst (IsCandidate masks text) there (covers text place end bytes before (omega (arith, is.within, within.some)) occurs))
+
+  -- where no position passes, none has a pending end
+  pub none_passes : (from base : ℕ) → passing ≡ 0 → AreClaimed w text from base (seen + 1) 0 → AreClaimed w text from base (seen + 64 + 1) 0
+  none_passes from base none claimed place end occurs after behind before = elim (cases_lt end (seen + 1 + offset_at w place)) [
+    | inl sooner ↦ claimed place end occurs after behind sooner
+    | inr later ↦
+        let set = passes place end occurs (omega (arith, later)) (omega (arith, before, later)) in
+        absurd (omega (arith, ap (λ m. bit_at m (end - offset_at w place - (seen + 1))) none, set, bit_at-zero (end - offset_at w place - (seen + 1))))
+  ]
+
+-- each literal whose last factor ends in a block is pending, or its position remains
+abbrev pub AreLeft : Windowing → List ℕ → ℕ → ℕ → ℕ → Type 0
+AreLeft w text seen found rest = (place end : ℕ) → Occurs w.literals text place end → seen < end - offset_at w place → end - offset_at w place ≤ seen + 56
+    → (bit_at found (end - (seen + 1)) ≡ 1) ⊎ (bit_at rest (end - offset_at w place - (seen + 1)) ≡ 1)
+
+module _ (w : Windowing) (text : List ℕ) (seen : ℕ) (within : AreWithin w) where
+  -- the lowest remaining position is probed
+  pub left_further : (found rest back others look : ℕ) → SplitsLowest rest back others → AreMarks w text (seen + 1 + back) look → AreLeft w text seen found rest → AreLeft w text seen (bit_or found (look * 2 ^ back % 2 ^ 64)) others
+  left_further found rest back others look split are left place end occurs behind inside =
+      let near = window_near w within text place end occurs in
+      let off : ℕ = offset_at w place in
+      let at : ℕ = end - off - (seen + 1) in
+      let short : end - (seen + 1) < 64 = omega (arith, near, behind, inside) in
+      elim (left place end occurs behind inside) [
+        | inl set ↦ inl (marked_below found look back (end - (seen + 1)) short set)
+        | inr has ↦ elim (cases_lt back at) [
+          | inl later ↦ inr ((split.others at).1 (later, has))
+          | inr here ↦ elim (cases_lt at back) [
+            | inl sooner ↦ absurd (omega (arith, split.lowest at sooner, has))
+            | inr same ↦
+                let there : end ≡ seen + 1 + back + off = omega (arith, here, same, behind) in
+                let set = are place off (omega arith) (omega (arith, within.some)) (subst (Occurs w.literals text place) there occurs) in
+                let above : end - (seen + 1) - back ≡ off = omega (arith, there) in
+                inl (marked_above found look back (end - (seen + 1)) short (omega (arith, there)) (ap (bit_at look) above ∙ set))
+          ]
+        ]
+      ]
+
+  -- if no remaining position is in the block, all literals are pending
+  pub all_left : (found rest : ℕ) → ((k : ℕ) → k < 56 → bit_at rest k ≡ 0) → AreLeft w text seen found rest
+      → (place end : ℕ) → Occurs w.literals text place end → seen < end - offset_at w place → end - offset_at w place ≤ seen + 56 → bit_at found (end - (seen + 1)) ≡ 1
+  all_left found rest none left place end occurs behind inside =
+      let at : ℕ = end - offset_at w place - (seen + 1) in
+      elim (left place end occurs behind inside) [
+        | inl set ↦ set
+        | inr has ↦ absurd (omega (arith, none at (omega (arith, behind, inside)), has))
+      ]
+
+  -- so `found` has the pending ends of the block
+  pub sieve_claims : (from marks found rest : ℕ) → ((k : ℕ) → k < 56 → bit_at rest k ≡ 0) → AreLeft w text seen found rest → ((back : ℕ) → back < 64 → bit_at marks back ≡ 1 → bit_at found back ≡ 1)
+      → AreClaimed w text from seen (seen + 1) marks → AreClaimed w text from seen (seen + 56 + 1) found
+  sieve_claims from marks found rest none left kept claimed place end occurs after behind before =
+      let near = window_near w within text place end occurs in
+      elim (cases_lt end (seen + 1 + offset_at w place)) [
+        | inl sooner ↦ kept (end - (seen + 1)) (omega (arith, near, sooner, behind)) (claimed place end occurs after behind sooner)
+        | inr later ↦ all_left found rest none left place end occurs (omega (arith, later)) (omega (arith, before, later))
+      ]
+
+-- a pending end has a bit
+pub claimed_bit : (w : Windowing) (text : List ℕ) (c : Claims) → AreClaims w text c → (end : ℕ) → c.seen < end → end ≤ c.seen + c.count → HasEnd w.literals text end → bit_at c.marks (end - (c.seen + 1)) ≡ 1
+claimed_bit w text c are end after within here =
+    are.claimed here.0 end here.1 after after (omega (arith, within))
+
+-- the first position in a row at which a literal ends, or none
+pub next_within : (l : Literals) (text : List ℕ) (seen count : ℕ) (found : Option (ℕ × ℕ))
+    → MatchOption found ((back : ℕ) → back < count → ¬ HasEnd l text (seen + 1 + back)) (λ hit. IsNextEnd l text seen hit.0)
+    → MatchOption found (NoEndUpTo l text seen (seen + count)) (λ hit. IsNextEnd l text seen hit.0)
+next_within l text seen count None none = λ end after within here.
+    let there : end ≡ seen + 1 + (end - (seen + 1)) = omega (arith, after) in
+    none (end - (seen + 1)) (omega (arith, after, within)) (subst (HasEnd l text) there here)
+next_within l text seen count (Some hit) next = next
+
+-- the state of a search after some ends of a block
+pub claims_from : (w : Windowing) (text : List ℕ) (from seen count marks passed : ℕ) (rest : Claims) → AreClaimed w text from seen (seen + count + 1) marks → from ≤ seen + passed → passed ≤ count → seen + count ≤ length text → count ≤ 56
+    → rest.seen ≡ seen + passed → rest.count ≡ count - passed → ((back : ℕ) → bit_at rest.marks back ≡ bit_at marks (passed + back)) → AreClaims w text rest
+claims_from w text from seen count marks passed rest claimed sooner less inside few at left same = record {
+  claimed = λ place end occurs after behind before.
+      let there : passed + (end - (rest.seen + 1)) ≡ end - (seen + 1) = omega (arith, behind, at) in
+      same (end - (rest.seen + 1)) ∙ ap (bit_at marks) there ∙ claimed place end occurs (omega (arith, after, at, sooner)) (omega (arith, behind, at)) (omega (arith, before, at, left, less));
+  inside = omega (arith, inside, at, left, less);
+  few = omega (arith, few, left);
+}
+
+pub claims_rest : (w : Windowing) (text : List ℕ) (c : Claims) (passed : ℕ) (rest : Claims) → AreClaims w text c → passed ≤ c.count → rest.seen ≡ c.seen + passed → rest.count ≡ c.count - passed → ((back : ℕ) → bit_at rest.marks back ≡ bit_at c.marks (passed + back)) → AreClaims w text rest
+claims_rest w text c passed rest are less at left same = claims_from w text c.seen c.seen c.count c.marks passed rest are.claimed (omega arith) less are.inside are.few at left same

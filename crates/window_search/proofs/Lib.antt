@@ -1,0 +1,3 @@
+pub mod ClaimSteps
+pub mod MarkSteps
+pub mod WindowLemmas

@@ -1,0 +1,15 @@
+//! The search by factors: hash bits of literals by some of their bytes, which are rare in a given text.
+#![tactic(auto)]
+
+mod choosing;
+mod claiming;
+mod counts;
+mod grouping;
+mod marking;
+mod shape;
+mod windowed;
+mod windows;
+
+pub use choosing::{LOOK_COST, MARK_COST, SIEVE_COST, START_COST, cost_of_blocks};
+pub use windowed::WindowedEnds;
+pub use windows::Windows;
