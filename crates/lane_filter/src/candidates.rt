@@ -1,16 +1,22 @@
 //! The positions of a text at which an occurrence may end.
 ghost use Rattle.std.specs.Prelude.{◌≡◌, ◌+◌, ◌<◌, ◌≤◌, length, IfSome};
 ghost use Rattle.std.specs.Option.{IfNone};
+ghost use Rattle.lane_filter.specs.declared.candidates.TheConstants.{MOST_COPIED};
+ghost use Rattle.lane_filter.specs.Fronts.{IsFrontOf};
 ghost use Rattle.lane_filter.specs.PlacesAfter.{NoneWithin, IsFirstAfter, AreMarked};
 ghost use Rattle.lane_filter.specs.Sieves.{Passes};
 
 use crate::any_of::AnyOf;
-use crate::bits::{from_bit, split_lowest};
+use crate::bits::{below_bit, from_bit, split_lowest};
 use crate::end_test::EndTest;
 use crate::nibbles::Nibbles;
 use crate::sieve::Sieve;
 use crate::skipping::skip_unmarked;
 use std::marker::Model;
+
+/// Bytes. A longer text that has fewer than 64 ends to test together is tested one end after the other: its literals are
+/// compared far before their ends, which is rare.
+const MOST_COPIED: usize = 128;
 
 /// 64 ends in a row, up to `done`: bit k of `mask` is set where `first + k` is a candidate.
 #[derive(Clone, Copy)]
@@ -95,6 +101,56 @@ fn last_bits<T: EndTest>(test: &T, text: &[u8], seen: usize) -> EndBits
     }
 }
 
+/// A text with zero bytes after it, 64 of them at least.
+#[inline(always)]
+fn padded(text: &[u8]) -> [u8; MOST_COPIED + 64]
+    requires { length text.now ≤ MOST_COPIED }
+    ensures { IsFrontOf text.now result }
+{
+    let mut copy = [0; MOST_COPIED + 64];
+    copy[..text.len()].copy_from_slice(text);
+    copy
+}
+
+/// The ends after a position, fewer than 64, which are tested together in a copy of the text.
+#[inline(always)]
+fn copied_bits<T: EndTest>(test: &T, text: &[u8], from: usize) -> EndBits
+    requires after { T.reaches test.now ≤ from + 1 }
+    requires within { from ≤ length text.now }
+    requires few { length text.now < from + 64 }
+    requires short { length text.now ≤ MOST_COPIED }
+    ensures marked { AreMarked (T.candidate test.now text.now) from result.first result.done result.mask }
+    ensures done { result.done ≡ length text.now }
+{
+    let copy = padded(text);
+    test.local_law(text, &copy);
+    let whole = test.marks(&copy, from + 1);
+    EndBits {
+        first: from + 1,
+        mask: below_bit(whole, text.len() - from),
+        done: text.len(),
+    }
+}
+
+/// The first ends after a position with a candidate among them, in a text that is too short to test 64 at a time.
+fn short_bits<T: EndTest>(test: &T, text: &[u8], from: usize) -> EndBits
+    requires within { from ≤ length text.now }
+    requires short { length text.now < T.reaches test.now + 63 }
+    ensures marked { AreMarked (T.candidate test.now text.now) from result.first result.done result.mask }
+    ensures within { result.done ≤ length text.now }
+    ensures ended { result.mask ≡ 0 → result.done ≡ length text.now }
+{
+    let front = from.max(test.reach() - 1);
+    if text.len() <= front || text.len() > MOST_COPIED {
+        return plain_bits(test, text, from, text.len());
+    }
+    let start = plain_bits(test, text, from, front);
+    if start.mask != 0 {
+        return start;
+    }
+    copied_bits(test, text, front)
+}
+
 /// The first ends after a position with a candidate among them, or none at the end of the text. Testing 64 at a time
 /// needs as many bytes before the first end as the test reads.
 fn next_bits<T: EndTest>(test: &T, text: &[u8], from: usize) -> EndBits
@@ -105,7 +161,7 @@ fn next_bits<T: EndTest>(test: &T, text: &[u8], from: usize) -> EndBits
 {
     let reach = test.reach();
     if text.len() < reach + 63 {
-        return plain_bits(test, text, from, text.len());
+        return short_bits(test, text, from);
     }
     let front = from.max(reach - 1);
     let start = plain_bits(test, text, from, front);
