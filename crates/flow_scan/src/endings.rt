@@ -9,7 +9,7 @@ use crate::compiled::Compiled;
 use crate::ends::Ends;
 use crate::hit::Hit;
 use crate::met::Met;
-use crate::searching::add_hits_at;
+use crate::searching::{add_hits_at, skip_short_ends};
 use lane_filter::Candidates;
 use list_index::ListIndex;
 use std::alloc::AllocError;
@@ -20,34 +20,41 @@ use std::marker::Model;
 pub(crate) struct SievedEnds<'a> {
     compiled: &'a Compiled,
     text: &'a [u8],
+    /// The last end found, or where the search began. Nothing ends after it before the candidates.
+    from: usize,
     candidates: Candidates<'a>,
     met: Met,
 }
 
 impl<'a> Model for SievedEnds<'a> {
-    ghost use Rattle.std.specs.Prelude.{◌≡◌};
+    ghost use Rattle.std.specs.Prelude.{◌≡◌, ◌≤◌};
+    ghost use Rattle.lit_base.specs.NextEnds.{NoEndUpTo};
     ghost use Rattle.nib_mask.specs.Candidates.{CoversBy};
     ghost use Rattle.lane_filter.specs.Sieves.{Passes};
     ghost use Rattle.flow_scan.specs.Walks.{Walk};
 
     ghost Value = { Walk };
 
-    ghost view = { λ w. record { literals = w.compiled.now.literals; text = w.text.now; from = w.candidates.from } };
+    ghost view = { λ w. record { literals = w.compiled.now.literals; text = w.text.now; from = w.from } };
 
     ghost invariant = { λ w. CoversBy w.compiled.now.literals (Passes w.candidates.sieve)
-        × (w.candidates.text ≡ w.text.now) };
+        × (w.candidates.text ≡ w.text.now)
+        × (w.from ≤ w.candidates.from)
+        × NoEndUpTo w.compiled.now.literals w.text.now w.from w.candidates.from };
 }
 
 impl<'a> SievedEnds<'a> {
-    /// The ends after a position. It reads nothing yet.
+    /// The ends after a position. It reads nothing yet. Positions at which no literal can end yet are passed over.
     pub fn behind(compiled: &'a Compiled, text: &'a [u8], from: usize) -> SievedEnds<'a>
         requires { from ≤ length text.now }
         ensures { result ≡ record { literals = compiled.now.literals; text = text.now; from = from } }
     {
-        let candidates = Candidates::new(compiled.sieve(), text, from);
+        let start = skip_short_ends(compiled.index(), from).min(text.len());
+        let candidates = Candidates::new(compiled.sieve(), text, start);
         SievedEnds {
             compiled,
             text,
+            from,
             candidates,
             met: Met::nothing(),
         }
@@ -72,7 +79,10 @@ impl<'a> Ends for SievedEnds<'a> {
             &mut self.candidates,
             &mut self.met,
         );
-        self.met.count_ends(usize::from(found.is_some()));
+        if let Some((end, _)) = found {
+            self.met.end();
+            self.from = end;
+        }
         found
     }
 
@@ -106,6 +116,7 @@ pub(crate) fn next_verified(
         (λ found. IsNextEnd list.now text.now candidates.old.from found.0) }
     ensures first { IfSome result (λ found. IsFirstEnding list.now text.now 0 found.0 found.1) }
     ensures reached { IfSome result (λ found. candidates.new.from ≡ found.0) }
+    ensures ahead { candidates.old.from ≤ candidates.new.from }
 {
     while let Some(end) = candidates.next() {
         if let Some(first) = list.first_ending(text, end) {

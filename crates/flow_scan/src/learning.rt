@@ -5,6 +5,7 @@ use crate::compiled::Compiled;
 use crate::end_finder::EndFinder;
 use crate::hit::Hit;
 use crate::hit_search::{HitSearch, PlainSearch};
+use crate::strategy::has_use;
 use crate::tuning::LEAST_LEARNED;
 use std::alloc::{AllocError, Global};
 
@@ -39,17 +40,18 @@ pub(crate) fn make_if_long(
     requires { IfSome finder.old (λ list. list ≡ compiled.now.literals) }
     ensures { IfSome finder.new (λ list. list ≡ compiled.now.literals) }
 {
-    if finder.is_none() && count >= LEAST_LEARNED {
+    if finder.is_none() && count >= LEAST_LEARNED && has_use(compiled.list().len()) {
         *finder = made(alloc, compiled);
     }
 }
 
-/// A finder, unless the list is short or there is no memory for one.
+/// A finder, unless there is no memory for one.
+#[inline(never)]
 fn made(alloc: Global, compiled: &Compiled) -> Option<EndFinder>
     ensures { IfSome result (λ list. list ≡ compiled.now.literals) }
 {
-    match EndFinder::new_unless_few(alloc, compiled) {
-        Ok(finder) => finder,
+    match EndFinder::new(alloc, compiled) {
+        Ok(finder) => Some(finder),
         Err(_) => None,
     }
 }
