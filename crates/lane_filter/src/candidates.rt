@@ -4,7 +4,7 @@ ghost use Rattle.std.specs.Option.{IfNone};
 ghost use Rattle.lane_filter.specs.declared.candidates.TheConstants.{MOST_COPIED};
 ghost use Rattle.lane_filter.specs.Fronts.{IsFrontOf};
 ghost use Rattle.lane_filter.specs.PlacesAfter.{NoneWithin, IsFirstAfter, AreMarked};
-ghost use Rattle.lane_filter.specs.Sieves.{Passes};
+ghost use Rattle.lane_filter.specs.Sieves.{IsCandidateOfTwo, Passes};
 
 use crate::any_of::AnyOf;
 use crate::bits::{below_bit, from_bit, split_lowest};
@@ -12,6 +12,7 @@ use crate::end_test::EndTest;
 use crate::nibbles::Nibbles;
 use crate::sieve::Sieve;
 use crate::skipping::skip_unmarked;
+use nib_mask::ByteMasks;
 use std::marker::Model;
 
 /// Bytes. A longer text that has fewer than 64 ends to test together is tested one end after the other: its literals are
@@ -181,10 +182,7 @@ fn sieved_bits(sieve: &Sieve, text: &[u8], from: usize) -> EndBits
 {
     match sieve {
         Sieve::Nibbles(masks) => next_bits(&Nibbles::new(masks), text, from),
-        Sieve::TwoNibbles(first, last) => {
-            let two = AnyOf::new(Nibbles::new(first), Nibbles::new(last));
-            next_bits(&two, text, from)
-        }
+        Sieve::TwoNibbles(first, last) => two_nibbles_bits(first, last, text, from),
         Sieve::OneByte(byte) => next_bits(byte, text, from),
         Sieve::OneExactByte(byte) => next_bits(byte, text, from),
         Sieve::OneTriple(triple) => next_bits(triple, text, from),
@@ -194,6 +192,19 @@ fn sieved_bits(sieve: &Sieve, text: &[u8], from: usize) -> EndBits
         Sieve::ThreePairs(three) => next_bits(three, text, from),
         Sieve::ThreeExactPairs(three) => next_bits(three, text, from),
     }
+}
+
+/// As `sieved_bits`, by the tables of more than eight buckets. It stands alone because a function clears room for all its
+/// tables when it begins, and these take the most.
+#[inline(never)]
+fn two_nibbles_bits(first: &ByteMasks, last: &ByteMasks, text: &[u8], from: usize) -> EndBits
+    requires { from ≤ length text.now }
+    ensures marked { AreMarked (IsCandidateOfTwo first.now last.now text.now) from result.first result.done result.mask }
+    ensures within { result.done ≤ length text.now }
+    ensures ended { result.mask ≡ 0 → result.done ≡ length text.now }
+{
+    let two = AnyOf::new(Nibbles::new(first), Nibbles::new(last));
+    next_bits(&two, text, from)
 }
 
 /// The positions of a text at which an occurrence may end, in order. A contract sees the prefilter, the text, and the
@@ -252,6 +263,9 @@ impl<'a> Candidates<'a> {
         ensures stays { IfNone result (self.new.from ≡ self.old.from) }
     {
         if self.mask == 0 {
+            if self.done == self.text.len() {
+                return None;
+            }
             let ends = sieved_bits(self.sieve, self.text, self.done);
             self.first = ends.first;
             self.mask = ends.mask;
