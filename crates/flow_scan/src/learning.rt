@@ -41,17 +41,18 @@ pub(crate) fn make_if_long(
     ensures { IfSome finder.new (λ list. list ≡ compiled.now.literals) }
 {
     if finder.is_none() && count >= LEAST_LEARNED && has_use(compiled.list().len()) {
-        *finder = made(alloc, compiled);
+        make(finder, alloc, compiled);
     }
 }
 
-/// A finder, unless there is no memory for one.
+/// Makes a finder, if there is memory for one. It stands alone because a function clears room for all that it moves when
+/// it begins, and mostly none is made.
 #[inline(never)]
-fn made(alloc: Global, compiled: &Compiled) -> Option<EndFinder>
-    ensures { IfSome result (λ list. list ≡ compiled.now.literals) }
+fn make(finder: &mut Option<EndFinder>, alloc: Global, compiled: &Compiled)
+    ensures { IfSome finder.new (λ list. list ≡ compiled.now.literals) }
 {
-    match EndFinder::new(alloc, compiled) {
+    *finder = match EndFinder::new(alloc, compiled) {
         Ok(finder) => Some(finder),
         Err(_) => None,
-    }
+    };
 }

@@ -5,8 +5,7 @@ use Rattle.flow_scan.proofs.endings.SievedEnds.behind.Goals as goal
 pub invariant_of-result : goal.invariant_of-result
 invariant_of-result c =
     let none = rw c.index.ensures at (c.skip_short_ends.ensures.none c.args.text.now) in
-    let start = c.new-candidates.ensures.from in
-    (
+    let start = c.new-candidates.ensures.from in (
       rw c.new-candidates.ensures.sieve c.sieve.ensures,
       c.new-candidates.ensures.text,
       omega (arith, start, c.min-start.ensures, c.skip_short_ends.ensures.ahead, c.requires),

@@ -10,8 +10,7 @@ next_verified-found-requires-clause-covers c = rw c.index.ensures c.self.invaria
 
 pub invariant_of-self : goal.invariant_of-self
 invariant_of-self c =
-    let reached = c.in-Some.ensures.reached in
-    (
+    let reached = c.in-Some.ensures.reached in (
       rw c.next_verified-found.ensures.sieve c.self.invariant.0,
       c.next_verified-found.ensures.text ∙ c.self.invariant.1,
       omega (arith, reached),
@@ -21,8 +20,7 @@ invariant_of-self c =
 pub invariant_of-self-in_default : goal.invariant_of-self-in_default
 invariant_of-self-in_default c =
     let s = c.self.inside in
-    let ends = none_further s.compiled.now.literals s.text.now s.from s.candidates.from c.self.invariant.3 (rw c.index.ensures at c.in_default.ensures.next) in
-    (
+    let ends = none_further s.compiled.now.literals s.text.now s.from s.candidates.from c.self.invariant.3 (rw c.index.ensures at c.in_default.ensures.next) in (
       rw c.next_verified-found.ensures.sieve c.self.invariant.0,
       c.next_verified-found.ensures.text ∙ c.self.invariant.1,
       omega (arith, c.next_verified-found.ensures.ahead, c.self.invariant.2),
