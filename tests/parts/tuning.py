@@ -8,7 +8,7 @@ from support.programs import TOP
 CRATES = os.path.join(TOP, "crates")
 # The crates that choose nothing have constants of shape alone: contracts cite them, or they follow from a data structure.
 SHAPES = {
-    "flow_scan": {},
+    "flow_scan": {"seam.rt": {"SHORT"}},
     "lit_plan": {},
     "sieve_search": {},
     "text_ends": {},

@@ -47,11 +47,9 @@ tail_moved carry held xs more fits =
     ap (λ n. drop (n - carry) (take held xs)) (length-take-le held xs fits) ∙ ap (λ n. drop start (take n xs)) (sym all) ∙ drop-take start carry xs in
     ap (last_bytes carry) here ∙ last_of_short carry moved (omega (arith, len)) ∙ sym there
 
--- a piece that fits the overlap stands whole after the held bytes
-pub kept_short : (carry held : ℕ) (xs piece : List ℕ) → length piece ≤ carry → take (length (take carry piece)) (drop held xs) ≡ take carry piece → take (held + length piece) xs ≡ take held xs ++ piece
-kept_short carry held xs piece short front =
-    let whole : take carry piece ≡ piece = take_all carry piece short in
-    take-add held (length piece) xs ∙ ap (λ ys. take held xs ++ ys) (subst (λ p. take (length p) (drop held xs) ≡ p) whole front)
+-- a piece that stands whole after the held bytes
+pub kept_short : (held : ℕ) (xs piece : List ℕ) → take (length piece) (drop held xs) ≡ piece → take (held + length piece) xs ≡ take held xs ++ piece
+kept_short held xs piece front = take-add held (length piece) xs ∙ ap (λ ys. take held xs ++ ys) front
 
 -- of a longer piece, only the last bytes count
 pub kept_long : (carry : ℕ) (xs rest piece : List ℕ) → carry ≤ length piece → last_bytes carry (take carry (last_bytes carry piece ++ rest)) ≡ last_bytes carry (xs ++ piece)
@@ -62,19 +60,10 @@ kept_long carry xs rest piece long =
     ap (last_bytes carry) (take_at last rest carry len) ∙ last_of_short carry last (omega (arith, len))
     ∙ sym (ap (λ n. drop n (xs ++ piece)) skip ∙ drop-append-add xs piece (length piece - carry))
 
--- if the first bytes of a piece stand after the held bytes, so do those of its prefix
-pub offered_front : (carry count ahead : ℕ) (held piece : List ℕ) → take ahead held ≡ take carry piece → take (length (take carry (take count piece))) held ≡ take carry (take count piece)
-offered_front carry count ahead held piece offered =
-    let front : take carry (take count piece) ≡ take count (take carry piece) = elim (cases_lt carry count) [
-      | inl less ↦ take-take carry count piece (omega (arith, less)) ∙ sym (take_all count (take carry piece) (omega (arith, less, length-take carry piece)))
-      | inr more ↦ take_all carry (take count piece) (omega (arith, more, length-take count piece)) ∙ sym (take-take count carry piece more)
-    ] in
-    let part : take count (take ahead held) ≡ take carry (take count piece) = ap (take count) offered ∙ sym front in
-    let rest : List ℕ = drop count (take ahead held) ++ drop ahead held in
-    let whole : take carry (take count piece) ++ rest ≡ held =
-    ap (λ xs. xs ++ rest) (sym part) ∙ sym (append_assoc (take count (take ahead held)) (drop count (take ahead held)) (drop ahead held))
-    ∙ ap (λ xs. xs ++ drop ahead held) (take-append-drop count (take ahead held)) ∙ take-append-drop ahead held in
-    ap (take (length (take carry (take count piece)))) (sym whole) ∙ take_at (take carry (take count piece)) rest (length (take carry (take count piece))) refl
+-- if offered bytes of a piece stand after the held bytes, so do fewer bytes of it
+pub offered_front : (count ahead : ℕ) (held piece : List ℕ) → take ahead held ≡ take ahead piece → count ≤ ahead → take count held ≡ take count piece
+offered_front count ahead held piece offered few =
+    sym (take-take count ahead held few) ∙ ap (take count) offered ∙ take-take count ahead piece few
 
 -- the prefix of a text that begins with a tail
 pub front_behind : (tail piece : List ℕ) (carry stop : ℕ) → length tail ≤ stop → stop ≤ length (tail ++ take carry piece) → take stop (tail ++ take carry piece) ≡ tail ++ take (stop - length tail) piece

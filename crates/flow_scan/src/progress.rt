@@ -4,6 +4,7 @@ ghost use Rattle.lit_plan.specs.declared.fault.Fault.TheVariants.{OutOfMemory, S
 ghost use Rattle.lit_base.specs.NextEnds.{NoEndAfter};
 ghost use Rattle.text_ends.specs.HitsAt.{Extends};
 ghost use Rattle.flow_scan.specs.Scanners.{Reached, advanced, started_at};
+ghost use Rattle.flow_scan.specs.Seams.{AreOffered};
 ghost use Rattle.flow_scan.specs.Tails.{StopsIn};
 ghost use Rattle.lit_plan.specs.Bounds.{carry_of};
 
@@ -134,7 +135,7 @@ impl Progress {
 }
 
 /// Adds the hits that end in a piece, up to the first end by which `out` gained at least `most` hits. It searches the
-/// first bytes of the piece at the boundary, after the tail, and then the rest in place. Returns how many bytes of the
+/// offered bytes of the piece at the boundary, after the tail, and then the rest in place. Returns how many bytes of the
 /// piece lie up to this end, or its length. When memory is refused, earlier hits stay added.
 fn add_piece<S: HitSearch>(
     search: &mut S,
@@ -147,7 +148,7 @@ fn add_piece<S: HitSearch>(
 ) -> Result<usize, AllocError>
     requires plan { S.serves search.old compiled.now.literals }
     requires carry { seam.now.carry ≡ carry_of compiled.now.literals }
-    requires front { seam.now.front ≡ take seam.now.carry piece.now }
+    requires front { AreOffered seam.now.carry piece.now seam.now.front }
     requires room { at + length piece.now < 2 ^ 64 }
     ensures plan { S.serves search.new compiled.now.literals }
     ensures ok { IfOk result (λ count. StopsIn compiled.now.literals seam.now.tail piece.now at most count out.old.items out.new.items) }
@@ -160,10 +161,10 @@ fn add_piece<S: HitSearch>(
     if gained >= most {
         return Ok(stop - seam.tail_len());
     }
-    let carry = compiled.carry();
-    if piece.len() <= carry {
+    if piece.len() <= seam.ahead() {
         return Ok(stop - seam.tail_len());
     }
+    let carry = compiled.carry();
     let in_place = search.add_hits(
         compiled,
         piece,

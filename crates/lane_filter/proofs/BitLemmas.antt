@@ -1,8 +1,9 @@
 -- The lowest bit of a mask, and its bits from a place on.
-use Rattle.std.proofs.Common.{◌≡◌, ◌↔◌, ℕ, zero, suc, ◌+◌, ◌-◌, ◌*◌, ◌/◌, ◌%◌, ◌^◌, ◌<◌, ◌≤◌, sym, ap, ◌∙◌, arith, bit_and, shr-shr, pow_pos, ⊎_elim}
+use Rattle.std.proofs.Common.{◌≡◌, ◌↔◌, ℕ, zero, suc, ◌+◌, ◌-◌, ◌*◌, ◌/◌, ◌%◌, ◌^◌, ◌<◌, ◌≤◌, sym, ap, ◌∙◌, arith, bit_and, min, shr-shr, pow_pos, ⊎_elim}
 use Rattle.std.specs.Int.{bit_at}
 use Rattle.std.proofs.lemmas.Bool.{cases_lt, cases_eq}
-use Rattle.std.proofs.lemmas.Nat.Bits.{bit_at_and, bit_at-lt, bit_at_lowest, bit_at-suc, bit_at-zero, bit_at_cat_low, bit_at_cat_high}
+use Rattle.std.proofs.lemmas.Nat.Bits.{bit_at_and, bit_at-lt, bit_at_lowest, bit_at-suc, bit_at-zero, bit_at_cat_low, bit_at_cat_high, bit_at_ones, bit_at_ones_above}
+use Rattle.std.proofs.Math.Pow.{pow-lt}
 
 -- up to its lowest bit, the bits of a number less 1
 pub pred_at_lowest : (l m : ℕ) → bit_at m l ≡ 1 → ((j : ℕ) → j < l → bit_at m j ≡ 0) → bit_at (m - 1) l ≡ 0
@@ -65,4 +66,20 @@ bits_from m p small k =
     let same : bit_at (a * 2 ^ p % 2 ^ 64) k ≡ bit_at m k =
     whole ∙ bit_at_cat_high a p 0 k (omega arith) from ∙ ap (λ x. x % 2) (shr-shr m p (k - p)) ∙ ap (bit_at m) place in
     (λ h. (from, sym same ∙ h), λ h. same ∙ h.1))
+    (cases_lt k p)
+
+-- the bits below a place
+pub bits_below : (m p : ℕ) → p < 64 → (k : ℕ) → (bit_at (bit_and m (1 * 2 ^ p % 2 ^ 64 - 1)) k ≡ 1) ↔ ((k < p) × (bit_at m k ≡ 1))
+bits_below m p low k =
+    let fits : 2 ^ p < 2 ^ 64 = pow-lt low in
+    let whole : 1 * 2 ^ p % 2 ^ 64 ≡ 2 ^ p = omega arith in
+    let ones = ap (λ x. bit_at (x - 1) k) whole in
+    let meet = bit_at_and m (1 * 2 ^ p % 2 ^ 64 - 1) k ∙ ap (min (bit_at m k)) ones in
+    let bit = bit_at-lt m k in
+    ⊎_elim (λ below.
+    let one = bit_at_ones p k below in
+    (λ h. (below, omega arith), λ h. let set = h.1 in omega arith))
+    (λ above.
+    let none = bit_at_ones_above p k above in
+    (λ h. absurd (omega arith), λ h. absurd (omega (arith, h.0))))
     (cases_lt k p)

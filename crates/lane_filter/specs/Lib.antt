@@ -5,6 +5,7 @@ pub mod PlacesAfter
 pub mod Entries
 pub mod Filtered
 pub mod Fours
+pub mod Fronts
 pub mod Lanes
 pub mod OneBytes
 pub mod Pairs

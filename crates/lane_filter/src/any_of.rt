@@ -36,6 +36,11 @@ impl<A: EndTest, B: EndTest> EndTest for AnyOf<A, B> {
         self.one.is_candidate(text, end) || self.other.is_candidate(text, end)
     }
 
+    fn local_law(&self, text: &[u8], longer: &[u8]) {
+        self.one.local_law(text, longer);
+        self.other.local_law(text, longer);
+    }
+
     #[inline(always)]
     fn may_mark(&self, text: &[u8], first: usize) -> bool {
         self.one.may_mark(text, first) || self.other.may_mark(text, first)

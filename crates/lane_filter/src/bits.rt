@@ -20,3 +20,12 @@ pub fn from_bit(mask: u64, place: usize) -> u64
 {
     mask >> place << place
 }
+
+/// The mask without its bits from a place on.
+#[inline(always)]
+pub fn below_bit(mask: u64, place: usize) -> u64
+    requires { place < 64 }
+    ensures { (k : ℕ) → (bit_at result k ≡ 1) ↔ ((k < place) × (bit_at mask k ≡ 1)) }
+{
+    mask & ((1 << place) - 1)
+}

@@ -1,16 +1,23 @@
 //! The positions of a text at which an occurrence may end.
 ghost use Rattle.std.specs.Prelude.{◌≡◌, ◌+◌, ◌<◌, ◌≤◌, length, IfSome};
 ghost use Rattle.std.specs.Option.{IfNone};
+ghost use Rattle.lane_filter.specs.declared.candidates.TheConstants.{MOST_COPIED};
+ghost use Rattle.lane_filter.specs.Fronts.{IsFrontOf};
 ghost use Rattle.lane_filter.specs.PlacesAfter.{NoneWithin, IsFirstAfter, AreMarked};
-ghost use Rattle.lane_filter.specs.Sieves.{Passes};
+ghost use Rattle.lane_filter.specs.Sieves.{IsCandidateOfTwo, Passes};
 
 use crate::any_of::AnyOf;
-use crate::bits::{from_bit, split_lowest};
+use crate::bits::{below_bit, from_bit, split_lowest};
 use crate::end_test::EndTest;
 use crate::nibbles::Nibbles;
 use crate::sieve::Sieve;
 use crate::skipping::skip_unmarked;
+use nib_mask::ByteMasks;
 use std::marker::Model;
+
+/// Bytes. A longer text that has fewer than 64 ends to test together is tested one end after the other: its literals are
+/// compared far before their ends, which is rare.
+const MOST_COPIED: usize = 128;
 
 /// 64 ends in a row, up to `done`: bit k of `mask` is set where `first + k` is a candidate.
 #[derive(Clone, Copy)]
@@ -95,6 +102,56 @@ fn last_bits<T: EndTest>(test: &T, text: &[u8], seen: usize) -> EndBits
     }
 }
 
+/// A text with zero bytes after it, 64 of them at least.
+#[inline(always)]
+fn padded(text: &[u8]) -> [u8; MOST_COPIED + 64]
+    requires { length text.now ≤ MOST_COPIED }
+    ensures { IsFrontOf text.now result }
+{
+    let mut copy = [0; MOST_COPIED + 64];
+    copy[..text.len()].copy_from_slice(text);
+    copy
+}
+
+/// The ends after a position, fewer than 64, which are tested together in a copy of the text.
+#[inline(always)]
+fn copied_bits<T: EndTest>(test: &T, text: &[u8], from: usize) -> EndBits
+    requires after { T.reaches test.now ≤ from + 1 }
+    requires within { from ≤ length text.now }
+    requires few { length text.now < from + 64 }
+    requires short { length text.now ≤ MOST_COPIED }
+    ensures marked { AreMarked (T.candidate test.now text.now) from result.first result.done result.mask }
+    ensures done { result.done ≡ length text.now }
+{
+    let copy = padded(text);
+    test.local_law(text, &copy);
+    let whole = test.marks(&copy, from + 1);
+    EndBits {
+        first: from + 1,
+        mask: below_bit(whole, text.len() - from),
+        done: text.len(),
+    }
+}
+
+/// The first ends after a position with a candidate among them, in a text that is too short to test 64 at a time.
+fn short_bits<T: EndTest>(test: &T, text: &[u8], from: usize) -> EndBits
+    requires within { from ≤ length text.now }
+    requires short { length text.now < T.reaches test.now + 63 }
+    ensures marked { AreMarked (T.candidate test.now text.now) from result.first result.done result.mask }
+    ensures within { result.done ≤ length text.now }
+    ensures ended { result.mask ≡ 0 → result.done ≡ length text.now }
+{
+    let front = from.max(test.reach() - 1);
+    if text.len() <= front || text.len() > MOST_COPIED {
+        return plain_bits(test, text, from, text.len());
+    }
+    let start = plain_bits(test, text, from, front);
+    if start.mask != 0 {
+        return start;
+    }
+    copied_bits(test, text, front)
+}
+
 /// The first ends after a position with a candidate among them, or none at the end of the text. Testing 64 at a time
 /// needs as many bytes before the first end as the test reads.
 fn next_bits<T: EndTest>(test: &T, text: &[u8], from: usize) -> EndBits
@@ -105,7 +162,7 @@ fn next_bits<T: EndTest>(test: &T, text: &[u8], from: usize) -> EndBits
 {
     let reach = test.reach();
     if text.len() < reach + 63 {
-        return plain_bits(test, text, from, text.len());
+        return short_bits(test, text, from);
     }
     let front = from.max(reach - 1);
     let start = plain_bits(test, text, from, front);
@@ -125,10 +182,7 @@ fn sieved_bits(sieve: &Sieve, text: &[u8], from: usize) -> EndBits
 {
     match sieve {
         Sieve::Nibbles(masks) => next_bits(&Nibbles::new(masks), text, from),
-        Sieve::TwoNibbles(first, last) => {
-            let two = AnyOf::new(Nibbles::new(first), Nibbles::new(last));
-            next_bits(&two, text, from)
-        }
+        Sieve::TwoNibbles(first, last) => two_nibbles_bits(first, last, text, from),
         Sieve::OneByte(byte) => next_bits(byte, text, from),
         Sieve::OneExactByte(byte) => next_bits(byte, text, from),
         Sieve::OneTriple(triple) => next_bits(triple, text, from),
@@ -138,6 +192,19 @@ fn sieved_bits(sieve: &Sieve, text: &[u8], from: usize) -> EndBits
         Sieve::ThreePairs(three) => next_bits(three, text, from),
         Sieve::ThreeExactPairs(three) => next_bits(three, text, from),
     }
+}
+
+/// As `sieved_bits`, by the tables of more than eight buckets. It stands alone because a function clears room for all its
+/// tables when it begins, and these take the most.
+#[inline(never)]
+fn two_nibbles_bits(first: &ByteMasks, last: &ByteMasks, text: &[u8], from: usize) -> EndBits
+    requires { from ≤ length text.now }
+    ensures marked { AreMarked (IsCandidateOfTwo first.now last.now text.now) from result.first result.done result.mask }
+    ensures within { result.done ≤ length text.now }
+    ensures ended { result.mask ≡ 0 → result.done ≡ length text.now }
+{
+    let two = AnyOf::new(Nibbles::new(first), Nibbles::new(last));
+    next_bits(&two, text, from)
 }
 
 /// The positions of a text at which an occurrence may end, in order. A contract sees the prefilter, the text, and the
@@ -196,6 +263,9 @@ impl<'a> Candidates<'a> {
         ensures stays { IfNone result (self.new.from ≡ self.old.from) }
     {
         if self.mask == 0 {
+            if self.done == self.text.len() {
+                return None;
+            }
             let ends = sieved_bits(self.sieve, self.text, self.done);
             self.first = ends.first;
             self.mask = ends.mask;

@@ -1,5 +1,6 @@
 //! Tests of the positions of a text at which an occurrence may end, 64 of them at a time.
 ghost use Rattle.std.specs.Prelude.{◌≡◌, ℕ, ◌+◌, ◌<◌, ◌≤◌, ◌↔◌, IsTrue, List, length};
+ghost use Rattle.lane_filter.specs.Fronts.{IsFrontOf};
 ghost use Rattle.lane_filter.specs.Lanes.{TellsBits};
 
 use crate::rare_look::Turn;
@@ -21,6 +22,11 @@ pub(crate) trait EndTest {
         requires some { 1 ≤ end }
         requires within { end ≤ length text.now }
         ensures { IsTrue result ↔ candidate self.now text.now end };
+
+    /// Bytes after an end do not matter: a longer text that begins with this one has the same candidates up to its end.
+    fn local_law(&self, text: &[u8], longer: &[u8])
+        requires { IsFrontOf text.now longer.now }
+        ensures { (end : ℕ) → end ≤ length text.now → candidate self.now text.now end ↔ candidate self.now longer.now end };
 
     /// Whether an occurrence may end at one of 128 positions. It returns false only if none can; a test that has no
     /// quick way returns true.

@@ -43,6 +43,10 @@ impl EndTest for ExactPair {
         self.pair.is_candidate(text, end)
     }
 
+    fn local_law(&self, text: &[u8], longer: &[u8]) {
+        self.pair.local_law(text, longer);
+    }
+
     #[inline(always)]
     fn may_mark(&self, text: &[u8], first: usize) -> bool {
         self.pair.plain().may_mark(text, first)

@@ -43,6 +43,10 @@ impl EndTest for ExactTriple {
         self.triple.is_candidate(text, end)
     }
 
+    fn local_law(&self, text: &[u8], longer: &[u8]) {
+        self.triple.local_law(text, longer);
+    }
+
     #[inline(always)]
     fn may_mark(&self, text: &[u8], first: usize) -> bool {
         self.triple.plain().may_mark(text, first)

@@ -45,6 +45,8 @@ impl<'a> EndTest for Nibbles<'a> {
         plain::is_candidate(self.masks, text, end)
     }
 
+    fn local_law(&self, text: &[u8], longer: &[u8]) {}
+
     #[inline(always)]
     fn may_mark(&self, _text: &[u8], _first: usize) -> bool {
         true

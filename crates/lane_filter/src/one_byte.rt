@@ -65,6 +65,8 @@ impl EndTest for OneByte {
         text[end - 1] | self.case_bit == self.byte
     }
 
+    fn local_law(&self, text: &[u8], longer: &[u8]) {}
+
     #[inline(always)]
     fn may_mark(&self, text: &[u8], first: usize) -> bool {
         any_lane_of(
@@ -130,6 +132,10 @@ impl EndTest for ExactByte {
 
     fn is_candidate(&self, text: &[u8], end: usize) -> bool {
         self.plain().is_candidate(text, end)
+    }
+
+    fn local_law(&self, text: &[u8], longer: &[u8]) {
+        self.plain().local_law(text, longer);
     }
 
     #[inline(always)]

@@ -90,6 +90,8 @@ impl EndTest for ByteTriple {
             && self.third.stands_before(text, end)
     }
 
+    fn local_law(&self, text: &[u8], longer: &[u8]) {}
+
     #[inline(always)]
     fn may_mark(&self, text: &[u8], first: usize) -> bool {
         any_lane_of(

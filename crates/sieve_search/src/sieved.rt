@@ -16,26 +16,32 @@ use text_ends::{Ends, Hit, Tally, add_hits_at};
 pub struct SievedEnds<'a> {
     list: &'a ListIndex,
     text: &'a [u8],
+    /// The last end found, or where the search began. Nothing ends after it before the candidates.
+    from: usize,
     candidates: Candidates<'a>,
     tally: Tally,
 }
 
 impl<'a> Model for SievedEnds<'a> {
-    ghost use Rattle.std.specs.Prelude.{◌≡◌};
+    ghost use Rattle.std.specs.Prelude.{◌≡◌, ◌≤◌};
+    ghost use Rattle.lit_base.specs.NextEnds.{NoEndUpTo};
     ghost use Rattle.nib_mask.specs.Candidates.{CoversBy};
     ghost use Rattle.lane_filter.specs.Sieves.{Passes};
     ghost use Rattle.text_ends.specs.Walks.{Walk};
 
     ghost Value = { Walk };
 
-    ghost view = { λ w. record { literals = w.list.now; text = w.text.now; from = w.candidates.from } };
+    ghost view = { λ w. record { literals = w.list.now; text = w.text.now; from = w.from } };
 
     ghost invariant = { λ w. CoversBy w.list.now (Passes w.candidates.sieve)
-        × (w.candidates.text ≡ w.text.now) };
+        × (w.candidates.text ≡ w.text.now)
+        × (w.from ≤ w.candidates.from)
+        × NoEndUpTo w.list.now w.text.now w.from w.candidates.from };
 }
 
 impl<'a> SievedEnds<'a> {
-    /// The ends after a position, by a prefilter for the literals of the list. It reads nothing yet.
+    /// The ends after a position, by a prefilter for the literals of the list. It reads nothing yet. Positions at which no
+    /// literal can end yet are passed over.
     #[inline]
     pub fn behind(
         list: &'a ListIndex,
@@ -47,10 +53,12 @@ impl<'a> SievedEnds<'a> {
         requires inside { from ≤ length text.now }
         ensures { result ≡ record { literals = list.now; text = text.now; from = from } }
     {
-        let candidates = Candidates::new(sieve, text, from);
+        let start = list.skip_short_ends(from).min(text.len());
+        let candidates = Candidates::new(sieve, text, start);
         SievedEnds {
             list,
             text,
+            from,
             candidates,
             tally: Tally::nothing(),
         }
@@ -75,7 +83,10 @@ impl<'a> Ends for SievedEnds<'a> {
             &mut self.candidates,
             &mut self.tally,
         );
-        self.tally.count_ends(usize::from(found.is_some()));
+        if let Some((end, _)) = found {
+            self.tally.end();
+            self.from = end;
+        }
         found
     }
 
@@ -110,6 +121,7 @@ pub fn next_verified(
         (λ found. IsNextEnd list.now text.now candidates.old.from found.0) }
     ensures first { IfSome result (λ found. IsFirstEnding list.now text.now 0 found.0 found.1) }
     ensures reached { IfSome result (λ found. candidates.new.from ≡ found.0) }
+    ensures ahead { candidates.old.from ≤ candidates.new.from }
 {
     while let Some(end) = candidates.next() {
         if let Some(first) = list.first_ending(text, end) {

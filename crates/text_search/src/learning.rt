@@ -3,6 +3,7 @@ ghost use Rattle.std.specs.Prelude.{◌≡◌, IfSome};
 
 use crate::end_finder::EndFinder;
 use crate::hit_search::{HitSearch, PlainSearch};
+use crate::strategy::has_use;
 use crate::tuning::LEAST_LEARNED;
 use lit_plan::Compiled;
 use std::alloc::{AllocError, Global};
@@ -39,17 +40,19 @@ pub fn make_if_long(
     requires { IfSome finder.old (λ list. list ≡ compiled.now.literals) }
     ensures { IfSome finder.new (λ list. list ≡ compiled.now.literals) }
 {
-    if finder.is_none() && count >= LEAST_LEARNED {
-        *finder = made(alloc, compiled);
+    if finder.is_none() && count >= LEAST_LEARNED && has_use(compiled.list().len()) {
+        make(finder, alloc, compiled);
     }
 }
 
-/// A finder, unless the list is short or there is no memory for one.
-fn made(alloc: Global, compiled: &Compiled) -> Option<EndFinder>
-    ensures { IfSome result (λ list. list ≡ compiled.now.literals) }
+/// Makes a finder, if there is memory for one. It stands alone because a function clears room for all that it moves when
+/// it begins, and mostly none is made.
+#[inline(never)]
+fn make(finder: &mut Option<EndFinder>, alloc: Global, compiled: &Compiled)
+    ensures { IfSome finder.new (λ list. list ≡ compiled.now.literals) }
 {
-    match EndFinder::new_unless_few(alloc, compiled) {
-        Ok(finder) => finder,
+    *finder = match EndFinder::new(alloc, compiled) {
+        Ok(finder) => Some(finder),
         Err(_) => None,
-    }
+    };
 }

@@ -3,12 +3,11 @@ use Rattle.std.proofs.Common.{◌≡◌, ℕ, ◌++◌, List, length, sym, ap, �
 use Rattle.std.proofs.lemmas.Bool.{false≢true}
 use Rattle.lit_base.specs.NextEnds.{NoEndAfter}
 use Rattle.flow_scan.specs.Scanners.{Reached}
-use Rattle.flow_scan.specs.Seams.{Seaming}
 use Rattle.flow_scan.proofs.progress.Progress.feed_by.Goals as goal
 
 pub returns-in-Err-clause-quiet : goal.returns-in-Err-clause-quiet
 returns-in-Err-clause-quiet g c = λ none.
     let piece = c.args.piece.now in
     let l = c.args.compiled.now.literals in
-    let tail : c.offer.new.self.tail ≡ c.args.self.now.tail = ap (λ (s : Seaming). s.tail) c.offer.ensures ∙ ap (λ (r : Reached). r.tail) c.self.view_is in
+    let tail : c.offer.new.self.tail ≡ c.args.self.now.tail = c.offer.ensures.tail ∙ ap (λ (r : Reached). r.tail) c.self.view_is in
     absurd (false≢true (c.in-Err.ensures.quiet (subst (λ (t : List ℕ). NoEndAfter l (t ++ piece) (length t)) (sym tail) none)))

@@ -1,5 +1,6 @@
 -- The last bytes of the tail and the piece are those of the held bytes and the piece.
-use Rattle.std.proofs.Common.{◌≡◌, ◌++◌, drop, take, refl, sym, ap, ◌∙◌}
+use Rattle.std.proofs.Common.{◌≡◌, ◌++◌, drop, take, length, refl, sym, ap, ◌∙◌, ⊎_elim, arith}
+use Rattle.std.proofs.lemmas.List.{length-drop, length-take}
 use Rattle.flow_scan.specs.Seams.{Seaming}
 use Rattle.flow_scan.specs.Tails.{last_bytes}
 use Rattle.flow_scan.proofs.SeamLemmas.{offered_front, same_seaming}
@@ -7,12 +8,26 @@ use Rattle.flow_scan.proofs.TailSteps.{last_of_last}
 use Rattle.flow_scan.proofs.seam.Seam.commit.Goals as goal
 
 pub keep_last-self-inside-requires-clause-front : goal.keep_last-self-inside-requires-clause-front
-keep_last-self-inside-requires-clause-front c =
+keep_last-self-inside-requires-clause-front c = λ few.
     let s = c.self.inside in
     let piece = c.args.piece.now in
-    let offered : take s.ahead (drop s.held s.room.items) ≡ take s.carry piece =
-    ap (λ (v : Seaming). v.front) c.self.view_is ∙ c.requires.offered ∙ ap (λ (v : Seaming). take v.carry piece) (sym c.self.view_is) in
-    rw c.split_at.ensures.front (offered_front s.carry c.args.count s.ahead (drop s.held s.room.items) piece offered)
+    let behind = drop s.held s.room.items in
+    let ahead : length c.args.self.now.front ≡ s.ahead =
+    sym (ap (λ (v : Seaming). length v.front) c.self.view_is) ∙ omega (arith, length-take s.ahead behind, length-drop s.held s.room.items, c.self.invariant.within) in
+    let offered : take s.ahead behind ≡ take s.ahead piece =
+    ap (λ (v : Seaming). v.front) c.self.view_is ∙ c.requires.offered.first ∙ ap (λ n. take n piece) ahead in
+    offered_front (length c.split_at.result.0.now) s.ahead behind piece offered few
+    ∙ ap (λ n. take n piece) c.split_at.ensures.front_len ∙ sym c.split_at.ensures.front
+
+pub keep_last-self-inside-requires-clause-long : goal.keep_last-self-inside-requires-clause-long
+keep_last-self-inside-requires-clause-long c = λ more.
+    let s = c.self.inside in
+    let behind = drop s.held s.room.items in
+    let carry : s.carry ≡ c.args.self.now.carry = ap (λ (v : Seaming). v.carry) c.self.view_is in
+    let ahead : length c.args.self.now.front ≡ s.ahead =
+    sym (ap (λ (v : Seaming). length v.front) c.self.view_is) ∙ omega (arith, length-take s.ahead behind, length-drop s.held s.room.items, c.self.invariant.within) in
+    ⊎_elim (λ whole. absurd (omega (arith, whole, ahead, more, c.split_at.ensures.front_len, c.requires.within)))
+    (λ carried. omega (arith, carried, ahead, carry, more)) c.requires.offered.enough
 
 pub returns : goal.returns
 returns c =
