@@ -30,7 +30,7 @@ halved true n = omega arith
 halved false n = omega arith
 
 -- a mask with its low bits shifted out is the mask of the later lanes
-mask_l-drop : (ms : List Bool) (k : ℕ) → mask_l ms / 2 ^ k ≡ mask_l (drop k ms)
+pub mask_l-drop : (ms : List Bool) (k : ℕ) → mask_l ms / 2 ^ k ≡ mask_l (drop k ms)
 mask_l-drop ms zero = div-one (mask_l ms)
 mask_l-drop [] (suc k) = zero-div (2 ^ suc k)
 mask_l-drop (m ∷ ms) (suc k) =

@@ -12,11 +12,11 @@ use Rattle.memchr.proofs.lemmas.BitLemmas.{bit_at_top}
 use Rattle.lit_base.specs.Lines.{IsOnePiece}
 
 -- what a bit says of its lane
-lane-set : (b : Bool) → ◌≡◌ {A = ℕ} (cond b 1 0) 1 → b ≡ true
+pub lane-set : (b : Bool) → ◌≡◌ {A = ℕ} (cond b 1 0) 1 → b ≡ true
 lane-set true e = refl
 lane-set false e = absurd (omega arith)
 
-lane-unset : (b : Bool) → ◌≡◌ {A = ℕ} (cond b 1 0) 0 → b ≡ false
+pub lane-unset : (b : Bool) → ◌≡◌ {A = ℕ} (cond b 1 0) 0 → b ≡ false
 lane-unset true e = absurd (omega arith)
 lane-unset false e = refl
 

@@ -6,8 +6,10 @@ pub mod HitLineLemmas
 pub mod LastNewline
 pub mod LentLemmas
 pub mod Literals
+pub mod NewlineMasks
 pub mod Newlines
 pub mod NumberLemmas
 pub mod OpenLemmas
 pub mod Patterns
 pub mod Standing
+pub mod WholeLemmas

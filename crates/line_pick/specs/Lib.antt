@@ -7,3 +7,4 @@ pub mod Matching
 pub mod OpenLines
 pub mod Picking
 pub mod Progresses
+pub mod WholeLines

@@ -1,5 +1,5 @@
 -- Which lines a picker selects: those that `selected` gives for its patterns.
-use Rattle.std.specs.Prelude.{◌≡◌, ℕ, Bool, List, [], ◌∷◌, ◌++◌, ◌↔◌, All, Contains, IsTrue, Option, None, Some, IfSome, if◌then◌else◌}
+use Rattle.std.specs.Prelude.{◌≡◌, ℕ, Bool, true, false, List, [], ◌∷◌, ◌++◌, ◌↔◌, All, Contains, IsTrue, Option, None, Some, IfSome, if◌then◌else◌}
 use Rattle.std.specs.Option.{option_copied}
 use Rattle.lit_base.specs.declared.fold.Fold.{Fold}
 use Rattle.lit_base.specs.declared.fold.Fold.TheVariants.{No}
@@ -41,6 +41,12 @@ picks m = selects (option_copied m.plan) m.has_empty m.rule
 -- whether a line matches by it, as a whole or in part
 abbrev pub matched : Matcher → Bool → List ℕ → Bool
 matched m whole = matches (fold_of (option_copied m.plan)) whole (literals_and_null (option_copied m.plan) m.has_empty)
+
+-- a matcher compares lines as a whole with the literals of a list alone
+pub record StandsForWhole (m : Matcher) (l : Literals) : Type 0 where
+  pub whole : m.rule.whole ≡ true
+  pub null : m.has_empty ≡ false
+  pub list : list_of (option_copied m.plan) ≡ Some l
 
 -- no literal holds a newline
 abbrev pub AreInLines : Option Plan → Type 0

@@ -2,6 +2,7 @@
 ghost use Rattle.std.specs.Prelude.{◌≡◌, ◌==◌, ◌+◌, ◌-◌, ◌*◌, ◌<◌, ◌≤◌, ℕ, count_by, drop, length, map, slice_index, slice_range, take};
 ghost use Rattle.std.specs.Simd.Lanes.{Each1, mask_l, sum_l};
 ghost use Rattle.lit_base.specs.Lines.{IsOnePiece};
+ghost use Rattle.line_pick.specs.Cutting.{AreNewlines};
 ghost use Rattle.line_pick.specs.declared.counting.TheConstants.{LANES, STRETCH};
 
 use std::simd::prelude::*;
@@ -119,6 +120,17 @@ fn count_last(text: &[u8], left: usize) -> usize
     let bits = newline_bits(load(text, text.len() - LANES));
     // The lanes before them are shifted out, in two steps: all 64 may be.
     (bits >> (LANES - 1 - left) >> 1).count_ones() as usize
+}
+
+/// The newlines in the first 64 bytes of a text, as a mask. A shorter text gives none.
+#[inline(always)]
+pub(crate) fn newline_mask(text: &[u8]) -> u64
+    ensures { AreNewlines text.now result }
+{
+    if text.len() < LANES {
+        return 0;
+    }
+    newline_bits(load(text, 0))
 }
 
 /// How many bytes stand before the first newline of a text, or 64 where its first 64 bytes are none.

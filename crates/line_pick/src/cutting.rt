@@ -1,10 +1,27 @@
 //! Where a text is cut into lines.
-ghost use Rattle.std.specs.Prelude.{◌≡◌, ◌<◌, ◌≤◌, IfSome, MatchOption, length, slice_index, take};
+ghost use Rattle.std.specs.Prelude.{◌≡◌, ◌+◌, ◌<◌, ◌≤◌, IfSome, MatchOption, drop, length, slice_index, take};
 ghost use Rattle.lit_base.specs.Lines.{IsOnePiece};
-ghost use Rattle.line_pick.specs.Cutting.{IsFirstLine, IsLastCut};
+ghost use Rattle.line_pick.specs.Cutting.{AreNewlines, IsFirstLine, IsLastCut};
 
-use crate::counting::{LANES, bytes_behind_newline, first_newline, first_newline_of_two};
+use crate::counting::{
+    LANES, bytes_behind_newline, count_newlines, first_newline, first_newline_of_two, newline_mask,
+};
 use memchr::{memchr, memrchr};
+
+/// Lines of fewer bytes are short: some of them end in the same 64 bytes.
+const SHORT_LINE: usize = 16;
+
+/// The number of bytes at the start of a text that decide whether its lines are short.
+const SAMPLE: usize = 1024;
+
+/// Whether the first lines of a text are short. A text of fewer bytes than the sample has none that count.
+pub(crate) fn has_short_lines(text: &[u8]) -> bool {
+    if text.len() < SAMPLE {
+        return false;
+    }
+    let (front, _) = text.split_at(SAMPLE);
+    count_newlines(front) > SAMPLE / SHORT_LINE
+}
 
 /// The text before the first newline, and the text after it, if there is a newline.
 #[inline(always)]
@@ -25,6 +42,7 @@ fn split_at_newline(text: &[u8], end: usize) -> (&[u8], &[u8])
     requires apart { IsOnePiece (take end text.now) }
     ensures line { IsFirstLine text.now result.0.now result.1.now }
     ensures len { length result.0.now ≡ end }
+    ensures behind { result.1.now ≡ drop (end + 1) text.now }
 {
     let (line, behind) = text.split_at(end);
     (line, &behind[1..])
@@ -49,6 +67,81 @@ pub(crate) fn split_near_line(text: &[u8]) -> Option<(&[u8], &[u8])>
         }
     }
     split_line(text)
+}
+
+/// A line, the text after its newline, and a mask of the newlines in the first bytes of this text.
+#[derive(Clone, Copy)]
+pub(crate) struct CutLine<'t> {
+    pub line: &'t [u8],
+    pub behind: &'t [u8],
+    pub newlines: u64,
+}
+
+/// The first line of a text, if there is a newline. Where lines are short, one comparison of 64 bytes finds all newlines
+/// in them: `newlines` is the mask of those that are still ahead, or 0. Cutting a line of two bytes then takes half as
+/// long. Longer lines are cut one by one, since it cannot be predicted which of them is the last one of a mask.
+#[inline(always)]
+pub(crate) fn split_next_line(text: &[u8], newlines: u64, are_short: bool) -> Option<CutLine<'_>>
+    requires { AreNewlines text.now newlines }
+    ensures line { MatchOption result
+        (IsOnePiece text.now)
+        (λ cut. IsFirstLine text.now cut.line.now cut.behind.now) }
+    ensures newlines { IfSome result (λ cut. AreNewlines cut.behind.now cut.newlines) }
+{
+    if !are_short {
+        return split_alone(text);
+    }
+    let ahead = mask_or_next(text, newlines);
+    if ahead == 0 {
+        return split_alone(text);
+    }
+    Some(split_by_mask(text, ahead))
+}
+
+/// The mask, or where it has no newline the mask of the first bytes of the text.
+#[inline(always)]
+fn mask_or_next(text: &[u8], newlines: u64) -> u64
+    requires { AreNewlines text.now newlines }
+    ensures { AreNewlines text.now result }
+{
+    if newlines == 0 {
+        newline_mask(text)
+    } else {
+        newlines
+    }
+}
+
+/// The first line of a text, if there is a newline, with no mask.
+#[inline(always)]
+fn split_alone(text: &[u8]) -> Option<CutLine<'_>>
+    ensures line { MatchOption result
+        (IsOnePiece text.now)
+        (λ cut. IsFirstLine text.now cut.line.now cut.behind.now) }
+    ensures newlines { IfSome result (λ cut. AreNewlines cut.behind.now cut.newlines) }
+{
+    let (line, behind) = split_near_line(text)?;
+    Some(CutLine {
+        line,
+        behind,
+        newlines: 0,
+    })
+}
+
+/// The first line of a text, which the first newline of a mask ends.
+#[inline(always)]
+fn split_by_mask(text: &[u8], newlines: u64) -> CutLine<'_>
+    requires mask { AreNewlines text.now newlines }
+    requires some { 0 < newlines }
+    ensures line { IsFirstLine text.now result.line.now result.behind.now }
+    ensures newlines { AreNewlines result.behind.now result.newlines }
+{
+    let end = newlines.trailing_zeros() as usize;
+    let (line, behind) = split_at_newline(text, end);
+    CutLine {
+        line,
+        behind,
+        newlines: newlines >> end >> 1,
+    }
 }
 
 /// The first line of a text and the text after its newline, if the newline stands at `place` or later, among the first

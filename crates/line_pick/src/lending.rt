@@ -1,38 +1,90 @@
 //! How lines are emitted.
-ghost use Rattle.std.specs.Prelude.{◌≡◌, ◌≢◌, ◌≤◌, ◌<◌, ◌+◌, ◌^◌, ◌∷◌, [], IfOk, length};
+ghost use Rattle.std.specs.Prelude.{◌≡◌, ◌≢◌, ◌≤◌, ◌<◌, ◌+◌, ◌^◌, ◌∷◌, [], IfOk, IfSome, length};
+ghost use Rattle.std.specs.Option.{option_copied};
 ghost use Rattle.lit_base.specs.Lines.{ended_lines};
 ghost use Rattle.line_pick.specs.Lending.{Lent, answer_of, numbered};
-ghost use Rattle.line_pick.specs.Matching.{picks};
+ghost use Rattle.line_pick.specs.Cutting.{StartsWith};
+ghost use Rattle.line_pick.specs.Matching.{StandsForWhole, picks};
 
-use crate::cutting::split_near_line;
+use crate::cutting::{has_short_lines, split_next_line};
 use crate::fault::Fault;
 use crate::halt::Halt;
 use crate::matcher::Matcher;
 use crate::sink::{Next, Sink};
+use crate::whole_lines::WholeLines;
 
 /// Emits the selected lines among those that newlines end in the text. `before` lines stand before the text; returns
-/// how many lines there are by its end.
+/// how many lines there are by its end. Under -x the literals, where
+/// they are given, rule out most lines by their first byte and length.
 pub(crate) fn lend_lines<S: Sink>(
     matcher: Matcher<'_>,
+    literals: Option<&WholeLines<'_>>,
     text: &[u8],
     before: u64,
     sink: &mut S,
 ) -> Result<u64, Halt>
-    requires { before + length text.now < 2 ^ 64 }
+    requires fits { before + length text.now < 2 ^ 64 }
+    requires literals { IfSome (option_copied literals) (StandsForWhole matcher) }
     ensures lent { Lent S.takes sink.old
         (numbered (picks matcher.entry) before (ended_lines text.now)) (answer_of result) sink.new }
     ensures count { IfOk result (λ lines. lines ≡ before + length (ended_lines text.now)) }
     ensures bound { IfOk result (λ lines. lines ≤ before + length text.now) }
     ensures faults { result ≢ Err (Halt.Failed Fault.StreamTooLong) }
 {
+    let are_short = has_short_lines(text);
     let mut rest = text;
+    let mut newlines = 0;
     let mut lines = before;
-    while let Some((line, behind)) = split_near_line(rest) {
-        lend_selected(matcher, line, lines, sink)?;
-        rest = behind;
+    while let Some(cut) = split_next_line(rest, newlines, are_short) {
+        lend_next(matcher, literals, rest, cut.line, lines, sink)?;
+        rest = cut.behind;
+        newlines = cut.newlines;
         lines += 1;
     }
     Ok(lines)
+}
+
+/// Emits the first line of a text if it is selected. `before` lines stand before it.
+#[inline(always)]
+fn lend_next<S: Sink>(
+    matcher: Matcher<'_>,
+    literals: Option<&WholeLines<'_>>,
+    text: &[u8],
+    line: &[u8],
+    before: u64,
+    sink: &mut S,
+) -> Result<(), Halt>
+    requires fits { before + 1 < 2 ^ 64 }
+    requires literals { IfSome (option_copied literals) (StandsForWhole matcher) }
+    requires line { StartsWith text.now line.now }
+    ensures lent { Lent S.takes sink.old
+        (numbered (picks matcher.entry) before (line.now ∷ [])) (answer_of result) sink.new }
+    ensures faults { result ≢ Err (Halt.Failed Fault.StreamTooLong) }
+{
+    lend_if(
+        selects_next(matcher, literals, text, line),
+        line,
+        before,
+        sink,
+    )
+}
+
+/// Whether the first line of a text is selected.
+#[inline(always)]
+fn selects_next(
+    matcher: Matcher<'_>,
+    literals: Option<&WholeLines<'_>>,
+    text: &[u8],
+    line: &[u8],
+) -> bool
+    requires literals { IfSome (option_copied literals) (StandsForWhole matcher) }
+    requires line { StartsWith text.now line.now }
+    ensures { result ≡ picks matcher.entry line.now }
+{
+    match literals {
+        Some(literals) => literals.has(text, line) != matcher.rule.invert,
+        None => matcher.selects(line),
+    }
 }
 
 /// Emits the line if it is selected. `before` lines stand before it.

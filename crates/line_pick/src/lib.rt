@@ -16,6 +16,7 @@ mod progress;
 mod sink;
 mod state;
 mod text_lending;
+mod whole_lines;
 
 pub use fault::Fault;
 pub use line_rule::LineRule;

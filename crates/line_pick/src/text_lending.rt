@@ -8,6 +8,7 @@ ghost use Rattle.line_pick.specs.Matching.{AreInLines, picks, list_of};
 
 use crate::column::Column;
 use crate::counting::count_newlines;
+use crate::cutting::has_short_lines;
 use crate::fault::Fault;
 use crate::halt::Halt;
 use crate::hit_line::first_hit_line;
@@ -15,27 +16,24 @@ use crate::lending::{lend_if, lend_lines};
 use crate::line_rule::LineRule;
 use crate::matcher::{Matcher, is_literal};
 use crate::sink::Sink;
+use crate::whole_lines::WholeLines;
 use flow_scan::{Compiled, EndFinder, TextSearch};
 
 /// A hit and its line take about as long as splitting this many bytes into lines. Measured in English text: 120 ns for
 /// a hit of one literal, 0.5 ns a byte for splitting. With 1,000 literals a hit takes ten times as long.
 const HIT_COST: usize = 256;
 
-/// After hits worth this many bytes, with nothing passed over between them, the rest of a text is split line by line.
-/// With 1,000 words, one in most lines, that is 16 times as fast.
-const CREDIT: usize = 16 * HIT_COST;
+/// The same where lines are short: a byte of them takes four times as long to split.
+const SHORT_HIT_COST: usize = 64;
+
+/// After this many hits, with nothing passed over between them, the rest of a text is split line by line. With 1,000
+/// words, one in most lines, that is 16 times as fast.
+const HITS: usize = 16;
 
 /// A list of at most this many literals is searched for by two or three bytes of each, which is faster in any text than
 /// splitting its lines. A search for more may take several times as long, if they are words of the text. Measured with
 /// 30 words in English text: 4.5 ns a byte, against 0.6 to split and compare each line.
 const FEW_LITERALS: usize = 3;
-
-/// Lines of fewer bytes take longer to split than any search takes: measured, some 30 ns for an empty line. The bound
-/// was not measured again since empty lines are cut by their first byte.
-const SHORT_LINE: usize = 16;
-
-/// The number of bytes at the start of a text that decide whether its lines are short.
-const SAMPLE: usize = 1024;
 
 /// Emits the selected lines among those that a newline ends in the text. Returns how many lines there are by its end,
 /// if they are numbered; `before` lines stand before it. Without numbers, lines that are passed over are not counted.
@@ -60,7 +58,7 @@ pub(crate) fn lend_text<S: Sink>(
 {
     if matcher.has_empty {
         if matcher.rule.whole {
-            return lend_lines(matcher, text, before, sink);
+            return lend_lines(matcher, None, text, before, sink);
         }
         return lend_all(!matcher.rule.invert, text, before, is_numbered, sink);
     }
@@ -101,22 +99,28 @@ fn lend_listed<S: Sink>(
     ensures bound { IfOk result (λ lines. lines ≤ before + length text.now) }
     ensures faults { result ≢ Err (Halt.Failed Fault.StreamTooLong) }
 {
-    if rule.whole && compiled.list().len() > FEW_LITERALS && !has_short_lines(text) {
+    let are_short = has_short_lines(text);
+    if rule.whole && compiled.list().len() > FEW_LITERALS && !are_short {
         return lend_each_line(compiled, rule, text, before, sink);
     }
-    lend_hit_lines(compiled, rule, finder, text, before, is_numbered, sink)
+    let hit_cost = if are_short { SHORT_HIT_COST } else { HIT_COST };
+    lend_hit_lines(
+        compiled,
+        rule,
+        hit_cost,
+        finder,
+        text,
+        before,
+        is_numbered,
+        sink,
+    )
 }
 
-/// Whether the first lines of a text are short.
-fn has_short_lines(text: &[u8]) -> bool {
-    let (front, _) = text.split_at(text.len().min(SAMPLE));
-    count_newlines(front) > front.len() / SHORT_LINE
-}
-
-/// Emits the lines of `lend_listed`, searching for hits first.
+/// Emits the lines of `lend_listed`, searching for hits first. Under -x a hit costs as much as splitting `hit_cost` bytes.
 fn lend_hit_lines<S: Sink>(
     compiled: &Compiled,
     rule: LineRule,
+    hit_cost: usize,
     finder: &mut Option<EndFinder>,
     text: &[u8],
     before: u64,
@@ -139,14 +143,14 @@ fn lend_hit_lines<S: Sink>(
     let mut column = Column::new();
     let mut rest = text;
     let mut lines = before;
-    let mut credit = CREDIT;
+    let mut credit = hit_cost.saturating_mul(HITS);
     while let Some(hit) = first_hit_line(compiled, finder, &mut search, &mut column, text, rest) {
         lines = lend_all(rule.invert, hit.missed, lines, is_numbered, sink)?;
         let selected = selects_at_hit(compiled, rule, hit.line);
         lend_if(selected, hit.line, lines, sink)?;
         lines += 1;
         rest = hit.behind;
-        credit = credit_behind(rule, credit, hit.missed);
+        credit = credit_behind(rule, hit_cost, credit, hit.missed);
         if credit == 0 {
             return lend_each_line(compiled, rule, rest, lines, sink);
         }
@@ -156,12 +160,14 @@ fn lend_hit_lines<S: Sink>(
 
 /// The credit after a hit under -x: more by the text that the search passed over, less by the cost of a hit.
 #[inline(always)]
-fn credit_behind(rule: LineRule, credit: usize, missed: &[u8]) -> usize {
+fn credit_behind(rule: LineRule, hit_cost: usize, credit: usize, missed: &[u8]) -> usize {
     if !rule.whole {
         return credit;
     }
-    let gained = credit.saturating_add(missed.len()).min(CREDIT);
-    gained.saturating_sub(HIT_COST)
+    let gained = credit.saturating_add(missed.len());
+    gained
+        .min(hit_cost.saturating_mul(HITS))
+        .saturating_sub(hit_cost)
 }
 
 /// Emits the selected lines; each line is split and compared.
@@ -185,7 +191,19 @@ fn lend_each_line<S: Sink>(
         has_empty: false,
         rule,
     };
-    lend_lines(matcher, text, before, sink)
+    let literals = whole_lines_for(compiled, rule);
+    lend_lines(matcher, literals.as_ref(), text, before, sink)
+}
+
+/// The literals as whole lines, under -x.
+fn whole_lines_for(compiled: &Compiled, rule: LineRule) -> Option<WholeLines<'_>>
+    ensures { IfSome result (λ list. (list ≡ compiled.now.literals) × (rule.whole ≡ true)) }
+{
+    if rule.whole {
+        Some(WholeLines::new(compiled.index()))
+    } else {
+        None
+    }
 }
 
 /// Whether a line that holds a literal is selected.
@@ -229,7 +247,7 @@ fn lend_all<S: Sink>(
     ensures faults { result ≢ Err (Halt.Failed Fault.StreamTooLong) }
 {
     if selected {
-        lend_lines(Matcher::each_line(), text, before, sink)
+        lend_lines(Matcher::each_line(), None, text, before, sink)
     } else if is_numbered {
         Ok(before + count_newlines(text) as u64)
     } else {

@@ -2,5 +2,5 @@
 use Rattle.line_pick.proofs.NumberLemmas.{Lent-taken}
 use Rattle.line_pick.proofs.text_lending.lend_listed.Goals as goal
 
-pub returns-then-not-has_short_lines-clause-lent : goal.returns-then-not-has_short_lines-clause-lent
-returns-then-not-has_short_lines-clause-lent g c = Lent-taken g.S.Sink.takes c.args.is_numbered c.lend_each_line.ensures.lent
+pub returns-then-not-are_short-clause-lent : goal.returns-then-not-are_short-clause-lent
+returns-then-not-are_short-clause-lent g c = Lent-taken g.S.Sink.takes c.args.is_numbered c.lend_each_line.ensures.lent
