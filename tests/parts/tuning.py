@@ -1,4 +1,4 @@
-"""The constants of what chooses: every price and threshold of text_search stands in tuning.rt, with how it was chosen."""
+"""The constants of the search: every price and threshold of a crate stands in its tuning.rt, with how it was chosen."""
 
 import os
 import re
@@ -6,14 +6,30 @@ import re
 from support.programs import TOP
 
 CRATES = os.path.join(TOP, "crates")
-# The crates that choose nothing have constants of shape alone: contracts cite them, or they follow from a data structure.
+# What else has a constant: contracts cite it, or it follows from a data structure.
 SHAPES = {
     "flow_scan": {"seam.rt": {"SHORT"}},
     "lit_plan": {},
+    "shift_search": {
+        "blocks.rt": {"GROUP", "GROUPS"},
+        "confirming.rt": {"CONFIRM_BITS"},
+        "entries.rt": {"ALL", "BUCKETS", "ENTRIES", "PLACES"},
+        "runs.rt": {"BUCKETS", "WEIGHTS"},
+        "shift_or.rt": {"FRONT"},
+    },
     "sieve_search": {},
     "text_ends": {},
     "text_search": {"strategy.rt": {"NO_ENGINE"}},
+    "window_search": {
+        "choosing.rt": {"HASHES"},
+        "claiming.rt": {"BLOCK", "FRONT", "PLACES", "STEP"},
+        "counts.rt": {"NEVER", "PLACES", "SIEVED"},
+        "grouping.rt": {"BUCKETS", "POSITIONS"},
+        "shape.rt": {"MOST_STRIDE", "WIDTH"},
+        "windowed.rt": {"REACH"},
+    },
 }
+TUNED = "shift_search", "text_search", "window_search"
 CONSTANT = re.compile(r"((?:^///.*\n)*)^(?:pub(?:\(crate\))? )?const (\w+):", re.M)
 EVIDENCE = re.compile(r"[Mm]easured|[Nn]ot varied|[Cc]hosen")
 
@@ -28,16 +44,17 @@ def places():
     """No other file has a constant but those of shape."""
     for crate, shapes in SHAPES.items():
         for name in sorted(os.listdir(os.path.join(CRATES, crate, "src"))):
-            if name.endswith(".rt") and name != "tuning.rt":
+            if name.endswith(".rt") and name not in ("tuning.rt", "tests.rt"):
                 yield f"constants of {crate}/{name}", set(constants_of(crate, name)), shapes.get(name, set())
 
 
 def evidence():
-    """Each price and threshold says how it was chosen."""
-    found = constants_of("text_search", "tuning.rt")
-    yield "tuning.rt has constants", len(found) > 20, True
-    for name, comment in found.items():
-        yield f"{name} says how it was chosen", bool(EVIDENCE.search(comment)), True
+    """Each price and threshold says how it was chosen, or that this is not recorded."""
+    for crate in TUNED:
+        found = constants_of(crate, "tuning.rt")
+        yield f"{crate}/tuning.rt has constants", len(found) > 5, True
+        for name, comment in found.items():
+            yield f"{crate}: {name} says how it was chosen", bool(EVIDENCE.search(comment)), True
 
 
 TESTS = (places, evidence)

@@ -8,13 +8,12 @@ ghost use Rattle.flow_scan.specs.Seams.{AreOffered};
 ghost use Rattle.flow_scan.specs.Tails.{StopsIn};
 ghost use Rattle.lit_plan.specs.Bounds.{carry_of};
 
-use lit_plan::Compiled;
-use lit_plan::Fault;
-use text_ends::Hit;
-use text_search::HitSearch;
 use crate::seam::Seam;
+use lit_plan::{Compiled, Fault};
 use std::alloc::{AllocError, Global};
 use std::marker::Model;
+use text_ends::Hit;
+use text_search::HitSearch;
 
 /// The position that a scan of a stream has reached, and the last bytes before it.
 #[derive(Drop)]

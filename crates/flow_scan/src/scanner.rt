@@ -6,14 +6,12 @@ ghost use Rattle.flow_scan.specs.Scanners.{Scanning, fed, started};
 ghost use Rattle.flow_scan.specs.Tails.{GainsHits, StopsIn};
 ghost use Rattle.lit_plan.specs.Bounds.{carry_of};
 
-use lit_plan::Compiled;
-use text_search::EndFinder;
-use lit_plan::Fault;
-use text_ends::Hit;
-use text_search::PlainSearch;
 use crate::progress::Progress;
+use lit_plan::{Compiled, Fault};
 use std::alloc::Global;
 use std::marker::Model;
+use text_ends::Hit;
+use text_search::{EndFinder, PlainSearch};
 
 /// A scan of one stream by a plan. The stream comes in pieces, cut anywhere. The scan gives every hit once and in
 /// order. Between pieces it keeps only the last bytes, fewer than the longest literal has. It takes this memory when it

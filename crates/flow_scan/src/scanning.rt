@@ -9,14 +9,11 @@ ghost use Rattle.lit_base.specs.NextEnds.{NoEndAfter};
 ghost use Rattle.text_ends.specs.HitsBehind.{AreHitsBehind, Continues};
 ghost use Rattle.flow_scan.specs.Tails.{PiecesLaw, bytes_of};
 
-use lit_plan::carry;
-use lit_plan::{Compiled, least_law};
-use text_ends::add_hits_of;
-use lit_plan::Fault;
-use text_ends::Hit;
 use crate::scanner::Scanner;
 use lit_base::LitList;
+use lit_plan::{Compiled, Fault, carry, least_law};
 use std::alloc::Global;
+use text_ends::{Hit, add_hits_of};
 
 /// All hits in a text, in order. The only refusal is `OutOfMemory`.
 pub fn scan_all(alloc: Global, compiled: &Compiled, text: &[u8]) -> Result<Vec<Hit>, Fault>

@@ -7,15 +7,13 @@ ghost use Rattle.flow_scan.specs.Scanners.{Scanning, fed, started};
 ghost use Rattle.flow_scan.specs.Tails.{StopsIn};
 ghost use Rattle.lit_plan.specs.Bounds.{carry_of};
 
-use lit_plan::Compiled;
-use text_search::EndFinder;
-use lit_plan::Fault;
-use text_ends::Hit;
-use text_search::make_if_long;
 use crate::progress::Progress;
+use lit_plan::{Compiled, Fault};
 use std::alloc::Global;
 use std::marker::Model;
 use std::sync::Arc;
+use text_ends::Hit;
+use text_search::{EndFinder, make_if_long};
 
 /// A scan of one stream like a `Scanner`, with a share of its plan. So it may outlive all other owners of the plan.
 #[derive(Drop)]

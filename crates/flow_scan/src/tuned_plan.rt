@@ -6,15 +6,13 @@ ghost use Rattle.text_ends.specs.HitsAt.{Extends};
 ghost use Rattle.lit_base.specs.NextEnds.{NoEndAfter};
 ghost use Rattle.text_ends.specs.HitsBehind.{StopsAt};
 
-use lit_plan::Compiled;
-use text_search::EndFinder;
-use lit_plan::Fault;
-use text_ends::Hit;
-use text_search::make_if_long;
 use crate::until::scan_until;
+use lit_plan::{Compiled, Fault};
 use std::alloc::{AllocError, Global};
 use std::marker::Model;
 use std::sync::Arc;
+use text_ends::Hit;
+use text_search::{EndFinder, make_if_long};
 
 /// A share of a plan, with a finder once its owner has searched enough bytes. A contract sees the plan alone.
 #[derive(Drop)]

@@ -5,10 +5,8 @@ ghost use Rattle.text_ends.specs.HitsAt.{Extends};
 ghost use Rattle.lit_base.specs.NextEnds.{NoEndAfter};
 ghost use Rattle.text_ends.specs.HitsBehind.{StopsAt};
 
-use lit_plan::Compiled;
-use text_ends::add_hits_of;
-use lit_plan::Fault;
-use text_ends::Hit;
+use lit_plan::{Compiled, Fault};
+use text_ends::{Hit, add_hits_of};
 
 /// Adds to `out` the hits of a text that end after `from`, up to the first end by which `out` gained at least `most`
 /// hits. Returns this end, or the text's length. A scan from there continues with the next hit. So `out` gains at most

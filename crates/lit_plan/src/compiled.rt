@@ -15,16 +15,16 @@ ghost use Rattle.lit_plan.specs.Plans.{IsRefusalOf, Plan};
 ghost use Rattle.lit_plan.specs.Starts.{StartsAt};
 ghost use Rattle.lit_plan.specs.Bounds.{HasBounds, carry_of};
 
-use crate::overlap::carry;
 use crate::fault::Fault;
+use crate::overlap::carry;
 use lane_filter::Sieve;
 use list_index::ListIndex;
 use lit_base::LitList;
 use lit_cert::{Certificate, certified_law, check};
+use sieve_search::SievedEnds;
 use std::alloc::AllocError;
 use std::marker::Model;
 use std::sync::Arc;
-use sieve_search::SievedEnds;
 use text_ends::Hit;
 
 /// Literals with a certified plan. Code that holds one needs no check.

@@ -10,7 +10,9 @@ mod looks;
 mod runs;
 mod shift_or;
 mod shifted;
+mod tuning;
 
 pub use runs::cut_runs;
-pub use shift_or::{SHIFT_OR_COST, ShiftOr};
+pub use shift_or::ShiftOr;
 pub use shifted::ShiftedEnds;
+pub use tuning::SHIFT_OR_COST;

@@ -77,12 +77,7 @@ impl<'a> Ends for SievedEnds<'a> {
 
     #[inline(always)]
     fn next_end(&mut self) -> Option<(usize, usize)> {
-        let found = next_verified(
-            self.list,
-            self.text,
-            &mut self.candidates,
-            &mut self.tally,
-        );
+        let found = next_verified(self.list, self.text, &mut self.candidates, &mut self.tally);
         if let Some((end, _)) = found {
             self.tally.end();
             self.from = end;

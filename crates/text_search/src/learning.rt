@@ -31,12 +31,7 @@ impl HitSearch for Option<EndFinder> {
 
 /// Makes a finder, if there is none, once `count` bytes were searched or are about to be, and these are many. There is
 /// none for a short list, or if memory is short.
-pub fn make_if_long(
-    finder: &mut Option<EndFinder>,
-    alloc: Global,
-    compiled: &Compiled,
-    count: u64,
-)
+pub fn make_if_long(finder: &mut Option<EndFinder>, alloc: Global, compiled: &Compiled, count: u64)
     requires { IfSome finder.old (λ list. list ≡ compiled.now.literals) }
     ensures { IfSome finder.new (λ list. list ≡ compiled.now.literals) }
 {

@@ -38,7 +38,12 @@ fn cost_of_looks(stride: usize, count: usize) -> usize {
 }
 
 /// The cost of a search by factors that passed `count` bytes, with the counters `tally` and the ends `found`.
-pub(crate) fn cost_by_windows(windows: &Windows, count: usize, tally: Tally, found: EndRate) -> usize {
+pub(crate) fn cost_by_windows(
+    windows: &Windows,
+    count: usize,
+    tally: Tally,
+    found: EndRate,
+) -> usize {
     let looks = match windows.masks() {
         Some(_) => cost_of_sieve(windows, count, tally.passed),
         None => cost_of_strides(windows, count, found),

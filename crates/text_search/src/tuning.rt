@@ -1,7 +1,7 @@
 //! The prices and thresholds by which `strategy` chooses an engine. They change the time of a search, never its result.
 //!
-//! Prices are in tenths of a nanosecond. The prices of factors and masks stand in `window_search`, that of
-//! shift-or in `shift_search`, which estimate by them.
+//! Prices are in tenths of a nanosecond. `window_search` and `shift_search` estimate by prices of their own, each in its
+//! `tuning.rt`.
 
 // Literals.
 

@@ -3,54 +3,21 @@
 ghost use Rattle.std.specs.Prelude.{◌≡◌, ◌^◌, ◌<◌, ◌≤◌, length, vec_len};
 ghost use Rattle.list_index.specs.declared.suffixes.marks.TheConstants.{HASH_BITS};
 
+use crate::claiming::BLOCK;
 use crate::counts::{Counts, NEVER, PLACES};
 use crate::grouping::group;
 use crate::shape::{Shape, WIDTH};
+use crate::tuning::{
+    BIAS, BLOCK_COST, LOOK_COST, MARK_COST, MOST_SIEVED, PASS_COST, SIEVE_COST, SIEVE_START_COST,
+    SPARSE, START_COST,
+};
 use list_index::HASH_BITS;
 use lit_base::LitList;
 use nib_mask::ByteMasks;
 use text_ends::EndRate;
 
-/// A probe, in tenths of a nanosecond.
-pub const LOOK_COST: usize = 8;
-
-/// A hash bit at which nothing ends.
-pub const MARK_COST: usize = 250;
-
-/// The masks for 1,024 bytes, if no position passes.
-pub const SIEVE_COST: usize = 1536;
-
-/// A position that passes the masks and has no hash bit. Each width of its probe adds half of this.
-const PASS_COST: usize = 20;
-
-/// A block with a position that passes, in addition: it is probed as a whole, and the number of passes is hard to
-/// predict. Measured for 30 rare literals in log lines, English, JSON and source code: estimates are 0.8 to 1.1 of the
-/// cost. With three times this value they are 1.1 to 1.8; others were not tried.
-const BLOCK_COST: usize = 60;
-
-/// Positions of a block.
-const BLOCK: usize = 56;
-
-/// A new start after an end: a block is probed from there on, and its last probes are mostly wasted. Shift-or starts
-/// with eight probes. Not varied.
-pub const START_COST: usize = 500;
-
-/// A start with masks, in addition. Without masks probes begin at once. Measured: with masks for all lists, 100
-/// frequent literals took 1.3 times as long in English text and log lines.
-const SIEVE_START_COST: usize = 400;
-
-/// An estimate counts each hash bit of a sample this many times. The chosen factors are rare in the sample by chance
-/// too, so a text has more of them.
-const BIAS: usize = 2;
-
-/// The longest list for the masks: with more literals most positions pass.
-const MOST_SIEVED: usize = 128;
-
 /// Number of hashes.
 const HASHES: usize = 1 << HASH_BITS;
-
-/// One position of this many is counted in a sample.
-const SPARSE: usize = 31;
 
 /// Whether a list uses masks, its stride otherwise, and the estimate in tenths of a nanosecond for 1,024 bytes. `marks`
 /// is the part of the estimate for hash bits, if nothing ends at any.

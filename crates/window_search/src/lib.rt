@@ -7,9 +7,11 @@ mod counts;
 mod grouping;
 mod marking;
 mod shape;
+mod tuning;
 mod windowed;
 mod windows;
 
-pub use choosing::{LOOK_COST, MARK_COST, SIEVE_COST, START_COST, cost_of_blocks};
+pub use choosing::cost_of_blocks;
+pub use tuning::{LOOK_COST, MARK_COST, SIEVE_COST, START_COST};
 pub use windowed::WindowedEnds;
 pub use windows::Windows;

@@ -2,22 +2,18 @@
 //! chooses, shift-or, the automaton, a finder. Together they find what the plan alone finds.
 ghost use Rattle.std.specs.Prelude.{◌≡◌, IfOk};
 
-use lit_plan::Compiled;
-use text_search::EndFinder;
-use text_ends::Ends;
-use text_search::next_end;
-use shift_search::ShiftedEnds;
 use crate::tests::finding::{
     CAPITALS, Draws, FIGURES, Told, WORDS, pieces_of, plain_in, plan_of_pieces, text_of, with_end,
 };
 use crate::tests::owning::{How, agrees};
-use window_search::WindowedEnds;
 use lit_base::Fold;
+use lit_plan::Compiled;
+use shift_search::{ShiftOr, ShiftedEnds};
 use std::alloc::{AllocError, Global};
 use text_automaton::Automaton;
-use shift_search::ShiftOr;
-use text_ends::EndRate;
-use window_search::Windows;
+use text_ends::{EndRate, Ends};
+use text_search::{EndFinder, next_end};
+use window_search::{WindowedEnds, Windows};
 
 /// The position that a search has reached, and its ends so far.
 type Progress = (usize, Told);

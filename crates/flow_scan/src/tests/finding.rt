@@ -2,14 +2,13 @@
 //! the text, so that it has many near-misses.
 ghost use Rattle.std.specs.Prelude.{◌≡◌};
 
-use lit_plan::Compiled;
-use text_search::EndFinder;
-use text_search::next_end;
 use crate::tests::owning::{How, agrees};
 use list_index::ListIndex;
 use lit_base::{Fold, LitList, Profile, RawList};
+use lit_plan::Compiled;
 use run_planner::plan;
 use std::alloc::Global;
+use text_search::{EndFinder, next_end};
 
 /// The words of texts.
 pub(super) const WORDS: [&[u8]; 12] = [

@@ -2,13 +2,11 @@
 ghost use Rattle.std.specs.Prelude.{◌≡◌};
 
 use super::finding::{CAPITALS, Draws, Told, WORDS, pieces_of, plan_of_pieces, text_of, with_end};
-use lit_plan::Compiled;
-use text_search::EndFinder;
-use text_search::next_end;
 use crate::tests::owning::{How, agrees};
-use text_search::TextSearch;
 use lit_base::Fold;
+use lit_plan::Compiled;
 use std::alloc::Global;
+use text_search::{EndFinder, TextSearch, next_end};
 
 /// The ends that one search of a text by a finder finds, each more than `skip` bytes after the one before.
 fn by_finder(compiled: &Compiled, finder: &mut EndFinder, text: &[u8], skip: usize) -> Told

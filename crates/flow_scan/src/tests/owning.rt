@@ -2,14 +2,14 @@
 //! finder may be dropped, which takes long.
 ghost use Rattle.std.specs.Prelude.{◌≡◌};
 
-use lit_plan::Compiled;
-use text_search::EndFinder;
 use crate::tests::choosing::changes_the_same;
 use crate::tests::finding::find_the_same;
 use crate::tests::going_on::go_on_the_same;
 use crate::tests::scanned::scans_the_same;
 use crate::tests::streamed::{feed_the_same, learns_in_pieces};
+use lit_plan::Compiled;
 use std::alloc::Global;
+use text_search::EndFinder;
 
 /// How a finder is tested.
 #[derive(Clone, Copy)]

@@ -1,16 +1,16 @@
 //! Scans by a finder and by the plan alone give the same hits.
 ghost use Rattle.std.specs.Prelude.{◌≡◌};
 
-use lit_plan::Compiled;
-use text_search::EndFinder;
-use text_ends::Hit;
 use crate::scanning::scan_all;
 use crate::tests::finding::{
     CAPITALS, Draws, FIGURES, WORDS, pieces_of, plan_of, plan_of_pieces, text_of,
 };
 use crate::tests::owning::{How, agrees};
 use lit_base::Fold;
+use lit_plan::Compiled;
 use std::alloc::Global;
+use text_ends::Hit;
+use text_search::EndFinder;
 
 /// How many of the text's hits end after a position.
 fn count_behind(hits: &[Hit], from: usize) -> usize {

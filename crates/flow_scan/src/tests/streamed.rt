@@ -2,15 +2,14 @@
 ghost use Rattle.std.specs.Prelude.{◌≡◌};
 
 use super::finding::{CAPITALS, Draws, FIGURES, WORDS, pieces_of, plan_of_pieces, text_of};
-use lit_plan::Compiled;
-use text_search::EndFinder;
-use text_ends::Hit;
 use crate::scanner::Scanner;
 use crate::scanning::scan_all;
-use text_search::Engine;
 use crate::tests::owning::{How, agrees};
 use lit_base::Fold;
+use lit_plan::Compiled;
 use std::alloc::Global;
+use text_ends::Hit;
+use text_search::{EndFinder, Engine};
 
 /// Feeds a piece in two: up to the first end by which a hundred hits were gained, and the rest.
 fn feed(
