@@ -1,8 +1,8 @@
 -- Fields of a plan file: what a reader took is the spelling of the value that it read, and a spelling is read again.
-use Rattle.std.proofs.Common.{◌≡◌, ℕ, zero, suc, ◌+◌, ◌^◌, ◌<◌, ◌≤◌, Fits, Bool, true, false, cond, ltb, List, [], ◌∷◌, ◌++◌, length, get_or, take, drop, All, Result, Ok, Err, refl, sym, ap, subst, ◌∙◌, append_assoc, arith, inl, inr}
+use Rattle.std.proofs.Common.{◌≡◌, ℕ, zero, suc, ◌+◌, ◌^◌, ◌<◌, ◌≤◌, Fits, Bool, true, false, cond, ltb, List, [], ◌∷◌, ◌++◌, length, get_or, take, drop, All, Result, Ok, Err, refl, sym, ap, subst, ◌∙◌, append_assoc, arith, ◌⊎◌, inl, inr}
 use Rattle.std.specs.List.{AllByRecursion}
 use Rattle.std.specs.Int.{Width, w8, w16, w32, w64, w128, byte_len, from_be_bytes, to_be_bytes}
-use Rattle.std.proofs.lemmas.Bool.{cases_lt, ltb-false, le-ltb}
+use Rattle.std.proofs.lemmas.Bool.{cases_lt, ltb-false, lt-ltb, le-ltb}
 use Rattle.std.proofs.lemmas.List.{take_at, drop_at, take-append-drop, length-append, length-take-le, get_or_past}
 use Rattle.std.proofs.lemmas.List.Elements.{All-drop, All-from_get_or, All-same, All-take}
 use Rattle.std.proofs.lemmas.Nat.{be_bytes_2, be_bytes_4, be_bytes_8, from_be_bytes-to_be_bytes_2, from_be_bytes-to_be_bytes_4, from_be_bytes-to_be_bytes_8}
@@ -26,6 +26,31 @@ pub record Step {A B : Type 0} (read : Result A Wrong) (next : A → Result B Wr
 pub step : {A B : Type 0} (read : Result A Wrong) (next : A → Result B Wrong) (y : B) → (read >>= next) ≡ Ok y → Step read next y
 step (Err wrong) next y is = absurd cc
 step (Ok value) next y is = record { value = value; first = refl; second = is }
+
+abbrev stopped : {A : Type 0} → Wrong → Result A Wrong
+stopped w = Err w
+
+one_wrong : {A : Type 0} {w e : Wrong} → stopped {A = A} w ≡ Err e → w ≡ e
+one_wrong is = (cc)
+
+-- one of two steps stopped: the first, or the second after the value that the first read
+pub stop : {A B : Type 0} (read : Result A Wrong) (next : A → Result B Wrong) (e : Wrong) → (read >>= next) ≡ Err e → (read ≡ Err e) ⊎ ((value : A) × (read ≡ Ok value) × (next value ≡ Err e))
+stop (Err wrong) next e is = inl (ap stopped (one_wrong is))
+stop (Ok value) next e is = inr (value, refl, is)
+
+-- a reader that stops where a test fails stopped, so the test failed
+failed : {A : Type 0} (passes : Bool) (x : A) (wrong e : Wrong) → cond passes (Ok x) (Err wrong) ≡ Err e → (passes ≡ false) × (e ≡ wrong)
+failed true x wrong e is = absurd cc
+failed false x wrong e is = (refl, cc)
+
+-- a tested field is not read: its number is not, or does not pass
+pub field_stop : (bytes : List ℕ) (passes : ℕ → Bool) (cause : Cause) (read : Result (ℕ × List ℕ) Wrong) (e : Wrong) → field bytes passes cause read ≡ Err e
+    → (read ≡ Err e) ⊎ ((n : ℕ × List ℕ) × (read ≡ Ok n) × (passes n.0 ≡ false) × (e ≡ wrong_at cause bytes))
+field_stop bytes passes cause read e is =
+    elim (stop read (λ m. cond (passes m.0) (Ok m) (Err (wrong_at cause bytes))) e is) [
+      | inl r ↦ inl r
+      | inr p ↦ let f = failed (passes p.0.0) p.0 (wrong_at cause bytes) e p.2 in inr (p.0, p.1, f.0, f.1)
+    ]
 
 -- a reader that stops where a test holds went on, so the test failed
 pub went_on : {A : Type 0} (stops : Bool) (wrong : Wrong) (next : Result A Wrong) (y : A) → cond stops (Err wrong) next ≡ Ok y → (stops ≡ false) × (next ≡ Ok y)
@@ -116,6 +141,36 @@ sized_again n value text rest len =
     let enough : n ≤ length (text ++ rest) = omega (arith, len, length-append text rest) in
     rw (le-ltb _ _ enough, take_at text rest n len, drop_at text rest n len) refl
 
+-- a sized field is not read, so it is not whole
+sized_stop : {A : Type 0} (n : ℕ) (value : List ℕ → A) (bytes : List ℕ) (e : Wrong) → sized n value bytes ≡ Err e → (length bytes < n) × (e ≡ wrong_at Short bytes)
+sized_stop {A} n value bytes e is =
+    elim (cases_lt (length bytes) n) [
+      | inl less ↦ (less, short (lt-ltb _ _ less))
+      | inr enough ↦ absurd (whole (le-ltb _ _ enough))
+    ]
+  where
+    read : Result (A × List ℕ) Wrong
+    read = Ok (value (take n bytes), drop n bytes)
+
+    short : ltb (length bytes) n ≡ true → e ≡ wrong_at Short bytes
+    short t = let same : cond true (Err (wrong_at Short bytes)) read ≡ Err e = subst (λ (b : Bool). cond b (Err (wrong_at Short bytes)) read ≡ Err e) t is in cc
+
+    whole : ltb (length bytes) n ≡ false → ⊥
+    whole f = let same : cond false (Err (wrong_at Short bytes)) read ≡ Err e = subst (λ (b : Bool). cond b (Err (wrong_at Short bytes)) read ≡ Err e) f is in absurd cc
+
+-- a count of bytes is not read, so there are fewer
+pub bytes_stop : (n : ℕ) (bytes : List ℕ) (e : Wrong) → bytes_at n bytes ≡ Err e → (length bytes < n) × (e ≡ wrong_at Short bytes)
+bytes_stop n bytes e is = sized_stop n (λ text. text) bytes e is
+
+-- a number is not read, so it is not whole
+pub number_stop : (w : Width) (bytes : List ℕ) (e : Wrong) → number_at w bytes ≡ Err e → (length bytes < byte_len w) × (e ≡ wrong_at Short bytes)
+number_stop w bytes e is = sized_stop (byte_len w) (from_be_bytes w) bytes e is
+
+-- a byte is not read, so there is none
+pub byte_stop : (bytes : List ℕ) (e : Wrong) → byte_at bytes ≡ Err e → (length bytes < 1) × (e ≡ wrong_at Short bytes)
+byte_stop [] e is = (omega arith, cc)
+byte_stop (b ∷ rest) e is = absurd cc
+
 -- a byte was read, so it stands at the front
 pub byte_read : (bytes : List ℕ) (x : ℕ × List ℕ) → byte_at bytes ≡ Ok x → Took bytes (x.0 ∷ []) x.1
 byte_read [] x is = absurd cc
@@ -161,6 +216,18 @@ spelled w32 is n small = (refl, from_be_bytes-to_be_bytes_4 n small)
 spelled w64 is n small = (refl, from_be_bytes-to_be_bytes_8 n small)
 spelled w128 is n small = absurd is
 
+-- the spelling of a number has as many bytes as the width
+pub number_len : (w : Width) → IsFieldWidth w → (n : ℕ) → length (to_be_bytes w n) ≡ byte_len w
+number_len w8 is n = absurd is
+number_len w16 is n = refl
+number_len w32 is n = refl
+number_len w64 is n = refl
+number_len w128 is n = absurd is
+
+-- a spelling is one number's
+pub same_number : (w : Width) → IsFieldWidth w → (n m : ℕ) → n < 2 ^ bits w → m < 2 ^ bits w → to_be_bytes w n ≡ to_be_bytes w m → n ≡ m
+same_number w width n m sn sm e = sym (spelled w width n sn).1 ∙ ap (from_be_bytes w) e ∙ (spelled w width m sm).1
+
 -- a number was read, so its spelling stands at the front
 pub number_read : (w : Width) → IsFieldWidth w → (bytes : List ℕ) (x : ℕ × List ℕ) → AreBytes bytes → number_at w bytes ≡ Ok x → Took bytes (to_be_bytes w x.0) x.1 × (x.0 < 2 ^ bits w)
 number_read w width bytes x are is =
@@ -200,3 +267,44 @@ numbers_again w width [] rest small = refl
 numbers_again w width (n ∷ ns) rest small =
     let after = numbers_text w ns ++ rest in
     ap (numbers_at w (suc (length ns))) (append_assoc (to_be_bytes w n) (numbers_text w ns) rest) ∙ rw (number_again w width n after small.0, numbers_again w width ns rest small.1) refl
+
+-- numbers of which the first are read, and the next one is not whole
+pub record NumbersStop (w : Width) (n : ℕ) (bytes : List ℕ) (e : Wrong) : Type 0 where
+  pub numbers : List ℕ
+  pub rest : List ℕ
+  pub fewer : length numbers < n
+  pub small : AllByRecursion (λ m. m < 2 ^ bits w) numbers
+  pub took : Took bytes (numbers_text w numbers) rest
+  pub short : length rest < byte_len w
+  pub wrong : e ≡ wrong_at Short rest
+
+-- what reads does not stop
+pub none_stopped : {A : Type 0} {x : A} {e : Wrong} → Ok x ≡ stopped e → ⊥
+none_stopped same = absurd cc
+
+-- a number is read before those of which one is not whole
+one_more : (w : Width) → IsFieldWidth w → (n : ℕ) (bytes : List ℕ) (e : Wrong) (first : ℕ × List ℕ) → Took bytes (to_be_bytes w first.0) first.1 → first.0 < 2 ^ bits w → NumbersStop w n first.1 e → NumbersStop w (suc n) bytes e
+one_more w width n bytes e first took small s = record {
+  numbers = first.0 ∷ s.numbers;
+  rest = s.rest;
+  fewer = omega (arith, s.fewer);
+  small = (small, s.small);
+  took = took_both (to_be_bytes w first.0) (numbers_text w s.numbers) s.rest took s.took;
+  short = s.short;
+  wrong = s.wrong;
+}
+
+-- numbers are not read, so one of them is not whole
+pub numbers_stop : (w : Width) → IsFieldWidth w → (n : ℕ) (bytes : List ℕ) (e : Wrong) → AreBytes bytes → numbers_at w n bytes ≡ Err e → NumbersStop w n bytes e
+unfolding numbers_at
+numbers_stop w width zero bytes e are is = absurd cc
+numbers_stop w width (suc n) bytes e are is =
+    elim (stop (number_at w bytes) (λ first. numbers_at w n first.1 >>= λ others. Ok (first.0 ∷ others.0, others.1)) e is) [
+      | inl f ↦ let s = number_stop w bytes e f in record { numbers = []; rest = bytes; fewer = omega arith; small = tt; took = refl; short = s.0; wrong = s.1 }
+      | inr p ↦
+          let number = number_read w width bytes p.0 are p.1 in
+          elim (stop (numbers_at w n p.0.1) (λ others. Ok (p.0.0 ∷ others.0, others.1)) e p.2) [
+            | inl f ↦ one_more w width n bytes e p.0 number.0 number.1 (numbers_stop w width n p.0.1 e (rest_bytes (to_be_bytes w p.0.0) p.0.1 number.0 are) f)
+            | inr q ↦ absurd (none_stopped q.2)
+          ]
+    ]

@@ -2,6 +2,10 @@ pub mod FieldLemmas
 pub mod LoopLemmas
 pub mod LiteralLemmas
 pub mod PlanLemmas
+pub mod PartLemmas
+pub mod Parts
+pub mod ListParts
+pub mod EntryParts
 pub mod StreamLemmas
 pub mod PlaceLemmas
 pub mod OneWay

@@ -1,35 +1,22 @@
 -- A text is one list of plans, or it has one first fault, and never both.
-use Rattle.std.proofs.Common.{◌≡◌, ℕ, zero, suc, ◌-◌, ◌<◌, ◌≤◌, List, [], ◌∷◌, ◌++◌, length, All, Result, Ok, Err, inl, inr, refl, sym, ap, subst, ◌∙◌, append_assoc, arith}
+use Rattle.std.proofs.Common.{◌≡◌, ℕ, zero, suc, ◌-◌, ◌<◌, ◌≤◌, List, [], ◌∷◌, ◌++◌, length, All, Ok, inl, inr, refl, sym, ap, subst, ◌∙◌, append_assoc, arith}
 use Rattle.std.specs.List.{flat_map, AllByRecursion}
 use Rattle.std.proofs.lemmas.List.Elements.{All-from_recursion, All-weaker, recursion_from_All}
 use Rattle.lit_base.specs.declared.profile.Profile.TheVariants.{Eight}
-use Rattle.lit_base.specs.Profiles.{buckets}
-use Rattle.lit_cert.specs.declared.reason.Reason.{Reason}
-use Rattle.lit_cert.specs.Certified.{IsFirstFailure}
-use Rattle.lit_cert.proofs.Failures.{certified_or_fails, same_failure}
 use Rattle.lit_plan.specs.Plans.{Plan}
 use Rattle.plan_file.specs.declared.fault.Cause.{Cause}
-use Rattle.plan_file.specs.declared.fault.Cause.TheVariants.{NotCertified}
 use Rattle.plan_file.specs.declared.fault.Wrong.{Wrong}
 use Rattle.plan_file.specs.declared.version.Version.{Version}
 use Rattle.plan_file.specs.declared.version.Version.TheVariants.{One, Two}
-use Rattle.plan_file.specs.FirstFaults.{IsFirstFault, IsWrong, IsWrongBehind, IsWrongEntry, IsWrongNext}
-use Rattle.plan_file.specs.Reading.{head_at, plan_at, wrong_at}
-use Rattle.plan_file.specs.Spelling.{plan_text, ArePlans, IsFile, IsFileOf, IsPlan}
+use Rattle.plan_file.specs.FirstBad.{FitsHead, IsFirstBad, head_fields, text_of}
+use Rattle.plan_file.specs.FirstFaults.{IsFirstFault, IsWrong, IsWrongBehind, IsWrongNext}
+use Rattle.plan_file.specs.Reading.{head_at, plan_at}
+use Rattle.plan_file.specs.Spelling.{head_text, plan_text, ArePlans, IsFile, IsFileOf, IsPlan}
+use Rattle.plan_file.proofs.EntryParts.{one_entry, one_value, right_entry}
+use Rattle.plan_file.proofs.PartLemmas.{none_bad, one_bad}
+use Rattle.plan_file.proofs.Parts.{head_steady}
 use Rattle.plan_file.proofs.PlanLemmas.{head_again, plan_again}
 use Rattle.plan_file.proofs.PlaceLemmas.{wrong_within}
-
--- a reader reads one value
-one_value : {A : Type 0} {read : Result A Wrong} {x y : A} → read ≡ Ok x → read ≡ Ok y → x ≡ y
-one_value here there = cc
-
--- a reader stops at one fault
-one_stop : {A : Type 0} {read : Result A Wrong} {w v : Wrong} → read ≡ Err w → read ≡ Err v → w ≡ v
-one_stop here there = cc
-
--- a reader that stops reads no value
-not_both : {A : Type 0} {read : Result A Wrong} {x : A} {w : Wrong} → read ≡ Ok x → read ≡ Err w → ⊥
-not_both here there = absurd cc
 
 cons_same : {A : Type 0} {x y : A} {xs ys : List A} → x ≡ y → xs ≡ ys → x ∷ xs ≡ y ∷ ys
 cons_same p q = (cc)
@@ -39,25 +26,6 @@ cons_same p q = (cc)
 -- a right plan at the front is read
 read_at : (version : Version) (p : Plan) (bytes rest : List ℕ) → IsPlan version p → bytes ≡ plan_text p ++ rest → plan_at version bytes ≡ Ok (p, rest)
 read_at version p bytes rest is e = ap (plan_at version) e ∙ plan_again version p rest is.fields
-
--- and not wrong
-right_entry : (version : Version) (p : Plan) (bytes rest : List ℕ) (w : Wrong) → IsPlan version p → bytes ≡ plan_text p ++ rest → IsWrongEntry version bytes w → ⊥
-right_entry version p bytes rest w is e (inl f) = not_both (read_at version p bytes rest is e) f
-right_entry version p bytes rest w is e (inr h) =
-    let read = h.1 in
-    let same : read.plan ≡ p = ap (λ (x : Plan × List ℕ). x.0) (one_value read.whole (read_at version p bytes rest is e)) in
-    certified_or_fails (buckets p.certificate.profile) p.literals p.certificate h.0 is.certified (subst (λ (q : Plan). IsFirstFailure q.literals q.certificate h.0) same read.first)
-
--- one thing is wrong with an entry
-one_entry : (version : Version) (bytes : List ℕ) (w v : Wrong) → IsWrongEntry version bytes w → IsWrongEntry version bytes v → w ≡ v
-one_entry version bytes w v (inl e) (inl f) = one_stop e f
-one_entry version bytes w v (inl e) (inr k) = absurd (not_both k.1.whole e)
-one_entry version bytes w v (inr h) (inl f) = absurd (not_both h.1.whole f)
-one_entry version bytes w v (inr h) (inr k) =
-    let p = h.1.plan in
-    let same : k.1.plan ≡ p = ap (λ (x : Plan × List ℕ). x.0) (one_value k.1.whole h.1.whole) in
-    let reasons : h.0 ≡ k.0 = same_failure (buckets p.certificate.profile) p.literals p.certificate h.0 k.0 h.1.first (subst (λ (q : Plan). IsFirstFailure q.literals q.certificate k.0) same k.1.first) in
-    h.2 ∙ ap (λ (reason : Reason). wrong_at (NotCertified reason) bytes) reasons ∙ sym k.2
 
 -- one thing is wrong with what follows
 one_next : (version : Version) (missing : ℕ) (rest : List ℕ) (w v : Wrong) → IsWrongNext version missing rest w → IsWrongNext version missing rest v → w ≡ v
@@ -141,32 +109,45 @@ one_list text ps qs f g =
     let each : All (IsPlan f.version) qs = subst (λ (version : Version). All (IsPlan version) qs) versions g.file.are.each in
     same_plans f.version ps qs (by_recursion f.version ps f.file.are.each) (by_recursion f.version qs each) (ap (λ (x : Head). x.0.1) both) (ap (λ (x : Head). x.1) both)
 
+-- the fields of a head are its spelling
+head_fields_text : (h : Version × ℕ) (rest : List ℕ) → head_text h.0 h.1 ++ rest ≡ text_of (head_fields h) ++ rest
+unfolding head_text
+head_fields_text h rest = refl
+
+-- a head that stands has no bad field
+right_head : (text rest : List ℕ) (version : Version) (count : ℕ) (w : Wrong) → count ≤ 64 → text ≡ head_text version count ++ rest → IsFirstBad FitsHead head_fields text w → ⊥
+right_head text rest version count w few e bad = none_bad FitsHead head_fields head_steady text rest w (version, count) few (e ∙ head_fields_text (version, count) rest) bad
+
+-- two heads at the front of one text are one
+one_head : (version other : Version) (count number : ℕ) (s t : List ℕ) → count ≤ 64 → number ≤ 64 → head_text version count ++ s ≡ head_text other number ++ t → ◌≡◌ {A = Head} ((version, count), s) ((other, number), t)
+one_head version other count number s t few also e = one_value (head_again version count s few) (ap head_at e ∙ head_again other number t also)
+
 -- a fault after a head
 abbrev WrongBehind : Wrong → Head → Type 0
 WrongBehind w head = IsWrongBehind head.0.0 head.0.1 head.1 w
 
 -- then nothing is wrong with it
 pub none_wrong : (text : List ℕ) (ps : List Plan) (w : Wrong) → IsFile text ps → IsWrong text w → ⊥
-none_wrong text ps w f (inl e) = not_both (head_of f.version text ps f.file) e
+none_wrong text ps w f (inl bad) = right_head text (flat_map plan_text ps) f.version (length ps) w f.file.are.few f.file.spelled bad
 none_wrong text ps w f (inr h) =
     let here : Head = ((f.version, length ps), flat_map plan_text ps) in
-    let there : Head = ((h.0, h.1), h.2) in
-    let both : there ≡ here = one_value h.3 (head_of f.version text ps f.file) in
-    let behind : WrongBehind w here = subst (WrongBehind w) both h.4 in
+    let there : Head = ((h.version, h.count), h.rest) in
+    let both : there ≡ here = one_head h.version f.version h.count (length ps) h.rest (flat_map plan_text ps) h.few f.file.are.few (sym h.text_is ∙ f.file.spelled) in
+    let behind : WrongBehind w here = subst (WrongBehind w) both h.wrong in
     right_behind f.version ps behind.plans behind.rest w (by_recursion f.version ps f.file.are.each) (by_recursion f.version behind.plans behind.each) behind.within behind.text_is behind.wrong
 
 -- one thing is wrong with a text
 pub one_wrong : (text : List ℕ) (w v : Wrong) → IsWrong text w → IsWrong text v → w ≡ v
-one_wrong text w v (inl e) (inl f) = one_stop e f
-one_wrong text w v (inl e) (inr k) = absurd (not_both k.3 e)
-one_wrong text w v (inr h) (inl f) = absurd (not_both h.3 f)
+one_wrong text w v (inl a) (inl b) = one_bad FitsHead head_fields head_steady text w v a b
+one_wrong text w v (inl a) (inr k) = absurd (right_head text k.rest k.version k.count w k.few k.text_is a)
+one_wrong text w v (inr h) (inl b) = absurd (right_head text h.rest h.version h.count v h.few h.text_is b)
 one_wrong text w v (inr h) (inr k) =
-    let one : Head = ((h.0, h.1), h.2) in
-    let other : Head = ((k.0, k.1), k.2) in
-    let both : other ≡ one = one_value k.3 h.3 in
-    let first : WrongBehind w one = h.4 in
-    let second : WrongBehind v one = subst (WrongBehind v) both k.4 in
-    one_behind h.0 h.1 first.plans second.plans first.rest second.rest w v (by_recursion h.0 first.plans first.each) (by_recursion h.0 second.plans second.each) first.within second.within
+    let one : Head = ((h.version, h.count), h.rest) in
+    let other : Head = ((k.version, k.count), k.rest) in
+    let both : other ≡ one = one_head k.version h.version k.count h.count k.rest h.rest k.few h.few (sym k.text_is ∙ h.text_is) in
+    let first : WrongBehind w one = h.wrong in
+    let second : WrongBehind v one = subst (WrongBehind v) both k.wrong in
+    one_behind h.version h.count first.plans second.plans first.rest second.rest w v (by_recursion h.version first.plans first.each) (by_recursion h.version second.plans second.each) first.within second.within
     (sym first.text_is ∙ second.text_is) first.wrong second.wrong
 
 -- ---- the plans that a version can spell
@@ -256,3 +237,17 @@ pub one_fault : {X : Type 0} (f : ℕ → Cause → X) (text : List ℕ) (place 
 one_fault f text place other cause cause' first second =
     let back : place ≡ length text - (length text - place) = omega (arith, first.within) in
     ap (λ (k : ℕ). f k cause) back ∙ told f text (at_left cause (length text - place)) other cause' first.wrong second
+
+-- a place and a cause
+abbrev Fault : Type 0
+Fault = ℕ × Cause
+
+-- its place and its cause are one
+pub same_fault : (text : List ℕ) (place other : ℕ) (cause another : Cause) → IsFirstFault text place cause → IsFirstFault text other another → (place ≡ other) × (cause ≡ another)
+same_fault text place other cause another first second =
+    let both = one_fault {X = Fault} (λ p c. (p, c)) text place other cause another first second in
+    (ap (λ (x : Fault). x.0) both, ap (λ (x : Fault). x.1) both)
+
+-- a file has none
+pub none_first : (text : List ℕ) (plans : List Plan) (place : ℕ) (cause : Cause) → IsFile text plans → IsFirstFault text place cause → ⊥
+none_first text plans place cause f first = none_wrong text plans (at_left cause (length text - place)) f first.wrong

@@ -35,21 +35,21 @@ is_count limit n = leb 1 n && leb n limit
 pub between : (low high n : ℕ) → (leb low n && leb n high) ≡ true → (low ≤ n) × (n ≤ high)
 between low high n e = (grind (arith, nat_tests), grind (arith, nat_tests))
 
-between_from : (low high n : ℕ) → low ≤ n → n ≤ high → (leb low n && leb n high) ≡ true
+pub between_from : (low high n : ℕ) → low ≤ n → n ≤ high → (leb low n && leb n high) ≡ true
 between_from low high n l h = grind (arith, nat_tests)
 
-below_from : (n high : ℕ) → n ≤ high → leb n high ≡ true
+pub below_from : (n high : ℕ) → n ≤ high → leb n high ≡ true
 below_from n high h = grind (arith, nat_tests)
 
 pub at_most : (n high : ℕ) → leb n high ≡ true → n ≤ high
 at_most n high e = grind (arith, nat_tests)
 
-last_few : (version : Version) → last_flags version ≤ 3
+pub last_few : (version : Version) → last_flags version ≤ 3
 last_few One = omega arith
 last_few Two = omega arith
 
 -- a byte is the byte of its fold and profile
-flags_again : (b : ℕ) → b ≤ 3 → b ≡ flags_of (fold_of b) (profile_of b)
+pub flags_again : (b : ℕ) → b ≤ 3 → b ≡ flags_of (fold_of b) (profile_of b)
 flags_again zero le = refl
 flags_again (suc zero) le = refl
 flags_again (suc (suc zero)) le = refl
@@ -57,13 +57,13 @@ flags_again (suc (suc (suc zero))) le = refl
 flags_again (suc (suc (suc (suc b)))) le = absurd (omega (arith, le))
 
 -- it has no profile that the version cannot spell
-flags_can : (version : Version) (b : ℕ) → b ≤ last_flags version → CanTell version (profile_of b)
+pub flags_can : (version : Version) (b : ℕ) → b ≤ last_flags version → CanTell version (profile_of b)
 flags_can One zero le = refl
 flags_can One (suc zero) le = refl
 flags_can One (suc (suc b)) le = absurd (omega (arith, le))
 flags_can Two b le = tt
 
-flags_pass : (version : Version) (fold : Fold) (profile : Profile) → CanTell version profile → is_flag version (flags_of fold profile) ≡ true
+pub flags_pass : (version : Version) (fold : Fold) (profile : Profile) → CanTell version profile → is_flag version (flags_of fold profile) ≡ true
 flags_pass One No Eight can = refl
 flags_pass One Ascii Eight can = refl
 flags_pass One fold Sixteen can = absurd cc
@@ -72,13 +72,13 @@ flags_pass Two Ascii Eight can = refl
 flags_pass Two No Sixteen can = refl
 flags_pass Two Ascii Sixteen can = refl
 
-fold_told : (fold : Fold) (profile : Profile) → fold_of (flags_of fold profile) ≡ fold
+pub fold_told : (fold : Fold) (profile : Profile) → fold_of (flags_of fold profile) ≡ fold
 fold_told No Eight = refl
 fold_told Ascii Eight = refl
 fold_told No Sixteen = refl
 fold_told Ascii Sixteen = refl
 
-profile_told : (fold : Fold) (profile : Profile) → profile_of (flags_of fold profile) ≡ profile
+pub profile_told : (fold : Fold) (profile : Profile) → profile_of (flags_of fold profile) ≡ profile
 profile_told No Eight = refl
 profile_told Ascii Eight = refl
 profile_told No Sixteen = refl
@@ -278,13 +278,13 @@ abbrev pub is_few : ℕ → Bool
 is_few n = leb n 64
 
 -- a number that is 1 or 2 is the number of its version
-version_again : (number : ℕ) → 1 ≤ number → number ≤ 2 → number ≡ version_number (version_of number)
+pub version_again : (number : ℕ) → 1 ≤ number → number ≤ 2 → number ≡ version_number (version_of number)
 version_again zero some few = absurd (omega (arith, some))
 version_again (suc zero) some few = refl
 version_again (suc (suc zero)) some few = refl
 version_again (suc (suc (suc number))) some few = absurd (omega (arith, few))
 
-version_passes : (version : Version) → is_count 2 (version_number version) ≡ true
+pub version_passes : (version : Version) → is_count 2 (version_number version) ≡ true
 version_passes One = refl
 version_passes Two = refl
 
@@ -292,7 +292,7 @@ version_told : (version : Version) → version_of (version_number version) ≡ v
 version_told One = refl
 version_told Two = refl
 
-version_small : (version : Version) → version_number version < 2 ^ 16
+pub version_small : (version : Version) → version_number version < 2 ^ 16
 version_small One = omega arith
 version_small Two = omega arith
 

@@ -1,7 +1,7 @@
 -- The promises on a device, by the answer made of the bytes that it gave.
 use Rattle.std.proofs.Common.{◌≡◌, ◌≢◌, ℕ, ◌^◌, ◌<◌, List, [], ◌++◌, length, Option, Some, None, Result, Ok, Err, refl, sym, ap, subst, ◌∙◌, append_assoc, arith}
 use Rattle.std.specs.Option.{IfSome}
-use Rattle.std.specs.Result.{IfErr, IfOk, OnOk}
+use Rattle.std.specs.Result.{IfErr, IfOk, IsOkAnd, IsOkUnless, OnOk}
 use Rattle.std.proofs.lemmas.List.{length-append}
 use Rattle.std.proofs.lemmas.Result.{IfErr-at_err}
 use Rattle.byte_io.specs.Devices.{Coming, Clean, Faulty, EndsHere, Told}
@@ -91,3 +91,16 @@ exact_long items (Some x) (Some y) before text (Err (BadPlanFile p c)) empty lon
     one_fault bad_file x.text p place c cause (subst (λ (t : List ℕ). IsFirstFault t p c) (sym (came_is x y before text empty reads)) (first_longer text y.text p c long wrong)) first
 exact_long items (Some x) (Some y) before text (Err ReadFault) empty long reads found wrong = absurd wrong
 exact_long items (Some x) (Some y) before text (Err WriteFault) empty long reads found wrong = absurd wrong
+
+-- a file that is read unless memory runs out is read as its plans
+pub read_same : {X : Type 0} (items : X → List Plan) (plans : List Plan) (r : Result X Fault) → (r ≢ Err OutOfMemory → IsOkAnd r (λ v. items v ≡ plans)) → IfOk r (λ v. items v ≡ plans)
+read_same items plans (Ok v) only = only (λ e. absurd cc)
+read_same items plans (Err e) only = tt
+
+-- and refused only for want of it
+pub read_unless : {X : Type 0} (items : X → List Plan) (plans : List Plan) (r : Result X Fault) → (r ≢ Err OutOfMemory → IsOkAnd r (λ v. items v ≡ plans)) → IsOkUnless r OutOfMemory
+read_unless items plans (Ok v) only = tt
+read_unless items plans (Err OutOfMemory) only = refl
+read_unless items plans (Err (BadPlanFile place cause)) only = absurd (only (λ e. absurd cc))
+read_unless items plans (Err ReadFault) only = absurd (only (λ e. absurd cc))
+read_unless items plans (Err WriteFault) only = absurd (only (λ e. absurd cc))

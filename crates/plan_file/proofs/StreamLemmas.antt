@@ -11,9 +11,11 @@ use Rattle.plan_file.specs.declared.fault.Stop.TheVariants as stop
 use Rattle.plan_file.specs.declared.version.Version.{Version}
 use Rattle.plan_file.specs.Faults.{IfWrong}
 use Rattle.plan_file.specs.FirstFaults.{AreEntries, IsWrong, IsWrongBehind, IsWrongEntry, IsWrongNext}
-use Rattle.plan_file.specs.Reading.{head_at, wrong_at}
+use Rattle.plan_file.specs.Reading.{head_at, plan_at, wrong_at}
 use Rattle.plan_file.specs.Spelling.{head_text, plan_text, IsFile, IsPlan}
+use Rattle.plan_file.proofs.EntryParts.{entry_bad}
 use Rattle.plan_file.proofs.FieldLemmas.{AreBytes}
+use Rattle.plan_file.proofs.Parts.{head_bad}
 use Rattle.plan_file.proofs.PlanLemmas.{head_read}
 
 -- ---- reading one after the other
@@ -84,14 +86,21 @@ whole version count text rest plans bytes head are =
     }
 
 -- a fault after the head is a fault of the text
-pub wrong_behind : (version : Version) (count : ℕ) (text rest : List ℕ) (e : Stop) → head_at text ≡ Ok ((version, count), rest) → IfWrong (IsWrongBehind version count rest) e → IfWrong (IsWrong text) e
-wrong_behind version count text rest stop.OutOfMemory head wrong = tt
-wrong_behind version count text rest (stop.Wrong w) head wrong = inr (version, count, rest, head, wrong)
+pub wrong_behind : (version : Version) (count : ℕ) (text rest : List ℕ) (e : Stop) → AreBytes text → head_at text ≡ Ok ((version, count), rest) → IfWrong (IsWrongBehind version count rest) e → IfWrong (IsWrong text) e
+wrong_behind version count text rest stop.OutOfMemory bytes head wrong = tt
+wrong_behind version count text rest (stop.Wrong w) bytes head wrong =
+    let h = head_read text ((version, count), rest) bytes head in
+    inr (record { version = version; count = count; few = h.1; rest = rest; text_is = h.0; wrong = wrong })
 
 -- a fault of the head is a fault of the text
-pub wrong_head : (text : List ℕ) (e : Stop) → IfWrong (λ w. head_at text ≡ Err w) e → IfWrong (IsWrong text) e
-wrong_head text stop.OutOfMemory wrong = tt
-wrong_head text (stop.Wrong w) wrong = inl wrong
+pub wrong_head : (text : List ℕ) (e : Stop) → AreBytes text → IfWrong (λ w. head_at text ≡ Err w) e → IfWrong (IsWrong text) e
+wrong_head text stop.OutOfMemory bytes wrong = tt
+wrong_head text (stop.Wrong w) bytes wrong = inl (head_bad text w bytes wrong)
+
+-- a fault of a field of an entry is a fault of the entry
+pub wrong_entry : (version : Version) (bytes : List ℕ) (e : Stop) → AreBytes bytes → IfWrong (λ w. plan_at version bytes ≡ Err w) e → IfWrong (IsWrongEntry version bytes) e
+wrong_entry version bytes stop.OutOfMemory are wrong = tt
+wrong_entry version bytes (stop.Wrong w) are wrong = entry_bad version bytes w are wrong
 
 -- one more entry is written after those before it
 pub entries_more : (front old new : List ℕ) (plans : List Plan) (i : ℕ) (p : Plan) → i < length plans → p ≡ get_or plans i p → old ≡ front ++ flat_map plan_text (take i plans)

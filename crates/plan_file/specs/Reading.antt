@@ -1,4 +1,4 @@
--- The fields of a plan file in reading order, and the first of them that is wrong.
+-- Inside the crate: what each function that reads a part of a plan file gives, field by field.
 use Rattle.std.specs.Prelude.{ℕ, zero, suc, ◌*◌, ◌-◌, ◌%◌, List, [], ◌∷◌, length, take, drop, Bool, ◌&&◌, ◌==◌, not, nat_le, nat_lt, if◌then◌else◌, Result, Ok, Err}
 use Rattle.std.specs.Int.{Width, w16, w32, w64, byte_len, from_be_bytes}
 use Rattle.std.specs.List.{position_or_len}

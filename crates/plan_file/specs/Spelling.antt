@@ -104,3 +104,9 @@ pub record IsFileOf (version : Version) (text : List ℕ) (plans : List Plan) : 
 pub record IsFile (text : List ℕ) (plans : List Plan) : Type 0 where
   pub version : Version
   pub file : IsFileOf version text plans
+
+-- with some bytes after it the text is a file
+pub record BeginsFile (text : List ℕ) : Type 0 where
+  pub more : List ℕ
+  pub plans : List Plan
+  pub file : IsFile (text ++ more) plans

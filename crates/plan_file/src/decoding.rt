@@ -1,13 +1,14 @@
 //! Plans read back from a text that is held whole.
-ghost use Rattle.std.specs.Prelude.{◌≡◌, ◌≢◌, ℕ, ◌≤◌, ◌++◌, List, IfErr, IfOk, IsOkAnd};
+ghost use Rattle.std.specs.Prelude.{◌≡◌, ◌≢◌, ℕ, ◌≤◌, ◌++◌, List, length, IfErr, IsOkUnless, IfOk, IsOkAnd};
 ghost use Rattle.lit_plan.specs.Plans.{Plan};
 ghost use Rattle.plan_file.specs.declared.fault.Cause.{Cause};
 ghost use Rattle.plan_file.specs.Faults.{Gives, IfBadFile, IfWrong};
 ghost use Rattle.plan_file.specs.FirstFaults.{AreEntries, IsFirstFault, IsWrong, IsWrongBehind, IsWrongEntry};
 ghost use Rattle.plan_file.specs.Reading.{head_at, plan_at};
-ghost use Rattle.plan_file.specs.Spelling.{IsFile, IsPlan, plan_text};
+ghost use Rattle.plan_file.specs.Spelling.{BeginsFile, IsFile, IsPlan, plan_text};
 
 use crate::certificates::first_certificate;
+use crate::encoding::encode;
 use crate::fault::{Cause, Fault, Stop, stop_at};
 use crate::fields::{first_u16, first_u32};
 use crate::limits::{MAGIC, MAX_PLANS};
@@ -129,4 +130,28 @@ pub fn decode(alloc: Global, bytes: &[u8]) -> Result<Vec<Compiled>, Fault>
             cause: wrong.cause,
         }),
     }
+}
+
+/// The law of first faults. A text has at most one, and none if it is a file. Unless its cause is `Short`, it is the first
+/// fault whatever bytes follow, and the text begins no file.
+pub fn fault_law()
+    ensures one { (text : List ℕ) (place other : ℕ) (cause another : Cause) →
+        IsFirstFault text place cause → IsFirstFault text other another → (place ≡ other) × (cause ≡ another) }
+    ensures none { (text : List ℕ) (plans : List Plan) (place : ℕ) (cause : Cause) →
+        IsFile text plans → IsFirstFault text place cause → ⊥ }
+    ensures stays { (text more : List ℕ) (place : ℕ) (cause : Cause) →
+        IsFirstFault text place cause → cause ≢ Cause.Short → IsFirstFault (text ++ more) place cause }
+    ensures never { (text : List ℕ) (place : ℕ) (cause : Cause) →
+        IsFirstFault text place cause → cause ≢ Cause.Short → BeginsFile text → ⊥ }
+{}
+
+/// The plans that `decode` reads in the text that `encode` makes of some plans: the same ones. The only error is
+/// `OutOfMemory`.
+pub fn read_back(alloc: Global, plans: &[Compiled]) -> Result<Vec<Compiled>, Fault>
+    requires { length plans.now ≤ 64 }
+    ensures same { IfOk result (λ read. read.items ≡ plans.now) }
+    ensures refused { IsOkUnless result Fault.OutOfMemory }
+{
+    let text = encode(alloc, plans)?;
+    decode(alloc, &text)
 }

@@ -13,7 +13,7 @@ mod literals;
 mod reading;
 mod version;
 
-pub use decoding::decode;
+pub use decoding::{decode, fault_law, read_back};
 pub use encoding::{encode, spelling_law, write_plans};
 pub use fault::{Cause, Fault};
 pub use limits::{MAX_PLANS, limits_law};

@@ -1,0 +1,42 @@
+//! The prices and thresholds of the search by factors. They change the time of a search, never its result. Prices are in
+//! tenths of a nanosecond.
+
+// Prices.
+
+/// A probe. How it was chosen is not recorded.
+pub const LOOK_COST: usize = 8;
+
+/// A hash bit at which nothing ends. How it was chosen is not recorded.
+pub const MARK_COST: usize = 250;
+
+/// The masks for 1,024 bytes, if no position passes. How it was chosen is not recorded.
+pub const SIEVE_COST: usize = 1536;
+
+/// A position that passes the masks and has no hash bit. Each width of its probe adds half of this. How it was chosen
+/// is not recorded.
+pub(crate) const PASS_COST: usize = 20;
+
+/// A block with a position that passes, in addition: it is probed as a whole, and the number of passes is hard to
+/// predict. Measured for 30 rare literals in log lines, English, JSON and source code: estimates are 0.8 to 1.1 of the
+/// cost. With three times this value they are 1.1 to 1.8; others were not tried.
+pub(crate) const BLOCK_COST: usize = 60;
+
+/// A new start after an end: a block is probed from there on, and its last probes are mostly wasted. Shift-or starts
+/// with eight probes. Not varied.
+pub const START_COST: usize = 500;
+
+/// A start with masks, in addition. Without masks probes begin at once. Measured: with masks for all lists, 100
+/// frequent literals took 1.3 times as long in English text and log lines.
+pub(crate) const SIEVE_START_COST: usize = 400;
+
+// Thresholds.
+
+/// An estimate counts each hash bit of a sample this many times. The chosen factors are rare in the sample by chance
+/// too, so a text has more of them. Not varied on record.
+pub(crate) const BIAS: usize = 2;
+
+/// The longest list for the masks: with more literals most positions pass. How it was chosen is not recorded.
+pub(crate) const MOST_SIEVED: usize = 128;
+
+/// One position of this many is counted in a sample. How it was chosen is not recorded.
+pub(crate) const SPARSE: usize = 31;
