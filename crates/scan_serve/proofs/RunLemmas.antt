@@ -3,16 +3,17 @@ use Rattle.std.proofs.Common.{◌≡◌, ℕ, ◌+◌, ◌≤◌, List, [], ◌�
 use Rattle.std.proofs.lemmas.List.{append-nil, drop-drop, length-drop}
 use Rattle.std.proofs.lemmas.List.Elements.{All-append, All-cons, All-nil}
 use Rattle.std.proofs.lemmas.List.Concat.{flat_map-append}
-use Rattle.scan_wire.specs.Causes.{HasCause}
-use Rattle.scan_wire.specs.Frames.{IsRequest, reply_text, replies_text, request_text, requests_text}
+use Rattle.std.specs.Io.KnownBytes.{Appends}
+use Rattle.std.proofs.KnownBytes.{Appends-nil}
+use Rattle.scan_wire.specs.Causes.{BeginsWithFrame, HasCause}
+use Rattle.scan_wire.specs.Frames.{IsRequest, reply_text, replies_text, request_frame, request_text, requests_text}
 use Rattle.scan_wire.specs.Messages.{ReplyParts, RequestParts}
 use Rattle.scan_wire.specs.Reading.{StartsWith}
 use Rattle.scan_serve.specs.declared.stop.Halt.{Halt}
 use Rattle.scan_serve.specs.declared.stop.Halt.TheVariants as halt
 use Rattle.scan_serve.specs.Answering.{Answered, AnswersAll, AnswersFront, Run, Step, Stopped}
-use Rattle.scan_serve.specs.Sending.{SendsFront}
 use Rattle.scan_serve.specs.Stops.{OnHalt}
-use Rattle.scan_serve.proofs.SendLemmas.{front_is, front_none, sends_is, sends_none, sends_then, sends_then_front}
+use Rattle.scan_serve.proofs.SendLemmas.{front_is, sends_is, sends_none, sends_then, sends_then_front}
 
 -- two runs are one
 pub run_then : {S : Type 0} (step : Step S) (s t u : S) (rs qs : List RequestParts) (xs ys : List ReplyParts) → Run step s rs xs t → Run step t qs ys u → Run step s (rs ++ qs) (xs ++ ys) u
@@ -61,9 +62,13 @@ answers_then step s t u text i j k x y z a b c p q = record {
   sent = sends_is x z a c _ _ (sym (replies_text-append p.replies q.replies)) (sends_then x y z a b c (replies_text p.replies) (replies_text q.replies) p.sent q.sent);
 }
 
--- a front of no reply is written
-pub stops_at_once : {S : Type 0} (step : Step S) (s : S) (text : List ℕ) (place : ℕ) (v : Option (List ℕ)) (b : List ℕ) → AnswersFront step s text place v v b
-stops_at_once step s text place v b = record {
+-- a request's frame at the front is a frame
+starts_frame : (text : List ℕ) (r : RequestParts) (len : ℕ) → StartsWith text r len → BeginsWithFrame text
+starts_frame text r len st = record { frame = request_frame r; rest = drop len text; is_frame = st.is_request.frame; text_is = st.text_is }
+
+-- no frame from the place on is answered, and nothing is written
+stops_at : {S : Type 0} (step : Step S) (s : S) (text : List ℕ) (place : ℕ) (v w : Option (List ℕ)) (b : List ℕ) → BeginsWithFrame (drop place text) → Appends v w [] → AnswersFront step s text place v w b
+stops_at step s text place v w b frame nothing = record {
   requests = [];
   replies = [];
   rest = drop place text;
@@ -71,34 +76,24 @@ stops_at_once step s text place v b = record {
   are_requests = All-nil IsRequest;
   text_is = refl;
   run = (refl, refl);
-  sent = front_none v b [];
+  sent = record { done = []; lost = b; written = nothing; text_is = append-nil b };
+  missed = inr frame;
 }
 
 -- the request at the place is not answered in full
 pub stops_in : {S : Type 0} (step : Step S) (s : S) (text : List ℕ) (place len : ℕ) (r : RequestParts) (v w : Option (List ℕ)) (b : List ℕ) → StartsWith (drop place text) r len → Stopped step s r v w b → AnswersFront step s text place v w b
-stops_in {S} step s text place len r v w b st p = stops_by p.replies p.may p.sent
-  where
-    stops_by : (replies : List ReplyParts) → ((replies ≡ []) ⊎ ((new : S) × step s r replies new)) → SendsFront v w b (replies_text replies) → AnswersFront step s text place v w b
-    stops_by replies (inl none) sent = record {
-      requests = [];
-      replies = [];
-      rest = drop place text;
-      new = s;
-      are_requests = All-nil IsRequest;
-      text_is = refl;
-      run = (refl, refl);
-      sent = front_is v w b _ _ (ap (λ (x : List ReplyParts). replies_text x) none) sent;
-    }
-    stops_by replies (inr (new, one)) sent = record {
-      requests = r ∷ [];
-      replies = replies;
-      rest = drop len (drop place text);
-      new = new;
-      are_requests = All-cons IsRequest r [] st.is_request (All-nil IsRequest);
-      text_is = st.text_is ∙ ap (λ (x : List ℕ). x ++ drop len (drop place text)) (sym (append-nil (request_text r)));
-      run = (replies, [], new, sym (append-nil replies), one, (refl, refl));
-      sent = sent;
-    }
+stops_in step s text place len r v w b st (inl nothing) = stops_at step s text place v w b (starts_frame (drop place text) r len st) nothing
+stops_in step s text place len r v w b st (inr cut) = record {
+  requests = r ∷ [];
+  replies = cut.replies;
+  rest = drop len (drop place text);
+  new = cut.new;
+  are_requests = All-cons IsRequest r [] st.is_request (All-nil IsRequest);
+  text_is = st.text_is ∙ ap (λ (x : List ℕ). x ++ drop len (drop place text)) (sym (append-nil (request_text r)));
+  run = (cut.replies, [], cut.new, sym (append-nil cut.replies), cut.is_step, (refl, refl));
+  sent = cut.sent.front;
+  missed = inl cut.sent.missed;
+}
 
 -- after requests that were answered, one is not answered in full
 pub answers_then_front : {S : Type 0} (step : Step S) (s t : S) (text : List ℕ) (i j : ℕ) (x y z : Option (List ℕ)) (a b : List ℕ) → AnswersAll step s t text i j x y a b → AnswersFront step t text j y z b → AnswersFront step s text i x z a
@@ -112,13 +107,14 @@ answers_then_front step s t text i j x y z a b p q = record {
       ∙ ap (λ (w : List ℕ). w ++ q.rest) (sym (flat_map-append request_text p.requests q.requests));
   run = run_then step s t q.new p.requests q.requests p.replies q.replies p.run q.run;
   sent = front_is x z a _ _ (sym (replies_text-append p.replies q.replies)) (sends_then_front x y z a b (replies_text p.replies) (replies_text q.replies) p.sent q.sent);
+  missed = q.missed;
 }
 
 -- what halts before the first request is answered
-pub halts_first : {S : Type 0} (step : Step S) (s : S) (text rest : List ℕ) (place : ℕ) (v : Option (List ℕ)) (b : List ℕ) (h : Halt) → place ≤ length text → rest ≡ drop place text → OnHalt (λ cause. HasCause cause rest) (Unit {0}) h
+pub halts_first : {S : Type 0} (step : Step S) (s : S) (text rest : List ℕ) (place : ℕ) (v : Option (List ℕ)) (b : List ℕ) (h : Halt) → place ≤ length text → rest ≡ drop place text → OnHalt (λ cause. HasCause cause rest) (BeginsWithFrame rest) h
     → OnHalt (λ cause. HasCause cause (drop place text) × AnswersAll step s s text place place v v b b) (AnswersFront step s text place v v b) h
 halts_first step s text rest place v b (halt.Bad cause) le is h = (subst (λ (x : List ℕ). HasCause cause x) is h, answers_none step s text place v b le)
-halts_first step s text rest place v b (halt.Stopped stop) le is h = stops_at_once step s text place v b
+halts_first step s text rest place v b (halt.Stopped stop) le is h = stops_at step s text place v v b (subst (λ (x : List ℕ). BeginsWithFrame x) is h) (Appends-nil v)
 
 -- what halts after requests that were answered
 pub halts_behind : {S : Type 0} (step : Step S) (s t u : S) (text : List ℕ) (i j : ℕ) (x y z : Option (List ℕ)) (a b c : List ℕ) (h : Halt) → AnswersAll step s t text i j x y a b

@@ -1,5 +1,5 @@
 -- Turns of serving, one after the other, and how they end.
-use Rattle.std.proofs.Common.{◌≡◌, ◌≢◌, ℕ, List, [], ◌∷◌, ◌++◌, length, Option, None, Some, Result, Ok, refl, sym, ap, subst, ◌∙◌, inl, append_assoc, arith}
+use Rattle.std.proofs.Common.{◌≡◌, ◌≢◌, ℕ, List, [], ◌∷◌, ◌++◌, length, Option, None, Some, Result, Ok, refl, sym, ap, subst, ◌∙◌, inl, inr, append_assoc, arith}
 use Rattle.std.proofs.lemmas.List.{append-nil, length-append, nil_from_length}
 use Rattle.std.proofs.lemmas.List.Elements.{All-append, All-nil}
 use Rattle.std.proofs.lemmas.List.Concat.{flat_map-append}
@@ -74,6 +74,15 @@ served_then step s t u a b c x y z held mid rest last p q = record {
     joined : (xs ys zs : List ReplyParts) → replies_text (xs ++ []) ++ replies_text (ys ++ zs) ≡ replies_text ((xs ++ ys) ++ zs)
     joined xs ys zs = ap (λ (l : List ReplyParts). replies_text l ++ replies_text (ys ++ zs)) (append-nil xs) ∙ sym (replies_text-append xs (ys ++ zs)) ∙ ap (λ (l : List ReplyParts). replies_text l) (sym (append_assoc xs ys zs))
 
+-- what was written before a front
+abbrev front_behind : (u v w : Option (List ℕ)) (one two all : List ℕ) → one ++ two ≡ all → Appends u v one → SendsFront v w [] two → SendsFront u w [] all
+front_behind u v w one two all e p f = record {
+  done = one ++ f.done;
+  lost = f.lost;
+  written = Appends-trans u v w one f.done p f.written;
+  text_is = sym e ∙ ap (λ (l : List ℕ). one ++ l) f.text_is ∙ sym (append_assoc one f.done f.lost);
+}
+
 -- turns, and then a turn that stops
 pub served_then_front : {S : Type 0} (step : Step S) (s t : S) (a b c : Option Coming) (x y z : Option (List ℕ)) (held mid : List ℕ) → IsServed step s t a b x y held mid [] → IsServedFront step t b c y z mid → IsServedFront step s a c x z held
 served_then_front step s t a b c x y z held mid p q = record {
@@ -91,37 +100,30 @@ served_then_front step s t a b c x y z held mid p q = record {
     run = run_then step s t q.answers.new p.answers.requests q.answers.requests p.answers.replies q.answers.replies p.answers.run q.answers.run;
     is_last = q.answers.is_last;
     written = front_behind x y z (replies_text (p.answers.replies ++ [])) (replies_text (q.answers.replies ++ q.answers.last)) _ (joined p.answers.replies q.answers.replies q.answers.last) p.answers.written q.answers.written;
+    missed = q.answers.missed;
   };
 }
   where
     joined : (xs ys zs : List ReplyParts) → replies_text (xs ++ []) ++ replies_text (ys ++ zs) ≡ replies_text ((xs ++ ys) ++ zs)
     joined xs ys zs = ap (λ (l : List ReplyParts). replies_text l ++ replies_text (ys ++ zs)) (append-nil xs) ∙ sym (replies_text-append xs (ys ++ zs)) ∙ ap (λ (l : List ReplyParts). replies_text l) (sym (append_assoc xs ys zs))
 
-    front_behind : (u v w : Option (List ℕ)) (one two all : List ℕ) → one ++ two ≡ all → Appends u v one → SendsFront v w [] two → SendsFront u w [] all
-    front_behind u v w one two all e p f = record {
-      done = one ++ f.done;
-      lost = f.lost;
-      written = Appends-trans u v w one f.done p f.written;
-      text_is = sym e ∙ ap (λ (l : List ℕ). one ++ l) f.text_is ∙ sym (append_assoc one f.done f.lost);
-    }
-
 -- a clean end after known bytes
 at_end_then : (a b c : Option Coming) (bs : List ℕ) → Told a b (λ x y. Gives x y bs) → AtEnd b c → AtEnd a c
 at_end_then a b c bs p q = Told-then a b c (λ x y. Gives x y bs) (λ _ y. EndsHere y) (λ _ y. EndsHere y) p q (λ x y z g e. e)
 
 -- turns, and then an ending
-pub served_then_ends : {S : Type 0} (step : Step S) (s t u : S) (a b c : Option Coming) (x y z : Option (List ℕ)) (held mid : List ℕ) (e : Ended) → IsServed step s t a b x y held mid [] → EndsAs step t u b c y z mid e → EndsAs step s u a c x z held e
-served_then_ends step s t u a b c x y z held mid Clean p q = (served_then step s t u a b c x y z held mid [] [] p q.0, at_end_then a b c p.bytes p.read q.1)
-served_then_ends step s t u a b c x y z held mid Truncated p (rest, some, waits, q, end) = (rest, some, waits, served_then step s t u a b c x y z held mid rest [] p q, at_end_then a b c p.bytes p.read end)
-served_then_ends step s t u a b c x y z held mid Bad p (rest, cause, has, q) = (rest, cause, has, served_then step s t u a b c x y z held mid rest _ p q)
-served_then_ends step s t u a b c x y z held mid ReadFault p (rest, waits, q) = (rest, waits, served_then step s t u a b c x y z held mid rest [] p q)
-served_then_ends step s t u a b c x y z held mid WriteFault p q = served_then_front step s t a b c x y z held mid p q
-served_then_ends step s t u a b c x y z held mid OutOfMemory p q = served_then_front step s t a b c x y z held mid p q
+pub served_then_ends : {S : Type 0} (step : Step S) (s t u : S) (a b c : Option Coming) (x y z : Option (List ℕ)) (held mid : List ℕ) (e : Ended) → e ≢ OutOfMemory → IsServed step s t a b x y held mid [] → EndsAs step t u b c y z mid e → EndsAs step s u a c x z held e
+served_then_ends step s t u a b c x y z held mid Clean mem p q = (served_then step s t u a b c x y z held mid [] [] p q.0, at_end_then a b c p.bytes p.read q.1)
+served_then_ends step s t u a b c x y z held mid Truncated mem p (rest, some, waits, q, end) = (rest, some, waits, served_then step s t u a b c x y z held mid rest [] p q, at_end_then a b c p.bytes p.read end)
+served_then_ends step s t u a b c x y z held mid Bad mem p (rest, cause, has, q) = (rest, cause, has, served_then step s t u a b c x y z held mid rest _ p q)
+served_then_ends step s t u a b c x y z held mid ReadFault mem p (rest, waits, q) = (rest, waits, served_then step s t u a b c x y z held mid rest [] p q)
+served_then_ends step s t u a b c x y z held mid WriteFault mem p q = served_then_front step s t a b c x y z held mid p q
+served_then_ends step s t u a b c x y z held mid OutOfMemory mem p q = absurd (mem refl)
 
 -- a stop is the ending that it names
 pub stops_as : {S : Type 0} (step : Step S) (s t : S) (c d : Option Coming) (v w : Option (List ℕ)) (held : List ℕ) (why : Stop) → IsServedFront step s c d v w held → EndsAs step s t c d v w held (ended_by why)
 stops_as step s t c d v w held stop.WriteFault p = p
-stops_as step s t c d v w held stop.OutOfMemory p = p
+stops_as step s t c d v w held stop.OutOfMemory p = inl p
 
 -- the held bytes stay the same where a read gave nothing
 reads_none : (c d : Option Coming) (old new : List ℕ) → ReadsInto c d old new → length new ≡ length old → new ≡ old
@@ -167,17 +169,11 @@ turned ended = Ok ended
 pub has_no_end : (now : Option Ended) (ended : Ended) → now ≡ None → turned now ≢ turned (Some ended)
 has_no_end now ended on = λ e. cc
 
+-- nothing is read
+told_none : (c : Option Coming) → Told c c (λ x y. Gives x y [])
+told_none None = tt
+told_none (Some x) = record { text = refl; ending = refl }
+
 -- serving stops before the first turn
-pub stops_first : {S : Type 0} (step : Step S) (s : S) (c : Option Coming) (v : Option (List ℕ)) → IsServedFront step s c c v v []
-stops_first step s c v = served_front_from step s c c v v [] [] (ReadsInto-none c []) (record {
-  requests = [];
-  replies = [];
-  last = [];
-  rest = [];
-  new = s;
-  are_requests = All-nil IsRequest;
-  text_is = refl;
-  run = (refl, refl);
-  is_last = inl refl;
-  written = record { done = []; lost = []; written = Appends-nil v; text_is = refl };
-})
+pub stops_first : {S : Type 0} (step : Step S) (s : S) (c : Option Coming) (v : Option (List ℕ)) → EndsAs step s s c c v v [] OutOfMemory
+stops_first step s c v = inr (record { read = told_none c; written = Appends-nil v })

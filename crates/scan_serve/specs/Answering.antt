@@ -1,12 +1,12 @@
 -- What answers requests, one after the other.
-use Rattle.std.specs.Prelude.{◌≡◌, ℕ, ◌<◌, ◌≤◌, ◌⊎◌, List, [], ◌∷◌, ◌++◌, length, drop, Option, All}
+use Rattle.std.specs.Prelude.{◌≡◌, ◌≢◌, ℕ, ◌<◌, ◌≤◌, ◌⊎◌, List, [], ◌∷◌, ◌++◌, length, drop, Option, All}
 use Rattle.std.specs.Io.KnownBytes.{Appends}
 use Rattle.scan_wire.specs.declared.fault.Cause.{Cause}
-use Rattle.scan_wire.specs.Causes.{HasCause, Waits}
+use Rattle.scan_wire.specs.Causes.{BeginsWithFrame, HasCause, Waits}
 use Rattle.scan_wire.specs.Faults.{cause_number}
 use Rattle.scan_wire.specs.Frames.{IsRequest, replies_text, requests_text}
 use Rattle.scan_wire.specs.Messages.{Refused, ReplyParts, RequestParts}
-use Rattle.scan_serve.specs.Sending.{Sends, SendsFront}
+use Rattle.scan_serve.specs.Sending.{Sends, SendsFront, SendsLess}
 
 -- how one request is answered: state before, request, replies, state after
 abbrev pub Step : Type 0 → Type 1
@@ -25,11 +25,16 @@ pub record Answered {S : Type 0} (step : Step S) (old new : S) (r : RequestParts
   pub is_step : step old r replies new
   pub sent : Sends written_old written_new before after (replies_text replies)
 
--- answering stopped: a prefix of the bytes that waited and of the request's replies, or of none, is written
-pub record Stopped {S : Type 0} (step : Step S) (old : S) (r : RequestParts) (written_old written_new : Option (List ℕ)) (before : List ℕ) : Type 0 where
+-- a request was answered, and of the bytes that waited and of its replies not all are written
+pub record IsCut {S : Type 0} (step : Step S) (old : S) (r : RequestParts) (written_old written_new : Option (List ℕ)) (before : List ℕ) : Type 0 where
   pub replies : List ReplyParts
-  pub may : (replies ≡ []) ⊎ ((new : S) × step old r replies new)
-  pub sent : SendsFront written_old written_new before (replies_text replies)
+  pub new : S
+  pub is_step : step old r replies new
+  pub sent : SendsLess written_old written_new before (replies_text replies)
+
+-- answering a request stopped: before anything was written, or in its replies
+abbrev pub Stopped : {S : Type 0} → Step S → S → RequestParts → Option (List ℕ) → Option (List ℕ) → List ℕ → Type 0
+Stopped step old r written_old written_new before = Appends written_old written_new [] ⊎ IsCut step old r written_old written_new before
 
 -- the requests whose text stands from one place to another were answered, and their replies wait or are written
 pub record AnswersAll {S : Type 0} (step : Step S) (old new : S) (text : List ℕ) (from to : ℕ) (written_old written_new : Option (List ℕ)) (before after : List ℕ) : Type 0 where
@@ -41,7 +46,8 @@ pub record AnswersAll {S : Type 0} (step : Step S) (old new : S) (text : List �
   pub run : Run step old requests replies new
   pub sent : Sends written_old written_new before after (replies_text replies)
 
--- some requests stand from a place on, and a prefix of their replies is written
+-- Some requests stand from a place on, and a prefix of their replies is written: not all of them, or a frame follows that
+-- is not answered.
 pub record AnswersFront {S : Type 0} (step : Step S) (old : S) (text : List ℕ) (from : ℕ) (written_old written_new : Option (List ℕ)) (before : List ℕ) : Type 0 where
   pub requests : List RequestParts
   pub replies : List ReplyParts
@@ -51,6 +57,7 @@ pub record AnswersFront {S : Type 0} (step : Step S) (old : S) (text : List ℕ)
   pub text_is : drop from text ≡ requests_text requests ++ rest
   pub run : Run step old requests replies new
   pub sent : SendsFront written_old written_new before (replies_text replies)
+  pub missed : (sent.lost ≢ []) ⊎ BeginsWithFrame rest
 
 -- the refusal of a bad frame
 abbrev pub bad_frame : Cause → ReplyParts
@@ -70,7 +77,7 @@ abbrev pub IsLast : List ReplyParts → List ℕ → Type 0
 IsLast last rest = (last ≡ []) ⊎ ((cause : Cause) × HasCause cause rest × (last ≡ bad_frame cause ∷ []))
 
 -- A text is requests and a rest, and a prefix of the requests' replies is written, after which the refusal of a bad
--- frame counts as one.
+-- frame counts as one: not all of them, or the rest begins with a frame that is not answered.
 pub record AnswersTextFront {S : Type 0} (step : Step S) (old : S) (written_old written_new : Option (List ℕ)) (text : List ℕ) : Type 0 where
   pub requests : List RequestParts
   pub replies : List ReplyParts
@@ -82,6 +89,7 @@ pub record AnswersTextFront {S : Type 0} (step : Step S) (old : S) (written_old 
   pub run : Run step old requests replies new
   pub is_last : IsLast last rest
   pub written : SendsFront written_old written_new [] (replies_text (replies ++ last))
+  pub missed : (written.lost ≢ []) ⊎ ((last ≡ []) × BeginsWithFrame rest)
 
 -- all is written, and the rest waits for more
 pub record GoesOn {S : Type 0} (step : Step S) (old new : S) (written_old written_new : Option (List ℕ)) (text rest : List ℕ) : Type 0 where

@@ -1,5 +1,5 @@
 -- Bytes that wait to be written after those that were.
-use Rattle.std.specs.Prelude.{◌≡◌, ℕ, ◌++◌, List, Option}
+use Rattle.std.specs.Prelude.{◌≡◌, ◌≢◌, ℕ, ◌++◌, List, [], Option}
 use Rattle.std.specs.Io.KnownBytes.{Appends}
 
 -- a text was added after the bytes that waited, and a prefix of all was written: the new bytes wait
@@ -14,3 +14,8 @@ pub record SendsFront (written_old written_new : Option (List ℕ)) (old text : 
   pub lost : List ℕ
   pub written : Appends written_old written_new done
   pub text_is : old ++ text ≡ done ++ lost
+
+-- and not all of them
+pub record SendsLess (written_old written_new : Option (List ℕ)) (old text : List ℕ) : Type 0 where
+  pub front : SendsFront written_old written_new old text
+  pub missed : front.lost ≢ []

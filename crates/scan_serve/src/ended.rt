@@ -11,8 +11,9 @@ pub enum Ended {
     Bad,
     /// A read failed. All whole frames were answered.
     ReadFault,
-    /// A write failed. A prefix of the replies was written.
+    /// A write failed. A prefix of the replies was written, and a reply is missing.
     WriteFault,
-    /// A growth was refused. A prefix of the replies was written.
+    /// A growth was refused. A prefix of the replies was written. A reply is missing, or a frame was not answered, or
+    /// nothing was read.
     OutOfMemory,
 }

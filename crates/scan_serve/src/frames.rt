@@ -1,6 +1,6 @@
 //! The frames that were read, answered in order.
-ghost use Rattle.std.specs.Prelude.{◌≡◌, ◌≢◌, ◌+◌, ◌<◌, ◌≤◌, drop, length, IfErr, IfOk, IsTrue, MatchOption, OnOk, ⊤};
-ghost use Rattle.scan_wire.specs.Causes.{HasCause, Waits};
+ghost use Rattle.std.specs.Prelude.{◌≡◌, ◌≢◌, ◌+◌, ◌<◌, ◌≤◌, drop, length, IfErr, IfOk, IsTrue, MatchOption, OnOk};
+ghost use Rattle.scan_wire.specs.Causes.{BeginsWithFrame, HasCause, Waits};
 ghost use Rattle.scan_wire.specs.Messages.{lent_parts};
 ghost use Rattle.scan_wire.specs.Reading.{StartsWith};
 ghost use Rattle.scan_serve.specs.Answering.{AnswersAll, AnswersFront};
@@ -18,7 +18,7 @@ fn request_at(alloc: Global, bytes: &[u8]) -> Result<Option<(Lent<'_>, usize)>, 
     ensures found { IfOk result (λ request. MatchOption request
         (Waits bytes.now × (length bytes.now < 65545))
         (λ x. StartsWith bytes.now (lent_parts x.0) x.1)) }
-    ensures halt { IfErr result (OnHalt (λ cause. HasCause cause bytes.now) ⊤) }
+    ensures halt { IfErr result (OnHalt (λ cause. HasCause cause bytes.now) (BeginsWithFrame bytes.now)) }
     ensures fault { result ≢ Err (Halt.Stopped Stop.WriteFault) }
 {
     match next(alloc, bytes) {

@@ -3,7 +3,7 @@ ghost use Rattle.std.specs.Prelude.{◌≡◌, ◌≢◌, ◌<◌, [], length, I
 ghost use Rattle.std.specs.Io.KnownBytes.{Appends};
 ghost use Rattle.scan_wire.specs.Frames.{FitsReply, IsBlock, reply_text};
 ghost use Rattle.scan_wire.specs.Messages.{Hits, reply_parts};
-ghost use Rattle.scan_serve.specs.Sending.{Sends, SendsFront};
+ghost use Rattle.scan_serve.specs.Sending.{Sends, SendsLess};
 
 use crate::stop::Stop;
 use byte_io::{ByteOut, Failed, write_all};
@@ -41,12 +41,12 @@ impl Outbox {
 
     /// Adds a reply, and writes all that waits once that is much.
     ///
-    /// After an `Err` a prefix of all was written, and the outbox is of no use any more.
+    /// After an `Err` a prefix of all was written, never all, and the outbox is of no use any more.
     pub fn push<W: ByteOut>(&mut self, out: &mut W, reply: &Reply) -> Result<(), Stop>
         requires { FitsReply (reply_parts reply.now) }
         ensures ok { OnOk result (Sends (W.written out.old) (W.written out.new)
             self.old self.new (reply_text (reply_parts reply.now))) }
-        ensures err { OnErr result (SendsFront (W.written out.old) (W.written out.new)
+        ensures err { OnErr result (SendsLess (W.written out.old) (W.written out.new)
             self.old (reply_text (reply_parts reply.now))) }
         ensures fault { result ≡ Err Stop.WriteFault → IsTrue (W.has_failed out.new) }
         ensures flag { result ≢ Err Stop.WriteFault → W.has_failed out.new ≡ W.has_failed out.old }
@@ -60,7 +60,7 @@ impl Outbox {
 
     /// Adds a reply with these hits, and writes all that waits once that is much.
     ///
-    /// After an `Err` a prefix of all was written, and the outbox is of no use any more.
+    /// After an `Err` a prefix of all was written, never all, and the outbox is of no use any more.
     pub fn push_hits<W: ByteOut>(
         &mut self,
         out: &mut W,
@@ -70,7 +70,7 @@ impl Outbox {
         requires { IsBlock (length hits.now) }
         ensures ok { OnOk result (Sends (W.written out.old) (W.written out.new)
             self.old self.new (reply_text (Hits stream hits.now))) }
-        ensures err { OnErr result (SendsFront (W.written out.old) (W.written out.new)
+        ensures err { OnErr result (SendsLess (W.written out.old) (W.written out.new)
             self.old (reply_text (Hits stream hits.now))) }
         ensures fault { result ≡ Err Stop.WriteFault → IsTrue (W.has_failed out.new) }
         ensures flag { result ≢ Err Stop.WriteFault → W.has_failed out.new ≡ W.has_failed out.old }
@@ -85,7 +85,7 @@ impl Outbox {
     /// Writes all that waits, where that is much.
     fn flush_full<W: ByteOut>(&mut self, out: &mut W) -> Result<(), Stop>
         ensures ok { OnOk result (Sends (W.written out.old) (W.written out.new) self.old self.new []) }
-        ensures err { OnErr result (SendsFront (W.written out.old) (W.written out.new) self.old []) }
+        ensures err { OnErr result (SendsLess (W.written out.old) (W.written out.new) self.old []) }
         ensures fault { result ≡ Err Stop.WriteFault → IsTrue (W.has_failed out.new) }
         ensures flag { result ≢ Err Stop.WriteFault → W.has_failed out.new ≡ W.has_failed out.old }
         ensures few { OnOk result (length self.new < 65536) }
@@ -98,11 +98,11 @@ impl Outbox {
 
     /// Writes all that waits.
     ///
-    /// After an `Err` a prefix of it was written, and the outbox is of no use any more.
+    /// After an `Err` a prefix of it was written, never all, and the outbox is of no use any more.
     pub fn flush<W: ByteOut>(&mut self, out: &mut W) -> Result<(), Stop>
         ensures empty { OnOk result (self.new ≡ []) }
         ensures ok { OnOk result (Sends (W.written out.old) (W.written out.new) self.old self.new []) }
-        ensures err { OnErr result (SendsFront (W.written out.old) (W.written out.new) self.old []) }
+        ensures err { OnErr result (SendsLess (W.written out.old) (W.written out.new) self.old []) }
         ensures fault { result ≡ Err Stop.WriteFault → IsTrue (W.has_failed out.new) }
         ensures flag { result ≢ Err Stop.WriteFault → W.has_failed out.new ≡ W.has_failed out.old }
     {

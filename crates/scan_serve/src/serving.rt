@@ -1,7 +1,7 @@
 //! Serving a stream to its end.
 ghost use Rattle.std.specs.Prelude.{◌≡◌, ◌≢◌, ◌+◌, ◌^◌, ◌<◌, ◌≤◌, ◌⊎◌, [], length, IfNone, IfOk, IfSome, IsTrue, OnErr, OnOk};
 ghost use Rattle.scan_wire.specs.Causes.{Waits};
-ghost use Rattle.scan_serve.specs.declared.ended.Ended.TheVariants.{ReadFault, WriteFault};
+ghost use Rattle.scan_serve.specs.declared.ended.Ended.TheVariants.{OutOfMemory, ReadFault, WriteFault};
 ghost use Rattle.scan_serve.specs.Serving.{EndsAs, GoesOnServing, IsServedFront};
 
 use crate::answer::Answer;
@@ -37,6 +37,7 @@ fn turn<S: Answer, R: ByteIn, W: ByteOut>(
         (R.coming input.old) (R.coming input.new)
         (W.written out.old) (W.written out.new) window.old) }
     ensures no_stop { result ≢ Ok (Some WriteFault) }
+    ensures not_starved { result ≢ Ok (Some OutOfMemory) }
     ensures read_fault { result ≡ Ok (Some ReadFault) → IsTrue (R.has_failed input.new) }
     ensures write_fault { result ≡ Err Stop.WriteFault → IsTrue (W.has_failed out.new) }
     ensures unread { result ≢ Ok (Some ReadFault) → R.has_failed input.new ≡ R.has_failed input.old }

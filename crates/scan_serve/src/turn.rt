@@ -3,7 +3,7 @@ ghost use Rattle.std.specs.Prelude.{◌≡◌, ◌≢◌, [], IfOk, IsTrue, Matc
 ghost use Rattle.scan_wire.specs.Frames.{FitsReply, reply_text};
 ghost use Rattle.scan_wire.specs.Messages.{reply_parts};
 ghost use Rattle.scan_serve.specs.Answering.{AnswersTextFront, GoesOn, MeetsBad, bad_frame};
-ghost use Rattle.scan_serve.specs.Sending.{Sends, SendsFront};
+ghost use Rattle.scan_serve.specs.Sending.{Sends, SendsLess};
 
 use crate::answer::Answer;
 use crate::frames::answer_all;
@@ -31,7 +31,7 @@ fn refuse<W: ByteOut>(cause: Cause, outbox: &mut Outbox, out: &mut W) -> Result<
     ensures empty { OnOk result (outbox.new ≡ []) }
     ensures ok { OnOk result (Sends (W.written out.old) (W.written out.new)
         outbox.old outbox.new (reply_text (bad_frame cause))) }
-    ensures err { OnErr result (SendsFront (W.written out.old) (W.written out.new)
+    ensures err { OnErr result (SendsLess (W.written out.old) (W.written out.new)
         outbox.old (reply_text (bad_frame cause))) }
     ensures fault { result ≡ Err Stop.WriteFault → IsTrue (W.has_failed out.new) }
     ensures flag { result ≢ Err Stop.WriteFault → W.has_failed out.new ≡ W.has_failed out.old }

@@ -1,12 +1,14 @@
 -- When the bytes at the front of a text are a bad frame, and why; when they are not yet a frame.
-use Rattle.std.specs.Prelude.{◌≡◌, ◌≢◌, ℕ, ◌^◌, ◌<◌, ◌≤◌, List, ◌++◌, ⊤}
+use Rattle.std.specs.Prelude.{◌≡◌, ◌≢◌, ℕ, ◌^◌, ◌<◌, ◌≤◌, List, ◌∷◌, ◌++◌, ⊤}
 use Rattle.scan_wire.specs.declared.fault.Cause.{Cause}
 use Rattle.scan_wire.specs.declared.fault.Cause.TheVariants.{Length, Kind, Stream, Payload}
 use Rattle.scan_wire.specs.declared.fault.Fault.{Fault}
 use Rattle.scan_wire.specs.declared.fault.Fault.TheVariants.{OutOfMemory, BadFrame}
-use Rattle.scan_wire.specs.Frames.{FrameParts, frame_text, IsFrame, IsRequest, request_frame, request_text}
+use Rattle.lit_base.specs.declared.fold.Fold.{Fold}
+use Rattle.lit_base.specs.declared.profile.Profile.{Profile}
+use Rattle.scan_wire.specs.Frames.{FrameParts, flags_of, frame_text, IsFrame, IsRequest, request_frame, request_text}
 use Rattle.scan_wire.specs.Messages.{RequestParts}
-use Rattle.scan_wire.specs.Numbers.{u32_text}
+use Rattle.scan_wire.specs.Numbers.{u16_text, u32_text}
 
 -- a length that a frame may have: kind and stream, and a payload of at most 65,536 bytes
 pub record IsFrameLen (n : ℕ) : Type 0 where
@@ -62,6 +64,33 @@ pub record BeginsWithRequest (text : List ℕ) : Type 0 where
 pub record Waits (text : List ℕ) : Type 0 where
   pub no_request : BeginsWithRequest text → ⊥
   pub no_cause : (cause : Cause) → HasCause cause text → ⊥
+
+-- a whole frame stands at the front, whatever it carries
+pub record BeginsWithFrame (text : List ℕ) : Type 0 where
+  pub frame : FrameParts
+  pub rest : List ℕ
+  pub is_frame : IsFrame frame
+  pub text_is : text ≡ frame_text frame ++ rest
+
+-- a payload begins as that of a list with literals does
+pub record AnnouncesLiterals (payload : List ℕ) : Type 0 where
+  pub fold : Fold
+  pub profile : Profile
+  pub count : ℕ
+  pub rest : List ℕ
+  pub some : 0 < count
+  pub payload_is : payload ≡ flags_of fold profile ∷ (u16_text count ++ rest)
+
+-- a Publish that announces literals: the only frame that takes memory while it is read
+pub record TakesMemory (f : FrameParts) : Type 0 where
+  pub publishes : f.kind ≡ 0x01
+  pub stream : f.stream ≡ 0
+  pub literals : AnnouncesLiterals f.payload
+
+-- such a frame stands at the front
+pub record BeginsWithList (text : List ℕ) : Type 0 where
+  pub front : BeginsWithFrame text
+  pub takes : TakesMemory front.frame
 
 -- want of memory, or a bad frame whose cause has P
 abbrev pub IfBadFrame : (Cause → Type 0) → Fault → Type 0

@@ -1,5 +1,5 @@
 -- Requests and replies, as contracts see them: without where they lie in memory.
-use Rattle.std.specs.Prelude.{ℕ, List, map}
+use Rattle.std.specs.Prelude.{ℕ, List, map, ⊤}
 use Rattle.std.specs.Global.{Vec}
 use Rattle.lit_base.specs.declared.fold.Fold.{Fold}
 use Rattle.lit_base.specs.declared.profile.Profile.{Profile}
@@ -17,6 +17,14 @@ pub data RequestParts : Type 0 where
   Feed : ℕ → List ℕ → RequestParts
   Close : ℕ → RequestParts
   ShowPlan : ℕ → RequestParts
+
+-- a Feed: the only request whose bytes are copied when it gets its own
+abbrev pub IsFeed : RequestParts → Type 0
+IsFeed (Publish fold profile literals) = ⊥
+IsFeed (Open stream number) = ⊥
+IsFeed (Feed stream bytes) = ⊤
+IsFeed (Close stream) = ⊥
+IsFeed (ShowPlan stream) = ⊥
 
 -- what the server answers
 pub data ReplyParts : Type 0 where

@@ -1,6 +1,7 @@
 //! A frame at the front of a text, and the request that it is.
-ghost use Rattle.std.specs.Prelude.{◌≡◌, ◌^◌, ◌<◌, ◌∷◌, ◌++◌, length, IfErr, IfNone, IfOk, IfSome, MatchOption};
-ghost use Rattle.scan_wire.specs.Causes.{HasCause, IfBadFrame, IsWrong, Waits};
+ghost use Rattle.std.specs.Prelude.{◌≡◌, ◌≢◌, ◌^◌, ◌<◌, ◌∷◌, ◌++◌, length, IfErr, IfNone, IfOk, IfSome, MatchOption};
+ghost use Rattle.scan_wire.specs.declared.fault.Fault.TheVariants.{OutOfMemory};
+ghost use Rattle.scan_wire.specs.Causes.{BeginsWithList, HasCause, IfBadFrame, IsWrong, TakesMemory, Waits};
 ghost use Rattle.scan_wire.specs.Frames.{HasFields, request_frame};
 ghost use Rattle.scan_wire.specs.Messages.{lent_parts};
 ghost use Rattle.scan_wire.specs.Numbers.{u32_text};
@@ -71,6 +72,7 @@ fn publish_of(alloc: Global, frame: Frame<'_>) -> Result<Lent<'_>, Fault>
     ensures found { IfOk result (λ request. HasFields (lent_parts request)
         × (request_frame (lent_parts request) ≡ parts_of frame.entry)) }
     ensures wrong { IfErr result (IfBadFrame (λ cause. IsWrong cause (parts_of frame.entry))) }
+    ensures starved { result ≡ Err OutOfMemory → TakesMemory (parts_of frame.entry) }
 {
     if frame.stream != 0 {
         return Err(Fault::BadFrame {
@@ -91,6 +93,7 @@ fn open_of(frame: Frame<'_>) -> Result<Lent<'_>, Fault>
     ensures found { IfOk result (λ request. HasFields (lent_parts request)
         × (request_frame (lent_parts request) ≡ parts_of frame.entry)) }
     ensures wrong { IfErr result (IfBadFrame (λ cause. IsWrong cause (parts_of frame.entry))) }
+    ensures no_memory { result ≢ Err OutOfMemory }
 {
     let Some(number) = number_of(frame.payload) else {
         return Err(BAD_PAYLOAD);
@@ -107,6 +110,7 @@ fn close_of(frame: Frame<'_>) -> Result<Lent<'_>, Fault>
     ensures found { IfOk result (λ request. HasFields (lent_parts request)
         × (request_frame (lent_parts request) ≡ parts_of frame.entry)) }
     ensures wrong { IfErr result (IfBadFrame (λ cause. IsWrong cause (parts_of frame.entry))) }
+    ensures no_memory { result ≢ Err OutOfMemory }
 {
     if !frame.payload.is_empty() {
         return Err(BAD_PAYLOAD);
@@ -122,6 +126,7 @@ fn show_plan_of(frame: Frame<'_>) -> Result<Lent<'_>, Fault>
     ensures found { IfOk result (λ request. HasFields (lent_parts request)
         × (request_frame (lent_parts request) ≡ parts_of frame.entry)) }
     ensures wrong { IfErr result (IfBadFrame (λ cause. IsWrong cause (parts_of frame.entry))) }
+    ensures no_memory { result ≢ Err OutOfMemory }
 {
     if !frame.payload.is_empty() {
         return Err(BAD_PAYLOAD);
@@ -136,6 +141,7 @@ fn request_of(alloc: Global, frame: Frame<'_>) -> Result<Lent<'_>, Fault>
     ensures found { IfOk result (λ request. HasFields (lent_parts request)
         × (request_frame (lent_parts request) ≡ parts_of frame.entry)) }
     ensures wrong { IfErr result (IfBadFrame (λ cause. IsWrong cause (parts_of frame.entry))) }
+    ensures starved { result ≡ Err OutOfMemory → TakesMemory (parts_of frame.entry) }
 {
     match frame.kind {
         0x01 => publish_of(alloc, frame),
@@ -159,12 +165,13 @@ fn request_of(alloc: Global, frame: Frame<'_>) -> Result<Lent<'_>, Fault>
 /// # Errors
 /// - `BadFrame` with its first cause, where a bad frame stands at the front. A length out of range is reported once its
 /// four bytes are there, the other causes once the frame is whole.
-/// - `OutOfMemory`, where a growth was refused.
+/// - `OutOfMemory`, where a growth was refused: only for a whole Publish that announces literals.
 pub fn next(alloc: Global, bytes: &[u8]) -> Result<Option<(Lent<'_>, usize)>, Fault>
     ensures found { IfOk result (λ request. MatchOption request (Waits bytes.now)
         (λ x. StartsWith bytes.now (lent_parts x.0) x.1)) }
     ensures short { IfOk result (λ request. IfNone request (length bytes.now < 65545)) }
     ensures wrong { IfErr result (IfBadFrame (λ cause. HasCause cause bytes.now)) }
+    ensures starved { result ≡ Err OutOfMemory → BeginsWithList bytes.now }
 {
     match first_frame(bytes) {
         Ok(None) => Ok(None),

@@ -1,7 +1,7 @@
 //! What a client asks, and what the server answers.
-ghost use Rattle.std.specs.Prelude.{◌≡◌, IfOk, IsOkUnless};
+ghost use Rattle.std.specs.Prelude.{◌≡◌, IfOk, IsOkUnless, OnErr};
 ghost use Rattle.scan_wire.specs.declared.fault.Fault.TheVariants.{OutOfMemory};
-ghost use Rattle.scan_wire.specs.Messages.{lent_parts, request_parts};
+ghost use Rattle.scan_wire.specs.Messages.{IsFeed, lent_parts, request_parts};
 
 use crate::fault::Fault;
 use flow_scan::Hit;
@@ -115,10 +115,11 @@ pub enum Lent<'a> {
 }
 
 impl Lent<'_> {
-    /// The request with a copy of its bytes. The only refusal is `OutOfMemory`.
+    /// The request with a copy of its bytes. The only refusal is `OutOfMemory`, and of a Feed alone.
     pub fn into_request(self, alloc: Global) -> Result<Request, Fault>
         ensures ok { IfOk result (λ request. request_parts request ≡ lent_parts self.entry) }
         ensures refused { IsOkUnless result OutOfMemory }
+        ensures starved { OnErr result (IsFeed (lent_parts self.entry)) }
     {
         Ok(match self {
             Lent::Publish {

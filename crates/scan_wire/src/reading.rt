@@ -1,9 +1,10 @@
 //! The payloads of requests.
 ghost use Rattle.std.specs.Prelude.{◌≡◌, ◌≢◌, ℕ, ◌^◌, ◌<◌, ◌∷◌, ◌++◌, length, IfErr, IfNone, IfOk, IfSome};
 ghost use Rattle.scan_wire.specs.declared.fault.Cause.TheVariants.{Payload};
+ghost use Rattle.scan_wire.specs.declared.fault.Fault.TheVariants.{OutOfMemory};
 ghost use Rattle.lit_base.specs.declared.fold.Fold.{Fold};
 ghost use Rattle.lit_base.specs.declared.profile.Profile.{Profile};
-ghost use Rattle.scan_wire.specs.Causes.{IfBadFrame};
+ghost use Rattle.scan_wire.specs.Causes.{AnnouncesLiterals, IfBadFrame};
 ghost use Rattle.scan_wire.specs.Frames.{AreLiterals, flags_of, list_text, literal_text};
 ghost use Rattle.scan_wire.specs.Messages.{texts_of};
 ghost use Rattle.scan_wire.specs.Numbers.{u16_text, u64_text};
@@ -38,6 +39,7 @@ fn literals_of(alloc: Global, count: u16, bytes: &[u8]) -> Result<Vec<Vec<u8>>, 
     ensures found { IfOk result (λ literals. AreRead count bytes.now (texts_of literals.items)) }
     ensures wrong { IfErr result
         (IfBadFrame (λ cause. (cause ≡ Payload) × NoLiterals count bytes.now)) }
+    ensures starved { result ≡ Err OutOfMemory → 0 < count }
 {
     let mut literals = Vec::new(alloc);
     let mut rest = bytes;
@@ -82,11 +84,12 @@ fn list_head(payload: &[u8]) -> Option<(Fold, Profile, u16, &[u8])>
 }
 
 /// The list of literals of a Publish, with the fold and the profile that it asks for. `Err` is `BAD_PAYLOAD` if the
-/// payload is none, or `OutOfMemory`.
+/// payload is none, or `OutOfMemory`, which only a payload that announces literals may be refused with.
 pub fn list_of(alloc: Global, payload: &[u8]) -> Result<(Fold, Profile, Vec<Vec<u8>>), Fault>
     ensures found { IfOk result (λ x. AreLiterals (texts_of x.2.items)
         × (payload.now ≡ list_text x.0 x.1 (texts_of x.2.items))) }
     ensures wrong { IfErr result (IfBadFrame (λ cause. (cause ≡ Payload) × NoList payload.now)) }
+    ensures starved { result ≡ Err OutOfMemory → AnnouncesLiterals payload.now }
 {
     let Some((fold, profile, count, rest)) = list_head(payload) else {
         return Err(BAD_PAYLOAD);

@@ -20,7 +20,7 @@ returns-in_err-ended-clause-stop g c =
 pub returns-in-Some-clause-ends : goal.returns-in-Some-clause-ends
 returns-in-Some-clause-ends g c =
     let ends = rw c.in-Some.is at c.in_ok-ended.ensures.ends in
-    served_then_ends g.S.Answer.step c.args.session.now c.loop-turn.session c.turn.new.session (g.R.ByteIn.coming c.args.input.now) (g.R.ByteIn.coming c.loop-turn.input) (g.R.ByteIn.coming c.turn.new.input) (g.W.ByteOut.written c.args.out.now) (g.W.ByteOut.written c.loop-turn.out) (g.W.ByteOut.written c.turn.new.out) c.args.window.now c.loop-turn.window c.in-Some.ended c.loop-turn.invariant.goes.served ends
+    served_then_ends g.S.Answer.step c.args.session.now c.loop-turn.session c.turn.new.session (g.R.ByteIn.coming c.args.input.now) (g.R.ByteIn.coming c.loop-turn.input) (g.R.ByteIn.coming c.turn.new.input) (g.W.ByteOut.written c.args.out.now) (g.W.ByteOut.written c.loop-turn.out) (g.W.ByteOut.written c.turn.new.out) c.args.window.now c.loop-turn.window c.in-Some.ended (λ e. c.in_ok-ended.ensures.not_starved (cc)) c.loop-turn.invariant.goes.served ends
 
 pub returns-in-Some-clause-no_stop : goal.returns-in-Some-clause-no_stop
 returns-in-Some-clause-no_stop g c = λ e. c.in_ok-ended.ensures.no_stop (cc)

@@ -1,0 +1,15 @@
+use Rattle.std.proofs.Common.{◌∙◌, ◌++◌, ℕ, List, ap}
+use Rattle.scan_wire.specs.Frames.{reply_text}
+use Rattle.scan_wire.specs.Messages.{reply_parts}
+use Rattle.scan_serve.proofs.SendLemmas.{added_failed, err_weaker, less_none, reply_some}
+use Rattle.scan_serve.proofs.outbox.Outbox.push.Goals as goal
+
+pub returns-in_default-clause-err : goal.returns-in_default-clause-err
+returns-in_default-clause-err g c = less_none _ _ _ (reply_some (reply_parts c.args.reply.now))
+
+pub returns-clause-err : goal.returns-clause-err
+returns-clause-err g c =
+    let text = reply_text (reply_parts c.args.reply.now) in
+    err_weaker c.flush_full.result
+    (added_failed _ _ c.args.self.now text c.append_reply.new.out.items (c.in-Ok.ensures.ok ∙ ap (λ (x : List ℕ). x ++ text) c.self.view_is))
+    c.flush_full.ensures.err
