@@ -11,7 +11,7 @@ use crate::compiled::Compiled;
 use crate::ends::Ends;
 use crate::hit::Hit;
 use crate::met::Met;
-use crate::searching::add_hits_at;
+use crate::searching::{add_hits_at, skip_short_ends};
 use list_index::ListIndex;
 use std::alloc::AllocError;
 use std::marker::Model;
@@ -146,25 +146,30 @@ pub(crate) struct WindowedEnds<'a> {
     compiled: &'a Compiled,
     windows: &'a Windows,
     text: &'a [u8],
+    /// The last end found, or where the search began. Nothing ends after it before the pending ends.
+    from: usize,
     claims: Claims,
     met: Met,
 }
 
 impl<'a> Model for WindowedEnds<'a> {
-    ghost use Rattle.std.specs.Prelude.{◌≡◌};
+    ghost use Rattle.std.specs.Prelude.{◌≡◌, ◌≤◌};
+    ghost use Rattle.lit_base.specs.NextEnds.{NoEndUpTo};
     ghost use Rattle.flow_scan.specs.Walks.{Walk};
     ghost use Rattle.flow_scan.specs.Windowed.{AreClaims};
 
     ghost Value = { Walk };
 
-    ghost view = { λ w. record { literals = w.compiled.now.literals; text = w.text.now; from = w.claims.seen } };
+    ghost view = { λ w. record { literals = w.compiled.now.literals; text = w.text.now; from = w.from } };
 
     ghost invariant = { λ w. AreClaims w.windows.now w.text.now w.claims
-        × (w.windows.now.literals ≡ w.compiled.now.literals) };
+        × (w.windows.now.literals ≡ w.compiled.now.literals)
+        × (w.from ≤ w.claims.seen)
+        × NoEndUpTo w.compiled.now.literals w.text.now w.from w.claims.seen };
 }
 
 impl<'a> WindowedEnds<'a> {
-    /// The ends after a position.
+    /// The ends after a position. Positions at which no literal can end yet are passed over.
     pub fn behind(
         compiled: &'a Compiled,
         windows: &'a Windows,
@@ -176,11 +181,13 @@ impl<'a> WindowedEnds<'a> {
         ensures { result ≡ record { literals = compiled.now.literals; text = text.now; from = from } }
     {
         let mut met = Met::nothing();
-        let claims = Claims::behind(windows, text, from, &mut met);
+        let start = skip_short_ends(compiled.index(), from).min(text.len());
+        let claims = Claims::behind(windows, text, start, &mut met);
         WindowedEnds {
             compiled,
             windows,
             text,
+            from,
             claims,
             met,
         }
@@ -200,8 +207,11 @@ impl<'a> Ends for WindowedEnds<'a> {
     #[inline(always)]
     fn next_end(&mut self) -> Option<(usize, usize)> {
         let list = self.compiled.index();
-        self.claims
-            .next_end(self.windows, list, self.text, &mut self.met)
+        let found = self
+            .claims
+            .next_end(self.windows, list, self.text, &mut self.met);
+        self.from = self.claims.seen;
+        found
     }
 
     #[inline(always)]
