@@ -1,5 +1,5 @@
 -- The next end, seen from a position before the one that a search has reached.
-use Rattle.std.proofs.Common.{ℕ, ◌≤◌, List, inl, inr, arith}
+use Rattle.std.proofs.Common.{ℕ, ◌≤◌, List, MatchOption, Option, None, Some, inl, inr, arith}
 use Rattle.std.proofs.lemmas.Bool.{cases_lt}
 use Rattle.lit_base.specs.NextEnds.{IsNextEnd, NoEndAfter, NoEndUpTo}
 use Rattle.lit_base.specs.Literals.{Literals}
@@ -17,6 +17,12 @@ module _ (l : Literals) (text : List ℕ) (from seen : ℕ) (none : NoEndUpTo l 
     here = next.here;
     first = λ other after before here. elim (cases_lt seen other) [ inl later ↦ next.first other later before here | inr sooner ↦ none other after sooner here ];
   }
+
+  -- so with what a search found
+  pub next_or_none_further : (found : Option (ℕ × ℕ)) → from ≤ seen → MatchOption found (NoEndAfter l text seen) (λ hit. IsNextEnd l text seen hit.0)
+      → MatchOption found (NoEndAfter l text from) (λ hit. IsNextEnd l text from hit.0)
+  next_or_none_further None ahead ends = none_further ends
+  next_or_none_further (Some hit) ahead next = next_further hit.0 ahead next
 
   -- where none ends up to a third place, none does from the first one on
   pub none_joined : (last : ℕ) → NoEndUpTo l text seen last → NoEndUpTo l text from last

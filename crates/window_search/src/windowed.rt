@@ -141,34 +141,41 @@ impl Claims {
 pub struct WindowedEnds<'a> {
     windows: &'a Windows,
     text: &'a [u8],
+    /// The last end found, or where the search began. Nothing ends after it before the pending ends.
+    from: usize,
     claims: Claims,
     tally: Tally,
 }
 
 impl<'a> Model for WindowedEnds<'a> {
-    ghost use Rattle.std.specs.Prelude.{◌≡◌};
+    ghost use Rattle.std.specs.Prelude.{◌≡◌, ◌≤◌};
+    ghost use Rattle.lit_base.specs.NextEnds.{NoEndUpTo};
     ghost use Rattle.text_ends.specs.Walks.{Walk};
     ghost use Rattle.window_search.specs.Windowed.{AreClaims};
 
     ghost Value = { Walk };
 
-    ghost view = { λ w. record { literals = w.windows.now.literals; text = w.text.now; from = w.claims.seen } };
+    ghost view = { λ w. record { literals = w.windows.now.literals; text = w.text.now; from = w.from } };
 
-    ghost invariant = { λ w. AreClaims w.windows.now w.text.now w.claims };
+    ghost invariant = { λ w. AreClaims w.windows.now w.text.now w.claims
+        × (w.from ≤ w.claims.seen)
+        × NoEndUpTo w.windows.now.literals w.text.now w.from w.claims.seen };
 }
 
 impl<'a> WindowedEnds<'a> {
-    /// The ends after a position.
+    /// The ends after a position. Positions at which no literal can end yet are passed over.
     #[inline]
     pub fn behind(windows: &'a Windows, text: &'a [u8], from: usize) -> WindowedEnds<'a>
         requires { from ≤ length text.now }
         ensures { result ≡ record { literals = windows.now.literals; text = text.now; from = from } }
     {
         let mut tally = Tally::nothing();
-        let claims = Claims::behind(windows, text, from, &mut tally);
+        let start = windows.list().skip_short_ends(from).min(text.len());
+        let claims = Claims::behind(windows, text, start, &mut tally);
         WindowedEnds {
             windows,
             text,
+            from,
             claims,
             tally,
         }
@@ -188,8 +195,11 @@ impl<'a> Ends for WindowedEnds<'a> {
     #[inline(always)]
     fn next_end(&mut self) -> Option<(usize, usize)> {
         let list = self.windows.list();
-        self.claims
-            .next_end(self.windows, list, self.text, &mut self.tally)
+        let found = self
+            .claims
+            .next_end(self.windows, list, self.text, &mut self.tally);
+        self.from = self.claims.seen;
+        found
     }
 
     #[inline(always)]
