@@ -25,6 +25,7 @@ const VERSION: u32 = 2000;
 fn plans_of(alloc: Global, file: &[u8]) -> Result<Vec<Compiled>, (i32, usize)>
     ensures found { IfOk result (λ plans. IsFile file.now plans.items) }
     ensures refused { IfErr result (λ r. (r.0 ≡ OUT_OF_MEMORY) ⊎ ((r.0 ≡ BAD_PLAN_FILE) × FaultIn file.now r.1)) }
+    ensures right { (plans : List Plan) → IsFile file.now plans → IfErr result (λ r. r.0 ≡ OUT_OF_MEMORY) }
 {
     match plan_file::decode(alloc, file) {
         Ok(plans) => Ok(plans),
@@ -45,6 +46,7 @@ pub extern "C" fn fiolargu_plan_load(
     ensures loaded { result ≡ OK → PlanIn file.now which (plan_of plan.new.held) }
     ensures missing { result ≡ NO_SUCH_PLAN → PlansIn file.now (λ count. count ≤ which) }
     ensures fault { result ≡ BAD_PLAN_FILE → FaultIn file.now fault_at.new }
+    ensures right { (plans : List Plan) → IsFile file.now plans → result ≡ BAD_PLAN_FILE → ⊥ }
     ensures same { (result ≡ OK → ⊥) → plan.new.held ≡ plan.old.held }
 {
     *fault_at = 0;
@@ -83,6 +85,7 @@ pub extern "C" fn fiolargu_plan_save(
 ) -> i32
     ensures plan { plan.new.held ≡ plan.old.held }
     ensures saved { result ≡ OK → IfSome (plan_of plan.old.held) (λ p. take len.new buffer.new ≡ spelling Two (p ∷ [])) }
+    ensures file { result ≡ OK → IfSome (plan_of plan.old.held) (λ p. IsFile (take len.new buffer.new) (p ∷ [])) }
     ensures room { result ≡ SMALL_BUFFER → IfSome (plan_of plan.old.held) (λ p. (len.new ≡ length (spelling Two (p ∷ []))) × (length buffer.old < len.new)) }
     ensures null { result ≡ NULL_HANDLE ↔ plan.old.held ≡ None }
 {
@@ -97,6 +100,7 @@ pub extern "C" fn fiolargu_plan_save(
 
 fn save(alloc: Global, plan: &Compiled, buffer: &mut [u8], len: &mut usize) -> i32
     ensures saved { result ≡ OK → take len.new buffer.new ≡ spelling Two (plan.now ∷ []) }
+    ensures file { result ≡ OK → IsFile (take len.new buffer.new) (plan.now ∷ []) }
     ensures room { result ≡ SMALL_BUFFER → (len.new ≡ length (spelling Two (plan.now ∷ []))) × (length buffer.old < len.new) }
     ensures not_null { result ≡ NULL_HANDLE → ⊥ }
 {
@@ -116,6 +120,7 @@ pub extern "C" fn fiolargu_check(
 ) -> i32
     ensures file { result ≡ OK → PlansIn file.now (λ count. plans.new ≡ count) }
     ensures fault { result ≡ BAD_PLAN_FILE → FaultIn file.now fault_at.new }
+    ensures right { (plans : List Plan) → IsFile file.now plans → result ≡ BAD_PLAN_FILE → ⊥ }
     ensures refused { (result ≡ OK) ⊎ ((result ≡ BAD_PLAN_FILE) ⊎ (result ≡ OUT_OF_MEMORY)) }
 {
     *plans = 0;

@@ -64,11 +64,11 @@ failure_bad version bytes rest p reason are is first =
 -- ---- certificates
 
 -- the literals of a plan fit
-fits_list : (version : Version) (p : Plan) → HasFields version p → FitsList version p.certificate.profile p.literals
+pub fits_list : (version : Version) (p : Plan) → HasFields version p → FitsList version p.certificate.profile p.literals
 fits_list version p has = record { normal = has.normal; some = has.some; few = has.few; can = has.profile }
 
 -- and so does its certificate
-fits_certificate : (version : Version) (p : Plan) → HasFields version p → FitsCertificate p.certificate.profile (length p.literals.texts) p.certificate
+pub fits_certificate : (version : Version) (p : Plan) → HasFields version p → FitsCertificate p.certificate.profile (length p.literals.texts) p.certificate
 fits_certificate version p has = record {
   profile_is = refl;
   some_ends = has.some_ends;
@@ -80,7 +80,7 @@ fits_certificate version p has = record {
 }
 
 -- the fields of a certificate are its spelling
-certificate_fields_text : (c : CertificateParts) → text_of (certificate_fields c) ≡ certificate_text c
+pub certificate_fields_text : (c : CertificateParts) → text_of (certificate_fields c) ≡ certificate_text c
 certificate_fields_text c =
     let ends = map (number_field w16 Short) c.ends in
     let potentials = map (number_field w64 Short) c.potentials in

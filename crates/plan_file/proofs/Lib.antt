@@ -12,3 +12,4 @@ pub mod OneWay
 pub mod DeviceLemmas
 pub mod LongLemmas
 pub mod ReadLemmas
+pub mod DraftLemmas

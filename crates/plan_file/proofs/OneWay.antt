@@ -110,7 +110,7 @@ one_list text ps qs f g =
     same_plans f.version ps qs (by_recursion f.version ps f.file.are.each) (by_recursion f.version qs each) (ap (λ (x : Head). x.0.1) both) (ap (λ (x : Head). x.1) both)
 
 -- the fields of a head are its spelling
-head_fields_text : (h : Version × ℕ) (rest : List ℕ) → head_text h.0 h.1 ++ rest ≡ text_of (head_fields h) ++ rest
+pub head_fields_text : (h : Version × ℕ) (rest : List ℕ) → head_text h.0 h.1 ++ rest ≡ text_of (head_fields h) ++ rest
 unfolding head_text
 head_fields_text h rest = refl
 

@@ -220,11 +220,11 @@ count_passes version before other next later fo eo = record {
   pass = between_from 1 (limit_of version) other.count fo.some fo.few;
 }
 
-eight_can : (version : Version) → CanTell version Eight
+pub eight_can : (version : Version) → CanTell version Eight
 eight_can One = refl
 eight_can Two = tt
 
-some_limit : (version : Version) → 1 ≤ limit_of version
+pub some_limit : (version : Version) → 1 ≤ limit_of version
 some_limit One = omega arith
 some_limit Two = omega arith
 
@@ -253,11 +253,11 @@ length_passes room other next later fo eo = record {
 }
 
 -- a text of any length
-unfoldable zeros : ℕ → List ℕ
+unfoldable pub zeros : ℕ → List ℕ
 zeros zero = []
 zeros (suc n) = 0 ∷ zeros n
 
-length-zeros : (n : ℕ) → length (zeros n) ≡ n
+pub length-zeros : (n : ℕ) → length (zeros n) ≡ n
 unfolding zeros
 length-zeros zero = refl
 length-zeros (suc n) = omega (arith, length-zeros n)
@@ -355,7 +355,7 @@ map-append : (f : ℕ → Field) (xs ys : List ℕ) → map f (xs ++ ys) ≡ map
 map-append f [] ys = refl
 map-append f (x ∷ xs) ys = ap (λ (t : List Field). f x ∷ t) (map-append f xs ys)
 
-all_zeros : (limit n : ℕ) → 0 < limit → AllByRecursion (λ m. m < limit) (zeros n)
+pub all_zeros : (limit n : ℕ) → 0 < limit → AllByRecursion (λ m. m < limit) (zeros n)
 unfolding zeros
 all_zeros limit zero some = tt
 all_zeros limit (suc n) some = (some, all_zeros limit n some)
@@ -371,7 +371,7 @@ runs_pass profile n other next later fo eo = record {
   pass = between_from 1 (buckets profile) (length other.ends) fo.some_ends fo.few_ends;
 }
 
-some_buckets : (profile : Profile) → 1 ≤ buckets profile
+pub some_buckets : (profile : Profile) → 1 ≤ buckets profile
 some_buckets Eight = omega arith
 some_buckets Sixteen = omega arith
 

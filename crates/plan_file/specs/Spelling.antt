@@ -4,6 +4,7 @@ use Rattle.std.specs.List.{flat_map}
 use Rattle.std.specs.Int.{Width, w16, w32, w64, to_be_bytes}
 use Rattle.lit_base.specs.declared.fold.Fold.{Fold}
 use Rattle.lit_base.specs.declared.fold.Fold.TheVariants.{No, Ascii}
+use Rattle.lit_base.specs.declared.limits.TheConstants.{MAX_LITERAL_LEN}
 use Rattle.lit_base.specs.declared.profile.Profile.{Profile}
 use Rattle.lit_base.specs.declared.profile.Profile.TheVariants.{Eight, Sixteen}
 use Rattle.lit_base.specs.Literals.{Literals, IsNormal}
@@ -110,3 +111,28 @@ pub record BeginsFile (text : List ℕ) : Type 0 where
   pub more : List ℕ
   pub plans : List Plan
   pub file : IsFile (text ++ more) plans
+
+-- ---- what bytes begin
+
+-- each field of a draft is within its bounds. Whether its letters are folded and its literals in order, how many bytes these
+-- have, and whether the certificate holds, is not asked for
+pub record IsDraft (version : Version) (p : Plan) : Type 0 where
+  pub texts : All (λ t. (1 ≤ length t) × (length t ≤ MAX_LITERAL_LEN)) p.literals.texts
+  pub some : 1 ≤ length p.literals.texts
+  pub few : length p.literals.texts ≤ limit_of version
+  pub profile : CanTell version p.certificate.profile
+  pub some_ends : 1 ≤ length p.certificate.ends
+  pub few_ends : length p.certificate.ends ≤ buckets p.certificate.profile
+  pub small_ends : All (λ e. e < 2 ^ 16) p.certificate.ends
+  pub small_cost : p.certificate.cost < 2 ^ 64
+  pub potentials : length p.certificate.potentials ≡ buckets p.certificate.profile * length p.literals.texts
+  pub small_potentials : All (λ h. h < 2 ^ 64) p.certificate.potentials
+
+-- with some bytes after it the text is a file of drafts
+pub record BeginsDraft (text : List ℕ) : Type 0 where
+  pub version : Version
+  pub plans : List Plan
+  pub few : length plans ≤ 64
+  pub each : All (IsDraft version) plans
+  pub more : List ℕ
+  pub spelled : text ++ more ≡ spelling version plans
