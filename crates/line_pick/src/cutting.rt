@@ -11,16 +11,31 @@ use memchr::{memchr, memrchr};
 /// Lines of fewer bytes are short: some of them end in the same 64 bytes.
 const SHORT_LINE: usize = 16;
 
-/// The number of bytes at the start of a text that decide whether its lines are short.
+/// The number of bytes at the start of a text that show how long its lines are.
 const SAMPLE: usize = 1024;
+
+/// Where more of the sample's bytes are newlines, most lines are empty.
+const MOSTLY_EMPTY: usize = SAMPLE / 4 * 3;
 
 /// Whether the first lines of a text are short. A text of fewer bytes than the sample has none that count.
 pub(crate) fn has_short_lines(text: &[u8]) -> bool {
+    lines_in_sample(text) > SAMPLE / SHORT_LINE
+}
+
+/// Whether the first lines of a text are short, but not mostly empty. Such lines are cut by masks. An empty line is cut
+/// faster by its first byte, if this can be predicted.
+pub(crate) fn suits_masks(text: &[u8]) -> bool {
+    let lines = lines_in_sample(text);
+    lines > SAMPLE / SHORT_LINE && lines < MOSTLY_EMPTY
+}
+
+/// How many lines end in the sample at the start of a text, or 0 where the text is shorter.
+fn lines_in_sample(text: &[u8]) -> usize {
     if text.len() < SAMPLE {
-        return false;
+        return 0;
     }
     let (front, _) = text.split_at(SAMPLE);
-    count_newlines(front) > SAMPLE / SHORT_LINE
+    count_newlines(front)
 }
 
 /// The text before the first newline, and the text after it, if there is a newline.
@@ -77,18 +92,18 @@ pub(crate) struct CutLine<'t> {
     pub newlines: u64,
 }
 
-/// The first line of a text, if there is a newline. Where lines are short, one comparison of 64 bytes finds all newlines
-/// in them: `newlines` is the mask of those that are still ahead, or 0. Cutting a line of two bytes then takes half as
-/// long. Longer lines are cut one by one, since it cannot be predicted which of them is the last one of a mask.
+/// The first line of a text, if there is a newline. By masks, one comparison of 64 bytes finds all newlines in them, and
+/// `newlines` is the mask of those that are still ahead, or 0. So a line of two bytes is cut in half the time. Longer
+/// lines are cut one by one, since it cannot be predicted which of them is the last one of a mask.
 #[inline(always)]
-pub(crate) fn split_next_line(text: &[u8], newlines: u64, are_short: bool) -> Option<CutLine<'_>>
+pub(crate) fn split_next_line(text: &[u8], newlines: u64, by_masks: bool) -> Option<CutLine<'_>>
     requires { AreNewlines text.now newlines }
     ensures line { MatchOption result
         (IsOnePiece text.now)
         (λ cut. IsFirstLine text.now cut.line.now cut.behind.now) }
     ensures newlines { IfSome result (λ cut. AreNewlines cut.behind.now cut.newlines) }
 {
-    if !are_short {
+    if !by_masks {
         return split_alone(text);
     }
     let ahead = mask_or_next(text, newlines);

@@ -6,7 +6,7 @@ ghost use Rattle.line_pick.specs.Lending.{Lent, answer_of, numbered};
 ghost use Rattle.line_pick.specs.Cutting.{StartsWith};
 ghost use Rattle.line_pick.specs.Matching.{StandsForWhole, picks};
 
-use crate::cutting::{has_short_lines, split_next_line};
+use crate::cutting::{split_next_line, suits_masks};
 use crate::fault::Fault;
 use crate::halt::Halt;
 use crate::matcher::Matcher;
@@ -31,11 +31,11 @@ pub(crate) fn lend_lines<S: Sink>(
     ensures bound { IfOk result (λ lines. lines ≤ before + length text.now) }
     ensures faults { result ≢ Err (Halt.Failed Fault.StreamTooLong) }
 {
-    let are_short = has_short_lines(text);
+    let by_masks = suits_masks(text);
     let mut rest = text;
     let mut newlines = 0;
     let mut lines = before;
-    while let Some(cut) = split_next_line(rest, newlines, are_short) {
+    while let Some(cut) = split_next_line(rest, newlines, by_masks) {
         lend_next(matcher, literals, rest, cut.line, lines, sink)?;
         rest = cut.behind;
         newlines = cut.newlines;
