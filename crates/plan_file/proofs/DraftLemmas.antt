@@ -1,5 +1,5 @@
 -- The bytes before the first fault begin a file of drafts.
-use Rattle.std.proofs.Common.{◌≡◌, ◌≢◌, ℕ, zero, suc, ◌+◌, ◌-◌, ◌*◌, ◌^◌, ◌<◌, ◌≤◌, List, [], ◌∷◌, ◌++◌, length, take, drop, All, ◌⊎◌, inl, inr, refl, sym, ap, subst, ◌∙◌, append_assoc, arith}
+use Rattle.std.proofs.Common.{◌≡◌, ℕ, zero, suc, ◌+◌, ◌-◌, ◌*◌, ◌^◌, ◌<◌, ◌≤◌, List, [], ◌∷◌, ◌++◌, length, take, drop, inl, inr, refl, sym, ap, subst, ◌∙◌, append_assoc, arith}
 use Rattle.std.specs.List.{flat_map, AllByRecursion}
 use Rattle.std.specs.Int.{w16, to_be_bytes}
 use Rattle.std.proofs.lemmas.List.{append-nil, length-append, take_at, take-append-drop}
@@ -18,7 +18,7 @@ use Rattle.plan_file.specs.declared.fault.Cause.{Cause}
 use Rattle.plan_file.specs.declared.fault.Wrong.{Wrong}
 use Rattle.plan_file.specs.declared.version.Version.{Version}
 use Rattle.plan_file.specs.FirstBad.{Field, FitsCertificate, FitsHead, FitsList, FitsLiteral, FitsStart, IsFirstBad, Start, certificate_fields, head_fields, literal_fields, start_fields, text_of}
-use Rattle.plan_file.specs.FirstFaults.{IsFirstFault, IsWrong, IsWrongEntry, IsWrongInCertificate, IsWrongInLiterals, IsWrongList, IsWrongLiteral, IsWrongNext}
+use Rattle.plan_file.specs.FirstFaults.{IsFirstFault, IsWrong, IsWrongEntry, IsWrongInCertificate, IsWrongInLiterals, IsWrongLiteral, IsWrongNext}
 use Rattle.plan_file.specs.Reading.{folded_len}
 use Rattle.plan_file.specs.Spelling.{BeginsDraft, CanTell, IsDraft, flags_of, IsPlan, certificate_text, head_text, limit_of, literal_text, literals_text, plan_text, spelling}
 use Rattle.plan_file.proofs.EntryParts.{certificate_fields_text, fits_certificate, fits_list}
