@@ -55,7 +55,6 @@ LEFT_OUT = {
 # Tests that may pass where all growths after one are refused. They do without a thread that does not start, or want to find
 # nothing at their ends.
 MAY_PASS = {
-    "base_tests::costs::prices_cuts",
     "search_tests::parts::finds_the_worked_hits",
     "plan_tests::stores::finds_in_each_of_two_threads_what_the_other_published",
     "plan_tests::stores::shows_in_one_thread_what_another_published",

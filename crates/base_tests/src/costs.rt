@@ -58,10 +58,15 @@ fn price_of(list: &LitList, profile: Profile, ends: &[u16]) -> Option<u64> {
     None
 }
 
-/// What the words cost in these runs, if the ends are a cut of them.
-fn price_of_words(alloc: Global, profile: Profile, words: &str, ends: &[u16]) -> Option<u64> {
+/// What the words cost in these runs, if the ends are a cut of them. `None` for want of memory.
+fn price_of_words(
+    alloc: Global,
+    profile: Profile,
+    words: &str,
+    ends: &[u16],
+) -> Option<Option<u64>> {
     let list = list_of(alloc, words)?;
-    price_of(&list, profile, ends)
+    Some(price_of(&list, profile, ends))
 }
 
 const NINE: &str =
@@ -93,7 +98,7 @@ static CUTS: [(&str, &[u16], Option<u64>); 16] = [
 fn prices_cuts(rt: HostRuntime) {
     for (words, ends, wanted) in &CUTS {
         let price = price_of_words(rt.alloc(), Profile::Eight, words, ends);
-        assert_eq!(rt; price, *wanted, "{words} cut at {ends:?}");
+        assert_eq!(rt; price, Some(*wanted), "{words} cut at {ends:?}");
     }
 }
 
@@ -101,7 +106,7 @@ fn prices_cuts(rt: HostRuntime) {
 fn prices_a_cut_into_nine_runs(rt: HostRuntime) {
     let ends = [1, 2, 3, 4, 5, 6, 7, 8, 9];
     let price = price_of_words(rt.alloc(), Profile::Sixteen, LETTERS, &ends);
-    assert_eq!(rt; price, Some(38664));
+    assert_eq!(rt; price, Some(Some(38664)));
 }
 
 /// What the literals cost in these buckets, if the numbers assign them.
