@@ -1,4 +1,5 @@
 //! Where in its line a literal probably ends.
+ghost use Rattle.std.specs.Prelude.{◌≡◌, ◌≢◌, ◌+◌, ◌-◌, ◌<◌, ◌≤◌, MatchOption, min};
 
 /// A column is tried once this many more hits in a row had it. The number was chosen without measurement.
 const LEAST_TRUST: u8 = 2;
@@ -22,7 +23,9 @@ pub(crate) struct Column {
 
 impl Column {
     /// A column before any hit.
-    pub fn new() -> Column {
+    pub fn new() -> Column
+        ensures { result ≡ record { end = 0; trust = 0; literal = 0 } }
+    {
         Column {
             end: 0,
             trust: 0,
@@ -32,7 +35,9 @@ impl Column {
 
     /// The number of bytes of a line after which a literal probably ends, if that is worth trying.
     #[inline(always)]
-    pub fn likely_end(&self) -> Option<usize> {
+    pub fn likely_end(&self) -> Option<usize>
+        ensures { MatchOption result (self.now.trust < 2) (λ end. (2 ≤ self.now.trust) × (end ≡ self.now.end)) }
+    {
         if self.trust < LEAST_TRUST {
             None
         } else {
@@ -42,19 +47,27 @@ impl Column {
 
     /// A line has an end there.
     #[inline(always)]
-    pub fn was_right(&mut self) {
+    pub fn was_right(&mut self)
+        ensures { self.new ≡ record self.old { trust = min 4 (self.old.trust + 1) } }
+    {
         self.trust = MOST_TRUST.min(self.trust.saturating_add(1));
     }
 
     /// A line has none there.
     #[inline(always)]
-    pub fn was_wrong(&mut self) {
+    pub fn was_wrong(&mut self)
+        ensures { self.new ≡ record self.old { trust = self.old.trust - 1 } }
+    {
         self.trust = self.trust.saturating_sub(1);
     }
 
     /// Notes that the first literal of a line ends after this many bytes, where the line was searched.
     #[inline(always)]
-    pub fn note(&mut self, end: usize) {
+    pub fn note(&mut self, end: usize)
+        ensures right { end ≡ self.old.end → self.new ≡ record self.old { trust = min 4 (self.old.trust + 1) } }
+        ensures other { end ≢ self.old.end → self.old.trust < 2 → self.new ≡ record self.old { end = end; trust = 0 } }
+        ensures kept { end ≢ self.old.end → 2 ≤ self.old.trust → self.new ≡ self.old }
+    {
         if end == self.end {
             self.was_right();
         } else if self.trust < LEAST_TRUST {
