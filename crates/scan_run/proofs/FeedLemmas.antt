@@ -2,6 +2,7 @@
 use Rattle.std.proofs.Common.{◌≡◌, ◌≢◌, ℕ, zero, suc, ◌-◌, ◌<◌, List, [], ◌∷◌, ◌++◌, length, map, take, drop, Option, inl, inr, refl, sym, ap, subst, ◌∙◌, append_assoc, arith, Contains}
 use Rattle.std.proofs.lemmas.Bool.{cases_lt}
 use Rattle.std.proofs.lemmas.List.{append-nil, length-append, take-append-drop}
+use Rattle.std.proofs.KnownBytes.{Appends-nil}
 use Rattle.lit_base.specs.Literals.{Literals}
 use Rattle.flow_scan.specs.Tails.{AreAdded}
 use Rattle.plan_store.specs.Tickets.{Told}
@@ -9,8 +10,8 @@ use Rattle.scan_wire.specs.Frames.{replies_text, reply_text}
 use Rattle.scan_wire.specs.Messages.{Feed, Hits, ReplyParts, RequestParts}
 use Rattle.scan_wire.specs.declared.message.TheConstants.{MAX_HITS}
 use Rattle.scan_serve.specs.Answering.{Answered, Step, Stopped}
-use Rattle.scan_serve.specs.Sending.{Sends, SendsFront}
-use Rattle.scan_serve.proofs.SendLemmas.{front_is, front_none, sends_is, sends_none, sends_then, sends_then_front}
+use Rattle.scan_serve.specs.Sending.{Sends, SendsFront, SendsLess}
+use Rattle.scan_serve.proofs.SendLemmas.{front_is, less_is, less_of_more, sends_is, sends_none, sends_then, sends_then_front, sends_then_less}
 use Rattle.scan_core.specs.Blocks.{AreFull, joined}
 use Rattle.scan_core.specs.Fronts.{IsFeeding, MayFeed}
 use Rattle.scan_core.specs.Sessions.{IsEvent, Serving}
@@ -19,19 +20,19 @@ use Rattle.scan_core.proofs.BlockLemmas.{blocks_behind, blocks_exist, full-appen
 use Rattle.scan_core.proofs.FrontLemmas.{feeding_completes, feeding_ends, feeding_more, feeding_none}
 use Rattle.scan_run.specs.Beside.{AgreeAfter, IsEventBeside, IsStepBeside}
 use Rattle.scan_run.specs.Feeding.{FeedsOn, HasFed, StopsFeeding, last_block}
-use Rattle.scan_run.proofs.TellLemmas.{front_of_more, last_is, one_text, told_both, told_last}
+use Rattle.scan_run.proofs.TellLemmas.{last_is, last_some, one_text, told_both, told_last}
 
 -- one reply is the answer
 pub answered_one : {S : Type 0} (step : Step S) (s t : S) (request : RequestParts) (reply : ReplyParts) (v w : Option (List ℕ)) (a b : List ℕ) → step s request (reply ∷ []) t → Sends v w a b (reply_text reply) → Answered step s t request v w a b
 answered_one step s t request reply v w a b event sent = record { replies = reply ∷ []; is_step = event; sent = sends_is v w a b _ _ (one_text reply) sent }
 
 -- of the one reply a front is written
-pub stopped_one : {S : Type 0} (step : Step S) (s t : S) (request : RequestParts) (reply : ReplyParts) (v w : Option (List ℕ)) (a : List ℕ) → step s request (reply ∷ []) t → SendsFront v w a (reply_text reply) → Stopped step s request v w a
-stopped_one step s t request reply v w a event sent = record { replies = reply ∷ []; may = inr (t, event); sent = front_is v w a _ _ (one_text reply) sent }
+pub stopped_one : {S : Type 0} (step : Step S) (s t : S) (request : RequestParts) (reply : ReplyParts) (v w : Option (List ℕ)) (a : List ℕ) → step s request (reply ∷ []) t → SendsLess v w a (reply_text reply) → Stopped step s request v w a
+stopped_one step s t request reply v w a event sent = inr (record { replies = reply ∷ []; new = t; is_step = event; sent = less_is v w a _ _ (one_text reply) sent })
 
 -- nothing is answered
 pub stopped_none : {S : Type 0} (step : Step S) (s : S) (request : RequestParts) (v : Option (List ℕ)) (a : List ℕ) → Stopped step s request v v a
-stopped_none step s request v a = record { replies = []; may = inl refl; sent = front_none v a [] }
+stopped_none step s request v a = inl (Appends-nil v)
 
 -- no hits end in no bytes
 no_hits : (l : Literals) (tail : List ℕ) (at : ℕ) (found : List (ℕ × ℕ)) → AreAdded l tail [] at found → length found ≡ 0
@@ -110,13 +111,14 @@ answered_whole s t stream piece rest place hits v w x a b c may none so sent = r
 }
 
 -- it stops at its last replies
-pub stopped_last : (s t : Serving) (stream : ℕ) (piece rest : List ℕ) (place : ℕ) (hits : List (ℕ × ℕ)) (v w x : Option (List ℕ)) (a b : List ℕ) → MayFeed s stream piece place → length rest ≡ 0 → HasFed s stream piece rest hits t v w a b → SendsFront w x b (replies_text (fed_replies stream (last_block hits) place)) → Stopped IsEvent s (Feed stream piece) v x a
-stopped_last s t stream piece rest place hits v w x a b may none so sent = record {
+pub stopped_last : (s t : Serving) (stream : ℕ) (piece rest : List ℕ) (place : ℕ) (hits : List (ℕ × ℕ)) (v w x : Option (List ℕ)) (a b : List ℕ) → MayFeed s stream piece place → length rest ≡ 0 → HasFed s stream piece rest hits t v w a b → SendsLess w x b (replies_text (fed_replies stream (last_block hits) place)) → Stopped IsEvent s (Feed stream piece) v x a
+stopped_last s t stream piece rest place hits v w x a b may none so sent = inr (record {
   replies = fed_replies stream (so.blocks ++ last_block hits) place;
-  may = inr (t, event_of s t stream piece rest place hits v w a b may none so);
-  sent = front_is v x a _ _ (told_last stream so.blocks (last_block hits) place)
-      (sends_then_front v w x a b (replies_text (map (Hits stream) so.blocks)) (replies_text (fed_replies stream (last_block hits) place)) so.sent sent);
-}
+  new = t;
+  is_step = event_of s t stream piece rest place hits v w a b may none so;
+  sent = less_is v x a _ _ (told_last stream so.blocks (last_block hits) place)
+      (sends_then_less v w x a b (replies_text (map (Hits stream) so.blocks)) (replies_text (fed_replies stream (last_block hits) place)) so.sent sent);
+})
 
 -- it stops once some full replies were sent: for any rest there is an answer that they begin
 stopped_within : (s t : Serving) (stream : ℕ) (piece bytes rest : List ℕ) (place : ℕ) (full : List (List (ℕ × ℕ))) (left : List (ℕ × ℕ)) (v w : Option (List ℕ)) (a : List ℕ) → MayFeed s stream piece place → piece ≡ bytes ++ rest → AreFull MAX_HITS full → IsFeeding s stream bytes (joined full ++ left) t → SendsFront v w a (replies_text (map (Hits stream) full)) → Stopped IsEvent s (Feed stream piece) v w a
@@ -127,11 +129,12 @@ stopped_within s t stream piece bytes rest place full left v w a may is are feed
     let fed : IsFeeding s stream piece (joined full ++ (left ++ more)) done.1 =
     subst (λ hs. IsFeeding s stream piece hs done.1) (append_assoc (joined full) left more)
     (subst (λ bs. IsFeeding s stream bs ((joined full ++ left) ++ more) done.1) (sym is) done.2) in
-    record {
+    inr (record {
       replies = fed_replies stream (full ++ last.0) place;
-      may = inr (done.1, feeding_ends s done.1 stream piece (joined full ++ (left ++ more)) (full ++ last.0) place may fed (blocks_behind MAX_HITS full last.0 (left ++ more) (omega arith) are last.1));
-      sent = front_is v w a _ _ (told_last stream full last.0 place) (front_of_more v w a (replies_text (map (Hits stream) full)) (replies_text (fed_replies stream last.0 place)) sent);
-    }
+      new = done.1;
+      is_step = feeding_ends s done.1 stream piece (joined full ++ (left ++ more)) (full ++ last.0) place may fed (blocks_behind MAX_HITS full last.0 (left ++ more) (omega arith) are last.1);
+      sent = less_is v w a _ _ (told_last stream full last.0 place) (less_of_more v w a (replies_text (map (Hits stream) full)) (replies_text (fed_replies stream last.0 place)) (last_some stream last.0 place) sent);
+    })
 
 -- it stops while a front is fed
 pub stopped_feeding : (s t : Serving) (stream : ℕ) (piece rest : List ℕ) (place : ℕ) (hits : List (ℕ × ℕ)) (v w x : Option (List ℕ)) (a b : List ℕ) → MayFeed s stream piece place → HasFed s stream piece rest hits t v w a b → StopsFeeding t stream rest hits w x b → Stopped IsEvent s (Feed stream piece) v x a
@@ -160,14 +163,13 @@ answered_beside loaded s t request v w a b none answered =
 
 -- and answering it stops so
 pub stopped_beside : (loaded : List Told) (s : Serving) (request : RequestParts) (v w : Option (List ℕ)) (a : List ℕ) → GainsNone request → Stopped IsEvent s request v w a → Stopped (IsEventBeside loaded) s request v w a
-stopped_beside loaded s request v w a none stopped = record {
-  replies = stopped.replies;
-  may = elim stopped.may [
-    | inl nothing ↦ inl nothing
-    | inr step ↦ inr (step.0, record { event = step.1; agreed = none loaded stopped.replies step.0 })
-  ];
-  sent = stopped.sent;
-}
+stopped_beside loaded s request v w a none (inl nothing) = inl nothing
+stopped_beside loaded s request v w a none (inr cut) = inr (record {
+  replies = cut.replies;
+  new = cut.new;
+  is_step = record { event = cut.is_step; agreed = none loaded cut.replies cut.new };
+  sent = cut.sent;
+})
 
 -- a session that keeps its tickets is answered with them
 pub answered_with : (loaded : List Told) (s t : Serving) (request : RequestParts) (v w : Option (List ℕ)) (a b : List ℕ) → Answered (IsEventBeside loaded) s t request v w a b
@@ -176,11 +178,10 @@ answered_with loaded s t request v w a b answered =
     record { replies = answered.replies; is_step = record { event = answered.is_step; kept = refl }; sent = answered.sent }
 
 pub stopped_with : (loaded : List Told) (s : Serving) (request : RequestParts) (v w : Option (List ℕ)) (a : List ℕ) → Stopped (IsEventBeside loaded) s request v w a → Stopped IsStepBeside record { session = s; loaded = loaded } request v w a
-stopped_with loaded s request v w a stopped = record {
-  replies = stopped.replies;
-  may = elim stopped.may [
-    | inl nothing ↦ inl nothing
-    | inr step ↦ inr (record { session = step.0; loaded = loaded }, record { event = step.1; kept = refl })
-  ];
-  sent = stopped.sent;
-}
+stopped_with loaded s request v w a (inl nothing) = inl nothing
+stopped_with loaded s request v w a (inr cut) = inr (record {
+  replies = cut.replies;
+  new = record { session = cut.new; loaded = loaded };
+  is_step = record { event = cut.is_step; kept = refl };
+  sent = cut.sent;
+})

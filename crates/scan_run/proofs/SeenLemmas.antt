@@ -1,6 +1,6 @@
 -- What a session serves in one reading of it, it serves in another: by all bytes that its streams were fed, or beside
 -- loaded plans.
-use Rattle.std.proofs.Common.{◌≡◌, ◌≢◌, ℕ, List, [], ◌∷◌, Option, refl, sym, ap, ◌∙◌, subst}
+use Rattle.std.proofs.Common.{◌≡◌, ◌≢◌, ℕ, List, [], ◌∷◌, Option, inl, inr, refl, sym, ap, ◌∙◌, subst}
 use Rattle.byte_io.specs.Devices.{Coming}
 use Rattle.plan_store.specs.Tickets.{Told}
 use Rattle.scan_wire.specs.Messages.{ReplyParts, RequestParts}
@@ -54,6 +54,7 @@ front_carried step onto Seen carries s b v w text seen a =
       run = run.2;
       is_last = a.is_last;
       written = a.written;
+      missed = a.missed;
     }
 
 -- a stream served
@@ -87,8 +88,9 @@ ends_carried step onto Seen carries s t b c d v w held ended.ReadFault seen (res
     (served.0, (λ written memory. served.1), (rest, waits, served.2))
 ends_carried step onto Seen carries s t b c d v w held ended.WriteFault seen a =
     (b, (λ written memory. absurd (written refl)), served_front_carried step onto Seen carries s b c d v w held seen a)
-ends_carried step onto Seen carries s t b c d v w held ended.OutOfMemory seen a =
-    (b, (λ written memory. absurd (memory refl)), served_front_carried step onto Seen carries s b c d v w held seen a)
+ends_carried step onto Seen carries s t b c d v w held ended.OutOfMemory seen (inl front) =
+    (b, (λ written memory. absurd (memory refl)), inl (served_front_carried step onto Seen carries s b c d v w held seen front))
+ends_carried step onto Seen carries s t b c d v w held ended.OutOfMemory seen (inr untouched) = (b, (λ written memory. absurd (memory refl)), inr untouched)
 
 -- where the state is a function of what it is seen as, it ends in that
 ends_at : {S : Type 0} (step : Step S) (s t u : S) (c d : Option Coming) (v w : Option (List ℕ)) (held : List ℕ) (end : Ended)

@@ -1,12 +1,12 @@
 -- Hits in full replies, and the remaining hits.
-use Rattle.std.proofs.Common.{◌≡◌, ℕ, ◌<◌, ◌≤◌, List, [], ◌∷◌, ◌++◌, length, map, take, drop, Option, Result, Ok, Err, OnErr, OnOk, refl, sym, ap, ◌∙◌, append_assoc, arith}
+use Rattle.std.proofs.Common.{◌≡◌, ◌≢◌, ℕ, ◌<◌, ◌≤◌, List, [], ◌∷◌, ◌++◌, length, map, take, drop, Option, Result, Ok, Err, OnErr, OnOk, refl, sym, ap, ◌∙◌, append_assoc, arith}
 use Rattle.std.proofs.lemmas.List.{append-nil, drop_all, length-take, map-append, take-append-drop, take_all}
 use Rattle.scan_wire.specs.Frames.{replies_text, reply_text}
 use Rattle.scan_wire.specs.Messages.{Fed, Hits, ReplyParts}
 use Rattle.scan_wire.specs.declared.message.TheConstants.{MAX_HITS}
-use Rattle.scan_serve.specs.Sending.{Sends, SendsFront}
+use Rattle.scan_serve.specs.Sending.{Sends, SendsLess}
 use Rattle.scan_serve.proofs.RunLemmas.{replies_text-append}
-use Rattle.scan_serve.proofs.SendLemmas.{front_is, sends_is, sends_none, sends_then, sends_then_front}
+use Rattle.scan_serve.proofs.SendLemmas.{behind_none, front_is, reply_some, sends_is, sends_none, sends_then, sends_then_front}
 use Rattle.scan_core.specs.Blocks.{AreBlocks, joined}
 use Rattle.scan_core.specs.Steps.{fed_replies}
 use Rattle.scan_core.proofs.BlockLemmas.{full-append, joined-append}
@@ -62,7 +62,7 @@ tells_more stream old now block new u v w a b c many front behind told sent =
     }
 
 -- one more full reply, with a prefix of it written
-pub tells_front : (stream : ℕ) (old now block : List (ℕ × ℕ)) (u v w : Option (List ℕ)) (a b : List ℕ) → MAX_HITS ≤ length now → block ≡ take MAX_HITS now → TellsFull stream old now u v a b → SendsFront v w b (reply_text (Hits stream block)) → TellsFullFront stream old u w a
+pub tells_front : (stream : ℕ) (old now block : List (ℕ × ℕ)) (u v w : Option (List ℕ)) (a b : List ℕ) → MAX_HITS ≤ length now → block ≡ take MAX_HITS now → TellsFull stream old now u v a b → SendsLess v w b (reply_text (Hits stream block)) → TellsFullFront stream old u w a
 tells_front stream old now block u v w a b many front told sent =
     let rest : List (ℕ × ℕ) = drop MAX_HITS now in
     let whole : now ≡ block ++ rest = sym (take-append-drop MAX_HITS now) ∙ ap (λ hs. hs ++ rest) (sym front) in
@@ -72,7 +72,7 @@ tells_front stream old now block u v w a b many front told sent =
       left = rest;
       full = full-append MAX_HITS told.blocks (block ∷ []) told.full (size, tt);
       cut = told.cut ∙ ap (λ hs. joined told.blocks ++ hs) whole ∙ cut_more told.blocks block rest;
-      sent = front_is u w a _ _ (told_more stream told.blocks block) (sends_then_front u v w a b (replies_text (map (Hits stream) told.blocks)) (reply_text (Hits stream block)) told.sent sent);
+      sent = front_is u w a _ _ (told_more stream told.blocks block) (sends_then_front u v w a b (replies_text (map (Hits stream) told.blocks)) (reply_text (Hits stream block)) told.sent sent.front);
     }
 
 -- the remaining hits are the last block
@@ -94,11 +94,6 @@ told_last stream blocks more place =
     ∙ ap replies_text (sym (append_assoc (map (Hits stream) blocks) (map (Hits stream) more) (Fed stream place ∷ []))
     ∙ ap (λ rs. rs ++ Fed stream place ∷ []) (sym (map-append (Hits stream) blocks more)))
 
--- a front of a text is a front of more
-pub front_of_more : (v w : Option (List ℕ)) (a x y : List ℕ) → SendsFront v w a x → SendsFront v w a (x ++ y)
-front_of_more v w a x y s = record {
-  done = s.done;
-  lost = s.lost ++ y;
-  written = s.written;
-  text_is = sym (append_assoc a x y) ∙ ap (λ t. t ++ y) s.text_is ∙ append_assoc s.done s.lost y;
-}
+-- the place is a reply, so there are bytes
+pub last_some : (stream : ℕ) (blocks : List (List (ℕ × ℕ))) (place : ℕ) → replies_text (fed_replies stream blocks place) ≢ []
+last_some stream blocks place e = reply_some (Fed stream place) (behind_none (replies_text (map (Hits stream) blocks)) (reply_text (Fed stream place)) (told_place stream blocks place ∙ e))

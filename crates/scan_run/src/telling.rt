@@ -4,7 +4,7 @@ ghost use Rattle.scan_wire.specs.Frames.{replies_text};
 ghost use Rattle.scan_wire.specs.Messages.{Hits};
 ghost use Rattle.scan_wire.specs.declared.message.TheConstants.{MAX_HITS};
 ghost use Rattle.scan_core.specs.Steps.{fed_replies};
-ghost use Rattle.scan_serve.specs.Sending.{Sends, SendsFront};
+ghost use Rattle.scan_serve.specs.Sending.{Sends, SendsLess};
 ghost use Rattle.scan_run.specs.Feeding.{TellsFull, TellsFullFront, last_block};
 
 use byte_io::ByteOut;
@@ -24,7 +24,7 @@ fn drop_front(hits: &mut Vec<Hit>, count: usize)
 
 /// Adds full replies with hits, as long as there are enough, and keeps the remaining hits.
 ///
-/// After an `Err` a prefix of the waiting bytes and of the new replies was written.
+/// After an `Err` a prefix of the waiting bytes and of the new replies was written, never all.
 pub(crate) fn tell_full<W: ByteOut>(
     stream: u32,
     hits: &mut Vec<Hit>,
@@ -57,7 +57,7 @@ fn tell_rest<W: ByteOut>(
     requires { length hits.now < MAX_HITS }
     ensures ok { OnOk result (Sends (W.written out.old) (W.written out.new)
         outbox.old outbox.new (replies_text (map (Hits stream) (last_block hits.now)))) }
-    ensures err { OnErr result (SendsFront (W.written out.old) (W.written out.new)
+    ensures err { OnErr result (SendsLess (W.written out.old) (W.written out.new)
         outbox.old (replies_text (map (Hits stream) (last_block hits.now)))) }
     ensures fault { result ≡ Err Stop.WriteFault → IsTrue (W.has_failed out.new) }
     ensures flag { result ≢ Err Stop.WriteFault → W.has_failed out.new ≡ W.has_failed out.old }
@@ -70,7 +70,7 @@ fn tell_rest<W: ByteOut>(
 
 /// Adds the remaining hits, and the place reached.
 ///
-/// After an `Err` a prefix of the waiting bytes and of the new replies was written.
+/// After an `Err` a prefix of the waiting bytes and of the new replies was written, never all.
 pub(crate) fn tell_last<W: ByteOut>(
     stream: u32,
     hits: &[Hit],
@@ -81,7 +81,7 @@ pub(crate) fn tell_last<W: ByteOut>(
     requires { length hits.now < MAX_HITS }
     ensures ok { OnOk result (Sends (W.written out.old) (W.written out.new)
         outbox.old outbox.new (replies_text (fed_replies stream (last_block hits.now) place))) }
-    ensures err { OnErr result (SendsFront (W.written out.old) (W.written out.new)
+    ensures err { OnErr result (SendsLess (W.written out.old) (W.written out.new)
         outbox.old (replies_text (fed_replies stream (last_block hits.now) place))) }
     ensures fault { result ≡ Err Stop.WriteFault → IsTrue (W.has_failed out.new) }
     ensures flag { result ≢ Err Stop.WriteFault → W.has_failed out.new ≡ W.has_failed out.old }

@@ -3,7 +3,7 @@ use Rattle.std.specs.Prelude.{nat_eq}
 use Rattle.std.proofs.lemmas.Bool.{eqb-true, false≢true}
 use Rattle.std.proofs.lemmas.List.{length-drop}
 use Rattle.scan_wire.specs.Frames.{replies_text}
-use Rattle.scan_serve.specs.Sending.{Sends, SendsFront}
+use Rattle.scan_serve.specs.Sending.{Sends, SendsLess}
 use Rattle.scan_serve.proofs.SendLemmas.{err_weaker}
 use Rattle.scan_core.specs.Steps.{fed_replies}
 use Rattle.scan_core.proofs.FrontLemmas.{feeding_goes_on}
@@ -60,5 +60,5 @@ returns-clause-err g c =
     let hits = c.loop-rest.hits.items in
     err_weaker c.tell_last.result
     (λ sent. stopped_last c.args.session.now c.loop-rest.session c.args.stream c.args.piece.now rest c.args.place hits _ _ _ _ _ c.requires none c.loop-rest.invariant.fed
-    (subst (λ hs. SendsFront (g.W.ByteOut.written c.loop-rest.out) (g.W.ByteOut.written c.tell_last.new.out) c.loop-rest.outbox (replies_text (fed_replies c.args.stream (last_block hs) c.args.place))) c.deref.ensures.value sent))
+    (subst (λ hs. SendsLess (g.W.ByteOut.written c.loop-rest.out) (g.W.ByteOut.written c.tell_last.new.out) c.loop-rest.outbox (replies_text (fed_replies c.args.stream (last_block hs) c.args.place))) c.deref.ensures.value sent))
     c.tell_last.ensures.err

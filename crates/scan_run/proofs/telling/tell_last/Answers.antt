@@ -1,9 +1,9 @@
 use Rattle.std.proofs.Common.{map}
 use Rattle.scan_wire.specs.Frames.{replies_text, reply_text}
 use Rattle.scan_wire.specs.Messages.{Fed, Hits}
-use Rattle.scan_serve.proofs.SendLemmas.{err_weaker, front_is, sends_is, sends_then, sends_then_front}
+use Rattle.scan_serve.proofs.SendLemmas.{err_weaker, less_is, less_of_more, reply_some, sends_is, sends_then, sends_then_less}
 use Rattle.scan_run.specs.Feeding.{last_block}
-use Rattle.scan_run.proofs.TellLemmas.{front_of_more, ok_weaker, on_err, told_place}
+use Rattle.scan_run.proofs.TellLemmas.{ok_weaker, on_err, told_place}
 use Rattle.scan_run.proofs.telling.tell_last.Goals as goal
 
 pub returns-in_err-tell_rest-clause-err : goal.returns-in_err-tell_rest-clause-err
@@ -11,8 +11,8 @@ returns-in_err-tell_rest-clause-err g c =
     let blocks = last_block c.args.hits.now in
     let told = replies_text (map (Hits c.args.stream) blocks) in
     on_err c.from_residual.result
-    (front_is _ _ _ _ _ (told_place c.args.stream blocks c.args.place)
-    (front_of_more _ _ c.args.outbox.now told (reply_text (Fed c.args.stream c.args.place)) c.in_err-tell_rest.ensures.err))
+    (less_is _ _ _ _ _ (told_place c.args.stream blocks c.args.place)
+    (less_of_more _ _ c.args.outbox.now told (reply_text (Fed c.args.stream c.args.place)) (reply_some (Fed c.args.stream c.args.place)) c.in_err-tell_rest.ensures.err.front))
 
 pub returns-clause-ok : goal.returns-clause-ok
 returns-clause-ok g c =
@@ -28,6 +28,6 @@ returns-clause-err g c =
     let blocks = last_block c.args.hits.now in
     let told = replies_text (map (Hits c.args.stream) blocks) in
     err_weaker c.push.result
-    (λ sent. front_is _ _ _ _ _ (told_place c.args.stream blocks c.args.place)
-    (sends_then_front _ _ _ c.args.outbox.now _ told (reply_text (Fed c.args.stream c.args.place)) c.in_ok-tell_rest.ensures.ok sent))
+    (λ sent. less_is _ _ _ _ _ (told_place c.args.stream blocks c.args.place)
+    (sends_then_less _ _ _ c.args.outbox.now _ told (reply_text (Fed c.args.stream c.args.place)) c.in_ok-tell_rest.ensures.ok sent))
     c.push.ensures.err
