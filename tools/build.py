@@ -143,7 +143,7 @@ def commands(crate, options, jobs):
 
 
 def built_by(crate, cpu, jobs):
-    """The command that builds it. A program is run on its stored words, which are names of files where it has data/."""
+    """The command that builds it. A program is run on its stored words; those that name a file of data/ stand for it."""
     if crate.is_archive:
         return ["rt", "lib", f"--cpu={cpu}", "--jobs", str(jobs)]
     if not crate.is_program:
@@ -152,8 +152,9 @@ def built_by(crate, cpu, jobs):
     if os.path.isfile(os.path.join(crate.folder, "args")):
         with open(os.path.join(crate.folder, "args"), encoding="utf-8") as file:
             words = file.read().splitlines()
-    if os.path.isdir(os.path.join(crate.folder, "data")):
-        words = [os.path.join("data", word) for word in words]
+    stored = os.path.join(crate.folder, "data")
+    if os.path.isdir(stored):
+        words = [os.path.join("data", word) if word in os.listdir(stored) else word for word in words]
     return ["rt", "run", f"--cpu={cpu}", "--jobs", str(jobs), "--", *words]
 
 
