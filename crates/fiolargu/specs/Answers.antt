@@ -1,5 +1,5 @@
 -- The statuses of lists that are refused.
-use Rattle.std.specs.Prelude.{◌≡◌, ℕ, ℤ}
+use Rattle.std.specs.Prelude.{ℕ, ℤ}
 use Rattle.lit_base.specs.declared.fault.Fault.{Fault}
 use Rattle.lit_base.specs.declared.fault.Fault.TheVariants.{OutOfMemory, TooManyPatterns, LiteralTooLong, TooManyLiterals, ListTooLarge}
 use Rattle.fiolargu.specs.declared.statuses.TheConstants as status

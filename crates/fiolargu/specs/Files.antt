@@ -1,5 +1,5 @@
 -- What the bytes of a plan file hold.
-use Rattle.std.specs.Prelude.{◌≡◌, ℕ, ◌<◌, List, length, Option, Some}
+use Rattle.std.specs.Prelude.{◌≡◌, ℕ, ◌<◌, List, length, Option}
 use Rattle.std.specs.List.{slice_get}
 use Rattle.lit_plan.specs.Plans.{Plan}
 use Rattle.plan_file.specs.FirstFaults.{IsFirstFault}

@@ -1,5 +1,5 @@
 -- What a C program sees of handles and of hits.
-use Rattle.std.specs.Prelude.{◌≡◌, ℕ, ◌≤◌, ◌<◌, ◌⊎◌, List, Option, None, Some, [], All, length, map}
+use Rattle.std.specs.Prelude.{◌≡◌, ℕ, ◌<◌, List, Option, None, Some, All, length}
 use Rattle.std.specs.List.{slice_get}
 use Rattle.lit_base.specs.Literals.{Literals}
 use Rattle.lit_base.specs.NextEnds.{IsNextEnd, NoEndAfter}

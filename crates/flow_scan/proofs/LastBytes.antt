@@ -1,6 +1,6 @@
 -- Where literals occur in a piece after the last bytes of a text.
 use Rattle.std.proofs.Common.{◌≡◌, ℕ, ◌+◌, ◌-◌, ◌<◌, List, ◌++◌, length, take, sym, ap, ◌∙◌, subst, arith}
-use Rattle.std.proofs.lemmas.List.{length-append, length-drop, length-take, append_assoc, take-append-drop}
+use Rattle.std.proofs.lemmas.List.{length-drop, length-take, append_assoc, take-append-drop}
 use Rattle.lit_base.specs.Literals.{Literals}
 use Rattle.lit_base.specs.Occurrences.{Occurs}
 use Rattle.lit_plan.specs.Bounds.{HasBounds, carry_of}

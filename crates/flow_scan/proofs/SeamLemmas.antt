@@ -1,9 +1,8 @@
 -- Parts of a boundary's room, before and after a write.
-use Rattle.std.proofs.Common.{◌≡◌, ℕ, ◌+◌, ◌-◌, ◌≤◌, List, ◌++◌, length, take, drop, inl, inr, refl, sym, ap, ◌∙◌, subst, arith}
+use Rattle.std.proofs.Common.{◌≡◌, ℕ, ◌+◌, ◌-◌, ◌≤◌, List, ◌++◌, length, take, drop, sym, ap, ◌∙◌, arith}
 use Rattle.std.specs.List.{copy_within}
 use Rattle.std.proofs.Math.Seq.{drop-append-add, take-add, take-append-add}
-use Rattle.std.proofs.lemmas.List.{append_assoc, length-append, length-drop, length-take, length-take-le, take_at, take-append-drop, take-take, drop-drop, drop-take, take_all}
-use Rattle.std.proofs.lemmas.Bool.{cases_lt}
+use Rattle.std.proofs.lemmas.List.{length-append, length-drop, length-take, length-take-le, take_at, take-take, drop-drop, drop-take}
 use Rattle.flow_scan.specs.Seams.{Seaming}
 use Rattle.flow_scan.specs.Tails.{last_bytes}
 use Rattle.flow_scan.proofs.LastBytes.{last_len}

@@ -4,10 +4,10 @@ use Rattle.std.specs.List.{concat}
 use Rattle.std.proofs.lemmas.List.Folds.{concat-append}
 use Rattle.std.proofs.lemmas.List.{append-nil, append_assoc, length-append, length-take, take-append-drop, take_at, drop_at, drop-append-le, drop-drop}
 use Rattle.lit_base.specs.Literals.{Literals}
-use Rattle.lit_base.specs.Occurrences.{IsHits, Occurs}
+use Rattle.lit_base.specs.Occurrences.{Occurs}
 use Rattle.lit_base.specs.NextEnds.{NoEndAfter}
 use Rattle.flow_scan.specs.Tails.{AreAdded, AreSteps, GainsHits, last_bytes}
-use Rattle.text_ends.specs.HitsBehind.{AreHitsBehind, Continues, GainsHitsBehind}
+use Rattle.text_ends.specs.HitsBehind.{AreHitsBehind}
 use Rattle.lit_plan.specs.Bounds.{HasBounds, carry_of}
 use Rattle.flow_scan.proofs.LastBytes.{last_len, occurs_behind_all, occurs_behind_last}
 use Rattle.text_ends.proofs.Occurring.{occurs_behind, occurs_of_front}

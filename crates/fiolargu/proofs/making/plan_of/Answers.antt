@@ -1,5 +1,5 @@
 -- The plan is the list's, which is the normal form of the patterns.
-use Rattle.std.proofs.Common.{◌≡◌, sym, ap, ◌∙◌, subst}
+use Rattle.std.proofs.Common.{sym, ◌∙◌, subst}
 use Rattle.std.specs.List.{AllZip}
 use Rattle.lit_base.specs.Assignments.{NoAssignmentBelow}
 use Rattle.lit_base.specs.Literals.{Literals}

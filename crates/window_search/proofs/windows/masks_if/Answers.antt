@@ -1,5 +1,5 @@
 -- The masks are made of all literals, by their offsets.
-use Rattle.std.proofs.Common.{ℕ, List, length, ◌∙◌, subst}
+use Rattle.std.proofs.Common.{ℕ, List, subst}
 use Rattle.nib_mask.specs.Fronts.{CoversFronts}
 use Rattle.nib_mask.specs.Halves.{widened}
 use Rattle.window_search.proofs.windows.masks_if.Goals as goal
