@@ -25,12 +25,11 @@ LONG, FIRST_OF_LONG = re.compile("flow_scan::tests::choosing::.*"
                                  "|search_tests::parts::(agrees_with_a_plain_loop_from_seed_.|finds_an_end_wherever_parts_meet)"), 20
 # How a test that fails shows its answer: a fault, or a value that it makes of one.
 STARVED = re.compile(rb"(error|there is memory): (OutOfMemory|AllocError|AllocFailed|Kind\(OutOfMemory\))|left: (Err|Some)\(OutOfMemory\)$", re.M)
-# What tests of a crate may show instead: the fault, its number 1, or the status of a search that it ended, among values that
-# are as they must be.
+# What tests of a crate may show instead: the fault or its number 1, among values that are as they must be.
 ALSO_STARVED = {
     "base_tests": rb"Some\(\(Err\(OutOfMemory\), 2, true\)\)|Some\(Err\(1\)\)",
     "serve_tests": rb"\[Some\(OutOfMemory\), None, None\]",
-    "grep_tests": rb"Ok\(\(Trouble, \w+, \w+, \w+\)\)",
+    "fiolargu": rb"1|\(1, 0\)",
 }
 # Tests of calls that answer None for want of memory, where a value is wanted. The last is a test of mistaken_tests.c.
 ANSWER_NONE = re.compile(
@@ -61,11 +60,6 @@ MAY_PASS = {
 }
 
 
-# Crates whose tests only say that a status is not 0. clients/c/test_refused.c refuses each growth of the calls of the C
-# library and looks at each status.
-COVERED = {"fiolargu"}
-
-
 class Test(NamedTuple):
     """A test in a program of tests."""
 
@@ -87,9 +81,8 @@ def program_of(crate):
 
 
 def crates_with_tests():
-    """The crates with a program of tests, except those in COVERED."""
-    found = sorted(set(os.listdir(os.path.join(TOP, "crates"))) - COVERED)
-    return [crate for crate in found if os.path.exists(program_of(crate))]
+    """The crates with a program of tests."""
+    return [crate for crate in sorted(os.listdir(os.path.join(TOP, "crates"))) if os.path.exists(program_of(crate))]
 
 
 def tests_of(program):

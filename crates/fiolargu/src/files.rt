@@ -88,6 +88,7 @@ pub extern "C" fn fiolargu_plan_save(
     ensures file { result ≡ OK → IfSome (plan_of plan.old.held) (λ p. IsFile (take len.new buffer.new) (p ∷ [])) }
     ensures room { result ≡ SMALL_BUFFER → IfSome (plan_of plan.old.held) (λ p. (len.new ≡ length (spelling Two (p ∷ []))) × (length buffer.old < len.new)) }
     ensures null { result ≡ NULL_HANDLE ↔ plan.old.held ≡ None }
+    ensures refused { (result ≡ OK) ⊎ ((result ≡ NULL_HANDLE) ⊎ ((result ≡ SMALL_BUFFER) ⊎ (result ≡ OUT_OF_MEMORY))) }
 {
     *len = 0;
     let Some(held) = plan.take(alloc) else {
@@ -103,6 +104,7 @@ fn save(alloc: Global, plan: &Compiled, buffer: &mut [u8], len: &mut usize) -> i
     ensures file { result ≡ OK → IsFile (take len.new buffer.new) (plan.now ∷ []) }
     ensures room { result ≡ SMALL_BUFFER → (len.new ≡ length (spelling Two (plan.now ∷ []))) × (length buffer.old < len.new) }
     ensures not_null { result ≡ NULL_HANDLE → ⊥ }
+    ensures refused { (result ≡ OK) ⊎ ((result ≡ SMALL_BUFFER) ⊎ (result ≡ OUT_OF_MEMORY)) }
 {
     match plan_file::encode(alloc, std::slice::from_ref(plan)) {
         Ok(text) => write_bytes(&text, buffer, len),

@@ -97,6 +97,7 @@ pub extern "C" fn fiolargu_plan_share(
     ensures shared { result ≡ OK → plan_of other.new.held ≡ plan_of plan.old.held }
     ensures same { (result ≡ OK → ⊥) → other.new.held ≡ other.old.held }
     ensures null { result ≡ NULL_HANDLE ↔ plan.old.held ≡ None }
+    ensures refused { (result ≡ OK) ⊎ ((result ≡ NULL_HANDLE) ⊎ (result ≡ OUT_OF_MEMORY)) }
 {
     let Some(held) = plan.take(alloc) else {
         return NULL_HANDLE;
@@ -169,6 +170,8 @@ pub extern "C" fn fiolargu_plan_literal(
     ensures literal { result ≡ OK → IfSome (plan_of plan.old.held) (λ p. slice_get p.literals.texts literal ≡ Some (take len.new buffer.new)) }
     ensures null { result ≡ NULL_HANDLE ↔ plan.old.held ≡ None }
     ensures range { IfSome (plan_of plan.old.held) (λ p. result ≡ OUT_OF_RANGE ↔ (length p.literals.texts ≤ literal)) }
+    ensures room { result ≡ SMALL_BUFFER → length buffer.old < len.new }
+    ensures refused { (result ≡ OK) ⊎ ((result ≡ NULL_HANDLE) ⊎ ((result ≡ OUT_OF_RANGE) ⊎ (result ≡ SMALL_BUFFER))) }
 {
     *len = 0;
     let Some(held) = plan.take(alloc) else {
@@ -183,6 +186,8 @@ fn write_literal(plan: &Compiled, literal: usize, buffer: &mut [u8], len: &mut u
     ensures literal { result ≡ OK → slice_get plan.now.literals.texts literal ≡ Some (take len.new buffer.new) }
     ensures not_null { result ≡ NULL_HANDLE → ⊥ }
     ensures range { result ≡ OUT_OF_RANGE ↔ (length plan.now.literals.texts ≤ literal) }
+    ensures room { result ≡ SMALL_BUFFER → length buffer.old < len.new }
+    ensures refused { (result ≡ OK) ⊎ ((result ≡ OUT_OF_RANGE) ⊎ (result ≡ SMALL_BUFFER)) }
 {
     if literal >= plan.list().len() {
         return OUT_OF_RANGE;

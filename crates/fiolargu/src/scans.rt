@@ -68,6 +68,8 @@ pub extern "C" fn fiolargu_scan(
     ensures range { result ≡ OUT_OF_RANGE → length text.now < place.old }
     ensures inside { result ≡ OK → place.old ≤ length text.now }
     ensures same { (result ≡ OK → ⊥) → (place.new ≡ place.old) × (count.new ≡ 0) }
+    ensures starved { result ≡ OUT_OF_MEMORY → place.old ≤ length text.now }
+    ensures refused { (result ≡ OK) ⊎ ((result ≡ NULL_HANDLE) ⊎ ((result ≡ SMALL_BUFFER) ⊎ ((result ≡ OUT_OF_RANGE) ⊎ (result ≡ OUT_OF_MEMORY)))) }
 {
     *count = 0;
     let Some(mut held) = plan.take(alloc) else {
@@ -96,6 +98,8 @@ fn scan_held(
     ensures range { result ≡ OUT_OF_RANGE → length text.now < place.old }
     ensures inside { result ≡ OK → place.old ≤ length text.now }
     ensures same { (result ≡ OK → ⊥) → (place.new ≡ place.old) × (count.new ≡ count.old) }
+    ensures starved { result ≡ OUT_OF_MEMORY → place.old ≤ length text.now }
+    ensures refused { (result ≡ OK) ⊎ ((result ≡ SMALL_BUFFER) ⊎ ((result ≡ OUT_OF_RANGE) ⊎ (result ≡ OUT_OF_MEMORY))) }
 {
     let most = most_of(held.plan.plan(), buffer);
     if most == 0 {
@@ -132,6 +136,7 @@ pub extern "C" fn fiolargu_next(
     ensures null { result ≡ NULL_HANDLE ↔ plan.old.held ≡ None }
     ensures range { IfSome plan.old.held (λ _. result ≡ OUT_OF_RANGE ↔ (length text.now < from)) }
     ensures same { (result ≡ OK → ⊥) → end.new ≡ 0 }
+    ensures refused { (result ≡ OK) ⊎ ((result ≡ NULL_HANDLE) ⊎ (result ≡ OUT_OF_RANGE)) }
 {
     *end = 0;
     let Some(held) = plan.take(alloc) else {

@@ -60,6 +60,7 @@ pub extern "C" fn fiolargu_stream_open(
     ensures opened { result ≡ OK → IfSome (plan_of plan.old.held) (λ p. stream_of stream.new.held ≡ Some (started p base)) }
     ensures same { (result ≡ OK → ⊥) → stream.new.held ≡ stream.old.held }
     ensures null { result ≡ NULL_HANDLE ↔ plan.old.held ≡ None }
+    ensures refused { (result ≡ OK) ⊎ ((result ≡ NULL_HANDLE) ⊎ (result ≡ OUT_OF_MEMORY)) }
 {
     let Some(held) = plan.take(alloc) else {
         return NULL_HANDLE;
@@ -88,6 +89,7 @@ pub extern "C" fn fiolargu_stream_feed(
     ensures null { result ≡ NULL_HANDLE ↔ stream_of stream.old.held ≡ None }
     ensures room { IfSome (stream_of stream.old.held) (λ s. result ≡ SMALL_BUFFER ↔ (length buffer.old ≤ length s.plan.literals.texts)) }
     ensures too_long { result ≡ STREAM_TOO_LONG → IfSome (stream_of stream.old.held) (λ s. 2 ^ 64 ≤ s.place + length piece.now) }
+    ensures refused { (result ≡ OK) ⊎ ((result ≡ NULL_HANDLE) ⊎ ((result ≡ SMALL_BUFFER) ⊎ ((result ≡ STREAM_TOO_LONG) ⊎ (result ≡ OUT_OF_MEMORY)))) }
 {
     *count = 0;
     *fed = 0;
@@ -117,6 +119,7 @@ fn feed_held(
     ensures not_null { result ≡ NULL_HANDLE → ⊥ }
     ensures room { result ≡ SMALL_BUFFER ↔ (length buffer.old ≤ length held.old.stream.plan.literals.texts) }
     ensures too_long { result ≡ STREAM_TOO_LONG → 2 ^ 64 ≤ held.old.stream.place + length piece.now }
+    ensures refused { (result ≡ OK) ⊎ ((result ≡ SMALL_BUFFER) ⊎ ((result ≡ STREAM_TOO_LONG) ⊎ (result ≡ OUT_OF_MEMORY))) }
 {
     let most = most_of(held.stream.plan(), buffer);
     if most == 0 {
@@ -166,6 +169,7 @@ pub extern "C" fn fiolargu_stream_copy(
     ensures copied { result ≡ OK → stream_of other.new.held ≡ stream_of stream.old.held }
     ensures same { (result ≡ OK → ⊥) → other.new.held ≡ other.old.held }
     ensures null { result ≡ NULL_HANDLE ↔ stream.old.held ≡ None }
+    ensures refused { (result ≡ OK) ⊎ ((result ≡ NULL_HANDLE) ⊎ (result ≡ OUT_OF_MEMORY)) }
 {
     let Some(held) = stream.take(alloc) else {
         return NULL_HANDLE;

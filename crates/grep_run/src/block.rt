@@ -51,6 +51,7 @@ impl<'a> Block<'a> {
         ensures ok { OnOk result (Writes (writer W.written W.has_failed out.old) (writer W.written W.has_failed out.new) self.old.text.items) }
         ensures empty { OnOk result (self.new.text.items ≡ []) }
         ensures stopped { OnErr result (WritesFront (writer W.written W.has_failed out.old) (writer W.written W.has_failed out.new) self.old.text.items) }
+        ensures fault { OnErr result (result ≡ Err Stop.WriteFault) }
         ensures same { IsSameBlock self.old self.new }
         ensures flag { W.has_failed out.new ≡ (W.has_failed out.old || is_write_fault result) }
     {

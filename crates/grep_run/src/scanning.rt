@@ -1,5 +1,5 @@
 //! The lines of one input, from its first byte to its end, its fault, or the last line that is wanted.
-ghost use Rattle.std.specs.Prelude.{◌≡◌, ℕ, ◌<◌, ◌||◌, Bool, List, [], IfOk, IfSome, Some, false, length, true};
+ghost use Rattle.std.specs.Prelude.{◌≡◌, ℕ, ◌<◌, ◌||◌, Bool, List, [], IfOk, IfSome, Some, false, is_some, length, true};
 ghost use Rattle.byte_io.specs.Sources.{Content, IsShort, coming_of};
 ghost use Rattle.grep_run.specs.Growing.{are_shown};
 ghost use Rattle.grep_run.specs.Requests.{test_of};
@@ -35,6 +35,7 @@ pub fn picker_for<'a>(request: &Request<'a>, finder: Option<EndFinder>) -> Picke
     ensures numbers { result.is_numbered ≡ request.now.options.now.number }
     ensures seen { result.has_bytes ≡ are_shown request.now.options.now }
     ensures plan { result.plan ≡ request.now.patterns.now.plan }
+    ensures learns { result.learns ≡ is_some finder }
 {
     let picker = line_picker_for(request, finder);
     if shows_lines(request.options) {
@@ -58,6 +59,7 @@ fn line_picker_for<'a>(request: &Request<'a>, finder: Option<EndFinder>) -> Pick
     ensures numbers { result.is_numbered ≡ request.now.options.now.number }
     ensures seen { result.has_bytes ≡ true }
     ensures plan { result.plan ≡ request.now.patterns.now.plan }
+    ensures learns { result.learns ≡ is_some finder }
 {
     let picker = numbered_picker_for(request, finder);
     if request.options.number {
@@ -74,6 +76,7 @@ fn numbered_picker_for<'a>(request: &Request<'a>, finder: Option<EndFinder>) -> 
     ensures numbers { result.is_numbered ≡ true }
     ensures seen { result.has_bytes ≡ true }
     ensures plan { result.plan ≡ request.now.patterns.now.plan }
+    ensures learns { result.learns ≡ is_some finder }
 {
     let picker = plain_picker_for(request);
     match finder {
@@ -88,6 +91,7 @@ fn plain_picker_for<'a>(request: &Request<'a>) -> Picker<'a>
     ensures numbers { result.is_numbered ≡ true }
     ensures seen { result.has_bytes ≡ true }
     ensures plan { result.plan ≡ request.now.patterns.now.plan }
+    ensures learns { result.learns ≡ false }
 {
     let rule = LineRule {
         invert: request.options.invert,

@@ -32,7 +32,12 @@ impl<'a, R: Abort + AllocGlobal> KeptFiles<'a, R> {
 
     /// Whether it was asked for just these, in order. `-` is standard input.
     pub fn was_asked_for(&self, names: &[&str]) -> bool {
-        if self.asks.len() != names.len() {
+        self.asks.len() == names.len() && self.was_asked_within(names)
+    }
+
+    /// Whether it was asked for the first of these, in order, or for all.
+    pub fn was_asked_within(&self, names: &[&str]) -> bool {
+        if self.asks.len() > names.len() {
             return false;
         }
         for (ask, name) in self.asks.iter().zip(names.iter()) {

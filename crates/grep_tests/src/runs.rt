@@ -47,11 +47,23 @@ fn lent(alloc: Global) -> Result<LentTexts<'static>, AllocError> {
     })
 }
 
+const OUT_OF_MEMORY: &[u8] = b"litgrep: out of memory\n";
+
+/// Whether messages are a prefix of the wanted ones, and after them the one on want of memory.
+fn is_starved(messages: &[u8], wanted: &[u8]) -> bool {
+    if !messages.ends_with(OUT_OF_MEMORY) {
+        return false;
+    }
+    let (before, _) = messages.split_at(messages.len() - OUT_OF_MEMORY.len());
+    wanted.starts_with(before)
+}
+
 /// What a run leaves: its status, whether its output and its messages are these, and whether it asked for
 /// these operands alone.
 type Ran = (Status, bool, bool, bool);
 
-/// Searches operands for `a`.
+/// Searches operands for `a`. `OutOfMemory` where the last message is on want of memory, and all before it is a prefix of
+/// what is wanted.
 fn ran<R: Abort + AllocGlobal>(
     rt: &R,
     flags: &str,
@@ -66,7 +78,8 @@ fn ran<R: Abort + AllocGlobal>(
     let mut out = CutOut::within(&mut out_room);
     let mut err = CutOut::within(&mut err_room);
     let status = run(rt.alloc(), &options, &mut files, &mut out, &mut err);
-    if err.written() == b"litgrep: out of memory\n".as_slice() {
+    let is_front = output.starts_with(out.written()) && files.was_asked_within(asked);
+    if status == Status::Trouble && is_front && is_starved(err.written(), messages) {
         return Err(Stop::OutOfMemory);
     }
     let is_output = out.written() == output;
@@ -122,7 +135,7 @@ fn ran_full<R: Abort + AllocGlobal>(rt: &R, flags: &str) -> Result<(Status, bool
     let mut out = CutOut::within(&mut []);
     let mut err = CutOut::within(&mut err_room);
     let status = run(rt.alloc(), &options, &mut files, &mut out, &mut err);
-    if err.written() == b"litgrep: out of memory\n".as_slice() {
+    if status == Status::Trouble && is_starved(err.written(), b"") {
         return Err(Stop::OutOfMemory);
     }
     Ok((status, err.written().is_empty()))
@@ -201,10 +214,10 @@ fn ran_once<R: Abort + AllocGlobal>(
         &mut out,
         &mut err,
     );
-    if !err.written().is_empty() {
+    if status == Status::Trouble && is_starved(err.written(), b"") {
         return Err(Stop::OutOfMemory);
     }
-    Ok((status, out.written() == output))
+    Ok((status, out.written() == output && err.written().is_empty()))
 }
 
 #[test]

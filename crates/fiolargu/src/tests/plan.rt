@@ -39,8 +39,10 @@ fn statuses(alloc: Global) -> (i32, i32, i32, usize, u64) {
 #[test]
 fn a_share_outlives_its_plan(rt: HostRuntime) {
     let (made, shared, scanned, count, end) = statuses(rt.alloc());
-    assert!(rt; made == OK && shared == OK && scanned == OK);
-    assert!(rt; count == 1 && end == 5);
+    assert_eq!(rt; made, OK);
+    assert_eq!(rt; shared, OK);
+    assert_eq!(rt; scanned, OK);
+    assert_eq!(rt; (count, end), (1, 5));
 }
 
 /// The status of sharing a handle that was freed twice.
@@ -54,5 +56,5 @@ fn status_of_freed(alloc: Global) -> i32 {
 
 #[test]
 fn a_freed_handle_is_null(rt: HostRuntime) {
-    assert!(rt; status_of_freed(rt.alloc()) == NULL_HANDLE);
+    assert_eq!(rt; status_of_freed(rt.alloc()), NULL_HANDLE);
 }
