@@ -19,10 +19,14 @@ FILES = {
     **{f"crates/{name}{below}": None for name in ("low", "left", "right", "app") for below in ("", "/src")},
     **{f"crates/{name}/src/lib.rt": b"\n" for name in ("low", "left", "right")},
     "crates/app/src/main.rt": b"\n",
+    "crates/app/args": b"-\nwords\n",
+    "crates/app/data": None,
+    "crates/app/data/words": b"\n",
     "crates/app/stdin": b"given\n",
-    "crates/app/stdout": b"given\n",
+    "crates/app/stdout": b"- data/words\ngiven\n",
 }
-# Makes a library, or a program, whose file names its level. Refuses the crate that REFUSED names.
+# Makes a library, or a program, whose file names its level. Refuses the crate that REFUSED names. A program prints its words
+# and its input.
 PROVER = """#!/bin/sh
 name=${PWD##*/}
 case $1 in run) log=2;; *) log=1;; esac
@@ -30,7 +34,10 @@ echo "$1 of $name" >&$log
 [ "$name" != "$REFUSED" ] || exit 1
 [ "$1" != check ] || exit 0
 [ "$name" != right ] || sleep 0.3
-if [ $log = 1 ]; then mkdir -p out/rlib && echo > out/rlib/format; else echo "$2" > out/app; cat; fi
+if [ $log = 1 ]; then mkdir -p out/rlib && echo > out/rlib/format && exit; fi
+echo "$2" > out/app
+while [ "$1" != -- ]; do shift; done
+shift; echo "$*"; cat
 """
 NO_KIT = 2
 
