@@ -1,9 +1,9 @@
 //! Factors of lists with short literals and with long ones, and of literals whose last bytes are frequent in a text.
 use list_index::ListIndex;
 use lit_base::{Fold, LitList, RawList};
+use shift_search::{ShiftOr, cut_runs};
 use std::alloc::Global;
 use std::sync::Arc;
-use shift_search::{ShiftOr, cut_runs};
 use text_ends::EndRate;
 use window_search::Windows;
 

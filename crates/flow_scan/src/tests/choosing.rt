@@ -1,6 +1,6 @@
 //! Searches that change their engine at random positions of a text: the plan alone, factors that a piece of the text
 //! chooses, shift-or, the automaton, a finder. Together they find what the plan alone finds.
-ghost use Rattle.std.specs.Prelude.{◌≡◌, IfOk};
+ghost use Rattle.std.specs.Prelude.{◌≡◌};
 
 use crate::tests::finding::{
     CAPITALS, Draws, FIGURES, Told, WORDS, pieces_of, plain_in, plan_of_pieces, text_of, with_end,
@@ -9,7 +9,7 @@ use crate::tests::owning::{How, agrees};
 use lit_base::Fold;
 use lit_plan::Compiled;
 use shift_search::{ShiftOr, ShiftedEnds};
-use std::alloc::{AllocError, Global};
+use std::alloc::Global;
 use text_automaton::Automaton;
 use text_ends::{EndRate, Ends};
 use text_search::{EndFinder, next_end};
@@ -65,35 +65,19 @@ fn by_windows(
     progress: Progress,
     count: usize,
 ) -> Option<Progress> {
-    let mut windows = windows_of(alloc, compiled).ok()?;
+    let mut windows = Windows::new(alloc, compiled.shared_index().ok()?).ok()?;
     windows.learn(sample, EndRate::nothing());
-    Some(ends_by_windows(&windows, compiled, text, progress, count))
-}
-
-/// Factors of a plan's literals, before any sample.
-fn windows_of(alloc: Global, compiled: &Compiled) -> Result<Windows, AllocError>
-    ensures { IfOk result (λ windows. windows.literals ≡ compiled.now.literals) }
-{
-    let index = compiled.shared_index()?;
-    Windows::new(alloc, index)
+    Some(ends_by_windows(&windows, text, progress, count))
 }
 
 /// The ends that these factors find.
-fn ends_by_windows<'a>(
-    windows: &'a Windows,
-    compiled: &'a Compiled,
-    text: &'a [u8],
-    progress: Progress,
-    count: usize,
-) -> Progress
-    requires { windows.now.literals ≡ compiled.now.literals }
-{
+fn ends_by_windows(windows: &Windows, text: &[u8], progress: Progress, count: usize) -> Progress {
     let (mut from, mut told) = progress;
     for _ in 0..count {
         if from > text.len() {
             return (from, told);
         }
-        let mut ends = WindowedEnds::behind(compiled, windows, text, from);
+        let mut ends = WindowedEnds::behind(windows, text, from);
         let Some((end, _)) = ends.next_end() else {
             return (text.len(), told);
         };
@@ -112,32 +96,16 @@ fn by_shift_or(
     progress: Progress,
     count: usize,
 ) -> Option<Progress> {
-    let mut shift_or = shift_or_of(alloc, compiled).ok()?;
+    let mut shift_or = ShiftOr::new(alloc, compiled.shared_index().ok()?).ok()?;
     shift_or.learn(sample, EndRate::nothing());
-    Some(ends_by_shift_or(&shift_or, compiled, text, progress, count))
-}
-
-/// Shift-or over a plan's literals, before any sample.
-fn shift_or_of(alloc: Global, compiled: &Compiled) -> Result<ShiftOr, AllocError>
-    ensures { IfOk result (λ made. made.literals ≡ compiled.now.literals) }
-{
-    let index = compiled.shared_index()?;
-    ShiftOr::new(alloc, index)
+    Some(ends_by_shift_or(&shift_or, text, progress, count))
 }
 
 /// The ends that this shift-or finds.
-fn ends_by_shift_or<'a>(
-    shift_or: &'a ShiftOr,
-    compiled: &'a Compiled,
-    text: &'a [u8],
-    progress: Progress,
-    count: usize,
-) -> Progress
-    requires { shift_or.now.literals ≡ compiled.now.literals }
-{
+fn ends_by_shift_or(shift_or: &ShiftOr, text: &[u8], progress: Progress, count: usize) -> Progress {
     let (mut from, mut told) = progress;
     for _ in 0..count {
-        let mut ends = ShiftedEnds::behind(compiled, shift_or, text, from);
+        let mut ends = ShiftedEnds::behind(shift_or, text, from);
         let Some((end, _)) = ends.next_end() else {
             return (text.len(), told);
         };
