@@ -63,7 +63,7 @@ check-deploy: all
 	python3 tests/deploy.py
 
 # The crates with tests; `rt test` leaves their programs of tests.
-TESTED = base_tests byte_io filter_tests fiolargu flow_scan grep_tests line_pick plan_tests search_tests serve_tests
+TESTED = base_tests byte_io filter_tests fiolargu flow_scan grep_tests line_pick plan_tests search_tests serve_tests text_search
 
 sweep:
 	@$(call build,$(PROGRAMS))
