@@ -1,8 +1,9 @@
 -- Edits of a list of optional elements that has all of them.
 use Rattle.std.proofs.Common.{◌≡◌, ℕ, zero, suc, ◌<◌, List, [], ◌∷◌, ◌++◌, length, get_or, set, take, drop, map, Option, Some, None, refl, sym, ap, ◌∙◌, arith}
+use Rattle.std.specs.Prelude.{IsSome}
 use Rattle.std.specs.List.{refill, remove}
 use Rattle.std.proofs.lemmas.List.{drop-map, length-set, map-append, map-set, take-map, take_at}
-use Rattle.std.proofs.lemmas.Option.{none-some}
+use Rattle.std.proofs.lemmas.Option.{none-some, same_Some}
 use Rattle.scan_core.specs.Fews.{somes}
 
 -- the elements of a list that has all of them
@@ -31,6 +32,22 @@ some_at [] i d within none = omega arith
 some_at (x ∷ xs) zero d within none = none-some x (sym none)
 some_at (x ∷ xs) (suc i) d within none = some_at xs i d (omega (arith, within)) none
 
+-- so none is missing there
+pub is_some_at : {T : Type 0} (xs : List T) (i : ℕ) (d : Option T) → i < length xs → IsSome (get_or (map Some xs) i d)
+is_some_at [] i d within = absurd (omega (arith, within))
+is_some_at (x ∷ xs) zero d within = refl
+is_some_at (x ∷ xs) (suc i) d within = is_some_at xs i d (omega (arith, within))
+
+-- and it is that of the list
+pub element_at : {T : Type 0} (xs : List T) (i : ℕ) (d : Option T) (x : T) → i < length xs → get_or (map Some xs) i d ≡ Some x → x ≡ get_or xs i x
+element_at [] i d x within is = absurd (omega (arith, within))
+element_at (y ∷ ys) zero d x within is = sym (same_Some y x is)
+element_at (y ∷ ys) (suc i) d x within is = element_at ys i d x (omega (arith, within)) is
+
+-- a write to one of its places
+pub set_some : {T : Type 0} (items : List (Option T)) (xs : List T) (i : ℕ) (x : T) → items ≡ map Some xs → set items i (Some x) ≡ map Some (set xs i x)
+set_some items xs i x all = ap (λ l. set l i (Some x)) all ∙ sym (map-set Some xs i x)
+
 -- a write in place, as it comes back to the vector that lent the list
 pub set_refill : {T : Type 0} (items lent : List (Option T)) (xs : List T) (i : ℕ) (x : T) → lent ≡ items → items ≡ map Some xs → refill (length items) items (set lent i (Some x)) ≡ map Some (set xs i x)
 set_refill {T} items lent xs i x same all =
@@ -38,5 +55,4 @@ set_refill {T} items lent xs i x same all =
     let len : length written ≡ length items = simp length-set in
     ap (λ l. refill (length items) items (set l i (Some x))) same
     ∙ take_at written (drop (length written) items) (length items) (omega (arith, len))
-    ∙ ap (λ l. set l i (Some x)) all
-    ∙ sym (map-set Some xs i x)
+    ∙ set_some items xs i x all

@@ -6,6 +6,7 @@ pub mod Together
 pub mod Worlds
 pub mod Sessions
 pub mod Fews
+pub mod Lends
 pub mod Streams
 pub mod Answers
 pub mod Publishing

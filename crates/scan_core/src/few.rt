@@ -1,5 +1,7 @@
 //! Short lists that take no memory.
-ghost use Rattle.std.specs.Prelude.{◌≡◌, ◌<◌, ◌≤◌, [], ◌∷◌, ◌++◌, length, remove, slice_index_or, slice_set};
+ghost use Rattle.std.specs.Prelude.{◌≡◌, ◌<◌, ◌≤◌, [], ◌∷◌, ◌++◌, IsSome, Some, length, remove, slice_index_or, slice_set};
+ghost use Rattle.std.specs.Borrow.{sem};
+ghost use Rattle.std.specs.Option.Follows.{option_follows_value};
 
 use arrayvec::ArrayVec;
 use std::marker::Model;
@@ -29,6 +31,8 @@ impl<T> Model for Few<T> {
 }
 
 impl<T> Few<T> {
+    ghost use Rattle.scan_core.specs.Lends.{lends_at};
+
     /// A list of no elements.
     pub(crate) fn new() -> Few<T>
         ensures { result ≡ [] }
@@ -55,6 +59,30 @@ impl<T> Few<T> {
             Some(item) => item,
             None => unreachable!(),
         }
+    }
+
+    /// The element at a place, for writing.
+    pub(crate) fn get_mut(&mut self, place: usize) -> &mut T
+        requires { place < length self.old }
+        ensures* writes_back { sem 𝓛 (lends_at T.row self.entry place result) }
+        ensures value { result.now ≡ slice_index_or self.old place result.now }
+    {
+        match self.items.get_mut(place) {
+            Some(item) => element_of(item),
+            None => unreachable!(),
+        }
+    }
+}
+
+/// The element of a place that has one, for writing.
+fn element_of<T>(item: &mut Option<T>) -> &mut T
+    requires { IsSome item.old }
+    ensures* writes_back { sem 𝓛 (option_follows_value T.row item.entry result) }
+    ensures value { item.old ≡ Some result.now }
+{
+    match item {
+        Some(element) => element,
+        None => unreachable!(),
     }
 }
 

@@ -80,6 +80,8 @@ impl Learned {
         ensures same { self.new ≡ self.old }
         ensures ok { IfOk result (λ count. scanner.new ≡ fed scanner.old (take count piece.now)) }
         ensures hits { IfOk result (λ count. StopsIn scanner.old.plan.literals scanner.old.tail piece.now scanner.old.place most count out.old.items out.new.items) }
+        ensures same_plan { scanner.new.plan ≡ scanner.old.plan }
+        ensures same_scan { OnErr result (scanner.new ≡ scanner.old) }
         ensures same_hits { OnErr result (out.new.items ≡ out.old.items) }
         ensures fault { IsOkUnless result OutOfMemory }
     {
@@ -186,15 +188,15 @@ impl Learner {
         ensures same { self.new ≡ self.old }
         ensures ok { IfOk result (λ count. scanner.new ≡ fed scanner.old (take count piece.now)) }
         ensures hits { IfOk result (λ count. StopsIn scanner.old.plan.literals scanner.old.tail piece.now scanner.old.place most count out.old.items out.new.items) }
+        ensures same_plan { scanner.new.plan ≡ scanner.old.plan }
+        ensures same_scan { OnErr result (scanner.new ≡ scanner.old) }
         ensures same_hits { OnErr result (out.new.items ≡ out.old.items) }
         ensures fault { IsOkUnless result OutOfMemory }
     {
-        let Some(mut learned) = self.learned.take() else {
-            return feed_plainly(scanner, piece, most, out);
-        };
-        let fed = learned.feed(store, ticket, scanner, piece, most, out);
-        self.learned = Some(learned);
-        fed
+        match &mut self.learned {
+            Some(learned) => learned.feed(store, ticket, scanner, piece, most, out),
+            None => feed_plainly(scanner, piece, most, out),
+        }
     }
 }
 
@@ -208,6 +210,8 @@ fn feed_plainly(
     requires { scanner.old.place + length piece.now < 2 ^ 64 }
     ensures ok { IfOk result (λ count. scanner.new ≡ fed scanner.old (take count piece.now)) }
     ensures hits { IfOk result (λ count. StopsIn scanner.old.plan.literals scanner.old.tail piece.now scanner.old.place most count out.old.items out.new.items) }
+    ensures same_plan { scanner.new.plan ≡ scanner.old.plan }
+    ensures same_scan { OnErr result (scanner.new ≡ scanner.old) }
     ensures same_hits { OnErr result (out.new.items ≡ out.old.items) }
     ensures fault { IsOkUnless result OutOfMemory }
 {

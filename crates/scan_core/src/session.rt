@@ -278,7 +278,7 @@ impl<'s> Session<'s> {
         let Some(place) = find_stream(&self.streams, stream) else {
             unreachable!()
         };
-        let bound = self.streams.get(place);
+        let bound = self.streams.get_mut(place);
         self.learner.prepare(
             alloc,
             self.store,
@@ -286,8 +286,7 @@ impl<'s> Session<'s> {
             bound.place(),
             piece.len(),
         );
-        let (next, count) = bound.fed_front(self.store, &mut self.learner, piece, most, out)?;
-        self.streams.set(place, next);
+        let count = bound.feed_front(self.store, &mut self.learner, piece, most, out)?;
         Ok(count)
     }
 

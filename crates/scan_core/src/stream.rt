@@ -99,36 +99,29 @@ impl<'s> Stream<'s> {
         }))
     }
 
-    /// The stream after a prefix of a piece, and how many bytes that has. The piece is fed up to the first end by which
+    /// Feeds a prefix of a piece, and returns how many bytes that has. The piece is fed up to the first end by which
     /// `out` gained at least `most` hits, or whole, with the finder if that is by the stream's plan. If memory is
-    /// refused, `out` is as it was.
-    pub(crate) fn fed_front(
-        &self,
+    /// refused, the stream and `out` are as they were.
+    pub(crate) fn feed_front(
+        &mut self,
         store: &PlanStore,
         learner: &mut Learner,
         piece: &[u8],
         most: usize,
         out: &mut Vec<Hit>,
-    ) -> Result<(Stream<'s>, usize), Fault>
-        requires bound { IsBound store.now self.now.1 }
+    ) -> Result<usize, Fault>
+        requires bound { IsBound store.now self.old.1 }
         requires own { IfSome learner.old (IsOf store.now) }
-        requires room { self.now.1.scan.place + length piece.now < 2 ^ 64 }
+        requires room { self.old.1.scan.place + length piece.now < 2 ^ 64 }
         ensures learner { learner.new ≡ learner.old }
-        ensures ok { IfOk result (λ next. MovesUpTo self.now piece.now most next.1 out.old.items out.new.items next.0) }
+        ensures bound { IsBound store.now self.new.1 }
+        ensures ok { IfOk result (λ count. MovesUpTo self.old piece.now most count out.old.items out.new.items self.new) }
+        ensures same { OnErr result (self.new ≡ self.old) }
         ensures same_hits { OnErr result (out.new.items ≡ out.old.items) }
         ensures fault { IsOkUnless result OutOfMemory }
     {
-        let Ok(mut scanner) = self.scanner.copy() else {
-            return Err(Fault::OutOfMemory);
-        };
-        let count = learner.feed(store, &self.ticket, &mut scanner, piece, most, out)?;
-        let next = Stream {
-            number: self.number,
-            ticket: self.ticket.again(),
-            plan: self.plan,
-            scanner,
-        };
-        Ok((next, count))
+        let count = learner.feed(store, &self.ticket, &mut self.scanner, piece, most, out)?;
+        Ok(count)
     }
 
     /// The place after a piece; none where it would pass 2^64 - 1.
