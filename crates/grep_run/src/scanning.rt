@@ -157,7 +157,15 @@ fn feed<'a, W: ByteOut>(
     ensures flag { W.has_failed out.new ≡ (W.has_failed out.old || is_write_fault result) }
 {
     learn_if(is_long, request, picker)?;
-    feed_piece(picker, piece, block, out)
+    match picker.feed(piece, block) {
+        Ok(Next::More) => {
+            block.write(out)?;
+            Ok(None)
+        }
+        Ok(Next::Stop) => Ok(Some(End::Clean)),
+        Err(Fault::StreamTooLong) => Ok(Some(End::Fault)),
+        Err(_) => Err(Stop::OutOfMemory),
+    }
 }
 
 /// Gives a picker a finder from now on, if the input is long. Measured when a finder's tables were written at once: to
@@ -177,31 +185,6 @@ fn learn_if<'a>(
         picker.learn_by(finder);
     }
     Ok(())
-}
-
-/// Takes the next piece of an input, by what the search has learned, and writes the lines that it ends. `Some` where it is the
-/// last one.
-fn feed_piece<'a, W: ByteOut>(
-    picker: &mut Picker<'a>,
-    piece: &[u8],
-    block: &mut Block<'a>,
-    out: &mut W,
-) -> Result<Option<End>, Stop>
-    ensures answer { (o : GrepOptions) (test : List ℕ → Bool) (name text : List ℕ) (before : Writer)
-        → StandsBehind o test name text picker.old block.old before (writer W.written W.has_failed out.old)
-        → FeedsPiece o test name text piece.now result picker.new block.new before (writer W.written W.has_failed out.new) }
-    ensures plan { picker.new.plan ≡ picker.old.plan }
-    ensures flag { W.has_failed out.new ≡ (W.has_failed out.old || is_write_fault result) }
-{
-    match picker.feed(piece, block) {
-        Ok(Next::More) => {
-            block.write(out)?;
-            Ok(None)
-        }
-        Ok(Next::Stop) => Ok(Some(End::Clean)),
-        Err(Fault::StreamTooLong) => Ok(Some(End::Fault)),
-        Err(_) => Err(Stop::OutOfMemory),
-    }
 }
 
 /// Takes the last line of an input, if no newline ends it.

@@ -1,8 +1,10 @@
 -- Where a literal stands in a text of lines.
-use Rattle.std.specs.Prelude.{◌≡◌, ℕ, true, false, List, [], ◌∷◌, ◌++◌, All}
+use Rattle.std.specs.Prelude.{◌≡◌, ℕ, true, false, List, [], ◌∷◌, ◌++◌, All, Option, IfSome}
 use Rattle.lit_base.specs.Lines.{IsOnePiece, ended_lines, open_rest}
-use Rattle.lit_base.specs.Literals.{Literals}
+use Rattle.lit_base.specs.Literals.{IsNormal, Literals}
 use Rattle.lit_base.specs.Selected.{matches}
+use Rattle.lit_plan.specs.Plans.{Plan}
+use Rattle.text_search.specs.Searched.{Searched}
 
 -- a text stands in another after lines that newlines end, or after nothing
 pub record IsBehindLines (whole text : List ℕ) : Type 0 where
@@ -21,3 +23,18 @@ pub record IsFirstHitLine (l : Literals) (text missed line rest : List ℕ) : Ty
   pub one : IsOnePiece line
   pub misses : AllMiss l missed
   pub hit : matches l.folding false l.texts line ≡ true
+
+-- what a search for such lines has: its plan, the literals of its finder, if there is one, and the text after the last line found
+pub record HitSearch : Type 0 where
+  pub plan : Plan
+  pub finder : Option Literals
+  pub rest : List ℕ
+
+-- a search is by the plan, of a text of ended lines, and the rest stands after some of them
+pub record IsHitSearch (plan : Plan) (finder : Option Literals) (search : Searched) (text rest : List ℕ) : Type 0 where
+  pub learner : IfSome finder (λ list. list ≡ plan.literals)
+  pub by_plan : search ≡ record { plan = plan; text = text }
+  pub behind : IsBehindLines text rest
+  pub closed : open_rest rest ≡ []
+  pub apart : All IsOnePiece plan.literals.texts
+  pub normal : IsNormal plan.literals

@@ -9,6 +9,7 @@ use Rattle.lit_base.specs.NormalForm.{IsNormalForm}
 use Rattle.lit_base.specs.Selected.{is_selected, matches}
 use Rattle.lit_plan.specs.Plans.{Plan}
 use Rattle.line_pick.specs.declared.line_rule.LineRule.{LineRule}
+use Rattle.line_pick.specs.declared.line_search.LineSearch.{LineSearch}
 use Rattle.line_pick.specs.declared.matcher.Matcher.{Matcher}
 
 -- the literals of a plan; with no plan there are none
@@ -51,6 +52,11 @@ pub record StandsForWhole (m : Matcher) (l : Literals) : Type 0 where
 -- no literal holds a newline
 abbrev pub AreInLines : Option Plan → Type 0
 AreInLines plan = All IsOnePiece (literals_of plan)
+
+-- a search of lines is by one plan, none of whose literals holds a newline
+pub record IsByPlan (s : LineSearch) : Type 0 where
+  pub apart : AreInLines (option_copied s.matcher.plan)
+  pub learner : IfSome s.finder (λ list. list_of (option_copied s.matcher.plan) ≡ Some list)
 
 -- a plan and a null pattern stand for raw patterns under a fold: the literals are their normal form, and the null pattern is there if one of them is null
 pub record StandsFor (folding : Fold) (raw : List (List ℕ)) (plan : Option Plan) (has_empty : Bool) : Type 0 where

@@ -10,7 +10,7 @@ const MOST_TRUST: u8 = 4;
 /// Where in its line a literal probably ends. The lines of a log, or of JSON, begin alike: where literals are frequent,
 /// one often ends as many bytes after the start of a line as in the line before. That position is tried first, and the
 /// line is searched only if no literal ends there.
-#[derive(Clone, Copy)]
+#[derive(Drop)]
 pub(crate) struct Column {
     /// The number of bytes of a line up to the end of a literal.
     end: usize,

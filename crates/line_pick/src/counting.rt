@@ -24,7 +24,7 @@ pub(crate) fn count_newlines(text: &[u8]) -> usize
     ensures { result ≡ count_by (λ b. b == 10) text.now }
 {
     if text.len() < LANES {
-        return count_one_by_one(text);
+        return text.iter().filter(|byte| **byte == b'\n').count();
     }
     let (count, start) = count_stretches(text);
     let (lanes, end) = newlines_behind(text, start);
@@ -186,11 +186,4 @@ fn newline_bits(bytes: u8x64) -> u64
     ensures { result ≡ mask_l (map (λ b. b == 10) bytes) }
 {
     bytes.simd_eq(u8x64::splat(b'\n')).to_bitmask()
-}
-
-/// How many newlines the text has, byte by byte.
-fn count_one_by_one(text: &[u8]) -> usize
-    ensures { result ≡ count_by (λ b. b == 10) text.now }
-{
-    text.iter().filter(|byte| **byte == b'\n').count()
 }

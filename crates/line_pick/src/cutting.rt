@@ -85,7 +85,7 @@ pub(crate) fn split_near_line(text: &[u8]) -> Option<(&[u8], &[u8])>
 }
 
 /// A line, the text after its newline, and a mask of the newlines in the first bytes of this text.
-#[derive(Clone, Copy)]
+#[derive(Drop)]
 pub(crate) struct CutLine<'t> {
     pub line: &'t [u8],
     pub behind: &'t [u8],

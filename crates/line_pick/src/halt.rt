@@ -7,7 +7,7 @@ use crate::fault::Fault;
 use std::alloc::AllocError;
 
 /// Why emitting ends before the last line.
-#[derive(Clone, Copy, Debug, PartialEq, Eq)]
+#[derive(Drop)]
 pub(crate) enum Halt {
     /// The sink wants no more lines.
     Stopped,

@@ -9,6 +9,7 @@ mod halt;
 mod hit_line;
 mod lending;
 mod line_rule;
+mod line_search;
 mod matcher;
 mod open_line;
 mod picker;

@@ -79,19 +79,13 @@ impl Matcher<'_> {
             return true;
         }
         match self.plan {
-            Some(compiled) => has_literal(compiled, line),
+            Some(compiled) => {
+                compiled.list().normal_law();
+                next_end(compiled, line, 0).is_some()
+            }
             None => false,
         }
     }
-}
-
-/// Whether some literal is a slice of the line.
-fn has_literal(compiled: &Compiled, line: &[u8]) -> bool
-    ensures { let list = compiled.now.literals in
-        result ≡ matches list.folding false list.texts line.now }
-{
-    compiled.list().normal_law();
-    next_end(compiled, line, 0).is_some()
 }
 
 /// Whether the line as a whole is one of the literals.

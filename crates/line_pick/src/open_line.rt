@@ -1,18 +1,19 @@
 //! What decides a line that no newline has ended yet, where nobody sees its bytes.
-ghost use Rattle.std.specs.Prelude.{◌≡◌, ◌<◌, ◌≤◌, ◌+◌, ◌++◌, ℕ, List, All, IfSome, IsTrue, Some, false, length, min, true};
+ghost use Rattle.std.specs.Prelude.{◌≡◌, ◌<◌, ◌≤◌, ◌+◌, ◌++◌, ℕ, List, All, IfSome, IsTrue, MatchOption, false, length, min, true};
 ghost use Rattle.std.specs.Option.{option_copied};
 ghost use Rattle.lit_base.specs.Literals.{lengths};
 ghost use Rattle.lit_base.specs.Selected.{matches};
-ghost use Rattle.line_pick.specs.Matching.{list_of, literals_of, picks};
+ghost use Rattle.lit_base.specs.NextEnds.{IsNextEnd, NoEndAfter};
+ghost use Rattle.line_pick.specs.Matching.{IsByPlan, literals_of, picks};
 ghost use Rattle.line_pick.specs.OpenLines.{IsDecided, IsDecidingPart, longest_in, longest_of, most_kept};
 
-use crate::hit_line::next_end_behind;
+use crate::line_search::LineSearch;
 use crate::matcher::Matcher;
-use flow_scan::{Compiled, EndFinder, TextSearch};
+use flow_scan::{Compiled, EndFinder, next_end};
 use lit_base::LitList;
 
 /// A part of a text, between two positions.
-#[derive(Clone, Copy)]
+#[derive(Drop)]
 pub(crate) struct Part {
     pub start: usize,
     pub end: usize,
@@ -21,15 +22,13 @@ pub(crate) struct Part {
 /// The part of an open line that decides it. Under -x this is a prefix that is longer than each pattern. Otherwise it
 /// is a literal that stands in the line, or where none does, the last bytes: a literal that goes on after them has no
 /// more.
-pub(crate) fn deciding_part(
-    matcher: Matcher<'_>,
-    finder: &mut Option<EndFinder>,
-    line: &[u8],
-) -> Part
-    requires { IfSome finder.old (λ list. list_of (option_copied matcher.plan) ≡ Some list) }
-    ensures same { finder.new ≡ finder.old }
-    ensures part { IsDecidingPart (picks matcher.entry) (longest_in (option_copied matcher.entry.plan)) line.now result.start result.end }
+pub(crate) fn deciding_part(search: &mut LineSearch<'_>, line: &[u8]) -> Part
+    requires { IsByPlan search.old }
+    ensures same { search.new ≡ search.old }
+    ensures part { let matcher = search.old.matcher in
+        IsDecidingPart (picks matcher) (longest_in (option_copied matcher.plan)) line.now result.start result.end }
 {
+    let matcher = search.matcher;
     if matcher.rule.whole {
         return prefix_longer(line, longest_with(matcher.plan));
     }
@@ -37,7 +36,7 @@ pub(crate) fn deciding_part(
         return prefix_longer(line, 0);
     }
     match matcher.plan {
-        Some(compiled) => hit_or_tail(compiled, finder, line),
+        Some(compiled) => hit_or_tail(compiled, &mut search.finder, line),
         None => prefix_longer(line, 0),
     }
 }
@@ -112,8 +111,7 @@ fn hit_or_tail(compiled: &Compiled, finder: &mut Option<EndFinder>, line: &[u8])
     let list = compiled.list();
     list.normal_law();
     let longest = longest(list);
-    let mut search = TextSearch::new(compiled, line);
-    match next_end_behind(compiled, finder, &mut search, line, 0) {
+    match first_end(compiled, finder, line) {
         Some(end) => Part {
             start: end.saturating_sub(longest),
             end,
@@ -122,6 +120,20 @@ fn hit_or_tail(compiled: &Compiled, finder: &mut Option<EndFinder>, line: &[u8])
             start: line.len().saturating_sub(longest.max(2) - 1),
             end: line.len(),
         },
+    }
+}
+
+/// The first end of a literal in a line, by the finder if there is one, and otherwise by the plan alone.
+fn first_end(compiled: &Compiled, finder: &mut Option<EndFinder>, line: &[u8]) -> Option<usize>
+    requires { IfSome finder.old (λ list. list ≡ compiled.now.literals) }
+    ensures same { finder.new ≡ finder.old }
+    ensures next { MatchOption result
+        (NoEndAfter compiled.now.literals line.now 0)
+        (IsNextEnd compiled.now.literals line.now 0) }
+{
+    match finder {
+        Some(finder) => finder.next_end(compiled, line, 0),
+        None => next_end(compiled, line, 0),
     }
 }
 

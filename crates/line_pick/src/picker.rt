@@ -9,6 +9,7 @@ ghost use Rattle.line_pick.specs.declared.state.State.TheVariants.{Running};
 use crate::fault::Fault;
 use crate::halt::Halt;
 use crate::line_rule::LineRule;
+use crate::line_search::LineSearch;
 use crate::matcher::Matcher;
 use crate::progress::Progress;
 use crate::sink::{Next, Sink};
@@ -20,9 +21,7 @@ use std::marker::Model;
 /// Emits the selected lines of a text that comes in pieces. It keeps only the current line, or what decides it.
 #[derive(Debug, Drop)]
 pub struct Picker<'p> {
-    matcher: Matcher<'p>,
-    /// The finder that tunes itself to the text, if there is one.
-    finder: Option<EndFinder>,
+    search: LineSearch<'p>,
     progress: Progress,
     state: State,
 }
@@ -33,25 +32,24 @@ impl<'p> Model for Picker<'p> {
 
     ghost Value = { Picking };
 
-    ghost use Rattle.std.specs.Prelude.{◌≡◌, IfSome, Some, if◌then◌else◌, is_some};
-    ghost use Rattle.line_pick.specs.Matching.{AreInLines, list_of};
+    ghost use Rattle.std.specs.Prelude.{if◌then◌else◌, is_some};
+    ghost use Rattle.line_pick.specs.Matching.{IsByPlan};
     ghost use Rattle.line_pick.specs.Progresses.{IsSound};
 
     ghost view = { λ p. record {
-      plan = option_copied p.matcher.plan;
-      has_empty = p.matcher.has_empty;
-      rule = p.matcher.rule;
+      plan = option_copied p.search.matcher.plan;
+      has_empty = p.search.matcher.has_empty;
+      rule = p.search.matcher.rule;
       has_bytes = p.progress.has_bytes;
       held = p.progress.held.items;
       is_numbered = p.progress.is_numbered;
       lines = if p.progress.is_numbered then p.progress.lines else 0;
       bytes = p.progress.bytes;
       state = p.state;
-      learns = is_some p.finder;
+      learns = is_some p.search.finder;
     } };
 
-    ghost invariant = { λ p. IsSound p.progress × AreInLines (option_copied p.matcher.plan)
-        × IfSome p.finder (λ list. list_of (option_copied p.matcher.plan) ≡ Some list) };
+    ghost invariant = { λ p. IsSound p.progress × IsByPlan p.search };
 }
 
 impl<'p> Picker<'p> {
@@ -78,12 +76,14 @@ impl<'p> Picker<'p> {
         } }
     {
         Picker {
-            matcher: Matcher {
-                plan,
-                has_empty,
-                rule,
+            search: LineSearch {
+                matcher: Matcher {
+                    plan,
+                    has_empty,
+                    rule,
+                },
+                finder: None,
             },
-            finder: None,
             progress: Progress::new(alloc),
             state: State::Running,
         }
@@ -111,7 +111,7 @@ impl<'p> Picker<'p> {
     pub fn learns(&self) -> bool
         ensures { result ≡ self.now.learns }
     {
-        self.finder.is_some()
+        self.search.finder.is_some()
     }
 
     /// The same picker, whose search tunes itself by this finder from now on. The emitted lines do not depend on it.
@@ -128,7 +128,7 @@ impl<'p> Picker<'p> {
         requires { list_of self.old.plan ≡ Some finder }
         ensures { self.new ≡ record self.old { learns = true } }
     {
-        self.finder = Some(finder);
+        self.search.finder = Some(finder);
     }
 
     /// The finder, tuned to the text so far, for use with the next text; `None` if the picker has none.
@@ -136,7 +136,7 @@ impl<'p> Picker<'p> {
         ensures plan { IfSome result (λ list. list_of self.entry.plan ≡ Some list) }
         ensures learned { is_some result ≡ self.entry.learns }
     {
-        self.finder
+        self.search.finder
     }
 
     /// Takes the next piece of the text, and emits to the sink each selected line that a newline ends in it: in order,
@@ -157,10 +157,7 @@ impl<'p> Picker<'p> {
         if let Some(answer) = self.state.answer() {
             return answer;
         }
-        let answer = answered(
-            self.progress
-                .take(self.matcher, &mut self.finder, piece, sink),
-        );
+        let answer = answered(self.progress.take(&mut self.search, piece, sink));
         self.state = State::after_feed(answer);
         answer
     }
@@ -179,7 +176,7 @@ impl<'p> Picker<'p> {
         if let Some(answer) = self.state.answer() {
             return answer;
         }
-        let answer = answered(self.progress.lend_open(self.matcher, sink));
+        let answer = answered(self.progress.lend_open(self.search.matcher, sink));
         self.state = State::after_finish(answer);
         answer
     }

@@ -1,9 +1,9 @@
 //! The line that no newline has ended yet, and how far a text has come.
-ghost use Rattle.std.specs.Prelude.{◌≡◌, ◌≢◌, ◌↔◌, ◌≤◌, ◌+◌, ◌^◌, ◌++◌, ◌∷◌, [], Err, IfOk, IfSome, OnOk, OnErr, Some, length, slice_range, true, vec_len};
+ghost use Rattle.std.specs.Prelude.{◌≡◌, ◌≢◌, ◌↔◌, ◌≤◌, ◌+◌, ◌^◌, ◌++◌, ◌∷◌, [], Err, IfOk, OnOk, OnErr, length, slice_range, true, vec_len};
 ghost use Rattle.std.specs.Option.{option_copied};
 ghost use Rattle.lit_base.specs.Lines.{IsOnePiece, ended_lines, last_line, open_rest};
 ghost use Rattle.line_pick.specs.Lending.{Lends, Lent, answer_of, as_numbered, numbered};
-ghost use Rattle.line_pick.specs.Matching.{AreInLines, picks, list_of};
+ghost use Rattle.line_pick.specs.Matching.{IsByPlan, picks};
 ghost use Rattle.line_pick.specs.OpenLines.{Decides, IsKept, Keeps, most_kept};
 ghost use Rattle.line_pick.specs.Progresses.{IsSound};
 
@@ -11,11 +11,11 @@ use crate::cutting::{split_ended, split_line};
 use crate::fault::Fault;
 use crate::halt::Halt;
 use crate::lending::lend_selected;
+use crate::line_search::LineSearch;
 use crate::matcher::Matcher;
 use crate::open_line::{Part, deciding_part, is_decided, is_short};
 use crate::sink::Sink;
 use crate::text_lending::lend_text;
-use flow_scan::EndFinder;
 use std::alloc::Global;
 
 /// The line that no newline has ended yet, and how far a text has come.
@@ -54,22 +54,20 @@ impl Progress {
     /// Takes the next piece of the text, and emits the selected lines among those that it ends.
     pub fn take<S: Sink>(
         &mut self,
-        matcher: Matcher<'_>,
-        finder: &mut Option<EndFinder>,
+        search: &mut LineSearch<'_>,
         piece: &[u8],
         sink: &mut S,
     ) -> Result<(), Halt>
         requires sound { IsSound self.old }
-        requires finder { IfSome finder.old (λ list. list_of (option_copied matcher.plan) ≡ Some list) }
-        requires apart { AreInLines (option_copied matcher.plan) }
-        ensures same { finder.new ≡ finder.old }
+        requires plan { IsByPlan search.old }
+        ensures same { search.new ≡ search.old }
         ensures sound { IsSound self.new }
         ensures seen { self.new.has_bytes ≡ self.old.has_bytes }
         ensures numbered { self.new.is_numbered ≡ self.old.is_numbered }
         ensures lent { Lends (as_numbered self.old.is_numbered S.takes) sink.old
-            (numbered (picks matcher.entry) self.old.lines (ended_lines (self.old.held.items ++ piece.now)))
+            (numbered (picks search.old.matcher) self.old.lines (ended_lines (self.old.held.items ++ piece.now)))
             (answer_of result) sink.new }
-        ensures held { OnOk result (Keeps self.old.has_bytes (picks matcher.entry) (most_kept (option_copied matcher.entry.plan)) self.new.held.items
+        ensures held { OnOk result (Keeps self.old.has_bytes (picks search.old.matcher) (most_kept (option_copied search.old.matcher.plan)) self.new.held.items
             (open_rest (self.old.held.items ++ piece.now))) }
         ensures lines { OnOk result (self.old.is_numbered ≡ true → self.new.lines
             ≡ self.old.lines + length (ended_lines (self.old.held.items ++ piece.now))) }
@@ -80,13 +78,13 @@ impl Progress {
         self.bytes = longer(self.bytes, piece)?;
         let is_fresh = self.held.is_empty();
         if is_fresh {
-            return self.take_lines(matcher, finder, piece, sink);
+            return self.take_lines(search, piece, sink);
         }
         match split_line(piece) {
-            None => self.hold_open(matcher, finder, piece),
+            None => self.hold_open(search, piece),
             Some((front, behind)) => {
-                self.end_line(matcher, front, sink)?;
-                self.take_lines(matcher, finder, behind, sink)
+                self.end_line(search.matcher, front, sink)?;
+                self.take_lines(search, behind, sink)
             }
         }
     }
@@ -106,21 +104,16 @@ impl Progress {
     }
 
     /// Takes more bytes of the open line. It holds the line, or what decides it.
-    fn hold_open(
-        &mut self,
-        matcher: Matcher<'_>,
-        finder: &mut Option<EndFinder>,
-        bytes: &[u8],
-    ) -> Result<(), Halt>
-        requires finder { IfSome finder.old (λ list. list_of (option_copied matcher.plan) ≡ Some list) }
+    fn hold_open(&mut self, search: &mut LineSearch<'_>, bytes: &[u8]) -> Result<(), Halt>
+        requires plan { IsByPlan search.old }
         requires sound { IsSound self.old }
         requires one { IsOnePiece bytes.now }
         requires counted { self.old.lines + vec_len self.old.held + length bytes.now ≤ self.old.bytes }
-        ensures same { finder.new ≡ finder.old }
+        ensures same { search.new ≡ search.old }
         ensures sound { IsSound self.new }
         ensures seen { self.new.has_bytes ≡ self.old.has_bytes }
         ensures numbered { self.new.is_numbered ≡ self.old.is_numbered }
-        ensures held { OnOk result (Keeps self.old.has_bytes (picks matcher.entry) (most_kept (option_copied matcher.entry.plan)) self.new.held.items
+        ensures held { OnOk result (Keeps self.old.has_bytes (picks search.old.matcher) (most_kept (option_copied search.old.matcher.plan)) self.new.held.items
             (self.old.held.items ++ bytes.now)) }
         ensures starved { OnErr result (result ≡ Err (Halt.Failed Fault.OutOfMemory)) }
         ensures lines { self.new.lines ≡ self.old.lines }
@@ -129,8 +122,8 @@ impl Progress {
         if self.has_bytes {
             return self.hold(bytes);
         }
-        self.hold_undecided(matcher, bytes)?;
-        self.shorten(matcher, finder);
+        self.hold_undecided(search.matcher, bytes)?;
+        self.shorten(search);
         Ok(())
     }
 
@@ -154,21 +147,21 @@ impl Progress {
     }
 
     /// Holds of the open line only what decides it, unless it holds few bytes.
-    fn shorten(&mut self, matcher: Matcher<'_>, finder: &mut Option<EndFinder>)
-        requires finder { IfSome finder.old (λ list. list_of (option_copied matcher.plan) ≡ Some list) }
+    fn shorten(&mut self, search: &mut LineSearch<'_>)
+        requires plan { IsByPlan search.old }
         requires sound { IsSound self.old }
-        ensures same { finder.new ≡ finder.old }
+        ensures same { search.new ≡ search.old }
         ensures sound { IsSound self.new }
         ensures seen { self.new.has_bytes ≡ self.old.has_bytes }
         ensures numbered { self.new.is_numbered ≡ self.old.is_numbered }
-        ensures held { IsKept (picks matcher.entry) (most_kept (option_copied matcher.entry.plan)) self.new.held.items self.old.held.items }
+        ensures held { IsKept (picks search.old.matcher) (most_kept (option_copied search.old.matcher.plan)) self.new.held.items self.old.held.items }
         ensures lines { self.new.lines ≡ self.old.lines }
         ensures bytes { self.new.bytes ≡ self.old.bytes }
     {
-        if is_short(matcher, self.held.as_slice()) {
+        if is_short(search.matcher, self.held.as_slice()) {
             return;
         }
-        let part = deciding_part(matcher, finder, self.held.as_slice());
+        let part = deciding_part(search, self.held.as_slice());
         keep_part(&mut self.held, part);
     }
 
@@ -205,23 +198,21 @@ impl Progress {
     /// the rest.
     fn take_lines<S: Sink>(
         &mut self,
-        matcher: Matcher<'_>,
-        finder: &mut Option<EndFinder>,
+        search: &mut LineSearch<'_>,
         text: &[u8],
         sink: &mut S,
     ) -> Result<(), Halt>
-        requires finder { IfSome finder.old (λ list. list_of (option_copied matcher.plan) ≡ Some list) }
-        requires apart { AreInLines (option_copied matcher.plan) }
+        requires plan { IsByPlan search.old }
         requires fresh { self.old.held.items ≡ [] }
         requires counted { self.old.lines + length text.now ≤ self.old.bytes }
-        ensures same { finder.new ≡ finder.old }
+        ensures same { search.new ≡ search.old }
         ensures sound { IsSound self.new }
         ensures seen { self.new.has_bytes ≡ self.old.has_bytes }
         ensures numbered { self.new.is_numbered ≡ self.old.is_numbered }
         ensures lent { Lends (as_numbered self.old.is_numbered S.takes) sink.old
-            (numbered (picks matcher.entry) self.old.lines (ended_lines text.now))
+            (numbered (picks search.old.matcher) self.old.lines (ended_lines text.now))
             (answer_of result) sink.new }
-        ensures held { OnOk result (Keeps self.old.has_bytes (picks matcher.entry) (most_kept (option_copied matcher.entry.plan)) self.new.held.items (open_rest text.now)) }
+        ensures held { OnOk result (Keeps self.old.has_bytes (picks search.old.matcher) (most_kept (option_copied search.old.matcher.plan)) self.new.held.items (open_rest text.now)) }
         ensures lines { OnOk result (self.old.is_numbered ≡ true
             → self.new.lines ≡ self.old.lines + length (ended_lines text.now)) }
         ensures bytes { self.new.bytes ≡ self.old.bytes }
@@ -230,8 +221,8 @@ impl Progress {
         // Read here, it is known to fit, and so is the number of lines.
         let _bytes = self.bytes;
         let (ended, open) = split_ended(text);
-        self.lines = lend_text(matcher, finder, ended, self.lines, self.is_numbered, sink)?;
-        self.hold_open(matcher, finder, open)
+        self.lines = lend_text(search, ended, self.lines, self.is_numbered, sink)?;
+        self.hold_open(search, open)
     }
 
     /// Emits the open line, if it is a line and selected.

@@ -9,7 +9,7 @@ pub returns-clause-running : goal.returns-clause-running
 returns-clause-running g c = rw (← c.self.view_is) (λ running.
     let p = c.self.inside.progress in
     record {
-      lent = rw c.answered-answer.ensures (Lent-moved g.S.Sink.takes (picks c.self.inside.matcher) p.lines (cond p.is_numbered p.lines 0) (last_line p.held.items) p.is_numbered (shown-same p.is_numbered p.lines) (Lent-taken g.S.Sink.takes p.is_numbered c.lend_open.ensures.lent));
+      lent = rw c.answered-answer.ensures (Lent-moved g.S.Sink.takes (picks c.self.inside.search.matcher) p.lines (cond p.is_numbered p.lines 0) (last_line p.held.items) p.is_numbered (shown-same p.is_numbered p.lines) (Lent-taken g.S.Sink.takes p.is_numbered c.lend_open.ensures.lent));
       state = search rules;
       fault = search rules;
     })

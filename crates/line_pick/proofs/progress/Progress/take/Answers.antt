@@ -20,13 +20,13 @@ same_fault e = (cc)
 pub returns-in_err-self-clause-lent : goal.returns-in_err-self-clause-lent
 returns-in_err-self-clause-lent g c =
     let p = err_from_is_err_and c.from_residual.result c.from_residual.ensures.1 in
-    Lends-refused (numbered (picks c.args.matcher) c.args.self.now.lines (ended_lines (c.args.self.now.held.items ++ c.args.piece.now))) c.from_residual.result
+    Lends-refused (numbered (picks c.args.search.now.matcher) c.args.self.now.lines (ended_lines (c.args.self.now.held.items ++ c.args.piece.now))) c.from_residual.result
     (p.1 ∙ ap (λ h. Err h) (p.2 ∙ same_fault c.in_err-self.ensures.err))
 
 pub returns-in_err-end_line-in-Some-clause-lent : goal.returns-in_err-end_line-in-Some-clause-lent
 returns-in_err-end_line-in-Some-clause-lent g c =
     let p = err_from_is_err_and c.from_residual-in_err-end_line-in-Some.result c.from_residual-in_err-end_line-in-Some.ensures.1 in
-    let test = picks c.args.matcher in
+    let test = picks c.args.search.now.matcher in
     let lines = c.args.self.now.lines in
     let held = c.args.self.now.held.items in
     let cut = first-held held c.requires.sound.one c.in-Some.ensures in
@@ -37,13 +37,13 @@ pub returns-in-None-clause-lent : goal.returns-in-None-clause-lent
 returns-in-None-clause-lent g c =
     let held = c.args.self.now.held.items in
     let none = ended_lines-none (held ++ c.args.piece.now) (one-append held c.args.piece.now c.requires.sound.one c.in-None.ensures) in
-    Lends-held c.hold_open.result (Lent-lines (ap (numbered (picks c.args.matcher) c.args.self.now.lines) (sym none)) NoneLeft) c.hold_open.ensures.starved
+    Lends-held c.hold_open.result (Lent-lines (ap (numbered (picks c.args.search.now.matcher) c.args.self.now.lines) (sym none)) NoneLeft) c.hold_open.ensures.starved
 
 pub returns-in-None-clause-held : goal.returns-in-None-clause-held
 returns-in-None-clause-held g c =
     let held = c.args.self.now.held.items in
     let all = open_rest-none (held ++ c.args.piece.now) (one-append held c.args.piece.now c.requires.sound.one c.in-None.ensures) in
-    on_ok_weaker c.hold_open.result (subst (Keeps c.args.self.now.has_bytes (picks c.args.matcher) (most_kept (option_copied c.args.matcher.plan)) c.hold_open.new.self.held.items) (sym all)) c.hold_open.ensures.held
+    on_ok_weaker c.hold_open.result (subst (Keeps c.args.self.now.has_bytes (picks c.args.search.now.matcher) (most_kept (option_copied c.args.search.now.matcher.plan)) c.hold_open.new.self.held.items) (sym all)) c.hold_open.ensures.held
 
 pub returns-in-None-clause-lines : goal.returns-in-None-clause-lines
 returns-in-None-clause-lines g c =
@@ -53,7 +53,7 @@ returns-in-None-clause-lines g c =
 
 pub returns-in_ok-end_line-in-Some-clause-lent : goal.returns-in_ok-end_line-in-Some-clause-lent
 returns-in_ok-end_line-in-Some-clause-lent g c =
-    let test = picks c.args.matcher in
+    let test = picks c.args.search.now.matcher in
     let lines = c.args.self.now.lines in
     let held = c.args.self.now.held.items in
     let cut = first-held held c.requires.sound.one c.in-Some.ensures in
@@ -66,12 +66,12 @@ pub returns-in_ok-end_line-in-Some-clause-held : goal.returns-in_ok-end_line-in-
 returns-in_ok-end_line-in-Some-clause-held g c =
     let held = c.args.self.now.held.items in
     let same = open_rest-first (first-held held c.requires.sound.one c.in-Some.ensures) in
-    on_ok_weaker c.take_lines-in-Some.result (λ k. subst (λ has. Keeps has (picks c.args.matcher) (most_kept (option_copied c.args.matcher.plan)) c.take_lines-in-Some.new.self.held.items (open_rest (held ++ c.args.piece.now))) c.in_ok-end_line-in-Some.ensures.seen
-    (subst (Keeps c.end_line.new.self.has_bytes (picks c.args.matcher) (most_kept (option_copied c.args.matcher.plan)) c.take_lines-in-Some.new.self.held.items) (sym same) k)) c.take_lines-in-Some.ensures.held
+    on_ok_weaker c.take_lines-in-Some.result (λ k. subst (λ has. Keeps has (picks c.args.search.now.matcher) (most_kept (option_copied c.args.search.now.matcher.plan)) c.take_lines-in-Some.new.self.held.items (open_rest (held ++ c.args.piece.now))) c.in_ok-end_line-in-Some.ensures.seen
+    (subst (Keeps c.end_line.new.self.has_bytes (picks c.args.search.now.matcher) (most_kept (option_copied c.args.search.now.matcher.plan)) c.take_lines-in-Some.new.self.held.items) (sym same) k)) c.take_lines-in-Some.ensures.held
 
 pub returns-in_ok-end_line-in-Some-clause-lines : goal.returns-in_ok-end_line-in-Some-clause-lines
 returns-in_ok-end_line-in-Some-clause-lines g c =
-    let test = picks c.args.matcher in
+    let test = picks c.args.search.now.matcher in
     let held = c.args.self.now.held.items in
     let cut = first-held held c.requires.sound.one c.in-Some.ensures in
     let count = count-first test 0 (held ++ c.args.piece.now) (held ++ c.in-Some.front.now) c.in-Some.behind.now cut in

@@ -5,6 +5,7 @@ use Rattle.std.proofs.lemmas.Result.{err_from_is_err_and, on_ok_weaker}
 use Rattle.line_pick.specs.Lending.{Whole, numbered}
 use Rattle.line_pick.specs.Matching.{picks}
 use Rattle.line_pick.specs.OpenLines.{Keeps, most_kept}
+use Rattle.line_pick.specs.declared.line_search.LineSearch.{LineSearch}
 use Rattle.line_pick.proofs.LentLemmas.{Lent-lines, Lends-held, OnOk-any}
 use Rattle.line_pick.proofs.Newlines.{ended_lines-cut, open_rest-cut, length-cut}
 use Rattle.line_pick.proofs.progress.Progress.take_lines.Goals as goal
@@ -15,18 +16,20 @@ lend_text-requires-clause-fits g c = omega (arith, c.requires.counted, length-cu
 pub returns-in_err-self-clause-lent : goal.returns-in_err-self-clause-lent
 returns-in_err-self-clause-lent g c =
     let p = err_from_is_err_and c.from_residual.result c.from_residual.ensures.1 in
-    let same = ap (numbered (picks c.args.matcher) c.args.self.now.lines) (sym (ended_lines-cut c.split_ended.ensures)) in
+    let same = ap (numbered (picks c.args.search.now.matcher) c.args.self.now.lines) (sym (ended_lines-cut c.split_ended.ensures)) in
     rw (p.1, p.2) (Whole (Lent-lines same c.in_err-self.ensures.lent))
 
 pub returns-clause-lent : goal.returns-clause-lent
 returns-clause-lent g c =
-    let same = ap (numbered (picks c.args.matcher) c.args.self.now.lines) (sym (ended_lines-cut c.split_ended.ensures)) in
+    let same = ap (numbered (picks c.args.search.now.matcher) c.args.self.now.lines) (sym (ended_lines-cut c.split_ended.ensures)) in
     Lends-held c.hold_open.result (Lent-lines same c.in_ok-self.ensures.lent) c.hold_open.ensures.starved
 
 pub returns-clause-held : goal.returns-clause-held
 returns-clause-held g c =
     let all = ap (λ h. h ++ c.split_ended.result.1.now) c.requires.fresh ∙ sym (open_rest-cut c.split_ended.ensures) in
-    on_ok_weaker c.hold_open.result (subst (Keeps c.args.self.now.has_bytes (picks c.args.matcher) (most_kept (option_copied c.args.matcher.plan)) c.hold_open.new.self.held.items) all) c.hold_open.ensures.held
+    let kept = c.hold_open.new.self.held.items in
+    on_ok_weaker c.hold_open.result (λ k. subst (Keeps c.args.self.now.has_bytes (picks c.args.search.now.matcher) (most_kept (option_copied c.args.search.now.matcher.plan)) kept) all
+    (subst (λ (s : LineSearch). Keeps c.args.self.now.has_bytes (picks s.matcher) (most_kept (option_copied s.matcher.plan)) kept (c.args.self.now.held.items ++ c.split_ended.result.1.now)) c.in_ok-self.ensures.same k)) c.hold_open.ensures.held
 
 pub returns-clause-lines : goal.returns-clause-lines
 returns-clause-lines g c = OnOk-any c.hold_open.result (λ e. c.hold_open.ensures.lines ∙ c.in_ok-self.ensures.count e ∙ ap (λ ls. c.args.self.now.lines + length ls) (sym (ended_lines-cut c.split_ended.ensures)))

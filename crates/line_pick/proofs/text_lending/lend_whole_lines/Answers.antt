@@ -6,7 +6,7 @@ use Rattle.line_pick.specs.declared.matcher.Matcher.{Matcher}
 use Rattle.line_pick.specs.Matching.{picks}
 use Rattle.line_pick.proofs.AroundHitLines.{picks-literals}
 use Rattle.line_pick.proofs.LentLemmas.{Lent-lines, numbered-same}
-use Rattle.line_pick.proofs.text_lending.lend_each_line.Goals as goal
+use Rattle.line_pick.proofs.text_lending.lend_whole_lines.Goals as goal
 
 pub returns-clause-lent : goal.returns-clause-lent
 returns-clause-lent g c =

@@ -3,7 +3,7 @@ use Rattle.std.proofs.Common.{◌-◌, ap, length, arith}
 use Rattle.std.proofs.lemmas.List.{length-drop}
 use Rattle.line_pick.proofs.Newlines.{front-whole}
 use Rattle.line_pick.proofs.HitLineLemmas.{first-hit, line-room, no-hit-open}
-use Rattle.line_pick.proofs.hit_line.hit_line_round.Goals as goal
+use Rattle.line_pick.proofs.hit_line.line_round.Goals as goal
 
 pub split_front-requires : goal.split_front-requires
 split_front-requires c = front-whole c.args.text.now c.split_at.result.0.now (c.args.end - 1) c.split_at.ensures.front

@@ -1,0 +1,21 @@
+-- What stands after the line stands after lines.
+use Rattle.std.proofs.Common.{false, subst, sym, ◌∙◌}
+use Rattle.line_pick.specs.HitLines.{HitSearch, IsFirstHitLine}
+use Rattle.line_pick.proofs.AroundHitLines.{hit-closed}
+use Rattle.line_pick.proofs.BehindLines.{behind-hit}
+use Rattle.line_pick.proofs.hit_line.HitLines.next_line.Goals as goal
+
+pub invariant_of-self : goal.invariant_of-self
+invariant_of-self c =
+    let l = c.self.inside.compiled.now.literals in
+    let rest = c.self.inside.rest.now in
+    let hit = c.in_ok-hit.hit in
+    let first = subst (λ (s : HitSearch). IsFirstHitLine s.plan.literals s.rest hit.missed.now hit.line.now hit.behind.now) (sym c.first.ensures.same ∙ sym c.self.view_is) c.in_ok-hit.ensures.hit in
+    record {
+      learner = c.self.invariant.learner;
+      by_plan = c.self.invariant.by_plan;
+      behind = behind-hit l c.self.inside.text.now rest hit.missed.now hit.line.now hit.behind.now c.self.invariant.behind first;
+      closed = hit-closed l false false rest hit.missed.now hit.line.now hit.behind.now first c.self.invariant.closed;
+      apart = c.self.invariant.apart;
+      normal = c.self.invariant.normal;
+    }
