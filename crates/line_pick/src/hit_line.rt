@@ -209,10 +209,29 @@ impl<'a> HitLines<'a> {
             (IsNextEnd self.old.plan.literals self.old.rest 0) }
     {
         let from = self.text.len() - self.rest.len();
-        match &mut self.finder {
-            Some(finder) => Some(finder.next_end_of(&mut self.search, from)? - from),
-            None => Some(self.search.next_end(from)? - from),
-        }
+        let end = next_end(&mut self.finder, &mut self.search, from)?;
+        Some(end - from)
+    }
+}
+
+/// The next position of a search's text at which some literal ends, by the finder if there is one, and otherwise by the
+/// plan alone.
+#[inline]
+pub(crate) fn next_end(
+    finder: &mut Option<EndFinder>,
+    search: &mut TextSearch<'_>,
+    from: usize,
+) -> Option<usize>
+    requires { IfSome finder.old (λ list. list ≡ search.old.plan.literals) }
+    ensures same { finder.new ≡ finder.old }
+    ensures search { search.new ≡ search.old }
+    ensures next { MatchOption result
+        (NoEndAfter search.old.plan.literals search.old.text from)
+        (IsNextEnd search.old.plan.literals search.old.text from) }
+{
+    match finder {
+        Some(finder) => finder.next_end_of(search, from),
+        None => search.next_end(from),
     }
 }
 

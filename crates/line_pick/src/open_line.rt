@@ -1,15 +1,15 @@
 //! What decides a line that no newline has ended yet, where nobody sees its bytes.
-ghost use Rattle.std.specs.Prelude.{◌≡◌, ◌<◌, ◌≤◌, ◌+◌, ◌++◌, ℕ, List, All, IfSome, IsTrue, MatchOption, false, length, min, true};
+ghost use Rattle.std.specs.Prelude.{◌≡◌, ◌<◌, ◌≤◌, ◌+◌, ◌++◌, ℕ, List, All, IfSome, IsTrue, false, length, min, true};
 ghost use Rattle.std.specs.Option.{option_copied};
 ghost use Rattle.lit_base.specs.Literals.{lengths};
 ghost use Rattle.lit_base.specs.Selected.{matches};
-ghost use Rattle.lit_base.specs.NextEnds.{IsNextEnd, NoEndAfter};
 ghost use Rattle.line_pick.specs.Matching.{IsByPlan, literals_of, picks};
 ghost use Rattle.line_pick.specs.OpenLines.{IsDecided, IsDecidingPart, longest_in, longest_of, most_kept};
 
+use crate::hit_line::next_end;
 use crate::line_search::LineSearch;
 use crate::matcher::Matcher;
-use flow_scan::{Compiled, EndFinder, next_end};
+use flow_scan::{Compiled, EndFinder, TextSearch};
 use lit_base::LitList;
 
 /// A part of a text, between two positions.
@@ -111,7 +111,8 @@ fn hit_or_tail(compiled: &Compiled, finder: &mut Option<EndFinder>, line: &[u8])
     let list = compiled.list();
     list.normal_law();
     let longest = longest(list);
-    match first_end(compiled, finder, line) {
+    let mut search = TextSearch::new(compiled, line);
+    match next_end(finder, &mut search, 0) {
         Some(end) => Part {
             start: end.saturating_sub(longest),
             end,
@@ -120,20 +121,6 @@ fn hit_or_tail(compiled: &Compiled, finder: &mut Option<EndFinder>, line: &[u8])
             start: line.len().saturating_sub(longest.max(2) - 1),
             end: line.len(),
         },
-    }
-}
-
-/// The first end of a literal in a line, by the finder if there is one, and otherwise by the plan alone.
-fn first_end(compiled: &Compiled, finder: &mut Option<EndFinder>, line: &[u8]) -> Option<usize>
-    requires { IfSome finder.old (λ list. list ≡ compiled.now.literals) }
-    ensures same { finder.new ≡ finder.old }
-    ensures next { MatchOption result
-        (NoEndAfter compiled.now.literals line.now 0)
-        (IsNextEnd compiled.now.literals line.now 0) }
-{
-    match finder {
-        Some(finder) => finder.next_end(compiled, line, 0),
-        None => next_end(compiled, line, 0),
     }
 }
 

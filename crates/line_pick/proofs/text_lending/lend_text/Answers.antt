@@ -1,11 +1,9 @@
 -- Each line is selected, or none, or those by the literals.
-use Rattle.std.proofs.Common.{◌≡◌, Some, not, ap, sym, ◌∙◌, Option}
+use Rattle.std.proofs.Common.{◌≡◌, Some, not, ap}
 use Rattle.std.specs.Option.{option_copied}
 use Rattle.lit_base.specs.Lines.{ended_lines}
-use Rattle.lit_base.specs.Literals.{Literals}
 use Rattle.lit_base.specs.Selected.{is_selected}
 use Rattle.line_pick.specs.Matching.{picks}
-use Rattle.line_pick.specs.declared.line_search.LineSearch.{LineSearch}
 use Rattle.line_pick.proofs.AroundHitLines.{picks-literals, picks-none, picks-null}
 use Rattle.line_pick.proofs.LentLemmas.{Lent-lines, numbered-same}
 use Rattle.line_pick.proofs.NumberLemmas.{Lent-taken}

@@ -1,5 +1,5 @@
 -- The hit's line is the first one, or stands round the first end of a literal.
-use Rattle.std.proofs.Common.{◌∙◌, MatchOption, subst, sym}
+use Rattle.std.proofs.Common.{◌∙◌, subst, sym}
 use Rattle.lit_base.specs.NextEnds.{IsNextEnd, NoEndAfter}
 use Rattle.line_pick.specs.HitLines.{HitSearch}
 use Rattle.line_pick.proofs.HitLineLemmas.{first-line-hit, misses-all}
