@@ -1,7 +1,8 @@
 -- What a C program passes to make a plan, and the plan that it gets.
 use Rattle.std.specs.Prelude.{◌≡◌, ℕ, ◌-◌, List, map, length, slice_index, Option, Some, None}
 use Rattle.lit_base.specs.Assignments.{NoAssignmentBelow}
-use Rattle.lit_base.specs.NormalForm.{normal_form}
+use Rattle.lit_base.specs.NormalForm.{IsPlaceOf, normal_form}
+use Rattle.std.specs.List.{AllZip}
 use Rattle.lit_base.specs.Profiles.{buckets}
 use Rattle.lit_plan.specs.Plans.{Plan}
 use Rattle.list_plan.specs.Planned.{IsPlanned}
@@ -25,6 +26,12 @@ pub record IsPlanOf (flags : ℕ) (patterns : List (List ℕ)) (p : Plan) : Type
 abbrev pub number_at : Option ℕ → ℕ
 number_at None = 4294967295
 number_at (Some place) = place
+
+-- the numbers by which C sees the places of patterns among their literals
+pub record AreNumbersOf (flags : ℕ) (patterns : List (List ℕ)) (numbers : List ℕ) : Type 0 where
+  pub places : List (Option ℕ)
+  pub are : AllZip (IsPlaceOf (fold_of flags) (normal_form (fold_of flags) patterns)) patterns places
+  pub written : numbers ≡ map number_at places
 
 -- what a plan has, as C sees it
 pub record IsInfoOf (p : Plan) (info : PlanInfo) : Type 0 where

@@ -24,7 +24,7 @@ const VERSION: u32 = 2000;
 /// The plans of a file's bytes; otherwise a status, and the offset of the first fault, or 0.
 fn plans_of(alloc: Global, file: &[u8]) -> Result<Vec<Compiled>, (i32, usize)>
     ensures found { IfOk result (λ plans. IsFile file.now plans.items) }
-    ensures refused { IfErr result (λ r. (r.0 ≡ OUT_OF_MEMORY) ⊎ ((r.0 ≡ BAD_PLAN_FILE) × FaultIn file.now r.1)) }
+    ensures refused { IfErr result (λ r. ((r.0 ≡ OUT_OF_MEMORY) × (r.1 ≡ 0)) ⊎ ((r.0 ≡ BAD_PLAN_FILE) × FaultIn file.now r.1)) }
     ensures right { (plans : List Plan) → IsFile file.now plans → IfErr result (λ r. r.0 ≡ OUT_OF_MEMORY) }
 {
     match plan_file::decode(alloc, file) {
@@ -48,6 +48,8 @@ pub extern "C" fn fiolargu_plan_load(
     ensures fault { result ≡ BAD_PLAN_FILE → FaultIn file.now fault_at.new }
     ensures right { (plans : List Plan) → IsFile file.now plans → result ≡ BAD_PLAN_FILE → ⊥ }
     ensures same { (result ≡ OK → ⊥) → plan.new.held ≡ plan.old.held }
+    ensures none { (result ≡ BAD_PLAN_FILE → ⊥) → fault_at.new ≡ 0 }
+    ensures refused { (result ≡ OK) ⊎ ((result ≡ BAD_PLAN_FILE) ⊎ ((result ≡ NO_SUCH_PLAN) ⊎ (result ≡ OUT_OF_MEMORY))) }
 {
     *fault_at = 0;
     match plans_of(alloc, file) {
@@ -88,6 +90,8 @@ pub extern "C" fn fiolargu_plan_save(
     ensures file { result ≡ OK → IfSome (plan_of plan.old.held) (λ p. IsFile (take len.new buffer.new) (p ∷ [])) }
     ensures room { result ≡ SMALL_BUFFER → IfSome (plan_of plan.old.held) (λ p. (len.new ≡ length (spelling Two (p ∷ []))) × (length buffer.old < len.new)) }
     ensures null { result ≡ NULL_HANDLE ↔ plan.old.held ≡ None }
+    ensures same { (result ≡ OK → ⊥) → buffer.new ≡ buffer.old }
+    ensures none { (result ≡ OK → ⊥) → (result ≡ SMALL_BUFFER → ⊥) → len.new ≡ 0 }
     ensures refused { (result ≡ OK) ⊎ ((result ≡ NULL_HANDLE) ⊎ ((result ≡ SMALL_BUFFER) ⊎ (result ≡ OUT_OF_MEMORY))) }
 {
     *len = 0;
@@ -104,6 +108,8 @@ fn save(alloc: Global, plan: &Compiled, buffer: &mut [u8], len: &mut usize) -> i
     ensures file { result ≡ OK → IsFile (take len.new buffer.new) (plan.now ∷ []) }
     ensures room { result ≡ SMALL_BUFFER → (len.new ≡ length (spelling Two (plan.now ∷ []))) × (length buffer.old < len.new) }
     ensures not_null { result ≡ NULL_HANDLE → ⊥ }
+    ensures same { (result ≡ OK → ⊥) → buffer.new ≡ buffer.old }
+    ensures none { result ≡ OUT_OF_MEMORY → len.new ≡ len.old }
     ensures refused { (result ≡ OK) ⊎ ((result ≡ SMALL_BUFFER) ⊎ (result ≡ OUT_OF_MEMORY)) }
 {
     match plan_file::encode(alloc, std::slice::from_ref(plan)) {
@@ -123,6 +129,8 @@ pub extern "C" fn fiolargu_check(
     ensures file { result ≡ OK → PlansIn file.now (λ count. plans.new ≡ count) }
     ensures fault { result ≡ BAD_PLAN_FILE → FaultIn file.now fault_at.new }
     ensures right { (plans : List Plan) → IsFile file.now plans → result ≡ BAD_PLAN_FILE → ⊥ }
+    ensures none { (result ≡ OK → ⊥) → plans.new ≡ 0 }
+    ensures no_fault { (result ≡ BAD_PLAN_FILE → ⊥) → fault_at.new ≡ 0 }
     ensures refused { (result ≡ OK) ⊎ ((result ≡ BAD_PLAN_FILE) ⊎ (result ≡ OUT_OF_MEMORY)) }
 {
     *plans = 0;

@@ -13,3 +13,5 @@ mod streams;
 #[cfg(test)]
 mod tests;
 mod views;
+
+pub use statuses::statuses_law;

@@ -1,10 +1,11 @@
 //! From patterns to a plan in a handle.
-ghost use Rattle.std.specs.Prelude.{◌≡◌, ◌≤◌, ◌<◌, ◌⊎◌, ℕ, IfErr, IfOk, IsSomeAnd, None, Some, length, map, take};
+ghost use Rattle.std.specs.Prelude.{◌≡◌, ◌≤◌, ◌<◌, ◌⊎◌, ℕ, [], IfErr, IfOk, IsSomeAnd, None, Some, length, map, take};
 ghost use Rattle.std.specs.Arc.{arc_value};
 ghost use Rattle.std.specs.List.{AllZip};
-ghost use Rattle.lit_base.specs.NormalForm.{IsPlaceOf};
-ghost use Rattle.lit_base.specs.RawLists.{first_refusal};
-ghost use Rattle.lit_base.specs.declared.fault.Fault.TheVariants.{OutOfMemory};
+ghost use Rattle.lit_base.specs.NormalForm.{IsPlaceOf, normal_form};
+ghost use Rattle.lit_base.specs.Lines.{lines};
+ghost use Rattle.lit_base.specs.RawLists.{first_refusal, text_refusal};
+ghost use Rattle.lit_base.specs.declared.fault.Fault.TheVariants.{OutOfMemory, TooManyLiterals};
 ghost use Rattle.plan_file.specs.Reading.{fold_of, profile_of};
 ghost use Rattle.fiolargu.specs.Found.{plan_of};
 ghost use Rattle.fiolargu.specs.Made.{IsPlanOf, bytes_of, number_at};
@@ -49,12 +50,27 @@ pub(crate) fn patterns_of(alloc: Global, patterns: &[Bytes]) -> Result<RawList, 
     ensures ok { IfOk result (λ raw. raw ≡ bytes_of patterns.now) }
     ensures accepted { IfOk result (λ _. first_refusal 0 0 (bytes_of patterns.now) ≡ None) }
     ensures err { IfErr result (λ fault. (fault ≡ OutOfMemory) ⊎ (first_refusal 0 0 (bytes_of patterns.now) ≡ Some fault)) }
+    ensures few { IfErr result (λ fault. fault ≡ TooManyLiterals → ⊥) }
 {
     let mut raw = RawList::new(alloc);
     for pattern in patterns {
         raw.push(pattern.bytes)?;
     }
     Ok(raw)
+}
+
+/// The lines of a text, in order.
+pub(crate) fn lines_of(alloc: Global, text: &[u8]) -> Result<RawList, Fault>
+    ensures ok { IfOk result (λ raw. raw ≡ lines text.now) }
+    ensures accepted { IfOk result (λ _. text_refusal [] text.now (lines text.now) ≡ None) }
+    ensures err { IfErr result (λ fault. (fault ≡ OutOfMemory) ⊎ (text_refusal [] text.now (lines text.now) ≡ Some fault)) }
+    ensures few { IfErr result (λ fault. fault ≡ TooManyLiterals → ⊥) }
+{
+    let mut raw = RawList::new(alloc);
+    match raw.add_file_bytes(text) {
+        Ok(()) => Ok(raw),
+        Err(fault) => Err(fault),
+    }
 }
 
 /// The plan of patterns, and the place of each of them among its literals.
@@ -66,6 +82,7 @@ pub(crate) fn plan_of(
     ensures made { IfOk result (λ made. IsPlanOf flags raw.now made.0) }
     ensures places { IfOk result (λ made. AllZip (IsPlaceOf (fold_of flags) made.0.literals.texts) raw.now made.1.items) }
     ensures refused { IfErr result (λ status. (status ≡ OUT_OF_MEMORY) ⊎ (status ≡ NO_LITERALS)) }
+    ensures none { IfErr result (λ status. status ≡ NO_LITERALS → length (normal_form (fold_of flags) raw.now) ≡ 0) }
     ensures not_ok { IfErr result (λ status. status ≡ OK → ⊥) }
 {
     let Ok((list, normal)) = LitList::normal(alloc, raw, fold_of(flags)) else {

@@ -2,19 +2,24 @@
 ghost use Rattle.std.specs.Prelude.{◌≡◌, ◌-◌, ◌≤◌, ◌<◌, ◌⊎◌, ◌↔◌, ℕ, [], IsSomeAnd, IfSome, None, Some, length, take};
 ghost use Rattle.std.specs.List.{slice_get};
 ghost use Rattle.lit_base.specs.Lines.{lines};
+ghost use Rattle.lit_base.specs.NormalForm.{normal_form};
 ghost use Rattle.lit_base.specs.RawLists.{first_refusal, text_refusal};
-ghost use Rattle.lit_base.specs.declared.fault.Fault.TheVariants.{LiteralTooLong};
+ghost use Rattle.lit_base.specs.declared.fault.Fault.TheVariants.{ListTooLarge, LiteralTooLong, TooManyPatterns};
 ghost use Rattle.fiolargu.specs.Found.{plan_of};
-ghost use Rattle.fiolargu.specs.Made.{IsInfoOf, IsPlanOf, bytes_of};
+ghost use Rattle.fiolargu.specs.Answers.{IsListStatus};
+ghost use Rattle.fiolargu.specs.Made.{AreNumbersOf, IsInfoOf, IsPlanOf, bytes_of};
+ghost use Rattle.plan_file.specs.Reading.{fold_of};
 ghost use Rattle.plan_file.specs.Spelling.{flags_of};
-ghost use Rattle.fiolargu.specs.declared.statuses.TheConstants.{LITERAL_TOO_LONG, NULL_HANDLE, OK, OUT_OF_MEMORY, OUT_OF_RANGE, SMALL_BUFFER};
+ghost use Rattle.fiolargu.specs.declared.statuses.TheConstants.{LIST_TOO_LARGE, LITERAL_TOO_LONG, NO_LITERALS, NULL_HANDLE, OK, OUT_OF_MEMORY, OUT_OF_RANGE, SMALL_BUFFER, TOO_MANY_PATTERNS};
 
-use crate::making::{ALL_FLAGS, patterns_of, plan_of, set_plan, set_shared, write_numbers};
+use crate::making::{
+    ALL_FLAGS, lines_of, patterns_of, plan_of, set_plan, set_shared, write_numbers,
+};
 use crate::statuses::{NULL_HANDLE, OK, OUT_OF_MEMORY, OUT_OF_RANGE, SMALL_BUFFER, status_of_list};
 use crate::views::{Bytes, PlanInfo};
 use c_handle::PlanHandle;
 use flow_scan::Compiled;
-use lit_base::{Fold, Profile, RawList};
+use lit_base::{Fold, Profile};
 use std::alloc::Global;
 
 /// Makes a plan of patterns. `literal_of` gets the number of each pattern's literal, if it has any room.
@@ -28,9 +33,18 @@ pub extern "C" fn fiolargu_plan_new(
     fault_at: &mut usize,
 ) -> i32
     ensures made { result ≡ OK → IsSomeAnd (plan_of plan.new.held) (IsPlanOf flags (bytes_of patterns.now)) }
+    ensures accepted { result ≡ OK → first_refusal 0 0 (bytes_of patterns.now) ≡ None }
+    ensures numbers { result ≡ OK → length patterns.now ≤ length literal_of.old
+        → AreNumbersOf flags (bytes_of patterns.now) (take (length patterns.now) literal_of.new) }
     ensures same { (result ≡ OK → ⊥) → plan.new.held ≡ plan.old.held }
     ensures fault { result ≡ LITERAL_TOO_LONG → first_refusal 0 0 (bytes_of patterns.now) ≡ Some (LiteralTooLong fault_at.new) }
+    ensures no_fault { (result ≡ LITERAL_TOO_LONG → ⊥) → fault_at.new ≡ 0 }
+    ensures many { result ≡ TOO_MANY_PATTERNS → first_refusal 0 0 (bytes_of patterns.now) ≡ Some TooManyPatterns }
+    ensures large { result ≡ LIST_TOO_LARGE → first_refusal 0 0 (bytes_of patterns.now) ≡ Some ListTooLarge }
+    ensures none { result ≡ NO_LITERALS → length (normal_form (fold_of flags) (bytes_of patterns.now)) ≡ 0 }
     ensures flags { result ≡ OUT_OF_RANGE ↔ (3 < flags) }
+    ensures room { flags ≤ 3 → result ≡ SMALL_BUFFER ↔ ((0 < length literal_of.old) × (length literal_of.old < length patterns.now)) }
+    ensures refused { (result ≡ OK) ⊎ ((result ≡ OUT_OF_RANGE) ⊎ ((result ≡ SMALL_BUFFER) ⊎ IsListStatus result)) }
 {
     *fault_at = 0;
     if flags > ALL_FLAGS {
@@ -66,20 +80,28 @@ pub extern "C" fn fiolargu_plan_of_lines(
     fault_at: &mut usize,
 ) -> i32
     ensures made { result ≡ OK → IsSomeAnd (plan_of plan.new.held) (IsPlanOf flags (lines text.now)) }
+    ensures accepted { result ≡ OK → text_refusal [] text.now (lines text.now) ≡ None }
     ensures same { (result ≡ OK → ⊥) → plan.new.held ≡ plan.old.held }
     ensures fault { result ≡ LITERAL_TOO_LONG → text_refusal [] text.now (lines text.now) ≡ Some (LiteralTooLong fault_at.new) }
+    ensures no_fault { (result ≡ LITERAL_TOO_LONG → ⊥) → fault_at.new ≡ 0 }
+    ensures many { result ≡ TOO_MANY_PATTERNS → text_refusal [] text.now (lines text.now) ≡ Some TooManyPatterns }
+    ensures large { result ≡ LIST_TOO_LARGE → text_refusal [] text.now (lines text.now) ≡ Some ListTooLarge }
+    ensures none { result ≡ NO_LITERALS → length (normal_form (fold_of flags) (lines text.now)) ≡ 0 }
     ensures flags { result ≡ OUT_OF_RANGE ↔ (3 < flags) }
+    ensures refused { (result ≡ OK) ⊎ ((result ≡ OUT_OF_RANGE) ⊎ IsListStatus result) }
 {
     *fault_at = 0;
     if flags > ALL_FLAGS {
         return OUT_OF_RANGE;
     }
-    let mut raw = RawList::new(alloc);
-    if let Err(fault) = raw.add_file_bytes(text) {
-        let (status, place) = status_of_list(fault);
-        *fault_at = place;
-        return status;
-    }
+    let raw = match lines_of(alloc, text) {
+        Ok(raw) => raw,
+        Err(fault) => {
+            let (status, place) = status_of_list(fault);
+            *fault_at = place;
+            return status;
+        }
+    };
     match plan_of(alloc, &raw, flags) {
         Ok((made, _)) => set_plan(plan, alloc, made),
         Err(status) => status,
@@ -147,6 +169,7 @@ pub extern "C" fn fiolargu_plan_info(
     ensures plan { plan.new.held ≡ plan.old.held }
     ensures info { result ≡ OK → IfSome (plan_of plan.old.held) (λ p. IsInfoOf p info.new) }
     ensures null { result ≡ NULL_HANDLE ↔ plan.old.held ≡ None }
+    ensures same { result ≡ NULL_HANDLE → info.new ≡ info.old }
     ensures ok { (result ≡ OK) ⊎ (result ≡ NULL_HANDLE) }
 {
     let Some(held) = plan.take(alloc) else {
@@ -170,7 +193,9 @@ pub extern "C" fn fiolargu_plan_literal(
     ensures literal { result ≡ OK → IfSome (plan_of plan.old.held) (λ p. slice_get p.literals.texts literal ≡ Some (take len.new buffer.new)) }
     ensures null { result ≡ NULL_HANDLE ↔ plan.old.held ≡ None }
     ensures range { IfSome (plan_of plan.old.held) (λ p. result ≡ OUT_OF_RANGE ↔ (length p.literals.texts ≤ literal)) }
-    ensures room { result ≡ SMALL_BUFFER → length buffer.old < len.new }
+    ensures room { result ≡ SMALL_BUFFER → IfSome (plan_of plan.old.held) (λ p. IsSomeAnd (slice_get p.literals.texts literal) (λ text. (len.new ≡ length text) × (length buffer.old < len.new))) }
+    ensures same { (result ≡ OK → ⊥) → buffer.new ≡ buffer.old }
+    ensures none { (result ≡ OK → ⊥) → (result ≡ SMALL_BUFFER → ⊥) → len.new ≡ 0 }
     ensures refused { (result ≡ OK) ⊎ ((result ≡ NULL_HANDLE) ⊎ ((result ≡ OUT_OF_RANGE) ⊎ (result ≡ SMALL_BUFFER))) }
 {
     *len = 0;
@@ -186,7 +211,9 @@ fn write_literal(plan: &Compiled, literal: usize, buffer: &mut [u8], len: &mut u
     ensures literal { result ≡ OK → slice_get plan.now.literals.texts literal ≡ Some (take len.new buffer.new) }
     ensures not_null { result ≡ NULL_HANDLE → ⊥ }
     ensures range { result ≡ OUT_OF_RANGE ↔ (length plan.now.literals.texts ≤ literal) }
-    ensures room { result ≡ SMALL_BUFFER → length buffer.old < len.new }
+    ensures room { result ≡ SMALL_BUFFER → IsSomeAnd (slice_get plan.now.literals.texts literal) (λ text. (len.new ≡ length text) × (length buffer.old < len.new)) }
+    ensures same { (result ≡ OK → ⊥) → buffer.new ≡ buffer.old }
+    ensures none { result ≡ OUT_OF_RANGE → len.new ≡ len.old }
     ensures refused { (result ≡ OK) ⊎ ((result ≡ OUT_OF_RANGE) ⊎ (result ≡ SMALL_BUFFER)) }
 {
     if literal >= plan.list().len() {

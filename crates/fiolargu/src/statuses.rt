@@ -1,8 +1,8 @@
 //! What a call answers.
 ghost use Rattle.std.specs.Prelude.{◌≡◌};
-ghost use Rattle.fiolargu.specs.Answers.{is_at};
-ghost use Rattle.fiolargu.specs.declared.statuses.TheConstants.{LITERAL_TOO_LONG, OK, OUT_OF_RANGE};
-ghost use Rattle.lit_base.specs.declared.fault.Fault.TheVariants.{LiteralTooLong};
+ghost use Rattle.fiolargu.specs.Answers.{IsListStatus, StatusesLaw, is_at};
+ghost use Rattle.fiolargu.specs.declared.statuses.TheConstants.{LIST_TOO_LARGE, LITERAL_TOO_LONG, NO_LITERALS, OK, OUT_OF_RANGE, SMALL_BUFFER, TOO_MANY_PATTERNS};
+ghost use Rattle.lit_base.specs.declared.fault.Fault.TheVariants.{ListTooLarge, LiteralTooLong, TooManyLiterals, TooManyPatterns};
 
 use lit_base::Fault;
 
@@ -45,12 +45,23 @@ pub(crate) const SMALL_BUFFER: i32 = 22;
 /// A position, a number of a literal, or flags are out of range.
 pub(crate) const OUT_OF_RANGE: i32 = 23;
 
+/// The law of the numbers of statuses.
+pub fn statuses_law()
+    ensures { StatusesLaw }
+{}
+
 /// The status of a list that is refused, and at which pattern, or 0 where no one pattern is at fault.
 pub(crate) fn status_of_list(fault: Fault) -> (i32, usize)
     ensures status { result ≡ is_at fault }
     ensures refused { result.0 ≡ OK → ⊥ }
     ensures range { result.0 ≡ OUT_OF_RANGE → ⊥ }
+    ensures small { result.0 ≡ SMALL_BUFFER → ⊥ }
+    ensures some { result.0 ≡ NO_LITERALS → ⊥ }
     ensures long { result.0 ≡ LITERAL_TOO_LONG → fault ≡ LiteralTooLong result.1 }
+    ensures other { (result.0 ≡ LITERAL_TOO_LONG → ⊥) → result.1 ≡ 0 }
+    ensures many { result.0 ≡ TOO_MANY_PATTERNS → fault ≡ TooManyPatterns }
+    ensures large { result.0 ≡ LIST_TOO_LARGE → fault ≡ ListTooLarge }
+    ensures named { (fault ≡ TooManyLiterals → ⊥) → IsListStatus result.0 }
 {
     match fault {
         Fault::OutOfMemory => (OUT_OF_MEMORY, 0),

@@ -88,7 +88,7 @@ pub extern "C" fn fiolargu_stream_feed(
     ensures none { (result ≡ OK → ⊥) → (fed.new ≡ 0) × (count.new ≡ 0) }
     ensures null { result ≡ NULL_HANDLE ↔ stream_of stream.old.held ≡ None }
     ensures room { IfSome (stream_of stream.old.held) (λ s. result ≡ SMALL_BUFFER ↔ (length buffer.old ≤ length s.plan.literals.texts)) }
-    ensures too_long { result ≡ STREAM_TOO_LONG → IfSome (stream_of stream.old.held) (λ s. 2 ^ 64 ≤ s.place + length piece.now) }
+    ensures too_long { IfSome (stream_of stream.old.held) (λ s. result ≡ STREAM_TOO_LONG ↔ ((length s.plan.literals.texts < length buffer.old) × (2 ^ 64 ≤ s.place + length piece.now))) }
     ensures refused { (result ≡ OK) ⊎ ((result ≡ NULL_HANDLE) ⊎ ((result ≡ SMALL_BUFFER) ⊎ ((result ≡ STREAM_TOO_LONG) ⊎ (result ≡ OUT_OF_MEMORY)))) }
 {
     *count = 0;
@@ -118,7 +118,7 @@ fn feed_held(
     ensures none { (result ≡ OK → ⊥) → (fed.new ≡ fed.old) × (count.new ≡ count.old) }
     ensures not_null { result ≡ NULL_HANDLE → ⊥ }
     ensures room { result ≡ SMALL_BUFFER ↔ (length buffer.old ≤ length held.old.stream.plan.literals.texts) }
-    ensures too_long { result ≡ STREAM_TOO_LONG → 2 ^ 64 ≤ held.old.stream.place + length piece.now }
+    ensures too_long { result ≡ STREAM_TOO_LONG ↔ ((length held.old.stream.plan.literals.texts < length buffer.old) × (2 ^ 64 ≤ held.old.stream.place + length piece.now)) }
     ensures refused { (result ≡ OK) ⊎ ((result ≡ SMALL_BUFFER) ⊎ ((result ≡ STREAM_TOO_LONG) ⊎ (result ≡ OUT_OF_MEMORY))) }
 {
     let most = most_of(held.stream.plan(), buffer);

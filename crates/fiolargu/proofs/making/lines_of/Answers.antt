@@ -1,0 +1,7 @@
+-- No text is refused for the number of its literals.
+use Rattle.lit_base.specs.Lines.{lines}
+use Rattle.fiolargu.proofs.RefusalLemmas.{text_fails}
+use Rattle.fiolargu.proofs.making.lines_of.Goals as goal
+
+pub returns-in-Err-clause-few : goal.returns-in-Err-clause-few
+returns-in-Err-clause-few c = text_fails _ _ c.args.text.now (lines c.args.text.now) _ c.in-Err.ensures.refused
