@@ -6,7 +6,7 @@ ghost use Rattle.litplan.specs.Requests.{IsFlag, IsFold, IsNotation, IsPlace, Is
 use clap::{Arg, ArgAction, ArgMatches, Command, value_parser};
 use lit_base::{Fold, Profile};
 use plan_run::{Notation, PatternFiles, Reading, Request, Scan, Workers};
-use program_words::{Fault, VERSION, matches_of};
+use program_words::{Fault, VERSION, matches_of, with_arg, with_subcommand};
 use std::alloc::{AllocError, Global};
 
 /// What the words after the program's name ask for.
@@ -231,7 +231,7 @@ fn value(alloc: Global, matches: &ArgMatches<'_>, id: &str) -> Result<String, Al
 
 /// What litplan takes.
 fn litplan<'a>(alloc: Global) -> Result<Command<'a>, AllocError> {
-    Command::new(alloc, "litplan")
+    let command = Command::new(alloc, "litplan")
         .version(VERSION)
         .about(
             "Plans how the literals of a list are grouped, checks such plans, and finds where literals end",
@@ -245,78 +245,90 @@ fn litplan<'a>(alloc: Global) -> Result<Command<'a>, AllocError> {
              litplan scan [-i] [--hex] [--count | --names] --workers W FILE INPUT",
         )
         .no_binary_name(true)
-        .subcommand_required(true)
-        .subcommand(plan(alloc)?)?
-        .subcommand(check(alloc)?)?
-        .subcommand(pack(alloc)?)?
-        .subcommand(explain(alloc)?)?
-        .subcommand(migrate(alloc)?)?
-        .subcommand(scan(alloc)?)
+        .subcommand_required(true);
+    let command = with_subcommand(command, plan(alloc))?;
+    let command = with_subcommand(command, check(alloc))?;
+    let command = with_subcommand(command, pack(alloc))?;
+    let command = with_subcommand(command, explain(alloc))?;
+    let command = with_subcommand(command, migrate(alloc))?;
+    with_subcommand(command, scan(alloc))
 }
 
 fn plan<'a>(alloc: Global) -> Result<Command<'a>, AllocError> {
-    Command::new(alloc, "plan")
+    let command = Command::new(alloc, "plan")
         .about("Prints the certificate of the cheapest grouping of a file's patterns")
         .override_usage("litplan plan [-i] [--hex] [--buckets B] FILE")
-        .after_help(PLAN_HELP)
-        .arg(fold(alloc)?)?
-        .arg(hex(alloc)?)?
-        .arg(buckets(alloc))?
-        .arg(file(alloc))
+        .after_help(PLAN_HELP);
+    let command = with_arg(command, fold(alloc))?;
+    let command = with_arg(command, hex(alloc))?;
+    command.arg(buckets(alloc))?.arg(file(alloc))
 }
 
 fn check<'a>(alloc: Global) -> Result<Command<'a>, AllocError> {
+    let command = Command::new(alloc, "check")
+        .about("Says whether a certificate shows that no grouping of a file's patterns is cheaper")
+        .override_usage("litplan check [-i] [--hex] FILE CERT | --plan FILE [I]")
+        .after_help(CHECK_HELP);
+    let command = with_arg(command, fold(alloc))?;
+    let command = with_arg(command, hex(alloc))?;
+    let command = with_arg(command, plan_checked(alloc))?;
+    let command = with_arg(
+        command,
+        file_or_place(alloc).required_unless_present("plan"),
+    )?;
+    with_arg(command, certificate(alloc))
+}
+
+fn plan_checked<'a>(alloc: Global) -> Result<Arg<'a>, AllocError> {
+    plan_in_file(alloc)
+        .conflicts_with("fold")?
+        .conflicts_with("hex")?
+        .conflicts_with("certificate")
+}
+
+fn certificate<'a>(alloc: Global) -> Result<Arg<'a>, AllocError> {
     let certificate = Arg::new(alloc, "certificate")
         .value_name("CERT")
         .required_unless_present("plan")?
-        .action(ArgAction::Set)
-        .help("A file with a certificate, as `plan` prints it; - is a file of that name");
-    let plan = plan_in_file(alloc)
-        .conflicts_with("fold")?
-        .conflicts_with("hex")?
-        .conflicts_with("certificate")?;
-    Command::new(alloc, "check")
-        .about("Says whether a certificate shows that no grouping of a file's patterns is cheaper")
-        .override_usage("litplan check [-i] [--hex] FILE CERT | --plan FILE [I]")
-        .after_help(CHECK_HELP)
-        .arg(fold(alloc)?)?
-        .arg(hex(alloc)?)?
-        .arg(plan)?
-        .arg(file_or_place(alloc).required_unless_present("plan")?)?
-        .arg(certificate)
+        .action(ArgAction::Set);
+    Ok(certificate.help("A file with a certificate, as `plan` prints it; - is a file of that name"))
 }
 
 fn pack<'a>(alloc: Global) -> Result<Command<'a>, AllocError> {
-    Command::new(alloc, "pack")
+    let command = Command::new(alloc, "pack")
         .about("Writes the plans of files of patterns to a plan file")
         .override_usage("litplan pack [-i] [--hex] [--buckets B] FILE.. OUT")
-        .after_help(PACK_HELP)
-        .arg(fold(alloc)?)?
-        .arg(hex(alloc)?)?
+        .after_help(PACK_HELP);
+    let command = with_arg(command, fold(alloc))?;
+    let command = with_arg(command, hex(alloc))?;
+    command
         .arg(buckets(alloc))?
         .arg(file(alloc).num_args(1..).action(ArgAction::Append))?
         .arg(output(alloc))
 }
 
 fn explain<'a>(alloc: Global) -> Result<Command<'a>, AllocError> {
-    let file = file_or_place(alloc)
-        .required_unless_present("plan")?
-        .required_unless_present("certificate")?;
-    Command::new(alloc, "explain")
+    let command = Command::new(alloc, "explain")
         .about(
             "Shows how a file's patterns are grouped, or where a list, plan file or certificate is wrong",
         )
         .override_usage(
             "litplan explain [-i] [--hex] [--buckets B] [--svg] FILE | --plan FILE [I] | --certificate CERT",
         )
-        .after_help(EXPLAIN_HELP)
-        .arg(fold(alloc)?)?
-        .arg(hex(alloc)?)?
-        .arg(buckets(alloc))?
-        .arg(svg(alloc)?)?
-        .arg(planned_alone(alloc)?)?
-        .arg(certificate_alone(alloc)?)?
-        .arg(file)
+        .after_help(EXPLAIN_HELP);
+    let command = with_arg(command, fold(alloc))?;
+    let command = with_arg(command, hex(alloc))?;
+    let command = command.arg(buckets(alloc))?;
+    let command = with_arg(command, svg(alloc))?;
+    let command = with_arg(command, planned_alone(alloc))?;
+    let command = with_arg(command, certificate_alone(alloc))?;
+    with_arg(command, file_alone(alloc))
+}
+
+fn file_alone<'a>(alloc: Global) -> Result<Arg<'a>, AllocError> {
+    file_or_place(alloc)
+        .required_unless_present("plan")?
+        .required_unless_present("certificate")
 }
 
 fn plan_in_file<'a>(alloc: Global) -> Arg<'a> {
@@ -372,22 +384,26 @@ fn migrate<'a>(alloc: Global) -> Result<Command<'a>, AllocError> {
 }
 
 fn scan<'a>(alloc: Global) -> Result<Command<'a>, AllocError> {
-    let input = Arg::new(alloc, "input")
+    let command = Command::new(alloc, "scan")
+        .about("Finds a file's patterns in an input, by several workers at once")
+        .override_usage("litplan scan [-i] [--hex] [--count | --names] --workers W FILE INPUT")
+        .after_help(SCAN_HELP);
+    let command = with_arg(command, fold(alloc))?;
+    let command = with_arg(command, hex(alloc))?;
+    let command = with_arg(command, count(alloc))?;
+    let command = with_arg(command, names(alloc))?;
+    command
+        .arg(workers(alloc))?
+        .arg(file(alloc))?
+        .arg(input(alloc))
+}
+
+fn input<'a>(alloc: Global) -> Arg<'a> {
+    Arg::new(alloc, "input")
         .value_name("INPUT")
         .required(true)
         .action(ArgAction::Set)
-        .help("What is searched, read whole; - is standard input");
-    Command::new(alloc, "scan")
-        .about("Finds a file's patterns in an input, by several workers at once")
-        .override_usage("litplan scan [-i] [--hex] [--count | --names] --workers W FILE INPUT")
-        .after_help(SCAN_HELP)
-        .arg(fold(alloc)?)?
-        .arg(hex(alloc)?)?
-        .arg(count(alloc)?)?
-        .arg(names(alloc)?)?
-        .arg(workers(alloc))?
-        .arg(file(alloc))?
-        .arg(input)
+        .help("What is searched, read whole; - is standard input")
 }
 
 fn buckets<'a>(alloc: Global) -> Arg<'a> {

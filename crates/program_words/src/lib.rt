@@ -1,9 +1,11 @@
-//! The words of a command line: reading them, and clap's answer to them, each refusal with the text
-//! that the program prints.
+//! The words of a command line: what a command takes, reading them, and clap's answer to them, each refusal with the
+//! text that the program prints.
 #![tactic(auto)]
 
+mod command_parts;
 mod fault;
 mod reading;
 
+pub use command_parts::{with_arg, with_subcommand};
 pub use fault::Fault;
 pub use reading::{VERSION, matches_of, words};
