@@ -63,21 +63,33 @@ fn command<'a>(alloc: Global) -> Result<Command<'a>, AllocError> {
             .action(ArgAction::Count);
         command = command.arg(flag)?;
     }
-    let lists = Arg::new(alloc, "lists")
+    command
+        .arg(lists(alloc))?
+        .arg(files(alloc))?
+        .arg(operands(alloc))
+}
+
+fn lists<'a>(alloc: Global) -> Arg<'a> {
+    Arg::new(alloc, "lists")
         .short('e')
         .long("regexp")
         .value_name("LIST")
-        .action(ArgAction::Append);
-    let files = Arg::new(alloc, "files")
+        .action(ArgAction::Append)
+}
+
+fn files<'a>(alloc: Global) -> Arg<'a> {
+    Arg::new(alloc, "files")
         .short('f')
         .long("file")
         .value_name("FILE")
-        .action(ArgAction::Append);
-    let operands = Arg::new(alloc, "operands")
+        .action(ArgAction::Append)
+}
+
+fn operands<'a>(alloc: Global) -> Arg<'a> {
+    Arg::new(alloc, "operands")
         .value_name("FILE")
         .num_args(0..)
-        .action(ArgAction::Append);
-    command.arg(lists)?.arg(files)?.arg(operands)
+        .action(ArgAction::Append)
 }
 
 /// How clap gets a word, so that it takes the argument of -e or -f as POSIX has it.

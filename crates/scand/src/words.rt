@@ -104,30 +104,42 @@ fn values<'m, 'a>(matches: &'m ArgMatches<'a>, id: &str) -> &'m [&'a str]
 
 /// What scand takes.
 fn scand<'a>(alloc: Global) -> Result<Command<'a>, AllocError> {
-    let stdio = Arg::new(alloc, "stdio")
-        .long("stdio")
-        .action(ArgAction::Count);
-    let port = Arg::new(alloc, "port")
-        .long("port")
-        .value_name("P")
-        .action(ArgAction::Set)
-        .value_parser(value_parser!(u16));
-    let connections = Arg::new(alloc, "connections")
-        .long("connections")
-        .value_name("N")
-        .action(ArgAction::Set)
-        .value_parser(value_parser!(usize).range(1..=MAX_CONNECTIONS as i64));
-    let plans = Arg::new(alloc, "plans")
-        .long("plans")
-        .value_name("FILE")
-        .action(ArgAction::Append);
     Command::new(alloc, "scand")
         .version(VERSION)
         .no_binary_name(true)
         .override_usage(USAGE)
         .override_help(HELP)
-        .arg(stdio)?
-        .arg(port)?
-        .arg(connections)?
-        .arg(plans)
+        .arg(stdio(alloc))?
+        .arg(port(alloc))?
+        .arg(connections(alloc))?
+        .arg(plans(alloc))
+}
+
+fn stdio<'a>(alloc: Global) -> Arg<'a> {
+    Arg::new(alloc, "stdio")
+        .long("stdio")
+        .action(ArgAction::Count)
+}
+
+fn port<'a>(alloc: Global) -> Arg<'a> {
+    Arg::new(alloc, "port")
+        .long("port")
+        .value_name("P")
+        .action(ArgAction::Set)
+        .value_parser(value_parser!(u16))
+}
+
+fn connections<'a>(alloc: Global) -> Arg<'a> {
+    Arg::new(alloc, "connections")
+        .long("connections")
+        .value_name("N")
+        .action(ArgAction::Set)
+        .value_parser(value_parser!(usize).range(1..=MAX_CONNECTIONS as i64))
+}
+
+fn plans<'a>(alloc: Global) -> Arg<'a> {
+    Arg::new(alloc, "plans")
+        .long("plans")
+        .value_name("FILE")
+        .action(ArgAction::Append)
 }
