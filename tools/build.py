@@ -6,10 +6,11 @@ A static library of crates.txt is built like a program.
 Each rt command locks its crate and every crate below it until it ends. All crates stand on byte_io, so in one tree only
 one crate is proved at a time. Here each is proved in a copy of it and of the crates below, which has locks of its own;
 what was made is then moved back. N processors (all by default) prove crates side by side. The crates at the bottom of a
-long chain decide how long that takes: each of them gets all processors, and the others fill what is idle. A crate is
-proved again where a file of it changed, or a crate below was proved again. A library keeps its statements alone, so that
-the crates above do not read its proofs again. One proof of a program serves every processor level: for another level it is
-only compiled and linked.
+long chain decide how long that takes: they share all processors, and the others share what is idle. A crate that runs on
+several processors reads the crates below once for each, so a share is no larger than that. A crate is proved again where a
+file of it changed, or a crate below was proved again. A library keeps its statements alone, so that the crates above do
+not read its proofs again. One proof of a program serves every processor level: for another level it is only compiled and
+linked.
 
 Prints a line for each crate that was proved, with an estimate for the rest. --verbose shows the prover's output too.
 """
@@ -267,6 +268,12 @@ def about(seconds):
     return f"about {round(seconds / 60)} min" if seconds >= 90 else "about a minute"
 
 
+def jobs_for(name, urgent, waiting, idle, processors):
+    """How many processors a crate gets: an urgent one its share of all, another its share of those that are idle, or none."""
+    share = processors // len(urgent) if name in urgent else idle // waiting
+    return max(min(share, MOST_JOBS), 1 if name in urgent or idle > 0 else 0)
+
+
 def build(crates, names, options):
     """Proves crates side by side, those with the longest chain first, and answers whether all were proved."""
     left = sorted(names, key=lambda name: -crates[name].chain)
@@ -276,19 +283,22 @@ def build(crates, names, options):
     with concurrent.futures.ThreadPoolExecutor(len(names)) as pool:
         while left and is_well or running:
             ready = [name for name in left if is_well and all(low in done or low not in names for low in crates[name].uses)]
-            longest = max(crates[name].chain for name in [*left, *(name for name, _ in running.values())])
-            for name in ready:
-                is_urgent = crates[name].chain >= SHORT_CHAIN * longest
-                if is_urgent or len(running) < options.j:
+            longest = max(crates[name].chain for name in [*left, *(name for name, *_ in running.values())])
+            urgent = [name for name in ready if crates[name].chain >= SHORT_CHAIN * longest]
+            for at, name in enumerate(ready):
+                idle = options.j - sum(jobs for *_, jobs in running.values())
+                jobs = jobs_for(name, urgent, len(ready) - at, idle, options.j)
+                if jobs:
                     left.remove(name)
-                    jobs = min(options.j, MOST_JOBS) if is_urgent else 1
-                    running[pool.submit(proved, crates[name], crates, options, jobs, is_urgent)] = name, time.monotonic()
+                    run = pool.submit(proved, crates[name], crates, options, jobs, name in urgent)
+                    running[run] = name, time.monotonic(), jobs
             for run in concurrent.futures.wait(running, return_when=concurrent.futures.FIRST_COMPLETED).done:
-                name, since = running.pop(run)
+                name, since, _ = running.pop(run)
                 wrong = run.result()
                 done.add(name)
                 is_well = is_well and not wrong
-                print(progress.line(name, not wrong, since, left, dict(running.values())), flush=True)
+                others = {other: begun for other, begun, _ in running.values()}
+                print(progress.line(name, not wrong, since, left, others), flush=True)
                 if wrong:
                     print(wrong, file=sys.stderr, flush=True)
     return is_well
