@@ -36,6 +36,24 @@ whole-misses l true line misses = sym (not_passed (matches l.folding true l.text
     let both : true ≡ false = sym held ∙ misses in
     absurd (cc)))
 
+-- the lines before a line with a literal, this line, and the text after it
+module _ {l : Literals} {rest missed line behind : List ℕ} (hit : IsFirstHitLine l rest missed line behind) where
+  pub hit-lines : ended_lines rest ≡ ended_lines missed ++ line ∷ ended_lines behind
+  hit-lines =
+      ap ended_lines hit.whole ∙ ended_lines-append missed (line ++ 10 ∷ behind) ∙ ap (λ r. ended_lines missed ++ ended_lines (r ++ (line ++ 10 ∷ behind))) hit.closed
+      ∙ ap (λ ls. ended_lines missed ++ ls) (ended_lines-newline line behind hit.one)
+
+  -- what stands after is a text of ended lines too
+  pub hit-closed : open_rest rest ≡ [] → open_rest behind ≡ []
+  hit-closed closed =
+      sym (ap open_rest hit.whole ∙ open_rest-append missed (line ++ 10 ∷ behind) ∙ ap (λ r. open_rest (r ++ (line ++ 10 ∷ behind))) hit.closed ∙ open_rest-newline line behind hit.one) ∙ closed
+
+  pub hit-length : length rest ≡ length missed + (length line + suc (length behind))
+  hit-length = ap length hit.whole ∙ length-append missed (line ++ 10 ∷ behind) ∙ ap (λ n. length missed + n) (length-append line (10 ∷ behind))
+
+  pub hit-count : length (ended_lines rest) ≡ length (ended_lines missed) + suc (length (ended_lines behind))
+  hit-count = ap length hit-lines ∙ length-append (ended_lines missed) (line ∷ ended_lines behind)
+
 module _ (l : Literals) (whole invert : Bool) where
   -- lines that hold no literal are all selected, or none
   pub missed-numbered : (before : ℕ) (text : List ℕ) → AllMiss l text → numbered (is_selected l.folding whole invert l.texts) before (ended_lines text) ≡ numbered (λ _. invert) before (ended_lines text)
@@ -43,37 +61,21 @@ module _ (l : Literals) (whole invert : Bool) where
       numbered-same (is_selected l.folding whole invert l.texts) (λ _. invert) before (ended_lines text)
       (λ k d inside. ap (λ m. cond invert (not m) m) (whole-misses l whole (get_or (ended_lines text) k d) (misses k d inside)) ∙ select_missed invert)
 
-  module _ (rest missed line behind : List ℕ) (hit : IsFirstHitLine l rest missed line behind) where
-    hit-lines : ended_lines rest ≡ ended_lines missed ++ line ∷ ended_lines behind
-    hit-lines =
-        ap ended_lines hit.whole ∙ ended_lines-append missed (line ++ 10 ∷ behind) ∙ ap (λ r. ended_lines missed ++ ended_lines (r ++ (line ++ 10 ∷ behind))) hit.closed
-        ∙ ap (λ ls. ended_lines missed ++ ls) (ended_lines-newline line behind hit.one)
-
-    -- the selected lines of the rest, with their numbers
-    pub hit-numbered : (before after : ℕ) → after ≡ before + length (ended_lines missed)
-        → (selected : Bool) → selected ≡ is_selected l.folding whole invert l.texts line
-        → numbered (is_selected l.folding whole invert l.texts) before (ended_lines rest)
-        ≡ numbered (λ _. invert) before (ended_lines missed) ++ (numbered (λ _. selected) after (line ∷ []) ++ numbered (is_selected l.folding whole invert l.texts) (after + 1) (ended_lines behind))
-    hit-numbered before after at selected is =
-        let test = is_selected l.folding whole invert l.texts in
-        let one : numbered test after (line ∷ []) ≡ numbered (λ _. selected) after (line ∷ []) =
-        ap (λ b. cond b ((after + 1, line) ∷ []) []) (sym is) in
-        ap (numbered test before) hit-lines ∙ numbered-append test before (ended_lines missed) (line ∷ ended_lines behind)
-        ∙ ap (λ n. numbered test before (ended_lines missed) ++ numbered test n (line ∷ ended_lines behind)) (sym at)
-        ∙ ap (λ ls. ls ++ numbered test after (line ∷ ended_lines behind)) (missed-numbered before missed hit.misses)
-        ∙ ap (λ ls. numbered (λ _. invert) before (ended_lines missed) ++ ls)
-        (numbered-cons test after line (ended_lines behind) ∙ ap (λ ls. ls ++ numbered test (after + 1) (ended_lines behind)) one)
-
-    -- what stands after is a text of ended lines too
-    pub hit-closed : open_rest rest ≡ [] → open_rest behind ≡ []
-    hit-closed closed =
-        sym (ap open_rest hit.whole ∙ open_rest-append missed (line ++ 10 ∷ behind) ∙ ap (λ r. open_rest (r ++ (line ++ 10 ∷ behind))) hit.closed ∙ open_rest-newline line behind hit.one) ∙ closed
-
-    pub hit-length : length rest ≡ length missed + (length line + suc (length behind))
-    hit-length = ap length hit.whole ∙ length-append missed (line ++ 10 ∷ behind) ∙ ap (λ n. length missed + n) (length-append line (10 ∷ behind))
-
-    pub hit-count : length (ended_lines rest) ≡ length (ended_lines missed) + suc (length (ended_lines behind))
-    hit-count = ap length hit-lines ∙ length-append (ended_lines missed) (line ∷ ended_lines behind)
+  -- the selected lines of a text up to its first line with a literal, and after it, with their numbers
+  pub hit-numbered : {rest missed line behind : List ℕ} → IsFirstHitLine l rest missed line behind
+      → (before after : ℕ) → after ≡ before + length (ended_lines missed)
+      → (selected : Bool) → selected ≡ is_selected l.folding whole invert l.texts line
+      → numbered (is_selected l.folding whole invert l.texts) before (ended_lines rest)
+      ≡ numbered (λ _. invert) before (ended_lines missed) ++ (numbered (λ _. selected) after (line ∷ []) ++ numbered (is_selected l.folding whole invert l.texts) (after + 1) (ended_lines behind))
+  hit-numbered {rest} {missed} {line} {behind} hit before after at selected is =
+      let test = is_selected l.folding whole invert l.texts in
+      let one : numbered test after (line ∷ []) ≡ numbered (λ _. selected) after (line ∷ []) =
+      ap (λ b. cond b ((after + 1, line) ∷ []) []) (sym is) in
+      ap (numbered test before) (hit-lines hit) ∙ numbered-append test before (ended_lines missed) (line ∷ ended_lines behind)
+      ∙ ap (λ n. numbered test before (ended_lines missed) ++ numbered test n (line ∷ ended_lines behind)) (sym at)
+      ∙ ap (λ ls. ls ++ numbered test after (line ∷ ended_lines behind)) (missed-numbered before missed hit.misses)
+      ∙ ap (λ ls. numbered (λ _. invert) before (ended_lines missed) ++ ls)
+      (numbered-cons test after line (ended_lines behind) ∙ ap (λ ls. ls ++ numbered test (after + 1) (ended_lines behind)) one)
 
 module _ (m : Matcher) (line : List ℕ) where
   -- what a line matches, it is selected by

@@ -4,6 +4,7 @@ pub mod Counts
 pub mod Crossing
 pub mod HitLineLemmas
 pub mod LastNewline
+pub mod LentHits
 pub mod LentLemmas
 pub mod Literals
 pub mod NewlineMasks

@@ -1,14 +1,15 @@
 -- The lines before a hit, the hit's line, and the last lines.
-use Rattle.std.proofs.Common.{◌≡◌, ◌+◌, ◌++◌, ◌∷◌, [], length, refl, sym, ap, ◌∙◌, arith, subst, false, true, ◌≤◌}
+use Rattle.std.proofs.Common.{◌≡◌, ◌+◌, length, refl, sym, ap, ◌∙◌, arith, subst, true, ◌≤◌, false}
 use Rattle.std.proofs.lemmas.Result.{IfOk-weaker, err_from_is_err_and}
 use Rattle.lit_base.specs.Lines.{ended_lines}
-use Rattle.lit_base.specs.Selected.{is_selected, matches}
+use Rattle.lit_base.specs.Selected.{matches}
 use Rattle.lit_plan.specs.Plans.{Plan}
-use Rattle.line_pick.specs.HitLines.{AllMiss, HitSearch, IsFirstHitLine}
-use Rattle.line_pick.specs.Lending.{answer_of, as_numbered, numbered}
-use Rattle.line_pick.proofs.AroundHitLines.{hit-count, hit-length, hit-numbered, missed-numbered}
-use Rattle.line_pick.proofs.LentLemmas.{Lent-lines, LentOn, LentOn-front, LentOn-last, LentOn-none, answer_to-More}
-use Rattle.line_pick.proofs.NumberLemmas.{Lent-moved, Lent-taken, LentOn-moved}
+use Rattle.line_pick.specs.HitLines.{AllMiss, HitSearch}
+use Rattle.line_pick.specs.Lending.{answer_of, as_numbered}
+use Rattle.line_pick.proofs.AroundHitLines.{hit-count, hit-length, missed-numbered}
+use Rattle.line_pick.proofs.LentHits.{LentOn-hit, hit-last, missed-last}
+use Rattle.line_pick.proofs.LentLemmas.{Lent-lines, LentOn-none, answer_to-More}
+use Rattle.line_pick.proofs.NumberLemmas.{Lent-taken}
 use Rattle.line_pick.proofs.text_lending.lend_hits.Goals as goal
 
 pub loop-hit-init : goal.loop-hit-init
@@ -27,85 +28,43 @@ selects_at_hit-selected-requires g c =
 pub returns-in_err-lines-clause-lent : goal.returns-in_err-lines-clause-lent
 returns-in_err-lines-clause-lent g c =
     let p = err_from_is_err_and c.from_residual.result c.from_residual.ensures.1 in
-    let l = c.args.hits.now.plan.literals in
-    let test = is_selected l.folding c.args.rule.whole c.args.rule.invert l.texts in
-    let hit = c.in-Some.hit in
-    let rest = c.loop-hit.hits.rest in
-    let first : IsFirstHitLine l rest hit.missed.now hit.line.now hit.behind.now = subst (λ (q : Plan). IsFirstHitLine q.literals rest hit.missed.now hit.line.now hit.behind.now) c.loop-hit.invariant.plan c.in-Some.ensures.hit in
-    let after = c.loop-hit.lines + length (ended_lines hit.missed.now) in
-    let parts = hit-numbered l c.args.rule.whole c.args.rule.invert rest hit.missed.now hit.line.now hit.behind.now first c.loop-hit.lines after refl (test hit.line.now) refl in
-    rw (p.1, p.2) (LentOn-last (numbered (λ _. test hit.line.now) after (hit.line.now ∷ []) ++ numbered test (after + 1) (ended_lines hit.behind.now))
-    c.loop-hit.invariant.lent parts c.in_err-lines.ensures.lent (answer_to-More c.in_err-lines.field-0.0))
+    rw (p.1, p.2) (missed-last g.S.Sink.takes c.args.is_numbered c.args.rule.whole c.args.rule.invert c.loop-hit.lines c.loop-hit.invariant.plan c.in-Some.ensures.hit c.loop-hit.invariant.lent
+    c.in_err-lines.ensures.lent (answer_to-More c.in_err-lines.field-0.0))
 
 pub returns-in_err-lend_if-clause-lent : goal.returns-in_err-lend_if-clause-lent
 returns-in_err-lend_if-clause-lent g c =
     let p = err_from_is_err_and c.from_residual-in_err-lend_if.result c.from_residual-in_err-lend_if.ensures.1 in
-    let l = c.args.hits.now.plan.literals in
-    let test = is_selected l.folding c.args.rule.whole c.args.rule.invert l.texts in
-    let hit = c.in-Some.hit in
-    let rest = c.loop-hit.hits.rest in
-    let first : IsFirstHitLine l rest hit.missed.now hit.line.now hit.behind.now = subst (λ (q : Plan). IsFirstHitLine q.literals rest hit.missed.now hit.line.now hit.behind.now) c.loop-hit.invariant.plan c.in-Some.ensures.hit in
-    let after = c.loop-hit.lines + length (ended_lines hit.missed.now) in
-    let is = subst (λ (q : Plan). c.selects_at_hit-selected.result ≡ is_selected q.literals.folding c.args.rule.whole c.args.rule.invert q.literals.texts hit.line.now) c.compiled-compiled.ensures c.selects_at_hit-selected.ensures in
-    let parts = hit-numbered l c.args.rule.whole c.args.rule.invert rest hit.missed.now hit.line.now hit.behind.now first c.loop-hit.lines after refl c.selects_at_hit-selected.result is in
-    rw (p.1, p.2) (LentOn-last (numbered test (after + 1) (ended_lines hit.behind.now))
-    (LentOn-front c.loop-hit.invariant.lent parts c.in_ok-lines.ensures.lent) refl
-    (Lent-moved g.S.Sink.takes (λ _. c.selects_at_hit-selected.result) c.in_ok-lines.lines after (hit.line.now ∷ []) c.args.is_numbered c.in_ok-lines.ensures.count (Lent-taken g.S.Sink.takes c.args.is_numbered c.in_err-lend_if.ensures.lent)) (answer_to-More c.in_err-lend_if.field-0.0))
+    rw (p.1, p.2) (hit-last g.S.Sink.takes c.args.is_numbered c.args.rule.whole c.args.rule.invert c.loop-hit.lines c.loop-hit.invariant.plan c.in-Some.ensures.hit c.loop-hit.invariant.lent
+    c.compiled-compiled.ensures c.selects_at_hit-selected.ensures c.in_ok-lines.ensures.count c.in_ok-lines.ensures.lent c.in_err-lend_if.ensures.lent (answer_to-More c.in_err-lend_if.field-0.0))
 
 pub loop-hit-preserved : goal.loop-hit-preserved
-loop-hit-preserved g c =
-    let l = c.args.hits.now.plan.literals in
-    let test = is_selected l.folding c.args.rule.whole c.args.rule.invert l.texts in
-    let hit = c.in-Some.hit in
-    let rest = c.loop-hit.hits.rest in
-    let first : IsFirstHitLine l rest hit.missed.now hit.line.now hit.behind.now = subst (λ (q : Plan). IsFirstHitLine q.literals rest hit.missed.now hit.line.now hit.behind.now) c.loop-hit.invariant.plan c.in-Some.ensures.hit in
-    let after = c.loop-hit.lines + length (ended_lines hit.missed.now) in
-    let is = subst (λ (q : Plan). c.selects_at_hit-selected.result ≡ is_selected q.literals.folding c.args.rule.whole c.args.rule.invert q.literals.texts hit.line.now) c.compiled-compiled.ensures c.selects_at_hit-selected.ensures in
-    let parts = hit-numbered l c.args.rule.whole c.args.rule.invert rest hit.missed.now hit.line.now hit.behind.now first c.loop-hit.lines after refl c.selects_at_hit-selected.result is in
-    rw c.in-Some.ensures.moved (record {
-      plan = c.loop-hit.invariant.plan;
-      finder = c.loop-hit.invariant.finder;
-      room = omega (arith, c.loop-hit.invariant.room, c.in_ok-lines.ensures.bound, hit-length l c.args.rule.whole c.args.rule.invert rest hit.missed.now hit.line.now hit.behind.now first);
-      count = λ e. omega (arith, c.loop-hit.invariant.count e, c.in_ok-lines.ensures.count e, hit-count l c.args.rule.whole c.args.rule.invert rest hit.missed.now hit.line.now hit.behind.now first);
-      lent = LentOn-moved g.S.Sink.takes test (c.in_ok-lines.lines + 1) (after + 1) (ended_lines hit.behind.now) c.args.is_numbered (λ e. ap (λ n. n + 1) (c.in_ok-lines.ensures.count e))
-          (LentOn-front (LentOn-front c.loop-hit.invariant.lent parts c.in_ok-lines.ensures.lent) refl (Lent-moved g.S.Sink.takes (λ _. c.selects_at_hit-selected.result) c.in_ok-lines.lines after (hit.line.now ∷ []) c.args.is_numbered c.in_ok-lines.ensures.count (Lent-taken g.S.Sink.takes c.args.is_numbered c.in_ok-lend_if.ensures.lent)));
-    })
+loop-hit-preserved g c = rw c.in-Some.ensures.moved (record {
+  plan = c.loop-hit.invariant.plan;
+  finder = c.loop-hit.invariant.finder;
+  room = omega (arith, c.loop-hit.invariant.room, c.in_ok-lines.ensures.bound, hit-length c.in-Some.ensures.hit);
+  count = λ e. omega (arith, c.loop-hit.invariant.count e, c.in_ok-lines.ensures.count e, hit-count c.in-Some.ensures.hit);
+  lent = LentOn-hit g.S.Sink.takes c.args.is_numbered c.args.rule.whole c.args.rule.invert c.loop-hit.lines c.loop-hit.invariant.plan c.in-Some.ensures.hit c.loop-hit.invariant.lent
+      c.compiled-compiled.ensures c.selects_at_hit-selected.ensures c.in_ok-lines.ensures.count c.in_ok-lines.ensures.lent c.in_ok-lend_if.ensures.lent;
+})
 
 pub returns-then-credit-eq0-clause-lent : goal.returns-then-credit-eq0-clause-lent
 returns-then-credit-eq0-clause-lent g c =
-    let l = c.args.hits.now.plan.literals in
-    let test = is_selected l.folding c.args.rule.whole c.args.rule.invert l.texts in
-    let hit = c.in-Some.hit in
-    let rest = c.loop-hit.hits.rest in
-    let first : IsFirstHitLine l rest hit.missed.now hit.line.now hit.behind.now = subst (λ (q : Plan). IsFirstHitLine q.literals rest hit.missed.now hit.line.now hit.behind.now) c.loop-hit.invariant.plan c.in-Some.ensures.hit in
-    let after = c.loop-hit.lines + length (ended_lines hit.missed.now) in
-    let is = subst (λ (q : Plan). c.selects_at_hit-selected.result ≡ is_selected q.literals.folding c.args.rule.whole c.args.rule.invert q.literals.texts hit.line.now) c.compiled-compiled.ensures c.selects_at_hit-selected.ensures in
-    let parts = hit-numbered l c.args.rule.whole c.args.rule.invert rest hit.missed.now hit.line.now hit.behind.now first c.loop-hit.lines after refl c.selects_at_hit-selected.result is in
-    let on : LentOn {S = g.row.S.Denot} (as_numbered c.args.is_numbered g.S.Sink.takes) c.args.sink.now (numbered test c.args.before (ended_lines c.args.hits.now.rest)) c.lend_if.new.sink (numbered test (c.in_ok-lines.lines + 1) (ended_lines hit.behind.now)) =
-    LentOn-moved g.S.Sink.takes test (c.in_ok-lines.lines + 1) (after + 1) (ended_lines hit.behind.now) c.args.is_numbered (λ e. ap (λ n. n + 1) (c.in_ok-lines.ensures.count e))
-    (LentOn-front (LentOn-front c.loop-hit.invariant.lent parts c.in_ok-lines.ensures.lent) refl (Lent-moved g.S.Sink.takes (λ _. c.selects_at_hit-selected.result) c.in_ok-lines.lines after (hit.line.now ∷ []) c.args.is_numbered c.in_ok-lines.ensures.count (Lent-taken g.S.Sink.takes c.args.is_numbered c.in_ok-lend_if.ensures.lent))) in
+    let on = LentOn-hit g.S.Sink.takes c.args.is_numbered c.args.rule.whole c.args.rule.invert c.loop-hit.lines c.loop-hit.invariant.plan c.in-Some.ensures.hit c.loop-hit.invariant.lent
+    c.compiled-compiled.ensures c.selects_at_hit-selected.ensures c.in_ok-lines.ensures.count c.in_ok-lines.ensures.lent c.in_ok-lend_if.ensures.lent in
     let each = rw c.compiled-compiled.ensures at c.lend_whole_lines.ensures.lent in
     on.go (answer_of c.lend_whole_lines.result) c.lend_whole_lines.new.sink (Lent-taken g.S.Sink.takes c.args.is_numbered each)
 
 pub returns-then-credit-eq0-clause-count : goal.returns-then-credit-eq0-clause-count
 returns-then-credit-eq0-clause-count g c =
-    let l = c.args.hits.now.plan.literals in
-    let hit = c.in-Some.hit in
-    let rest = c.loop-hit.hits.rest in
-    let first : IsFirstHitLine l rest hit.missed.now hit.line.now hit.behind.now = subst (λ (q : Plan). IsFirstHitLine q.literals rest hit.missed.now hit.line.now hit.behind.now) c.loop-hit.invariant.plan c.in-Some.ensures.hit in
-    let all = hit-count l c.args.rule.whole c.args.rule.invert rest hit.missed.now hit.line.now hit.behind.now first in
-    IfOk-weaker c.lend_whole_lines.result (λ lines. lines ≡ (c.in_ok-lines.lines + 1) + length (ended_lines hit.behind.now)) (λ lines. c.args.is_numbered ≡ true → lines ≡ c.args.before + length (ended_lines c.args.hits.now.rest))
-    (λ lines is e. omega (arith, is, c.loop-hit.invariant.count e, c.in_ok-lines.ensures.count e, all)) c.lend_whole_lines.ensures.count
+    let behind = c.in-Some.hit.behind.now in
+    IfOk-weaker c.lend_whole_lines.result (λ lines. lines ≡ (c.in_ok-lines.lines + 1) + length (ended_lines behind)) (λ lines. c.args.is_numbered ≡ true → lines ≡ c.args.before + length (ended_lines c.args.hits.now.rest))
+    (λ lines is e. omega (arith, is, c.loop-hit.invariant.count e, c.in_ok-lines.ensures.count e, hit-count c.in-Some.ensures.hit)) c.lend_whole_lines.ensures.count
 
 pub returns-then-credit-eq0-clause-bound : goal.returns-then-credit-eq0-clause-bound
 returns-then-credit-eq0-clause-bound g c =
-    let l = c.args.hits.now.plan.literals in
-    let hit = c.in-Some.hit in
-    let rest = c.loop-hit.hits.rest in
-    let first : IsFirstHitLine l rest hit.missed.now hit.line.now hit.behind.now = subst (λ (q : Plan). IsFirstHitLine q.literals rest hit.missed.now hit.line.now hit.behind.now) c.loop-hit.invariant.plan c.in-Some.ensures.hit in
-    let size = hit-length l c.args.rule.whole c.args.rule.invert rest hit.missed.now hit.line.now hit.behind.now first in
-    IfOk-weaker c.lend_whole_lines.result (λ lines. lines ≤ (c.in_ok-lines.lines + 1) + length hit.behind.now) (λ lines. lines ≤ c.args.before + length c.args.hits.now.rest)
-    (λ lines is. omega (arith, is, c.loop-hit.invariant.room, c.in_ok-lines.ensures.bound, size)) c.lend_whole_lines.ensures.bound
+    let behind = c.in-Some.hit.behind.now in
+    IfOk-weaker c.lend_whole_lines.result (λ lines. lines ≤ (c.in_ok-lines.lines + 1) + length behind) (λ lines. lines ≤ c.args.before + length c.args.hits.now.rest)
+    (λ lines is. omega (arith, is, c.loop-hit.invariant.room, c.in_ok-lines.ensures.bound, hit-length c.in-Some.ensures.hit)) c.lend_whole_lines.ensures.bound
 
 pub returns-clause-lent : goal.returns-clause-lent
 returns-clause-lent g c =

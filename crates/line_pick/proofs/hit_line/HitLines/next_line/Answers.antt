@@ -15,7 +15,7 @@ invariant_of-self c =
       learner = c.self.invariant.learner;
       by_plan = c.self.invariant.by_plan;
       behind = behind-hit l c.self.inside.text.now rest hit.missed.now hit.line.now hit.behind.now c.self.invariant.behind first;
-      closed = hit-closed l false false rest hit.missed.now hit.line.now hit.behind.now first c.self.invariant.closed;
+      closed = hit-closed first c.self.invariant.closed;
       apart = c.self.invariant.apart;
       normal = c.self.invariant.normal;
     }
