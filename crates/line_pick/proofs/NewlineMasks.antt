@@ -1,5 +1,5 @@
 -- The newlines in the first bytes of a text, by the bits of a mask.
-use Rattle.std.proofs.Common.{◌≡◌, ℕ, ◌+◌, ◌-◌, ◌<◌, ◌≤◌, Bool, true, false, cond, eqb, List, [], length, map, take, drop, get_or, inl, inr, sym, ap, ◌∙◌, arith, ◌^◌, ◌/◌, ◌%◌, w64, refl}
+use Rattle.std.proofs.Common.{◌≡◌, ℕ, ◌+◌, ◌-◌, ◌<◌, ◌≤◌, Bool, true, false, cond, eqb, List, length, map, take, drop, get_or, inl, inr, sym, ap, ◌∙◌, arith, ◌^◌, ◌/◌, ◌%◌, w64, refl}
 use Rattle.std.specs.Int.{bit_at, trailing_zeros}
 use Rattle.std.specs.Simd.Lanes.{mask_l}
 use Rattle.std.proofs.lemmas.Nat.{shr-shr}

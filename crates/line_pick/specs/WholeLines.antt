@@ -1,5 +1,5 @@
 -- The lengths and first bytes of literals, which rule out most lines.
-use Rattle.std.specs.Prelude.{◌≡◌, ◌+◌, ◌*◌, ◌-◌, ◌<◌, ◌≤◌, ℕ, Bool, true, false, List, length, min, slice_index_or}
+use Rattle.std.specs.Prelude.{◌≡◌, ◌+◌, ◌*◌, ◌-◌, ◌<◌, ℕ, Bool, true, false, List, length, min, slice_index_or}
 use Rattle.lit_base.specs.Literals.{Literals, literal_at}
 use Rattle.line_pick.specs.declared.whole_lines.TheConstants.{LENGTHS}
 

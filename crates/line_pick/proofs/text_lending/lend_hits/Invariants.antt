@@ -2,9 +2,7 @@
 -- numbered.
 use Rattle.std.proofs.Common.{◌≡◌, ◌≤◌, ◌+◌, length, true}
 use Rattle.lit_base.specs.Lines.{ended_lines}
-use Rattle.lit_base.specs.Literals.{Literals}
 use Rattle.lit_base.specs.Selected.{is_selected}
-use Rattle.line_pick.specs.declared.line_rule.LineRule.{LineRule}
 use Rattle.line_pick.specs.Lending.{as_numbered, numbered}
 use Rattle.line_pick.proofs.LentLemmas.{LentOn}
 use Rattle.line_pick.proofs.text_lending.lend_hits.Given as goal

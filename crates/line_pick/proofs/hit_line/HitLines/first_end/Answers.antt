@@ -1,5 +1,5 @@
 -- What ends after the lines before a text ends in the text. The search is one of the text by the plan.
-use Rattle.std.proofs.Common.{◌≡◌, ◌+◌, ◌-◌, Option, IfSome, length, arith, ap, subst, sym}
+use Rattle.std.proofs.Common.{◌≡◌, ◌+◌, ◌-◌, IfSome, length, arith, ap, subst, sym}
 use Rattle.text_search.specs.Searched.{Searched}
 use Rattle.line_pick.proofs.BehindLines.{behind-len, rest-next, rest-none}
 use Rattle.line_pick.proofs.hit_line.HitLines.first_end.Goals as goal

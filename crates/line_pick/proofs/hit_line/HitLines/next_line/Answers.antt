@@ -1,5 +1,5 @@
 -- What stands after the line stands after lines.
-use Rattle.std.proofs.Common.{false, subst, sym, ◌∙◌}
+use Rattle.std.proofs.Common.{subst, sym, ◌∙◌}
 use Rattle.line_pick.specs.HitLines.{HitSearch, IsFirstHitLine}
 use Rattle.line_pick.proofs.AroundHitLines.{hit-closed}
 use Rattle.line_pick.proofs.BehindLines.{behind-hit}

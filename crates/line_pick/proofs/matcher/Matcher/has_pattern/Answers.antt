@@ -1,5 +1,5 @@
 -- The null pattern is a slice of each line; else the literals decide, if there are any.
-use Rattle.std.proofs.Common.{◌≡◌, true, false, Some, sym, ap, ◌∙◌, subst}
+use Rattle.std.proofs.Common.{◌≡◌, true, false, sym, ap, ◌∙◌, subst}
 use Rattle.std.specs.Option.{option_copied}
 use Rattle.line_pick.specs.Matching.{fold_of, literals_of}
 use Rattle.lit_base.specs.Literals.{IsNormal}
