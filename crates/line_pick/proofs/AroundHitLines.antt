@@ -13,7 +13,7 @@ use Rattle.line_pick.specs.declared.matcher.Matcher.{Matcher}
 use Rattle.line_pick.specs.HitLines.{AllMiss, IsFirstHitLine}
 use Rattle.line_pick.specs.Lending.{numbered}
 use Rattle.line_pick.specs.Matching.{fold_of, literals_of, literals_and_null, picks}
-use Rattle.line_pick.proofs.LentLemmas.{numbered-append, numbered-cons, numbered-same}
+use Rattle.line_pick.proofs.LentLemmas.{numbered-append, numbered-cons, numbered-one, numbered-same}
 use Rattle.line_pick.proofs.Literals.{not_passed}
 use Rattle.line_pick.proofs.Patterns.{by_plan, no_plan, null-matches, null-misses, null-occurs}
 
@@ -69,13 +69,11 @@ module _ (l : Literals) (whole invert : Bool) where
       ≡ numbered (λ _. invert) before (ended_lines missed) ++ (numbered (λ _. selected) after (line ∷ []) ++ numbered (is_selected l.folding whole invert l.texts) (after + 1) (ended_lines behind))
   hit-numbered {rest} {missed} {line} {behind} hit before after at selected is =
       let test = is_selected l.folding whole invert l.texts in
-      let one : numbered test after (line ∷ []) ≡ numbered (λ _. selected) after (line ∷ []) =
-      ap (λ b. cond b ((after + 1, line) ∷ []) []) (sym is) in
       ap (numbered test before) (hit-lines hit) ∙ numbered-append test before (ended_lines missed) (line ∷ ended_lines behind)
       ∙ ap (λ n. numbered test before (ended_lines missed) ++ numbered test n (line ∷ ended_lines behind)) (sym at)
       ∙ ap (λ ls. ls ++ numbered test after (line ∷ ended_lines behind)) (missed-numbered before missed hit.misses)
       ∙ ap (λ ls. numbered (λ _. invert) before (ended_lines missed) ++ ls)
-      (numbered-cons test after line (ended_lines behind) ∙ ap (λ ls. ls ++ numbered test (after + 1) (ended_lines behind)) one)
+      (numbered-cons test after line (ended_lines behind) ∙ ap (λ ls. ls ++ numbered test (after + 1) (ended_lines behind)) (sym (numbered-one test after line is)))
 
 module _ (m : Matcher) (line : List ℕ) where
   -- what a line matches, it is selected by

@@ -72,9 +72,6 @@ module _ (text lanes : List ℕ) (bits : ℕ) (long : 64 ≤ length text) (mask 
       subst (λ n. IsTop found (count_leading_zeros 64 n)) (sym whole)
       (mask-top found (length-map (drop (length text - 64) text) (λ b. eqb b 10) ∙ omega (arith, length-drop (length text - 64) text)))
 
-  pub last-few : count_leading_zeros 64 bits ≤ 64
-  last-few = let t = top in t.few
-
   -- after it stands none
   pub last-apart : IsOnePiece (drop (length text - count_leading_zeros 64 bits) text)
   last-apart k d inside e =

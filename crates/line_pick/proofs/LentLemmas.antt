@@ -26,6 +26,10 @@ numbered-yes test before line passes = ap (λ b. cond b ((before + 1, line) ∷ 
 pub numbered-no : (test : List ℕ → Bool) (before : ℕ) (line : List ℕ) → test line ≡ false → numbered test before (line ∷ []) ≡ []
 numbered-no test before line fails = ap (λ b. cond b ((before + 1, line) ∷ []) []) fails
 
+-- one line is numbered by what a test says of it
+pub numbered-one : (test : List ℕ → Bool) (before : ℕ) (line : List ℕ) {selected : Bool} → selected ≡ test line → numbered (λ _. selected) before (line ∷ []) ≡ numbered test before (line ∷ [])
+numbered-one test before line is = ap (λ b. cond b ((before + 1, line) ∷ []) []) is
+
 -- tests that agree on the lines number the same lines
 pub numbered-same : (test other : List ℕ → Bool) (before : ℕ) (lines : List (List ℕ)) → All (λ line. test line ≡ other line) lines → numbered test before lines ≡ numbered other before lines
 numbered-same test other before [] agree = refl

@@ -15,22 +15,6 @@ use Rattle.lit_base.proofs.EndedLemmas.{ended_lines-append, open_rest-append, op
 is_newline : (text : List ℕ) (k d : ℕ) → k < length text → get_or text k d ≡ 10 → eqb (get_or text k 0) 10 ≡ true
 is_newline text k d inside e = eq-eqb (get_or text k 0) 10 (get_or_default text k 0 d inside ∙ e)
 
--- a text where no newline is found
-pub none_found : (text : List ℕ) → IsFirstByte (is_byte 10) text None → IsOnePiece text
-none_found text h k d inside e = h k (omega arith) inside (is_newline text k d inside e)
-
--- up to the first newline there is none
-pub front-one : (text : List ℕ) (at : ℕ) → IsFirstByte (is_byte 10) text (Some at) → IsOnePiece (take at text)
-front-one text at h k d inside e =
-    let below : k < at = omega (arith, length-take at text) in
-    h.0.before k (omega arith) below (is_newline text k d (omega (arith, h.0.high)) (sym (get_or-take at text k d below) ∙ e))
-
--- and the text is cut there
-pub first-cut : (text : List ℕ) (at : ℕ) → IsFirstByte (is_byte 10) text (Some at) → text ≡ take at text ++ 10 ∷ drop (at + 1) text
-first-cut text at h =
-    let here : get_or text at 0 ≡ 10 = eqb-true _ _ h.1 in
-    sym (take-append-drop at text) ∙ ap (λ t. take at text ++ t) (drop_more text at 0 h.0.high ∙ ap (λ b. b ∷ drop (at + 1) text) here)
-
 -- after a newline nothing is open
 pub open_rest-closed : (text : List ℕ) → open_rest (text ++ 10 ∷ []) ≡ []
 open_rest-closed text = open_rest-append text (10 ∷ []) ∙ open_rest-newline (open_rest text) [] (open_rest-apart text) ∙ open_rest-none [] (λ k d inside. absurd (omega arith))

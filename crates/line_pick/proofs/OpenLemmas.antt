@@ -42,17 +42,6 @@ three-parts : (line : List ℕ) (start end : ℕ) → line ≡ take start line +
 three-parts line start end =
     sym (take-append-drop start line) ∙ ap (λ t. take start line ++ t) (sym (take-append-drop (end - start) (drop start line)))
 
--- a part that decides the line, as what is kept
-pub part-decides : (test : List ℕ → Bool) (longest : ℕ) (line kept : List ℕ) (start end : ℕ) → IsOnePiece line → kept ≡ slice_range line start end → IsDecidingPart test longest line start end → Decides test kept line
-part-decides test longest line kept start end one is p =
-    let size : length kept ≡ end - start = omega (arith, ap length is, length-take (end - start) (drop start line), length-drop start line, p.ordered, p.within) in
-    record {
-      same = λ more. ap (λ k. test (k ++ more)) is ∙ p.same more;
-      one = subst IsOnePiece (sym is) (All-take (λ b. b ≢ 10) (end - start) (drop start line) (All-drop (λ b. b ≢ 10) start line one));
-      few = omega (arith, size, p.within);
-      some = λ some. omega (arith, size, p.some some);
-    }
-
 -- where all patterns are shorter than a line, it is none of them
 too-long : (fold : Fold) (patterns : List (List ℕ)) (line : List ℕ) → All (λ t. length t < length line) patterns → matches fold true patterns line ≡ false
 too-long fold patterns line short = sym (not_passed (matches fold true patterns line) (λ e.
@@ -297,15 +286,6 @@ part-weaker test other longest most line start end more_general is p = record {
   within = p.within;
   few = omega (arith, p.few, is);
   some = p.some;
-}
-
--- a line that is decided decides itself with more bytes
-pub decided-on : (test : List ℕ → Bool) (line more : List ℕ) → IsOnePiece line → IsDecided test line → Decides test line (line ++ more)
-decided-on test line more one d = record {
-  same = λ rest. d.same rest ∙ sym (ap test (append_assoc line more rest) ∙ d.same (more ++ rest));
-  one = one;
-  few = omega (arith, length-append line more);
-  some = λ _. d.some;
 }
 
 -- texts that go on alike: their lines are selected alike, and what is kept of one's open rest decides the other's

@@ -14,8 +14,8 @@ use crate::sink::{Next, Sink};
 use crate::whole_lines::WholeLines;
 
 /// Emits the selected lines among those that newlines end in the text. `before` lines stand before the text; returns
-/// how many lines there are by its end. Under -x the literals, where
-/// they are given, rule out most lines by their first byte and length.
+/// how many lines there are by its end. Under -x the literals, where they are given, rule out most lines by their first
+/// byte and length.
 pub(crate) fn lend_lines<S: Sink>(
     matcher: Matcher<'_>,
     literals: Option<&WholeLines<'_>>,
@@ -36,37 +36,13 @@ pub(crate) fn lend_lines<S: Sink>(
     let mut newlines = 0;
     let mut lines = before;
     while let Some(cut) = split_next_line(rest, newlines, by_masks) {
-        lend_next(matcher, literals, rest, cut.line, lines, sink)?;
+        let selected = selects_next(matcher, literals, rest, cut.line);
+        lend_if(selected, cut.line, lines, sink)?;
         rest = cut.behind;
         newlines = cut.newlines;
         lines += 1;
     }
     Ok(lines)
-}
-
-/// Emits the first line of a text if it is selected. `before` lines stand before it.
-#[inline(always)]
-fn lend_next<S: Sink>(
-    matcher: Matcher<'_>,
-    literals: Option<&WholeLines<'_>>,
-    text: &[u8],
-    line: &[u8],
-    before: u64,
-    sink: &mut S,
-) -> Result<(), Halt>
-    requires fits { before + 1 < 2 ^ 64 }
-    requires literals { IfSome (option_copied literals) (StandsForWhole matcher) }
-    requires line { StartsWith text.now line.now }
-    ensures lent { Lent S.takes sink.old
-        (numbered (picks matcher.entry) before (line.now ∷ [])) (answer_of result) sink.new }
-    ensures faults { result ≢ Err (Halt.Failed Fault.StreamTooLong) }
-{
-    lend_if(
-        selects_next(matcher, literals, text, line),
-        line,
-        before,
-        sink,
-    )
 }
 
 /// Whether the first line of a text is selected.
