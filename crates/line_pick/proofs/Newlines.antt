@@ -4,9 +4,9 @@ use Rattle.std.specs.List.{prefix_len}
 use Rattle.std.proofs.Math.Seq.{take-add}
 use Rattle.std.proofs.lemmas.Bool.{eqb-false, eqb-true}
 use Rattle.std.proofs.lemmas.Simd.{run_in_chunk_fails, run_in_chunk_stops}
-use Rattle.std.proofs.lemmas.List.{get_or-take, get_or-drop, drop_more, take_more, get_or_default, take_min, length-append, length-take, length-drop}
+use Rattle.std.proofs.lemmas.List.{get_or-take, get_or-drop, take_more, get_or_default, take_min, length-append, length-take, length-drop}
 use Rattle.std.proofs.lemmas.List.Elements.{All-append}
-use Rattle.memchr.specs.Find.{IsFirstByte, IsLastByte, is_byte}
+use Rattle.memchr.specs.Find.{IsLastByte, is_byte}
 use Rattle.lit_base.specs.Lines.{IsOnePiece, ended_lines, open_rest}
 use Rattle.line_pick.specs.Cutting.{IsFirstLine, IsLastCut}
 use Rattle.lit_base.proofs.EndedLemmas.{ended_lines-append, open_rest-append, open_rest-newline, ended_lines-none, open_rest-none, open_rest-apart}
