@@ -1,10 +1,10 @@
 -- No list of patterns is refused for the number of its literals.
-use Rattle.std.proofs.Common.{◌≡◌, ℕ, ◌+◌, Bool, true, false, List, [], ◌∷◌, length, sum_by, Option, Some, None, Result, Err, if◌then◌else◌}
+use Rattle.std.proofs.Common.{◌≡◌, ℕ, ◌+◌, Bool, true, false, List, [], ◌∷◌, length, sum_by, Option, Some, None, Err, if◌then◌else◌}
 use Rattle.std.specs.Prelude.{nat_le, nat_lt}
 use Rattle.lit_base.specs.Faults.{RefusedBy}
 use Rattle.lit_base.specs.RawLists.{earlier, first_refusal, pattern_refusal, text_refusal}
 use Rattle.lit_base.specs.declared.fault.Fault.{Fault}
-use Rattle.lit_base.specs.declared.fault.Fault.TheVariants.{ListTooLarge, LiteralTooLong, OutOfMemory, TooManyLiterals, TooManyPatterns}
+use Rattle.lit_base.specs.declared.fault.Fault.TheVariants.{ListTooLarge, LiteralTooLong, TooManyLiterals, TooManyPatterns}
 use Rattle.lit_base.specs.declared.limits.TheConstants.{MAX_LIST_LEN, MAX_LITERAL_LEN, MAX_PATTERNS, MAX_TEXT_LEN}
 
 -- a refusal is no such one

@@ -6,7 +6,6 @@ use Rattle.lit_base.specs.Literals.{Literals}
 use Rattle.lit_base.specs.NormalForm.{IsPlaceOf}
 use Rattle.lit_base.specs.Profiles.{buckets}
 use Rattle.list_plan.specs.Planned.{IsPlanned}
-use Rattle.plan_file.specs.Reading.{fold_of, profile_of}
 use Rattle.fiolargu.proofs.making.plan_of.Goals as goal
 
 pub returns-in-Ok-compile-clause-made : goal.returns-in-Ok-compile-clause-made

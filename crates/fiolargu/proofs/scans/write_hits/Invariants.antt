@@ -1,5 +1,5 @@
 -- The hits so far stand at the front of the buffer, each with the length of its literal.
-use Rattle.std.proofs.Common.{◌≡◌, length, map, take}
+use Rattle.std.proofs.Common.{◌≡◌, map, take}
 use Rattle.fiolargu.specs.Found.{HaveLengths, hit_of}
 use Rattle.fiolargu.proofs.scans.write_hits.Given as goal
 
