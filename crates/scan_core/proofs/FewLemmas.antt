@@ -1,8 +1,8 @@
 -- Edits of a list of optional elements that has all of them.
 use Rattle.std.proofs.Common.{◌≡◌, ℕ, zero, suc, ◌<◌, List, [], ◌∷◌, ◌++◌, length, get_or, set, take, drop, map, Option, Some, None, refl, sym, ap, ◌∙◌, arith}
 use Rattle.std.specs.Prelude.{IsSome}
-use Rattle.std.specs.List.{refill, remove}
-use Rattle.std.proofs.lemmas.List.{drop-map, length-set, map-append, map-set, take-map, take_at}
+use Rattle.std.specs.List.{remove}
+use Rattle.std.proofs.lemmas.List.{drop-map, map-append, map-set, take-map}
 use Rattle.std.proofs.lemmas.Option.{none-some, same_Some}
 use Rattle.scan_core.specs.Fews.{somes}
 
@@ -47,12 +47,3 @@ element_at (y ∷ ys) (suc i) d x within is = element_at ys i d x (omega (arith,
 -- a write to one of its places
 pub set_some : {T : Type 0} (items : List (Option T)) (xs : List T) (i : ℕ) (x : T) → items ≡ map Some xs → set items i (Some x) ≡ map Some (set xs i x)
 set_some items xs i x all = ap (λ l. set l i (Some x)) all ∙ sym (map-set Some xs i x)
-
--- a write in place, as it comes back to the vector that lent the list
-pub set_refill : {T : Type 0} (items lent : List (Option T)) (xs : List T) (i : ℕ) (x : T) → lent ≡ items → items ≡ map Some xs → refill (length items) items (set lent i (Some x)) ≡ map Some (set xs i x)
-set_refill {T} items lent xs i x same all =
-    let written : List (Option T) = set items i (Some x) in
-    let len : length written ≡ length items = simp length-set in
-    ap (λ l. refill (length items) items (set l i (Some x))) same
-    ∙ take_at written (drop (length written) items) (length items) (omega (arith, len))
-    ∙ set_some items xs i x all

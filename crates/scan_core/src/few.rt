@@ -100,7 +100,7 @@ impl<T: Drop> Few<T> {
         requires { place < length self.old }
         ensures { self.new ≡ slice_set self.old place item }
     {
-        self.items[place] = Some(item);
+        *self.get_mut(place) = item;
     }
 
     /// Takes the element at a place out.
