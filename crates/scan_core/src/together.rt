@@ -1,5 +1,5 @@
 //! How sessions of one store fit into one world.
-ghost use Rattle.std.specs.Prelude.{◌≡◌, ◌++◌, [], IfOk, IsOkUnless};
+ghost use Rattle.std.specs.Prelude.{◌≡◌, ◌++◌, [], IfOk, IsOkUnless, Ok};
 ghost use Rattle.plan_store.specs.Tickets.{IsOf};
 ghost use Rattle.scan_wire.specs.Messages.{request_parts};
 ghost use Rattle.scan_core.specs.Sessions.{GainsEvent};
@@ -46,9 +46,19 @@ pub fn answered_at_once<'s, R: Threads + Wait + Sync>(
         move || answer_of(rt, alloc, one, asked_of_one),
         move || answer_of(rt, alloc, other, asked_of_other),
     );
+    let (first, second) = both(first, second)?;
+    fit_law(&first.session, &second.session);
+    Ok((first, second))
+}
+
+/// Both values, or the first fault. A type parameter drops in one step, where an `Answered` drops in dozens.
+fn both<T: Drop>(first: Result<T, Fault>, second: Result<T, Fault>) -> Result<(T, T), Fault>
+    ensures first { IfOk result (λ met. first ≡ Ok met.0) }
+    ensures second { IfOk result (λ met. second ≡ Ok met.1) }
+    ensures fault { IsOkUnless result OutOfMemory }
+{
     let first = first?;
     let second = second?;
-    fit_law(&first.session, &second.session);
     Ok((first, second))
 }
 
