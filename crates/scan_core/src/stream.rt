@@ -120,8 +120,7 @@ impl<'s> Stream<'s> {
         ensures same_hits { OnErr result (out.new.items ≡ out.old.items) }
         ensures fault { IsOkUnless result OutOfMemory }
     {
-        let count = learner.feed(store, &self.ticket, &mut self.scanner, piece, most, out)?;
-        Ok(count)
+        learner.feed(store, &self.ticket, &mut self.scanner, piece, most, out)
     }
 
     /// The place after a piece; none where it would pass 2^64 - 1.
