@@ -2,7 +2,6 @@
 ghost use Rattle.std.specs.Prelude.{◌≡◌, ◌↔◌, ◌+◌, ◌-◌, ◌^◌, ◌<◌, ◌≤◌, ◌⊎◌, ◌++◌, [], IfErr, IfOk, IsErrOf, IsOk, IsOkUnless, OnErr, length, min, take};
 ghost use Rattle.lit_plan.specs.declared.fault.Fault.TheVariants.{OutOfMemory, StreamTooLong};
 ghost use Rattle.lit_base.specs.NextEnds.{NoEndAfter};
-ghost use Rattle.text_ends.specs.HitsAt.{Extends};
 ghost use Rattle.flow_scan.specs.Scanners.{Reached, advanced, started_at};
 ghost use Rattle.flow_scan.specs.Seams.{AreOffered};
 ghost use Rattle.flow_scan.specs.Tails.{StopsIn};
@@ -96,19 +95,11 @@ impl Progress {
             return Err(Fault::StreamTooLong);
         }
         self.seam.offer(piece);
-        let before = out.len();
         let at = self.place();
-        match add_piece(search, compiled, &self.seam, piece, at, most, out) {
-            Ok(count) => {
-                self.seam.commit(piece, count);
-                self.count += count as u64;
-                Ok(count)
-            }
-            Err(_) => {
-                out.truncate(before);
-                Err(Fault::OutOfMemory)
-            }
-        }
+        let count = add_piece(search, compiled, &self.seam, piece, at, most, out)?;
+        self.seam.commit(piece, count);
+        self.count += count as u64;
+        Ok(count)
     }
 
     /// An equal state.
@@ -135,7 +126,7 @@ impl Progress {
 
 /// Adds the hits that end in a piece, up to the first end by which `out` gained at least `most` hits. It searches the
 /// offered bytes of the piece at the boundary, after the tail, and then the rest in place. Returns how many bytes of the
-/// piece lie up to this end, or its length. When memory is refused, earlier hits stay added.
+/// piece lie up to this end, or its length. When memory is refused, `out` is unchanged.
 fn add_piece<S: HitSearch>(
     search: &mut S,
     compiled: &Compiled,
@@ -151,7 +142,7 @@ fn add_piece<S: HitSearch>(
     requires room { at + length piece.now < 2 ^ 64 }
     ensures plan { S.serves search.new compiled.now.literals }
     ensures ok { IfOk result (λ count. StopsIn compiled.now.literals seam.now.tail piece.now at most count out.old.items out.new.items) }
-    ensures kept { Extends out.old.items out.new.items }
+    ensures same_hits { OnErr result (out.new.items ≡ out.old.items) }
     ensures quiet { NoEndAfter compiled.now.literals (seam.now.tail ++ piece.now) (length seam.now.tail) → IsOk result }
 {
     let before = out.len();
@@ -164,13 +155,12 @@ fn add_piece<S: HitSearch>(
         return Ok(stop - seam.tail_len());
     }
     let carry = compiled.carry();
-    let in_place = search.add_hits(
-        compiled,
-        piece,
-        carry,
-        at + carry as u64,
-        most - gained,
-        out,
-    )?;
-    Ok(in_place)
+    let rest = most - gained;
+    match search.add_hits(compiled, piece, carry, at + carry as u64, rest, out) {
+        Ok(stop) => Ok(stop),
+        Err(refused) => {
+            out.truncate(before);
+            Err(refused)
+        }
+    }
 }

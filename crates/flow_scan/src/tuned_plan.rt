@@ -1,8 +1,7 @@
 //! A plan with what its searches have learned.
-ghost use Rattle.std.specs.Prelude.{◌≡◌, ◌≤◌, IfOk, IfSome, IsOk, IsOkUnless, length};
+ghost use Rattle.std.specs.Prelude.{◌≡◌, ◌≤◌, IfOk, IfSome, IsOk, IsOkUnless, OnErr, length};
 ghost use Rattle.std.specs.Arc.{arc_value};
 ghost use Rattle.lit_plan.specs.declared.fault.Fault.TheVariants.{OutOfMemory};
-ghost use Rattle.text_ends.specs.HitsAt.{Extends};
 ghost use Rattle.lit_base.specs.NextEnds.{NoEndAfter};
 ghost use Rattle.text_ends.specs.HitsBehind.{StopsAt};
 
@@ -63,7 +62,7 @@ impl TunedPlan {
     /// Adds to `out` the hits of a text that end after `from`, as `scan_until` does by the plan alone. It tunes itself to
     /// the texts; the hits do not depend on this. Without memory for a finder it goes on by the plan alone.
     ///
-    /// The only refusal is `OutOfMemory`, and `out` may then have gained some hits.
+    /// The only refusal is `OutOfMemory`. It leaves `out` unchanged.
     pub fn scan_until(
         &mut self,
         alloc: Global,
@@ -75,7 +74,7 @@ impl TunedPlan {
         requires { from ≤ length text.now }
         ensures same { self.new ≡ self.old }
         ensures ok { IfOk result (λ stop. StopsAt self.old.literals text.now from from most stop out.old.items out.new.items) }
-        ensures kept { Extends out.old.items out.new.items }
+        ensures same_hits { OnErr result (out.new.items ≡ out.old.items) }
         ensures refused { IsOkUnless result OutOfMemory }
 
         // Where nothing ends after the position, it does not fail for want of memory.

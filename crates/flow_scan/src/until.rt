@@ -1,7 +1,6 @@
 //! Scans of a text that stop after enough hits.
-ghost use Rattle.std.specs.Prelude.{◌≤◌, IfOk, IsOk, IsOkUnless, length};
+ghost use Rattle.std.specs.Prelude.{◌≡◌, ◌≤◌, IfOk, IsOk, IsOkUnless, OnErr, length};
 ghost use Rattle.lit_plan.specs.declared.fault.Fault.TheVariants.{OutOfMemory};
-ghost use Rattle.text_ends.specs.HitsAt.{Extends};
 ghost use Rattle.lit_base.specs.NextEnds.{NoEndAfter};
 ghost use Rattle.text_ends.specs.HitsBehind.{StopsAt};
 
@@ -12,7 +11,7 @@ use text_ends::{Hit, add_hits_of};
 /// hits. Returns this end, or the text's length. A scan from there continues with the next hit. So `out` gains at most
 /// `most` hits and one for each literal.
 ///
-/// The only refusal is `OutOfMemory`, and `out` may then have gained some hits.
+/// The only refusal is `OutOfMemory`. It leaves `out` unchanged.
 pub fn scan_until(
     compiled: &Compiled,
     text: &[u8],
@@ -22,7 +21,7 @@ pub fn scan_until(
 ) -> Result<usize, Fault>
     requires { from ≤ length text.now }
     ensures ok { IfOk result (λ stop. StopsAt compiled.now.literals text.now from from most stop out.old.items out.new.items) }
-    ensures kept { Extends out.old.items out.new.items }
+    ensures same_hits { OnErr result (out.new.items ≡ out.old.items) }
     ensures refused { IsOkUnless result OutOfMemory }
 
     // Where nothing ends after the position, it takes no memory.

@@ -1,5 +1,6 @@
 -- Lines that are lent one after another.
-use Rattle.std.proofs.Common.{◌≡◌, ◌≢◌, ℕ, suc, ◌+◌, Bool, true, false, cond, List, [], ◌∷◌, ◌++◌, length, Result, Ok, Err, OnOk, OnErr, ◌⊎◌, inl, inr, refl, sym, ap, ◌∙◌, subst, append_assoc, append-nil, arith, All}
+use Rattle.std.proofs.Common.{◌≡◌, ◌≢◌, ℕ, suc, ◌+◌, Bool, true, false, cond, List, [], ◌∷◌, ◌++◌, length, Result, Ok, Err, IsOk, OnOk, OnErr, ◌⊎◌, inl, inr, refl, sym, ap, ◌∙◌, subst, append_assoc, append-nil, arith, All}
+use Rattle.std.proofs.lemmas.Bool.{false≢true}
 use Rattle.std.proofs.lemmas.List.{length-append}
 use Rattle.std.proofs.lemmas.List.Elements.{All-head, All-tail}
 use Rattle.lit_base.specs.Lines.{IsOnePiece, ended_lines}
@@ -90,6 +91,17 @@ module _ {S : Type 0} {takes : S → ℕ → List ℕ → Result Next Fault → 
 pub answer_to-More : (halt : Halt) → answer_to halt ≢ Ok More
 answer_to-More Stopped = λ e. (cc)
 answer_to-More (Failed fault) = λ e. (cc)
+
+-- where no line is lent, the answer is More
+pub Lent-nothing : {S : Type 0} {takes : S → ℕ → List ℕ → Result Next Fault → S → Type 0} {s t : S} {lines : List (ℕ × List ℕ)} {answer : Result Next Fault} → lines ≡ [] → Lent takes s lines answer t → answer ≡ Ok More
+Lent-nothing nothing NoneLeft = refl
+Lent-nothing nothing (OneMore taken rest) = absurd (cc)
+Lent-nothing nothing (LastOne taken other) = absurd (cc)
+
+-- emitting that did not end is answered by More
+pub answer_of-IsOk : {T : Type 0} (r : Result T Halt) → IsOk r → answer_of r ≡ Ok More
+answer_of-IsOk (Ok x) ok = refl
+answer_of-IsOk (Err halt) ok = absurd (false≢true ok)
 
 -- an answer is a stream too long only where the halt is
 pub answer_of-StreamTooLong : {T : Type 0} (r : Result T Halt) → r ≢ Err (Failed StreamTooLong) → answer_of r ≢ Err StreamTooLong

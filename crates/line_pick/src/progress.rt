@@ -1,5 +1,5 @@
 //! The line that no newline has ended yet, and how far a text has come.
-ghost use Rattle.std.specs.Prelude.{◌≡◌, ◌≢◌, ◌↔◌, ◌≤◌, ◌+◌, ◌^◌, ◌++◌, ◌∷◌, [], Err, IfOk, OnOk, OnErr, length, slice_range, true, vec_len};
+ghost use Rattle.std.specs.Prelude.{◌≡◌, ◌≢◌, ◌↔◌, ◌<◌, ◌≤◌, ◌+◌, ◌^◌, ◌++◌, ◌∷◌, [], Err, IfOk, IsOk, OnOk, OnErr, length, slice_range, true, vec_len};
 ghost use Rattle.std.specs.Option.{option_copied};
 ghost use Rattle.lit_base.specs.Lines.{IsOnePiece, ended_lines, last_line, open_rest};
 ghost use Rattle.line_pick.specs.Lending.{Lends, Lent, answer_of, as_numbered, numbered};
@@ -74,6 +74,7 @@ impl Progress {
         ensures bytes { OnOk result (self.new.bytes ≡ self.old.bytes + length piece.now) }
         ensures too_long { (result ≡ Err (Halt.Failed Fault.StreamTooLong))
             ↔ (2 ^ 64 ≤ self.old.bytes + length piece.now) }
+        ensures idle { piece.now ≡ [] → IsOk result }
     {
         self.bytes = longer(self.bytes, piece)?;
         let is_fresh = self.held.is_empty();
@@ -94,6 +95,7 @@ impl Progress {
         ensures ok { OnOk result (self.new.held.items ≡ self.old.held.items ++ bytes.now) }
         ensures err { OnErr result (self.new.held.items ≡ self.old.held.items) }
         ensures starved { OnErr result (result ≡ Err (Halt.Failed Fault.OutOfMemory)) }
+        ensures some { OnErr result (0 < length bytes.now) }
         ensures seen { self.new.has_bytes ≡ self.old.has_bytes }
         ensures numbered { self.new.is_numbered ≡ self.old.is_numbered }
         ensures lines { self.new.lines ≡ self.old.lines }
@@ -116,6 +118,7 @@ impl Progress {
         ensures held { OnOk result (Keeps self.old.has_bytes (picks search.old.matcher) (most_kept (option_copied search.old.matcher.plan)) self.new.held.items
             (self.old.held.items ++ bytes.now)) }
         ensures starved { OnErr result (result ≡ Err (Halt.Failed Fault.OutOfMemory)) }
+        ensures some { OnErr result (0 < length bytes.now) }
         ensures lines { self.new.lines ≡ self.old.lines }
         ensures bytes { self.new.bytes ≡ self.old.bytes }
     {
@@ -137,6 +140,7 @@ impl Progress {
         ensures numbered { self.new.is_numbered ≡ self.old.is_numbered }
         ensures held { OnOk result (Decides (picks matcher.entry) self.new.held.items (self.old.held.items ++ bytes.now)) }
         ensures starved { OnErr result (result ≡ Err (Halt.Failed Fault.OutOfMemory)) }
+        ensures some { OnErr result (0 < length bytes.now) }
         ensures lines { self.new.lines ≡ self.old.lines }
         ensures bytes { self.new.bytes ≡ self.old.bytes }
     {
@@ -217,6 +221,7 @@ impl Progress {
             → self.new.lines ≡ self.old.lines + length (ended_lines text.now)) }
         ensures bytes { self.new.bytes ≡ self.old.bytes }
         ensures faults { result ≢ Err (Halt.Failed Fault.StreamTooLong) }
+        ensures idle { text.now ≡ [] → IsOk result }
     {
         // Read here, it is known to fit, and so is the number of lines.
         let _bytes = self.bytes;

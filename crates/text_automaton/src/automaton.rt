@@ -133,6 +133,7 @@ impl Automaton {
             (IsNextTold self.now text.now (place_of reading.old)) }
         ensures reading { IsReading self.now text.now reading.new }
         ensures place { IfSome result (λ found. place_of reading.new ≡ found.0) }
+        ensures ahead { place_of reading.old ≤ place_of reading.new }
     {
         'reads: loop {
             let at = first_telling(

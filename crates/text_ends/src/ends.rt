@@ -1,9 +1,10 @@
 //! The loop over the ends in a text, which adds the hits at each. It works with every engine.
-ghost use Rattle.std.specs.Prelude.{◌≡◌, ℕ, ◌+◌, ◌-◌, ◌^◌, ◌<◌, ◌≤◌, IfOk, IfSome, IsOk, MatchOption, OnOk, length};
+ghost use Rattle.std.specs.Prelude.{◌≡◌, ℕ, ◌+◌, ◌-◌, ◌^◌, ◌<◌, ◌≤◌, IfOk, IfSome, IsOk, MatchOption, OnErr, OnOk, length};
+ghost use Rattle.std.specs.Option.{IfNone};
 ghost use Rattle.lit_base.specs.NextEnds.{IsNextEnd, NoEndAfter};
 ghost use Rattle.text_ends.specs.HitsAt.{Extends, GainsHitsAt};
 ghost use Rattle.text_ends.specs.HitsBehind.{StopsAt};
-ghost use Rattle.text_ends.specs.Walks.{Walk};
+ghost use Rattle.text_ends.specs.Walks.{HasGoneOn, Walk};
 
 use crate::hit::Hit;
 use std::alloc::AllocError;
@@ -23,7 +24,8 @@ pub trait Ends {
             (NoEndAfter before.literals before.text before.from)
             (λ found. IsNextEnd before.literals before.text before.from found.0) }
         ensures tells { IfSome result (λ found. tells self.new found.0 found.1) }
-        ensures moved { IfSome result (λ found. walk self.new ≡ record (walk self.old) { from = found.0 }) };
+        ensures moved { IfSome result (λ found. walk self.new ≡ record (walk self.old) { from = found.0 }) }
+        ensures over { IfNone result (HasGoneOn (walk self.old) (walk self.new)) };
 
     /// Adds the hits at an end that was found, counted as `at`. When memory is refused, earlier hits stay added.
     fn add_hits_at(
@@ -41,7 +43,7 @@ pub trait Ends {
 
 /// Adds the hits that end in the text after `from`, up to the first end by which `out` gained at least `most` hits. The
 /// walk starts at `from`, which counts as `at`. Returns this end, or the text's length. Memory is refused only after a
-/// hit was found; earlier hits then stay added.
+/// hit was found; `out` is then unchanged.
 pub fn add_hits_of<E: Ends>(
     ends: &mut E,
     text: &[u8],
@@ -55,12 +57,15 @@ pub fn add_hits_of<E: Ends>(
     requires inside { from ≤ length text.now }
     requires room { at + (length text.now - from) < 2 ^ 64 }
     ensures ok { IfOk result (λ stop. StopsAt (E.walk ends.old).literals text.now from at most stop out.old.items out.new.items) }
-    ensures kept { Extends out.old.items out.new.items }
+    ensures same_hits { OnErr result (out.new.items ≡ out.old.items) }
     ensures quiet { NoEndAfter (E.walk ends.old).literals text.now from → IsOk result }
 {
     let before = out.len();
     while let Some((end, told)) = ends.next_end() {
-        ends.add_hits_at(end, told, at + (end - from) as u64, out)?;
+        if let Err(refused) = ends.add_hits_at(end, told, at + (end - from) as u64, out) {
+            out.truncate(before);
+            return Err(refused);
+        }
         if out.len() - before >= most {
             return Ok(end);
         }

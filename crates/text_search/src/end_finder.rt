@@ -1,8 +1,7 @@
 //! A search through texts that tunes itself to them.
-ghost use Rattle.std.specs.Prelude.{◌≡◌, ◌+◌, ◌-◌, ◌^◌, ◌<◌, ◌≤◌, IfOk, IfSome, IsOk, IsOkUnless, MatchOption, length};
+ghost use Rattle.std.specs.Prelude.{◌≡◌, ◌+◌, ◌-◌, ◌^◌, ◌<◌, ◌≤◌, IfOk, IfSome, IsOk, IsOkUnless, MatchOption, OnErr, length};
 ghost use Rattle.std.specs.Option.{IfNone};
 ghost use Rattle.lit_plan.specs.declared.fault.Fault.TheVariants.{OutOfMemory};
-ghost use Rattle.text_ends.specs.HitsAt.{Extends};
 ghost use Rattle.lit_base.specs.NextEnds.{IsNextEnd, NoEndAfter};
 ghost use Rattle.text_ends.specs.HitsBehind.{AreHitsBehind, Continues, StopsAt};
 
@@ -184,7 +183,8 @@ impl EndFinder {
     }
 
     /// Adds the hits of a text that end after `from`, up to the first end by which `out` gained at least `most` hits, as
-    /// `scan_until` does. It tunes itself on the way, before each span of the text.
+    /// `scan_until` does. It tunes itself on the way, before each span of the text. When memory is refused, `out` is
+    /// unchanged.
     pub fn add_spans(
         &mut self,
         compiled: &Compiled,
@@ -197,7 +197,7 @@ impl EndFinder {
         requires inside { from ≤ length text.now }
         ensures same { self.new ≡ self.old }
         ensures ok { IfOk result (λ stop. StopsAt compiled.now.literals text.now from from most stop out.old.items out.new.items) }
-        ensures kept { Extends out.old.items out.new.items }
+        ensures same_hits { OnErr result (out.new.items ≡ out.old.items) }
         ensures quiet { NoEndAfter compiled.now.literals text.now from → IsOk result }
     {
         let before = out.len();
@@ -209,11 +209,16 @@ impl EndFinder {
                 .min(place.saturating_add(span_behind(place - from)));
             let (front, _) = text.split_at(stop);
             let left = most - (out.len() - before);
-            let end = self.add_hits(compiled, front, place, place as u64, left, out)?;
-            if out.len() - before >= most {
-                return Ok(end);
+            match self.add_hits(compiled, front, place, place as u64, left, out) {
+                Ok(end) => place = end,
+                Err(refused) => {
+                    out.truncate(before);
+                    return Err(refused);
+                }
             }
-            place = end;
+            if out.len() - before >= most {
+                return Ok(place);
+            }
         }
         Ok(text.len())
     }
@@ -233,7 +238,7 @@ impl EndFinder {
         requires room { at + (length text.now - from) < 2 ^ 64 }
         ensures same { self.new ≡ self.old }
         ensures ok { IfOk result (λ stop. StopsAt compiled.now.literals text.now from at most stop out.old.items out.new.items) }
-        ensures kept { Extends out.old.items out.new.items }
+        ensures same_hits { OnErr result (out.new.items ≡ out.old.items) }
         ensures quiet { NoEndAfter compiled.now.literals text.now from → IsOk result }
     {
         let mut ends = compiled.ends_behind(text, from);
@@ -260,7 +265,7 @@ impl EndFinder {
         requires room { at + (length text.now - from) < 2 ^ 64 }
         ensures same { self.new ≡ self.old }
         ensures ok { IfOk result (λ stop. StopsAt compiled.now.literals text.now from at most stop out.old.items out.new.items) }
-        ensures kept { Extends out.old.items out.new.items }
+        ensures same_hits { OnErr result (out.new.items ≡ out.old.items) }
         ensures quiet { NoEndAfter compiled.now.literals text.now from → IsOk result }
     {
         let mut ends = WindowedEnds::behind(&self.windows, text, from);
@@ -310,7 +315,7 @@ impl EndFinder {
         requires room { at + (length text.now - from) < 2 ^ 64 }
         ensures same { self.new ≡ self.old }
         ensures ok { IfOk result (λ stop. StopsAt compiled.now.literals text.now from at most stop out.old.items out.new.items) }
-        ensures kept { Extends out.old.items out.new.items }
+        ensures same_hits { OnErr result (out.new.items ≡ out.old.items) }
         ensures quiet { NoEndAfter compiled.now.literals text.now from → IsOk result }
     {
         let mut ends = ShiftedEnds::behind(&self.shift_or, text, from);
@@ -360,7 +365,7 @@ impl EndFinder {
         requires room { at + (length text.now - from) < 2 ^ 64 }
         ensures same { self.new ≡ self.old }
         ensures ok { IfOk result (λ stop. StopsAt compiled.now.literals text.now from at most stop out.old.items out.new.items) }
-        ensures kept { Extends out.old.items out.new.items }
+        ensures same_hits { OnErr result (out.new.items ≡ out.old.items) }
         ensures quiet { NoEndAfter compiled.now.literals text.now from → IsOk result }
     {
         let Some(reading) = self.automaton.reading_behind(text, from) else {

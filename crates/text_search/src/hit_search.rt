@@ -1,6 +1,5 @@
 //! Searches for the hits of a text: by a plan alone, or by a finder.
-ghost use Rattle.std.specs.Prelude.{◌≡◌, ◌+◌, ◌-◌, ◌^◌, ◌<◌, ◌≤◌, IfOk, IsOk, length};
-ghost use Rattle.text_ends.specs.HitsAt.{Extends};
+ghost use Rattle.std.specs.Prelude.{◌≡◌, ◌+◌, ◌-◌, ◌^◌, ◌<◌, ◌≤◌, IfOk, IsOk, OnErr, length};
 ghost use Rattle.lit_base.specs.NextEnds.{NoEndAfter};
 ghost use Rattle.lit_base.specs.Literals.{Literals};
 ghost use Rattle.text_ends.specs.HitsBehind.{StopsAt};
@@ -16,7 +15,7 @@ pub trait HitSearch {
 
     /// Adds the hits that end in the text after `from`, which counts as `at`, up to the first end by which `out` gained
     /// at least `most` hits. Returns this end, or the text's length. Memory is refused only after a hit was found;
-    /// earlier hits then stay added.
+    /// `out` is then unchanged.
     fn add_hits(
         &mut self,
         compiled: &Compiled,
@@ -31,7 +30,7 @@ pub trait HitSearch {
         requires room { at + (length text.now - from) < 2 ^ 64 }
         ensures plan { serves self.new compiled.now.literals }
         ensures ok { IfOk result (λ stop. StopsAt compiled.now.literals text.now from at most stop out.old.items out.new.items) }
-        ensures kept { Extends out.old.items out.new.items }
+        ensures same_hits { OnErr result (out.new.items ≡ out.old.items) }
         ensures quiet { NoEndAfter compiled.now.literals text.now from → IsOk result };
 }
 

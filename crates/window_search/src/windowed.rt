@@ -82,6 +82,7 @@ impl Claims {
             (λ found. IsNextEnd list.now text.now self.old.seen found.0) }
         ensures first { IfSome result (λ found. IsFirstEnding list.now text.now 0 found.0 found.1) }
         ensures seen { IfSome result (λ found. self.new.seen ≡ found.0) }
+        ensures ahead { self.old.seen ≤ self.new.seen }
     {
         let mut claims = *self;
         'blocks: loop {

@@ -5,7 +5,7 @@ use Rattle.std.proofs.lemmas.Bool.{false≢true}
 use Rattle.std.proofs.lemmas.List.{length-append, length-take}
 use Rattle.text_ends.specs.HitsBehind.{StopsAt}
 use Rattle.lit_plan.specs.Bounds.{carry_of}
-use Rattle.text_ends.proofs.HitLists.{gained_both, gained_more}
+use Rattle.text_ends.proofs.HitLists.{gained_more}
 use Rattle.flow_scan.proofs.TailSteps.{quiet_front, quiet_rest}
 use Rattle.flow_scan.proofs.Stops.{stopped_in_front, stopped_in_place}
 use Rattle.flow_scan.proofs.progress.add_piece.Goals as goal
@@ -18,15 +18,9 @@ returns-in_err-stop-clause-quiet g c = λ none.
     absurd (false≢true (c.in_err-stop.ensures.quiet
     (rw (c.text.ensures, c.tail_len.ensures) (subst (λ t. NoEndAfter l (c.args.seam.now.tail ++ t) (length c.args.seam.now.tail)) (sym c.requires.front.first) (quiet_front l c.args.seam.now.tail c.args.piece.now (length c.args.seam.now.front) none)))))
 
-pub returns-in_err-in_place-clause-kept : goal.returns-in_err-in_place-clause-kept
-returns-in_err-in_place-clause-kept g c =
-    let first = c.in_ok-stop.ensures.kept in
-    let second = c.in_err-in_place.ensures.kept in
-    (first.0 ++ second.0, gained_both c.args.out.now.items c.add_hits.new.out.items c.add_hits-2.new.out.items first.0 second.0 first.1 second.1)
-
-pub returns-in_err-in_place-clause-quiet : goal.returns-in_err-in_place-clause-quiet
-returns-in_err-in_place-clause-quiet g c = λ none.
-    absurd (false≢true (c.in_err-in_place.ensures.quiet
+pub returns-in-Err-clause-quiet : goal.returns-in-Err-clause-quiet
+returns-in-Err-clause-quiet g c = λ none.
+    absurd (false≢true (c.in-Err.ensures.quiet
     (quiet_rest c.args.compiled.now.literals c.args.seam.now.tail c.args.piece.now c.carry-carry.result none)))
 
 -- the search from the tail on
@@ -37,8 +31,8 @@ at_seam g c =
 
 pub returns-then-gained-most-clause-ok : goal.returns-then-gained-most-clause-ok
 returns-then-gained-most-clause-ok g c =
-    let kept = c.in_ok-stop.ensures.kept in
-    let more = gained_more c.args.out.now.items c.add_hits.new.out.items kept.0 kept.1 in
+    let gained = c.in_ok-stop.ensures.ok.gained in
+    let more = gained_more c.args.out.now.items c.add_hits.new.out.items gained.found gained.grown in
     rw c.tail_len-then-gained-most.ensures (stopped_in_front c.args.compiled.now.literals c.args.seam.now.tail c.args.piece.now (length c.args.seam.now.front) c.args.at c.args.most c.in_ok-stop.stop c.args.out.now.items c.add_hits.new.out.items
     (at_seam g (goal.at.returns-then-gained-most-clause-ok g c).In_ok-stop) (λ _. omega (arith, more, c.if-gained-most.true, c.len.ensures, c.len-before.ensures, c.args.out.now.ok.0, c.add_hits.new.out.ok.0)))
 
@@ -51,16 +45,16 @@ returns-then-piece-ahead-clause-ok g c =
     rw c.tail_len-then-piece-ahead.ensures (stopped_in_front c.args.compiled.now.literals tail piece ahead c.args.at c.args.most c.in_ok-stop.stop c.args.out.now.items c.add_hits.new.out.items
     search (λ sooner. search.enough (omega (arith, sooner, c.if-piece-ahead.true, c.ahead.ensures, length-append tail (take ahead piece), length-take ahead piece))))
 
-pub returns-clause-ok : goal.returns-clause-ok
-returns-clause-ok g c =
+pub returns-in-Ok-clause-ok : goal.returns-in-Ok-clause-ok
+returns-in-Ok-clause-ok g c =
     let l = c.args.compiled.now.literals in
     let old = c.args.out.now.items in
     let middle = c.add_hits.new.out.items in
     let new = c.add_hits-2.new.out.items in
     let gained : c.len.result - c.len-before.result ≡ length middle - length old = omega (arith, c.len.ensures, c.len-before.ensures, c.args.out.now.ok.0, c.add_hits.new.out.ok.0) in
     let ahead : length c.args.seam.now.front ≡ carry_of l = ⊎_elim (λ whole. absurd (omega (arith, whole, c.if-piece-ahead.false, c.ahead.ensures))) (λ carried. carried ∙ c.requires.carry) c.requires.front.enough in
-    let first = rw ahead at (at_seam g (goal.at.returns-clause-ok g c).In_ok-stop) in
-    let second : StopsAt l c.args.piece.now (carry_of l) (c.args.at + carry_of l) (c.args.most - (length middle - length old)) c.in_ok-in_place.in_place middle new =
-    rw (c.carry-carry.ensures.value, gained) at c.in_ok-in_place.ensures.ok in
-    stopped_in_place l c.args.seam.now.tail c.args.piece.now c.args.at c.args.most c.in_ok-stop.stop c.in_ok-in_place.in_place old middle new c.carry-carry.ensures.bounds
+    let first = rw ahead at (at_seam g (goal.at.returns-in-Ok-clause-ok g c).In_ok-stop) in
+    let second : StopsAt l c.args.piece.now (carry_of l) (c.args.at + carry_of l) (c.args.most - (length middle - length old)) c.in-Ok.stop middle new =
+    rw (c.carry-carry.ensures.value, gained) at c.in-Ok.ensures.ok in
+    stopped_in_place l c.args.seam.now.tail c.args.piece.now c.args.at c.args.most c.in_ok-stop.stop c.in-Ok.stop old middle new c.carry-carry.ensures.bounds
     first (omega (arith, gained, c.if-gained-most.false)) second

@@ -9,36 +9,36 @@ use Rattle.text_ends.specs.Walks.{Walk}
 use Rattle.text_ends.proofs.HitLists.{gained_more}
 use Rattle.text_ends.proofs.Stops.{gained_ended, gained_here, gained_nothing}
 use Rattle.text_ends.proofs.ends.add_hits_of.Goals as goal
-use Rattle.text_ends.proofs.ends.add_hits_of.Goals.{In_ok-add_hits_at}
+use Rattle.text_ends.proofs.ends.add_hits_of.Goals.{In_default-add_hits_at}
 use Rattle.text_ends.proofs.ends.add_hits_of.Given.{Over}
 
 -- where the walk begins and where it stands
-abbrev first : (g : Over) → In_ok-add_hits_at g → Walk
+abbrev first : (g : Over) → In_default-add_hits_at g → Walk
 first g c = g.E.Ends.walk c.args.ends.now
 
-abbrev here : (g : Over) → In_ok-add_hits_at g → Walk
+abbrev here : (g : Over) → In_default-add_hits_at g → Walk
 here g c = g.E.Ends.walk c.loop-end.ends
 
 -- the position that it reaches
-next_end : (g : Over) (c : In_ok-add_hits_at g) → IsNextEnd (first g c).literals c.args.text.now (here g c).from c.in-Some.end
+next_end : (g : Over) (c : In_default-add_hits_at g) → IsNextEnd (first g c).literals c.args.text.now (here g c).from c.in-Some.end
 next_end g c = rw (c.loop-end.invariant.literals, c.loop-end.invariant.text) at c.in-Some.ensures.next
 
 -- it is one of the same literals and the same text
-moved : (g : Over) (c : In_ok-add_hits_at g) → g.E.Ends.walk c.next_end.new.self ≡ record (here g c) { from = c.in-Some.end }
+moved : (g : Over) (c : In_default-add_hits_at g) → g.E.Ends.walk c.next_end.new.self ≡ record (here g c) { from = c.in-Some.end }
 moved g c = c.in-Some.ensures.moved
 
-same_literals : (g : Over) (c : In_ok-add_hits_at g) → (g.E.Ends.walk c.next_end.new.self).literals ≡ (first g c).literals
+same_literals : (g : Over) (c : In_default-add_hits_at g) → (g.E.Ends.walk c.next_end.new.self).literals ≡ (first g c).literals
 same_literals g c = ap (λ (w : Walk). w.literals) (moved g c) ∙ c.loop-end.invariant.literals
 
-same_text : (g : Over) (c : In_ok-add_hits_at g) → (g.E.Ends.walk c.next_end.new.self).text ≡ c.args.text.now
+same_text : (g : Over) (c : In_default-add_hits_at g) → (g.E.Ends.walk c.next_end.new.self).text ≡ c.args.text.now
 same_text g c = ap (λ (w : Walk). w.text) (moved g c) ∙ c.loop-end.invariant.text
 
 -- the hits that the list gains there
-gained : (g : Over) (c : In_ok-add_hits_at g) → GainsHitsAt (first g c).literals c.args.text.now c.in-Some.end (c.args.at + (c.in-Some.end - c.args.from)) c.loop-end.out.items c.add_hits_at.new.out.items
-gained g c = rw (same_literals g c, same_text g c) at c.in_ok-add_hits_at.ensures.ok
+gained : (g : Over) (c : In_default-add_hits_at g) → GainsHitsAt (first g c).literals c.args.text.now c.in-Some.end (c.args.at + (c.in-Some.end - c.args.from)) c.loop-end.out.items c.add_hits_at.new.out.items
+gained g c = rw (same_literals g c, same_text g c) at c.in_default-add_hits_at.ensures.ok
 
 -- the hits up to the end reached
-further : (g : Over) (c : In_ok-add_hits_at g) → GainsHitsBehind (first g c).literals (take c.in-Some.end c.args.text.now) c.args.from c.args.at c.args.out.now.items c.add_hits_at.new.out.items
+further : (g : Over) (c : In_default-add_hits_at g) → GainsHitsBehind (first g c).literals (take c.in-Some.end c.args.text.now) c.args.from c.args.at c.args.out.now.items c.add_hits_at.new.out.items
 further g c =
     let before = c.loop-end.invariant in
     gained_here (first g c).literals c.args.text.now c.args.from (here g c).from c.in-Some.end c.args.at c.args.out.now.items c.loop-end.out.items c.add_hits_at.new.out.items
@@ -60,7 +60,7 @@ loop-end-init g c =
 
 pub loop-end-preserved : goal.loop-end-preserved
 loop-end-preserved g c =
-    let at = (goal.at.loop-end-preserved g c).In_ok-add_hits_at in
+    let at = (goal.at.loop-end-preserved g c).In_default-add_hits_at in
     let next = next_end g at in
     let there : (g.E.Ends.walk c.next_end.new.self).from ≡ c.in-Some.end = ap (λ (w : Walk). w.from) (moved g at) in
     record {
@@ -75,11 +75,11 @@ loop-end-preserved g c =
 -- enough was gained
 pub returns-then-len-before-clause-ok : goal.returns-then-len-before-clause-ok
 returns-then-len-before-clause-ok g c =
-    let at = (goal.at.returns-then-len-before-clause-ok g c).In_ok-add_hits_at in
+    let at = (goal.at.returns-then-len-before-clause-ok g c).In_default-add_hits_at in
     let next = next_end g at in
     let all = further g at in
     let more = gained_more c.args.out.now.items c.add_hits_at.new.out.items all.found all.grown in
-    let few : length c.add_hits_at.new.out.items ≤ length c.loop-end.out.items + length (g.E.Ends.walk c.next_end.new.self).literals.texts = c.in_ok-add_hits_at.ensures.few in
+    let few : length c.add_hits_at.new.out.items ≤ length c.loop-end.out.items + length (g.E.Ends.walk c.next_end.new.self).literals.texts = c.in_default-add_hits_at.ensures.few in
     let same : length (g.E.Ends.walk c.next_end.new.self).literals.texts ≡ length (first g at).literals.texts = ap (λ (l : Literals). length l.texts) (same_literals g at) in
     record {
       after = omega (arith, next.after, c.loop-end.invariant.ahead);
@@ -89,8 +89,8 @@ returns-then-len-before-clause-ok g c =
       few = omega (arith, c.loop-end.invariant.few, few, same);
     }
 
-pub returns-in_err-add_hits_at-clause-quiet : goal.returns-in_err-add_hits_at-clause-quiet
-returns-in_err-add_hits_at-clause-quiet g c =
+pub returns-in-Err-clause-quiet : goal.returns-in-Err-clause-quiet
+returns-in-Err-clause-quiet g c =
     let before = c.loop-end.invariant in
     let w : Walk = g.E.Ends.walk c.args.ends.now in
     let next : IsNextEnd w.literals c.args.text.now (g.E.Ends.walk c.loop-end.ends).from c.in-Some.end = rw (before.literals, before.text) at c.in-Some.ensures.next in

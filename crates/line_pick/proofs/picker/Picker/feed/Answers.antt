@@ -12,7 +12,7 @@ use Rattle.line_pick.specs.declared.state.State.{State}
 use Rattle.line_pick.specs.Lending.{answer_of}
 use Rattle.line_pick.specs.Matching.{picks}
 use Rattle.line_pick.specs.Picking.{Picking, fed_state}
-use Rattle.line_pick.proofs.LentLemmas.{answer_to-More}
+use Rattle.line_pick.proofs.LentLemmas.{answer_of-IsOk, answer_to-More}
 use Rattle.line_pick.proofs.NumberLemmas.{Lends-moved, shown-more, shown-same}
 use Rattle.line_pick.proofs.picker.Picker.feed.Goals as goal
 
@@ -52,4 +52,5 @@ returns-clause-running g c = rw (← c.self.view_is) (λ running.
           };
       state = c.after_feed-self-inside.ensures;
       too_long = search rules;
+      idle = λ none. c.answered-answer.ensures ∙ answer_of-IsOk c.take.result (c.take.ensures.idle none);
     })

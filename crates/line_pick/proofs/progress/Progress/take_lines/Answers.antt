@@ -1,12 +1,13 @@
 -- The lines of the text are those up to its last newline.
 use Rattle.std.proofs.Common.{◌+◌, ◌++◌, length, arith, sym, ap, ◌∙◌, subst}
 use Rattle.std.specs.Option.{option_copied}
+use Rattle.lit_base.specs.Lines.{ended_lines}
 use Rattle.std.proofs.lemmas.Result.{err_from_is_err_and, on_ok_weaker}
 use Rattle.line_pick.specs.Lending.{Whole, numbered}
 use Rattle.line_pick.specs.Matching.{picks}
 use Rattle.line_pick.specs.OpenLines.{Keeps, most_kept}
 use Rattle.line_pick.specs.declared.line_search.LineSearch.{LineSearch}
-use Rattle.line_pick.proofs.LentLemmas.{Lent-lines, Lends-held, OnOk-any}
+use Rattle.line_pick.proofs.LentLemmas.{Lent-lines, Lent-nothing, Lends-held, OnOk-any, answer_to-More}
 use Rattle.line_pick.proofs.Newlines.{ended_lines-cut, open_rest-cut, length-cut}
 use Rattle.line_pick.proofs.progress.Progress.take_lines.Goals as goal
 
@@ -33,3 +34,9 @@ returns-clause-held g c =
 
 pub returns-clause-lines : goal.returns-clause-lines
 returns-clause-lines g c = OnOk-any c.hold_open.result (λ e. c.hold_open.ensures.lines ∙ c.in_ok-self.ensures.count e ∙ ap (λ ls. c.args.self.now.lines + length ls) (sym (ended_lines-cut c.split_ended.ensures)))
+
+pub returns-in_err-self-clause-idle : goal.returns-in_err-self-clause-idle
+unfolding ended_lines
+returns-in_err-self-clause-idle g c = λ none.
+    let nothing = sym (ended_lines-cut c.split_ended.ensures) ∙ ap ended_lines none in
+    absurd (answer_to-More c.in_err-self.field-0.0 (Lent-nothing (ap (numbered (picks c.args.search.now.matcher) c.args.self.now.lines) nothing) c.in_err-self.ensures.lent))

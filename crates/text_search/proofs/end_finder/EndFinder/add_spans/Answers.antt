@@ -1,11 +1,11 @@
 -- Span by span the hits up to where its search stopped are added.
-use Rattle.std.proofs.Common.{◌≡◌, ◌-◌, ◌≤◌, ◌++◌, ℕ, length, take, subst, arith}
+use Rattle.std.proofs.Common.{◌≡◌, ◌-◌, ◌≤◌, ℕ, length, take, subst, arith}
 use Rattle.std.proofs.lemmas.Bool.{false≢true}
 use Rattle.text_ends.specs.HitsBehind.{GainsHitsBehind, StopsAt}
-use Rattle.text_ends.proofs.HitLists.{gained_both, gained_more, none_in_front}
+use Rattle.text_ends.proofs.HitLists.{gained_more, none_in_front}
 use Rattle.text_ends.proofs.Stops.{gained_nothing, span_end, span_gained, stopped_further}
 use Rattle.text_search.proofs.end_finder.EndFinder.add_spans.Goals as goal
-use Rattle.text_search.proofs.end_finder.EndFinder.add_spans.Goals.{In_ok-end}
+use Rattle.text_search.proofs.end_finder.EndFinder.add_spans.Goals.{In-Ok}
 
 pub spans-init : goal.spans-init
 spans-init c = record {
@@ -16,60 +16,54 @@ spans-init c = record {
   gained = gained_nothing c.args.compiled.now.literals c.args.text.now c.args.from c.args.from c.args.out.now.items;
 }
 
-pub returns-in_err-end-clause-quiet : goal.returns-in_err-end-clause-quiet
-returns-in_err-end-clause-quiet c = λ none.
+pub returns-in-Err-clause-quiet : goal.returns-in-Err-clause-quiet
+returns-in-Err-clause-quiet c = λ none.
     let before = c.spans.invariant in
-    absurd (false≢true ((rw c.split_at.ensures.front at c.in_err-end.ensures.quiet)
+    absurd (false≢true ((rw c.split_at.ensures.front at c.in-Err.ensures.quiet)
     (none_in_front c.args.compiled.now.literals c.args.text.now c.args.from c.spans.place c.min-stop.result before.ahead none)))
 
-pub returns-in_err-end-clause-kept : goal.returns-in_err-end-clause-kept
-returns-in_err-end-clause-kept c =
-    let first = c.spans.invariant.gained in
-    let second = c.in_err-end.ensures.kept in
-    (first.found ++ second.0, gained_both c.args.out.now.items c.spans.out.items c.add_hits.new.out.items first.found second.0 first.grown second.1)
-
 -- how many hits were gained before
-gained : (c : In_ok-end) → c.len.result - c.len-before.result ≡ length c.spans.out.items - length c.args.out.now.items
+gained : (c : In-Ok) → c.len.result - c.len-before.result ≡ length c.spans.out.items - length c.args.out.now.items
 gained c = omega (arith, c.len.ensures, c.len-before.ensures, c.args.out.now.ok.0, c.spans.out.ok.0)
 
 -- the hits of a span
-span : (c : In_ok-end) → StopsAt c.args.compiled.now.literals (take c.min-stop.result c.args.text.now) c.spans.place c.spans.place (c.args.most - (length c.spans.out.items - length c.args.out.now.items)) c.in_ok-end.end c.spans.out.items c.add_hits.new.out.items
-span c = rw (c.split_at.ensures.front, gained c) at c.in_ok-end.ensures.ok
+span : (c : In-Ok) → StopsAt c.args.compiled.now.literals (take c.min-stop.result c.args.text.now) c.spans.place c.spans.place (c.args.most - (length c.spans.out.items - length c.args.out.now.items)) c.in-Ok.end c.spans.out.items c.add_hits.new.out.items
+span c = rw (c.split_at.ensures.front, gained c) at c.in-Ok.ensures.ok
 
 -- it has not become shorter
-more : (c : In_ok-end) → length c.args.out.now.items ≤ length c.spans.out.items
+more : (c : In-Ok) → length c.args.out.now.items ≤ length c.spans.out.items
 more c = gained_more c.args.out.now.items c.spans.out.items c.spans.invariant.gained.found c.spans.invariant.gained.grown
 
-longer : (c : In_ok-end) → length c.spans.out.items ≤ length c.add_hits.new.out.items
-longer c = gained_more c.spans.out.items c.add_hits.new.out.items c.in_ok-end.ensures.kept.0 c.in_ok-end.ensures.kept.1
+longer : (c : In-Ok) → length c.spans.out.items ≤ length c.add_hits.new.out.items
+longer c = gained_more c.spans.out.items c.add_hits.new.out.items (span c).gained.found (span c).gained.grown
 
 pub returns-then-len-before-clause-ok : goal.returns-then-len-before-clause-ok
 returns-then-len-before-clause-ok c =
-    let at = (goal.at.returns-then-len-before-clause-ok c).In_ok-end in
+    let at = (goal.at.returns-then-len-before-clause-ok c).In-Ok in
     let before = c.spans.invariant in
-    stopped_further c.args.compiled.now.literals c.args.text.now c.args.from c.spans.place c.min-stop.result c.args.most c.in_ok-end.end c.args.out.now.items c.spans.out.items c.add_hits.new.out.items
+    stopped_further c.args.compiled.now.literals c.args.text.now c.args.from c.spans.place c.min-stop.result c.args.most c.in-Ok.end c.args.out.now.items c.spans.out.items c.add_hits.new.out.items
     before.ahead (omega (arith, c.min-stop.ensures)) before.few before.gained (span at)
     (λ _. omega (arith, c.if-len-before.true, c.len-in-spans.ensures, c.len-before.ensures, c.args.out.now.ok.0, c.add_hits.new.out.ok.0, more at, longer at))
 
 -- where too few were gained, the span was searched to its end
-to_end : (c : goal.Else-len-before) → c.in_ok-end.end ≡ c.min-stop.result
+to_end : (c : goal.Else-len-before) → c.in-Ok.end ≡ c.min-stop.result
 to_end c =
-    let at = (goal.at.spans-preserved c).In_ok-end in
-    span_end c.args.compiled.now.literals c.args.text.now c.spans.place c.min-stop.result c.args.most c.in_ok-end.end c.args.out.now.items c.spans.out.items c.add_hits.new.out.items
+    let at = (goal.at.spans-preserved c).In-Ok in
+    span_end c.args.compiled.now.literals c.args.text.now c.spans.place c.min-stop.result c.args.most c.in-Ok.end c.args.out.now.items c.spans.out.items c.add_hits.new.out.items
     (omega (arith, c.min-stop.ensures)) (more at) c.spans.invariant.few (span at)
     (omega (arith, c.if-len-before.false, c.len-in-spans.ensures, c.len-before.ensures, c.args.out.now.ok.0, c.add_hits.new.out.ok.0))
 
 pub spans-preserved : goal.spans-preserved
 spans-preserved c =
-    let at = (goal.at.spans-preserved c).In_ok-end in
+    let at = (goal.at.spans-preserved c).In-Ok in
     let before = c.spans.invariant in
     let search = span at in
     record {
-      finder = c.in_ok-end.ensures.plan;
+      finder = c.in-Ok.ensures.plan;
       ahead = omega (arith, search.after, before.ahead);
       within = omega (arith, to_end c, c.min-stop.ensures);
       few = omega (arith, c.if-len-before.false, c.len-in-spans.ensures, c.len-before.ensures, c.args.out.now.ok.0, c.add_hits.new.out.ok.0, more at, longer at);
-      gained = span_gained c.args.compiled.now.literals c.args.text.now c.args.from c.spans.place c.min-stop.result _ c.in_ok-end.end c.args.out.now.items c.spans.out.items c.add_hits.new.out.items
+      gained = span_gained c.args.compiled.now.literals c.args.text.now c.args.from c.spans.place c.min-stop.result _ c.in-Ok.end c.args.out.now.items c.spans.out.items c.add_hits.new.out.items
           before.ahead (omega (arith, c.min-stop.ensures)) before.gained search;
     }
 
