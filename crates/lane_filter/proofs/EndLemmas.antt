@@ -6,9 +6,9 @@ use Rattle.std.proofs.lemmas.Nat.Bits.{bit_at-suc, bit_at-zero}
 use Rattle.nib_mask.specs.declared.masks.Masks.{Masks}
 use Rattle.nib_mask.specs.Tables.{table_value}
 use Rattle.nib_mask.specs.Candidates.{IsCandidate, filter_byte_at}
-use Rattle.lane_filter.specs.Bits.{SplitsLowest}
-use Rattle.lane_filter.specs.Lanes.{TellsBits}
-use Rattle.lane_filter.specs.Filtered.{IsMarked}
+use Rattle.byte_lanes.specs.Bits.{SplitsLowest}
+use Rattle.byte_lanes.specs.Lanes.{TellsBits}
+use Rattle.byte_lanes.specs.Filtered.{IsMarked}
 use Rattle.lane_filter.specs.PlacesAfter.{NoneWithin, IsFirstAfter, AreMarked}
 
 module _ (P : ℕ → Type 0) where

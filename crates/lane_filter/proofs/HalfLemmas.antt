@@ -1,15 +1,13 @@
 -- Tables of bytes that have the buckets of others between them let no occurrence through that these do not.
-use Rattle.std.proofs.Common.{◌≡◌, ◌≢◌, ◌⊎◌, inl, inr, ℕ, zero, ◌+◌, ◌-◌, ◌*◌, ◌/◌, ◌%◌, ◌^◌, ◌<◌, ◌≤◌, List, [], ◌∷◌, ◌++◌, All, length, get_or, sym, ap, ◌∙◌, arith}
+use Rattle.std.proofs.Common.{◌≡◌, inl, inr, ℕ, ◌+◌, ◌-◌, ◌/◌, ◌%◌, ◌<◌, ◌≤◌, List, [], ◌∷◌, All, length, get_or, ap, ◌∙◌, arith}
 use Rattle.std.proofs.Math.Pow.{pow_mono}
 use Rattle.std.proofs.lemmas.Bool.{cases_eq}
 use Rattle.lit_base.specs.Literals.{Literals}
-use Rattle.lit_base.specs.Occurrences.{Occurs}
 use Rattle.nib_mask.specs.declared.masks.Masks.{Masks}
 use Rattle.nib_mask.specs.declared.byte_masks.ByteMasks.{ByteMasks}
 use Rattle.nib_mask.specs.Candidates.{Covers, CoversBy, GivesFilterSets, IsCandidate, filter_byte_at}
 use Rattle.nib_mask.specs.FilterSet.{filter_set, passes}
 use Rattle.nib_mask.specs.Halves.{GivesPart, widened}
-use Rattle.nib_mask.specs.Tables.{table_value}
 use Rattle.nib_mask.proofs.Buckets.{runs_mask-lt}
 use Rattle.nib_mask.proofs.TableLemmas.{padded-lt}
 use Rattle.lane_filter.specs.Sieves.{GiveFilterSets, IsCandidateOfTwo}

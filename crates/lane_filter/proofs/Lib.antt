@@ -1,11 +1,5 @@
-pub mod AnyLemmas
-pub mod BitLemmas
 pub mod EndLemmas
-pub mod EntryLemmas
-pub mod FilterLemmas
-pub mod FourLemmas
 pub mod HalfLemmas
-pub mod LaneLemmas
 pub mod PairLemmas
 pub mod Ranks
 pub mod TripleLemmas

@@ -7,7 +7,7 @@ use Rattle.std.proofs.lemmas.Option.{get_or_from_slice_get}
 use Rattle.lit_base.specs.Literals.{Literals}
 use Rattle.lit_base.specs.Occurrences.{Occurs}
 use Rattle.lane_filter.proofs.PairLemmas.{pair_stands, rare_stands}
-use Rattle.lane_filter.specs.Lanes.{TellsBits}
+use Rattle.byte_lanes.specs.Lanes.{TellsBits}
 use Rattle.lane_filter.specs.Pairs.{IsOneOf, IsPairEnd, IsRareByteOf, StandsBefore}
 use Rattle.lane_filter.specs.Triples.{IsTripleEnd, IsTripleOf}
 use Rattle.lane_filter.specs.declared.pair.BytePair.{BytePair}

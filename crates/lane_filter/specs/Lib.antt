@@ -1,14 +1,11 @@
-pub mod Bits
 pub mod CursorViews
 pub mod Cursors
 pub mod PlacesAfter
-pub mod Entries
-pub mod Filtered
-pub mod Fours
 pub mod Fronts
-pub mod Lanes
 pub mod OneBytes
 pub mod Pairs
 pub mod Sieves
 pub mod Triples
-pub mod WideTables
+pub use Rattle.byte_lanes.specs.Bits
+pub use Rattle.byte_lanes.specs.Filtered
+pub use Rattle.byte_lanes.specs.Lanes

@@ -2,7 +2,7 @@
 ghost use Rattle.std.specs.Prelude.{◌≡◌, ◌+◌, ◌≤◌, length};
 ghost use Rattle.nib_mask.specs.Candidates.{IsCandidate};
 ghost use Rattle.nib_mask.specs.Halves.{widened};
-ghost use Rattle.lane_filter.specs.Lanes.{TellsBits};
+ghost use Rattle.byte_lanes.specs.Lanes.{TellsBits};
 
 use crate::end_test::EndTest;
 use crate::nibbles::Nibbles;

@@ -7,11 +7,11 @@ ghost use Rattle.lane_filter.specs.PlacesAfter.{NoneWithin, IsFirstAfter, AreMar
 ghost use Rattle.lane_filter.specs.Sieves.{IsCandidateOfTwo, Passes};
 
 use crate::any_of::AnyOf;
-use crate::bits::{below_bit, from_bit, split_lowest};
 use crate::end_test::EndTest;
 use crate::nibbles::Nibbles;
 use crate::sieve::Sieve;
 use crate::skipping::skip_unmarked;
+use byte_lanes::{below_bit, from_bit, split_lowest};
 use nib_mask::ByteMasks;
 use std::marker::Model;
 

@@ -1,7 +1,7 @@
 //! Tests of the positions of a text at which an occurrence may end, 64 of them at a time.
 ghost use Rattle.std.specs.Prelude.{◌≡◌, ℕ, ◌+◌, ◌<◌, ◌≤◌, ◌↔◌, IsTrue, List, length};
 ghost use Rattle.lane_filter.specs.Fronts.{IsFrontOf};
-ghost use Rattle.lane_filter.specs.Lanes.{TellsBits};
+ghost use Rattle.byte_lanes.specs.Lanes.{TellsBits};
 
 use crate::rare_look::Turn;
 

@@ -1,12 +1,12 @@
 //! The test of ends by a filter's tables.
 ghost use Rattle.std.specs.Prelude.{◌≡◌};
 ghost use Rattle.nib_mask.specs.Halves.{widened};
-ghost use Rattle.lane_filter.specs.WideTables.{AreTablesOf};
+ghost use Rattle.byte_lanes.specs.WideTables.{AreTablesOf};
 
 use crate::end_test::EndTest;
 use crate::plain;
 use crate::rare_look::Turn;
-use crate::tables::Tables;
+use byte_lanes::Tables;
 use nib_mask::ByteMasks;
 
 /// Masks, and their tables as vectors.

@@ -1,14 +1,14 @@
 //! The test of ends by the only byte of a literal.
 ghost use Rattle.std.specs.Prelude.{◌≡◌, ℕ, ◌+◌, ◌<◌, ◌≤◌, ◌↔◌, IfSome, IsSome, List, length, slice_index};
-ghost use Rattle.lane_filter.specs.Lanes.{TellsLanes};
+ghost use Rattle.byte_lanes.specs.Lanes.{TellsLanes};
 ghost use Rattle.lane_filter.specs.OneBytes.{IsByteOf, IsEndOfByte};
 ghost use Rattle.lit_base.specs.Literals.{lengths};
 ghost use Rattle.lit_base.specs.Occurrences.{Occurs};
 
 use crate::end_test::EndTest;
-use crate::lanes::{any_lane_of, equal_bits, load, load_64, value_where, with_bits};
 use crate::pair::case_bit;
 use crate::rare_look::Turn;
+use byte_lanes::{any_lane_of, equal_bits, load, load_64, value_where, with_bits};
 use lit_base::LitList;
 use std::simd::prelude::*;
 

@@ -1,13 +1,13 @@
 //! Two bytes of a literal that are rare in usual text: where not both stand, it does not end.
 ghost use Rattle.std.specs.Prelude.{◌≡◌, ◌≢◌, ℕ, ◌+◌, ◌-◌, ◌^◌, ◌<◌, ◌≤◌, ◌↔◌, IfSome, IsTrue, List, length, slice_index, slice_index_or, max};
-ghost use Rattle.lane_filter.specs.Lanes.{HoldsBelow, TellsBits, TellsLanes};
+ghost use Rattle.byte_lanes.specs.Lanes.{HoldsBelow, TellsBits, TellsLanes};
 ghost use Rattle.lane_filter.specs.Pairs.{AreUnlike, IsExact, IsOneOf, IsPairEnd, IsPairOf, IsRareByteOf, StandsBefore, case_bit};
 ghost use Rattle.lit_base.specs.declared.fold.Fold.{Fold};
 ghost use Rattle.lit_base.specs.Occurrences.{Occurs};
 
 use crate::end_test::EndTest;
-use crate::lanes::{any_lane_of, both, equal_bits, load, load_64, value_where, with_bits};
 use crate::rare_look::Turn;
+use byte_lanes::{any_lane_of, both, equal_bits, load, load_64, value_where, with_bits};
 use lit_base::{Fold, LitList};
 use memchr::arch::all::packedpair::{DefaultFrequencyRank, HeuristicFrequencyRank};
 use std::simd::prelude::*;

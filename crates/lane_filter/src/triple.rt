@@ -1,14 +1,14 @@
 //! Three bytes of a literal that are rare in usual text: where not all of them stand, it does not end.
 ghost use Rattle.std.specs.Prelude.{◌≡◌, ◌↔◌, ℕ, ◌+◌, ◌-◌, ◌^◌, ◌<◌, ◌≤◌, IsTrue, List, length};
-ghost use Rattle.lane_filter.specs.Lanes.{TellsLanes};
+ghost use Rattle.byte_lanes.specs.Lanes.{TellsLanes};
 ghost use Rattle.lane_filter.specs.Pairs.{IsOneOf};
 ghost use Rattle.lane_filter.specs.Triples.{AreExact, IsTripleEnd, IsTripleOf, most_behind};
 ghost use Rattle.lit_base.specs.Occurrences.{Occurs};
 
 use crate::end_test::EndTest;
-use crate::lanes::{any_lane_of, both};
 use crate::pair::{BytePair, CHOSEN_FROM, RareByte, usual_rank};
 use crate::rare_look::Turn;
+use byte_lanes::{any_lane_of, both};
 use lit_base::{Fold, LitList};
 use std::simd::prelude::*;
 

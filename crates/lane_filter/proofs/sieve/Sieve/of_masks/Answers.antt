@@ -1,6 +1,6 @@
 -- At most eight buckets fit in the first half, others in both.
 use Rattle.std.proofs.Common.{arith}
-use Rattle.lane_filter.proofs.HalfLemmas.{few_cover, few_sets, two_cover, two_sets}
+use Rattle.lane_filter.proofs.HalfLemmas.{few_cover, few_sets, two_cover}
 use Rattle.lane_filter.proofs.sieve.Sieve.of_masks.Goals as goal
 
 pub returns-then-buckets-le8-clause-sieve : goal.returns-then-buckets-le8-clause-sieve

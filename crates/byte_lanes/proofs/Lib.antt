@@ -1,0 +1,6 @@
+pub mod AnyLemmas
+pub mod BitLemmas
+pub mod EntryLemmas
+pub mod FilterLemmas
+pub mod FourLemmas
+pub mod LaneLemmas

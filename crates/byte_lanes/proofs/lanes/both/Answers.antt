@@ -1,0 +1,6 @@
+use Rattle.std.proofs.Common.{bit_and}
+use Rattle.byte_lanes.proofs.LaneLemmas.{lanes_of, lanes_zipped}
+use Rattle.byte_lanes.proofs.lanes.both.Goals as goal
+
+pub returns : goal.returns
+returns c = lanes_zipped bit_and (lanes_of c.args.a c.fits-a.0) (lanes_of c.args.b c.fits-b.0)

@@ -1,5 +1,0 @@
-use Rattle.lane_filter.proofs.BitLemmas.{bits_from}
-use Rattle.lane_filter.proofs.bits.from_bit.Goals as goal
-
-pub returns : goal.returns
-returns c = bits_from c.args.mask c.args.place c.ranges.mask.fits

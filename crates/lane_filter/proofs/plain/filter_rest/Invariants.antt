@@ -1,5 +1,0 @@
-use Rattle.lane_filter.specs.Filtered.{IsFilteredBelow}
-use Rattle.lane_filter.proofs.plain.filter_rest.Given as goal
-
-abbrev pub invariant-loop-place : goal.invariant-loop-place
-invariant-loop-place l = IsFilteredBelow l.masks l.x0 l.x1 l.x2 l.place l.out

@@ -1,6 +1,0 @@
-use Rattle.std.proofs.Common.{bit_or}
-use Rattle.lane_filter.proofs.LaneLemmas.{lanes_of, lanes_zipped}
-use Rattle.lane_filter.proofs.wide_lanes.either_wide.Goals as goal
-
-pub returns : goal.returns
-returns c = lanes_zipped bit_or (lanes_of c.args.a c.fits-a.0) (lanes_of c.args.b c.fits-b.0)
