@@ -1,20 +1,31 @@
-//! Vectors of 32 bytes, lane by lane, and the filter of a packed search by them: its tables in vectors, and kernels over
-//! slices. It knows no literals.
+//! Vectors of 32 bytes, lane by lane, and tests of many positions at once by them: the filter of a packed search over
+//! slices and in blocks of a text, by its tables in vectors. It knows no literals.
 //!
-//! Theorems: `filter` and `filter_wide` write the filter number of each position, for every length. `Tables::marks`
-//! returns the bits of 64 positions whose filter byte is not zero.
+//! Theorems: `filter` and `filter_wide` write the filter number of each position, for every length. `BlockFilter` returns
+//! the bits of the 64 positions that masks let pass. `skip_unmarked` passes no position that a test lets pass.
 #![tactic(auto)]
 
+mod any_of;
 mod bits;
+mod block_filter;
+mod end_test;
 mod entries;
 mod four;
 mod kernels;
 mod lanes;
+mod nibbles;
 mod plain;
+mod rare_look;
+mod skipping;
 mod tables;
 mod wide_lanes;
 
+pub use any_of::AnyOf;
 pub use bits::{below_bit, from_bit, split_lowest};
+pub use block_filter::BlockFilter;
+pub use end_test::EndTest;
 pub use kernels::{any_set, filter, filter_wide};
 pub use lanes::{any_lane_of, both, equal_bits, load, load_64, value_where, with_bits};
-pub use tables::Tables;
+pub use nibbles::Nibbles;
+pub use rare_look::Turn;
+pub use skipping::skip_unmarked;

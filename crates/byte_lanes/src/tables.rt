@@ -13,7 +13,7 @@ use std::simd::prelude::*;
 /// The six tables, each twice in a vector: of the third-last byte, the second-last and the last, by
 /// the low half of a byte and by the high one.
 #[derive(Clone, Copy)]
-pub struct Tables {
+pub(crate) struct Tables {
     third_low: u8x32,
     third_high: u8x32,
     second_low: u8x32,
@@ -28,7 +28,7 @@ impl Tables {
     ghost use Rattle.byte_lanes.specs.Filtered.{IsMarked};
 
     #[inline(always)]
-    pub fn of(masks: &ByteMasks) -> Tables
+    pub(crate) fn of(masks: &ByteMasks) -> Tables
         ensures { AreTablesOf (widened masks.now) result }
     {
         let (low, high) = (&masks.low, &masks.high);
@@ -57,7 +57,7 @@ impl Tables {
 
     /// The positions among 64 at which the filter byte of the three bytes from there on is not zero.
     #[inline(always)]
-    pub fn marks(&self, text: &[u8], at: usize) -> u64
+    pub(crate) fn marks(&self, text: &[u8], at: usize) -> u64
         requires { at + 66 ≤ length text.now }
         ensures { (masks : Masks) → AreTablesOf masks self.now → TellsBits (IsMarked masks text.now) at 64 result }
     {

@@ -1,15 +1,11 @@
 -- Marked ends: from bits to their positions, and one end returned after the other.
-use Rattle.std.proofs.Common.{◌≡◌, ◌↔◌, ℕ, zero, suc, ◌+◌, ◌-◌, ◌<◌, ◌≤◌, ◌∷◌, [], List, length, get_or, refl, sym, ap, subst, ◌∙◌, arith, ⊎_elim}
+use Rattle.std.proofs.Common.{◌≡◌, ◌↔◌, ℕ, zero, suc, ◌+◌, ◌-◌, ◌<◌, ◌≤◌, refl, sym, ap, subst, ◌∙◌, arith, ⊎_elim}
 use Rattle.std.specs.Int.{bit_at}
 use Rattle.std.proofs.lemmas.Bool.{cases_lt, cases_eq}
 use Rattle.std.proofs.lemmas.Nat.Bits.{bit_at-suc, bit_at-zero}
-use Rattle.nib_mask.specs.declared.masks.Masks.{Masks}
-use Rattle.nib_mask.specs.Tables.{table_value}
-use Rattle.nib_mask.specs.Candidates.{IsCandidate, filter_byte_at}
 use Rattle.byte_lanes.specs.Bits.{SplitsLowest}
 use Rattle.byte_lanes.specs.Lanes.{TellsBits}
-use Rattle.byte_lanes.specs.Filtered.{IsMarked}
-use Rattle.lane_filter.specs.PlacesAfter.{NoneWithin, IsFirstAfter, AreMarked}
+use Rattle.byte_lanes.specs.PlacesAfter.{NoneWithin, IsFirstAfter, AreMarked}
 
 module _ (P : ℕ → Type 0) where
   -- a stretch without places may go before
@@ -28,17 +24,6 @@ module _ (P : ℕ → Type 0) where
   quiet_where_unmarked from first done mask none m end low high holds =
       let there = (m.all end low high holds).1 in
       absurd (omega (arith, there, ap (λ x. bit_at x (end - first)) none ∙ bit_at-zero (end - first)))
-
-  -- two stretches without places, one after the other
-  pub quiet_on : (from mid to : ℕ) → NoneWithin P from mid → NoneWithin P mid to → NoneWithin P from to
-  quiet_on from mid to front back end low high holds =
-      ⊎_elim (λ after. back end after high holds) (λ before. front end low before holds) (cases_lt mid end)
-
-  -- a number of positions in a row at which it does not hold
-  pub quiet_in_row : (from count : ℕ) → ((k : ℕ) → k < count → ¬ P (from + 1 + k)) → NoneWithin P from (from + count)
-  quiet_in_row from count none end low high holds =
-      let place : end ≡ from + 1 + (end - (from + 1)) = omega arith in
-      none (end - (from + 1)) (omega arith) (subst P place holds)
 
   -- the mask 1 has the lowest bit alone
   bits_of_one : (k : ℕ) → bit_at 1 k ≡ 1 → k ≡ 0
@@ -96,34 +81,6 @@ module _ (P : ℕ → Type 0) where
               let there = m.all end (omega (arith, h.0)) high holds in
               (there.0, (split.others (end - first)).1 (omega (arith, there.0), there.1));
         }
-
--- the three bytes before an end from the third on stand in the text
-bytes_of_end : (masks : Masks) (text : List ℕ) (place end : ℕ) → end ≡ place + 3
-    → filter_byte_at masks (0 ∷ 0 ∷ []) text end ≡ table_value masks (get_or text place 0) (get_or text (place + 1) 0) (get_or text (place + 2) 0)
-bytes_of_end masks text place end at =
-    let padded : List ℕ = 0 ∷ 0 ∷ text in
-    let third : end - 1 ≡ suc (suc place) = omega arith in
-    let second : end ≡ suc (suc (place + 1)) = omega arith in
-    let last : end + 1 ≡ suc (suc (place + 2)) = omega arith in
-    λ i. table_value masks (get_or padded (third i) 0) (get_or padded (second i) 0) (get_or padded (last i) 0)
-
--- from the third end on, a candidate is a place whose three bytes have a filter byte that is not zero
-pub candidate_is_marked : (masks : Masks) (text : List ℕ) (place end : ℕ) → end ≡ place + 3 → end ≤ length text → IsMarked masks text place ↔ IsCandidate masks text end
-candidate_is_marked masks text place end at within =
-    let same = bytes_of_end masks text place end at in (
-      λ h. record { some = omega arith; within = within; marked = λ none. h (sym same ∙ none) },
-      λ h none. h.marked (same ∙ none),
-    )
-
--- the marks of 64 positions of a text are the marks of the ends three positions later
-pub marks_of_ends : (masks : Masks) (text : List ℕ) (place first mask : ℕ) → first ≡ place + 3 → first + 63 ≤ length text → TellsBits (IsMarked masks text) place 64 mask
-    → TellsBits (IsCandidate masks text) first 64 mask
-marks_of_ends masks text place first mask start within told k =
-    let at : (k < 64) → IsMarked masks text (place + k) ↔ IsCandidate masks text (first + k) =
-    λ l. candidate_is_marked masks text (place + k) (first + k) (omega arith) (omega arith) in (
-      λ s. let t = (told k).0 s in (t.0, (at t.0).0 t.1),
-      λ h. (told k).1 (h.0, (at h.0).1 h.1),
-    )
 
 -- the marks of 64 ends, from some position after `from` on, are the marks of the ends after it
 pub block_marked : (P : ℕ → Type 0) (from first done whole mask : ℕ) → first + 63 ≡ done → from ≤ done → first ≤ from + 1 → TellsBits P first 64 whole

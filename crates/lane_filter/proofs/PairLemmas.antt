@@ -1,12 +1,12 @@
 -- Bytes of a literal, one or a pair: their marks, and that they stand before each end of it.
-use Rattle.std.proofs.Common.{◌≡◌, ℕ, ◌+◌, ◌-◌, ◌*◌, ◌<◌, ◌≤◌, ◌&&◌, leb, List, [], length, get_or, slice_range, bit_and, bit_or, ◌⊎◌, inl, inr, sym, ap, subst, ◌∙◌, ◌≢◌, arith}
+use Rattle.std.proofs.Common.{◌≡◌, ℕ, ◌+◌, ◌-◌, ◌*◌, ◌<◌, ◌≤◌, ◌&&◌, leb, List, [], length, get_or, slice_range, bit_and, bit_or, inl, inr, sym, ap, subst, ◌∙◌, ◌≢◌, arith}
 use Rattle.std.specs.Int.{bit_at}
 use Rattle.std.specs.Int.Bits.{or_zero_r}
-use Rattle.std.proofs.lemmas.Bool.{cases_Bool, cases_eq, cases_lt, and_parts, leb-true, cond-true, cond-false}
+use Rattle.std.proofs.lemmas.Bool.{cases_Bool, cases_lt, and_parts, leb-true, cond-true, cond-false}
 use Rattle.std.proofs.lemmas.List.{get_or-map}
 use Rattle.std.proofs.lemmas.List.Edits.{length-between}
 use Rattle.std.proofs.lemmas.Nat.{or_block}
-use Rattle.std.proofs.lemmas.Nat.Bits.{bit_at_and, bit_at_or, bit_at-lt}
+use Rattle.std.proofs.lemmas.Nat.Bits.{bit_at_and, bit_at-lt}
 use Rattle.std.proofs.lemmas.Option.{get_or_from_slice_get}
 use Rattle.lit_base.specs.declared.fold.Fold.{Fold}
 use Rattle.lit_base.specs.declared.fold.Fold.TheVariants.{No, Ascii}
@@ -38,24 +38,6 @@ both_told pair text first one other after_one after_other within of_one of_other
           let here = (of_one k).1 (h.0, h.1.first) in
           let there = (of_other k).1 (h.0, h.1.second) in
           omega arith,
-    )
-
--- the bits that one of two masks has stand for the ends that one of two tests passes
-pub either_told : (P Q : ℕ → Type 0) (first one other : ℕ) → TellsBits P first 64 one → TellsBits Q first 64 other → TellsBits (λ end. P end ⊎ Q end) first 64 (bit_or one other)
-either_told P Q first one other of_one of_other k =
-    let joined = bit_at_or one other k in
-    let small = bit_at-lt one k in
-    let small_other = bit_at-lt other k in (
-      λ s.
-          elim (cases_eq (bit_at one k) 1) [
-            | inl set ↦ let told = (of_one k).0 set in (told.0, inl told.1)
-            | inr clear ↦ let told = (of_other k).0 (omega arith) in (told.0, inr told.1)
-          ],
-      λ (l, holds).
-          elim holds [
-            | inl left ↦ let set = (of_one k).1 (l, left) in omega arith
-            | inr right ↦ let set = (of_other k).1 (l, right) in omega arith
-          ],
     )
 
 -- one of 128 ends sets a lane of the four vectors of 32 ends

@@ -1,7 +1,7 @@
 -- The fields of a cursor over candidates.
 use Rattle.std.specs.Prelude.{◌≤◌, length}
 use Rattle.lane_filter.specs.Cursors.{Cursor}
-use Rattle.lane_filter.specs.PlacesAfter.{AreMarked}
+use Rattle.byte_lanes.specs.PlacesAfter.{AreMarked}
 use Rattle.lane_filter.specs.Sieves.{Passes}
 use Rattle.lane_filter.specs.declared.candidates.Candidates.TheInside.{Inside}
 

@@ -1,11 +1,11 @@
 pub mod CursorViews
 pub mod Cursors
-pub mod PlacesAfter
-pub mod Fronts
 pub mod OneBytes
 pub mod Pairs
 pub mod Sieves
 pub mod Triples
 pub use Rattle.byte_lanes.specs.Bits
 pub use Rattle.byte_lanes.specs.Filtered
+pub use Rattle.byte_lanes.specs.Fronts
 pub use Rattle.byte_lanes.specs.Lanes
+pub use Rattle.byte_lanes.specs.PlacesAfter

@@ -2,16 +2,12 @@
 ghost use Rattle.std.specs.Prelude.{◌≡◌, ◌+◌, ◌<◌, ◌≤◌, length, IfSome};
 ghost use Rattle.std.specs.Option.{IfNone};
 ghost use Rattle.lane_filter.specs.declared.candidates.TheConstants.{MOST_COPIED};
-ghost use Rattle.lane_filter.specs.Fronts.{IsFrontOf};
-ghost use Rattle.lane_filter.specs.PlacesAfter.{NoneWithin, IsFirstAfter, AreMarked};
+ghost use Rattle.byte_lanes.specs.Fronts.{IsFrontOf};
+ghost use Rattle.byte_lanes.specs.PlacesAfter.{NoneWithin, IsFirstAfter, AreMarked};
 ghost use Rattle.lane_filter.specs.Sieves.{IsCandidateOfTwo, Passes};
 
-use crate::any_of::AnyOf;
-use crate::end_test::EndTest;
-use crate::nibbles::Nibbles;
 use crate::sieve::Sieve;
-use crate::skipping::skip_unmarked;
-use byte_lanes::{below_bit, from_bit, split_lowest};
+use byte_lanes::{AnyOf, EndTest, Nibbles, below_bit, from_bit, skip_unmarked, split_lowest};
 use nib_mask::ByteMasks;
 use std::marker::Model;
 

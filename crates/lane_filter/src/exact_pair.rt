@@ -2,9 +2,8 @@
 ghost use Rattle.std.specs.Prelude.{◌≡◌, ◌↔◌, IsSome, IfSome};
 ghost use Rattle.lane_filter.specs.Pairs.{IsExact};
 
-use crate::end_test::EndTest;
 use crate::pair::BytePair;
-use crate::rare_look::Turn;
+use byte_lanes::{EndTest, Turn};
 
 /// A pair of case-sensitive bytes, compared without the bits of case.
 #[derive(Clone, Copy, Debug, PartialEq, Eq)]

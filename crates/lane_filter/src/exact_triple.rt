@@ -2,9 +2,8 @@
 ghost use Rattle.std.specs.Prelude.{◌≡◌, ◌↔◌, IsSome, IfSome};
 ghost use Rattle.lane_filter.specs.Triples.{AreExact};
 
-use crate::end_test::EndTest;
-use crate::rare_look::Turn;
 use crate::triple::ByteTriple;
+use byte_lanes::{EndTest, Turn};
 
 /// Three case-sensitive bytes, compared without the bits of case.
 #[derive(Clone, Copy, Debug, PartialEq, Eq)]

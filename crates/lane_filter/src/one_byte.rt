@@ -5,10 +5,8 @@ ghost use Rattle.lane_filter.specs.OneBytes.{IsByteOf, IsEndOfByte};
 ghost use Rattle.lit_base.specs.Literals.{lengths};
 ghost use Rattle.lit_base.specs.Occurrences.{Occurs};
 
-use crate::end_test::EndTest;
 use crate::pair::case_bit;
-use crate::rare_look::Turn;
-use byte_lanes::{any_lane_of, equal_bits, load, load_64, value_where, with_bits};
+use byte_lanes::{EndTest, Turn, any_lane_of, equal_bits, load, load_64, value_where, with_bits};
 use lit_base::LitList;
 use std::simd::prelude::*;
 

@@ -5,9 +5,9 @@ ghost use Rattle.lane_filter.specs.Pairs.{AreUnlike, IsExact, IsOneOf, IsPairEnd
 ghost use Rattle.lit_base.specs.declared.fold.Fold.{Fold};
 ghost use Rattle.lit_base.specs.Occurrences.{Occurs};
 
-use crate::end_test::EndTest;
-use crate::rare_look::Turn;
-use byte_lanes::{any_lane_of, both, equal_bits, load, load_64, value_where, with_bits};
+use byte_lanes::{
+    EndTest, Turn, any_lane_of, both, equal_bits, load, load_64, value_where, with_bits,
+};
 use lit_base::{Fold, LitList};
 use memchr::arch::all::packedpair::{DefaultFrequencyRank, HeuristicFrequencyRank};
 use std::simd::prelude::*;

@@ -7,12 +7,12 @@ ghost use Rattle.lane_filter.specs.OneBytes.{IsEndOfByte};
 ghost use Rattle.lane_filter.specs.Triples.{IsTripleEnd};
 ghost use Rattle.lane_filter.specs.Sieves.{AreThreePairs, AreTwoPairs, IsEndOfThree, IsEndOfTwo, IsOneTriple, IsOnlyByte, IsSieveOf, Passes};
 
-use crate::any_of::AnyOf;
 use crate::exact_pair::ExactPair;
 use crate::exact_triple::ExactTriple;
 use crate::one_byte::{ExactByte, OneByte};
 use crate::pair::BytePair;
 use crate::triple::ByteTriple;
+use byte_lanes::AnyOf;
 use lit_base::{Ends, LitList};
 use nib_mask::{ByteMasks, Masks};
 

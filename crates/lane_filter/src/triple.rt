@@ -5,10 +5,8 @@ ghost use Rattle.lane_filter.specs.Pairs.{IsOneOf};
 ghost use Rattle.lane_filter.specs.Triples.{AreExact, IsTripleEnd, IsTripleOf, most_behind};
 ghost use Rattle.lit_base.specs.Occurrences.{Occurs};
 
-use crate::end_test::EndTest;
 use crate::pair::{BytePair, CHOSEN_FROM, RareByte, usual_rank};
-use crate::rare_look::Turn;
-use byte_lanes::{any_lane_of, both};
+use byte_lanes::{EndTest, Turn, any_lane_of, both};
 use lit_base::{Fold, LitList};
 use std::simd::prelude::*;
 

@@ -1,5 +1,5 @@
 use Rattle.std.proofs.Common.{◌-◌}
-use Rattle.lane_filter.specs.PlacesAfter.{NoneWithin}
+use Rattle.byte_lanes.specs.PlacesAfter.{NoneWithin}
 use Rattle.lane_filter.proofs.candidates.plain_bits.Given as goal
 
 abbrev pub invariant-loop-end : goal.invariant-loop-end

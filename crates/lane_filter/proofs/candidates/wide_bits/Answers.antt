@@ -1,6 +1,7 @@
 use Rattle.std.proofs.Common.{◌+◌, arith}
-use Rattle.lane_filter.specs.PlacesAfter.{AreMarked}
-use Rattle.lane_filter.proofs.EndLemmas.{block_marked, marked_after_quiet, quiet_on, quiet_where_unmarked}
+use Rattle.byte_lanes.specs.PlacesAfter.{AreMarked}
+use Rattle.byte_lanes.proofs.BlockLemmas.{quiet_on}
+use Rattle.lane_filter.proofs.EndLemmas.{block_marked, marked_after_quiet, quiet_where_unmarked}
 use Rattle.lane_filter.proofs.candidates.wide_bits.Goals as goal
 
 pub returns-then-mask-ne0-clause-marked : goal.returns-then-mask-ne0-clause-marked

@@ -1,5 +1,5 @@
 use Rattle.std.proofs.Common.{◌≤◌, ◌-◌, length}
-use Rattle.lane_filter.specs.PlacesAfter.{NoneWithin}
+use Rattle.byte_lanes.specs.PlacesAfter.{NoneWithin}
 use Rattle.lane_filter.proofs.candidates.wide_bits.Given as goal
 
 abbrev pub invariant-loop-seen : goal.invariant-loop-seen

@@ -1,6 +1,6 @@
 //! Positions of a text up to which no literal can end, found by 128 ends at once.
 ghost use Rattle.std.specs.Prelude.{◌+◌, ◌≤◌, length};
-ghost use Rattle.lane_filter.specs.PlacesAfter.{NoneWithin};
+ghost use Rattle.byte_lanes.specs.PlacesAfter.{NoneWithin};
 
 use crate::end_test::EndTest;
 use crate::rare_look::{RareLook, Turn};
@@ -15,7 +15,7 @@ const NEAR: usize = 8192;
 
 /// A position up to which there is no candidate after `from`.
 #[inline(always)]
-pub(crate) fn skip_unmarked<T: EndTest>(test: &T, text: &[u8], from: usize) -> usize
+pub fn skip_unmarked<T: EndTest>(test: &T, text: &[u8], from: usize) -> usize
     requires after { T.reaches test.now ≤ from + 1 }
     requires within { from ≤ length text.now }
     ensures after { from ≤ result }

@@ -1,12 +1,12 @@
 //! Tests of the positions of a text at which an occurrence may end, 64 of them at a time.
 ghost use Rattle.std.specs.Prelude.{◌≡◌, ℕ, ◌+◌, ◌<◌, ◌≤◌, ◌↔◌, IsTrue, List, length};
-ghost use Rattle.lane_filter.specs.Fronts.{IsFrontOf};
+ghost use Rattle.byte_lanes.specs.Fronts.{IsFrontOf};
 ghost use Rattle.byte_lanes.specs.Lanes.{TellsBits};
 
 use crate::rare_look::Turn;
 
 /// A test of ends.
-pub(crate) trait EndTest {
+pub trait EndTest {
     ghost candidate: { Self → List ℕ → ℕ → Type 0 };
 
     ghost reaches: { Self → ℕ };

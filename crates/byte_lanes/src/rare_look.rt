@@ -2,7 +2,7 @@
 
 /// One of up to three bytes of a literal, the rarest in usual text first.
 #[derive(Clone, Copy, Debug)]
-pub(crate) enum Turn {
+pub enum Turn {
     First,
     Second,
     Third,

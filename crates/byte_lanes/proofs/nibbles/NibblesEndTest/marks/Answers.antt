@@ -1,7 +1,7 @@
 use Rattle.std.proofs.Common.{◌-◌, arith}
 use Rattle.nib_mask.specs.Halves.{widened}
-use Rattle.lane_filter.proofs.EndLemmas.{marks_of_ends}
-use Rattle.lane_filter.proofs.nibbles.NibblesEndTest.marks.Goals as goal
+use Rattle.byte_lanes.proofs.BlockLemmas.{marks_of_ends}
+use Rattle.byte_lanes.proofs.nibbles.NibblesEndTest.marks.Goals as goal
 
 pub returns : goal.returns
 returns c =

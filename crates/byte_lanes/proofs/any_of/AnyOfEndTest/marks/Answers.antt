@@ -1,5 +1,5 @@
-use Rattle.lane_filter.proofs.PairLemmas.{either_told}
-use Rattle.lane_filter.proofs.any_of.AnyOfEndTest.marks.Goals as goal
+use Rattle.byte_lanes.proofs.BlockLemmas.{either_told}
+use Rattle.byte_lanes.proofs.any_of.AnyOfEndTest.marks.Goals as goal
 
 pub returns : goal.returns
 returns g c =

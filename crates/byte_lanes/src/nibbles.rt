@@ -6,12 +6,12 @@ ghost use Rattle.byte_lanes.specs.WideTables.{AreTablesOf};
 use crate::end_test::EndTest;
 use crate::plain;
 use crate::rare_look::Turn;
-use byte_lanes::Tables;
+use crate::tables::Tables;
 use nib_mask::ByteMasks;
 
 /// Masks, and their tables as vectors.
 #[derive(Clone, Copy)]
-pub(crate) struct Nibbles<'a> {
+pub struct Nibbles<'a> {
     masks: &'a ByteMasks,
     tables: Tables,
     ghost of: { AreTablesOf (widened masks.now) tables },
@@ -19,7 +19,7 @@ pub(crate) struct Nibbles<'a> {
 
 impl<'a> Nibbles<'a> {
     #[inline(always)]
-    pub(crate) fn new(masks: &'a ByteMasks) -> Nibbles<'a>
+    pub fn new(masks: &'a ByteMasks) -> Nibbles<'a>
         ensures { result.masks.now ≡ masks.now }
     {
         Nibbles {

@@ -13,7 +13,7 @@ pub struct AnyOf<A, B> {
 
 impl<A, B> AnyOf<A, B> {
     #[inline(always)]
-    pub(crate) fn new(one: A, other: B) -> AnyOf<A, B>
+    pub fn new(one: A, other: B) -> AnyOf<A, B>
         ensures one { result.one ≡ one }
         ensures other { result.other ≡ other }
     {
