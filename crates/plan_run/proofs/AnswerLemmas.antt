@@ -1,5 +1,5 @@
 -- Answers: from what a list has to answer to what a request has.
-use Rattle.std.proofs.Common.{◌≡◌, ◌≢◌, ℕ, ◌*◌, ◌/◌, ◌^◌, ◌<◌, ◌≤◌, Bool, true, false, cond, List, [], ◌∷◌, length, Option, None, Some, IfSome, is_some, MatchOption, Result, Ok, Err, refl, sym, ap, ◌∙◌, subst, append-nil, arith}
+use Rattle.std.proofs.Common.{◌≡◌, ◌≢◌, ℕ, ◌*◌, ◌/◌, ◌^◌, ◌<◌, ◌≤◌, Bool, true, false, cond, List, [], ◌∷◌, ◌++◌, length, Option, None, Some, IfSome, is_some, MatchOption, Result, Ok, Err, refl, sym, ap, ◌∙◌, subst, append-nil, arith}
 use Rattle.std.specs.Global.{Vec}
 use Rattle.std.proofs.KnownBytes.{Appends-nil}
 use Rattle.std.proofs.Math.Nat.{mul_comm, mul-div_cancel}
@@ -257,12 +257,16 @@ unread wrong P name known r c clean fault e short =
     subst (λ k. IfSome k (λ x. x.ending ≡ Clean → length x.text < 2 ^ 40 → r ≢ Err ReadFault)) e clean in
     Unread c refl (true-if c.is_faulty (λ unset. here (ap (λ b. cond b Faulty Clean) unset) short fault)) refl
 
--- a wrong line in it: it is the first wrong one of the file
+-- a wrong line in it: it is the first wrong one of the file, whatever would have followed where reading failed
 pub bad-line : (wrong : ℕ → Answer) (P : CertificateParts → Answer → Type 0) (name : List ℕ) (known : Option Coming) (r : Result CertificateParts Fault) (line : ℕ) (c : Content)
-    → IfSome known (λ x. (k : ℕ) → r ≡ Err (BadCertText k) → IsFirstBad x.text k) → r ≡ Err (BadCertText line) → known ≡ Some (coming_of c)
-    → IsCertificateAnswer wrong P name (Some c) (wrong line)
-bad-line wrong P name known r line c bad is e =
-    BadLine c line refl (subst (λ k. IfSome k (λ x. (n : ℕ) → r ≡ Err (BadCertText n) → IsFirstBad x.text n)) e bad line is) refl
+    → IfSome known (λ x. (k : ℕ) → r ≡ Err (BadCertText k) → IsFirstBad x.text k)
+    → IfSome known (λ x. x.ending ≡ Faulty → (k : ℕ) → r ≡ Err (BadCertText k) → (more : List ℕ) → IsFirstBad (x.text ++ more) k)
+    → r ≡ Err (BadCertText line) → known ≡ Some (coming_of c) → IsCertificateAnswer wrong P name (Some c) (wrong line)
+bad-line wrong P name known r line c bad shown is e =
+    let here : (k : ℕ) → r ≡ Err (BadCertText k) → IsFirstBad c.text k = subst (λ k. IfSome k (λ x. (n : ℕ) → r ≡ Err (BadCertText n) → IsFirstBad x.text n)) e bad in
+    let whatever : (coming_of c).ending ≡ Faulty → (k : ℕ) → r ≡ Err (BadCertText k) → (more : List ℕ) → IsFirstBad (c.text ++ more) k =
+    subst (λ k. IfSome k (λ x. x.ending ≡ Faulty → (n : ℕ) → r ≡ Err (BadCertText n) → (more : List ℕ) → IsFirstBad (x.text ++ more) n)) e shown in
+    BadLine c line refl (here line is) (λ set. whatever (ap (λ b. cond b Faulty Clean) set) line is) refl
 
 -- a file of a certificate: it is read whole and judged
 pub judged : (wrong : ℕ → Answer) (P : CertificateParts → Answer → Type 0) (name : List ℕ) (certificate : CertificateParts) (r : Result Status Stop) (old new : Option (List ℕ)) (known left : Option Coming) (c : Content)

@@ -1,5 +1,5 @@
 -- What a request has to answer, for the files that there are.
-use Rattle.std.specs.Prelude.{◌≡◌, ℕ, Bool, true, false, List, [], ◌∷◌, codes, length, if◌then◌else◌, is_some, map, Option, Some, None, MatchOption, string_bytes}
+use Rattle.std.specs.Prelude.{◌≡◌, ℕ, Bool, true, false, List, [], ◌∷◌, ◌++◌, codes, length, if◌then◌else◌, is_some, map, Option, Some, None, MatchOption, string_bytes}
 use Rattle.std.specs.List.{slice_get}
 use Rattle.std.specs.Str.{bytes_eq}
 use Rattle.byte_io.specs.Sources.{Ask, Content, Created, Named, Sources, after, after_all, ask_of, can_create, taken_by}
@@ -67,12 +67,13 @@ pub data IsVerdict (list : Literals) (c : CertificateParts) (a : Answer) : Type 
   Fails : (reason : Reason) → IsFirstFailure list c reason → a ≡ told (not_certified reason) NotCertified → IsVerdict list c a
 
 -- on what stands under the certificate's name: a message where nothing does, or where reading it fails; the answer on its first
--- wrong line, where it is no certificate's text; else that on the certificate. Where reading fails behind a wrong line, either
--- is right
+-- wrong line, where it is no certificate's text; else that on the certificate. Where reading fails, a line is wrong only where
+-- it is so whatever would have followed; then either answer is right
 pub data IsCertificateAnswer (wrong : ℕ → Answer) (P : CertificateParts → Answer → Type 0) (name : List ℕ) (source : Option Content) (a : Answer) : Type 0 where
   Missing : source ≡ None → a ≡ refused_with (unusable name) → IsCertificateAnswer wrong P name source a
   Unread : (c : Content) → source ≡ Some c → c.is_faulty ≡ true → a ≡ refused_with (unusable name) → IsCertificateAnswer wrong P name source a
-  BadLine : (c : Content) (line : ℕ) → source ≡ Some c → IsFirstBad c.text line → a ≡ wrong line → IsCertificateAnswer wrong P name source a
+  BadLine : (c : Content) (line : ℕ) → source ≡ Some c → IsFirstBad c.text line
+      → (c.is_faulty ≡ true → (more : List ℕ) → IsFirstBad (c.text ++ more) line) → a ≡ wrong line → IsCertificateAnswer wrong P name source a
   Judged : (c : Content) (certificate : CertificateParts) → source ≡ Some c → c.is_faulty ≡ false → HasText certificate
       → c.text ≡ spelling certificate → P certificate a → IsCertificateAnswer wrong P name source a
 

@@ -19,7 +19,7 @@ pub returns-in-Err-BadCertText-clause-answer : goal.returns-in-Err-BadCertText-c
 returns-in-Err-BadCertText-clause-answer g c = λ content e short.
     let line = c.in-Err-BadCertText.line in
     let bad = bad-line wrong_at_line IsCertificateTold c.args.name.now (g.I.ByteIn.coming c.args.input.now) (failed c.in-Err-BadCertText.field-0) line content
-    c.in-Err-BadCertText.ensures.bad_line (ap failed c.in-Err-BadCertText.field-0-is) e in
+    c.in-Err-BadCertText.ensures.bad_line c.in-Err-BadCertText.ensures.shown (ap failed c.in-Err-BadCertText.field-0-is) e in
     tells-weaker (λ a. a ≡ wrong_at_line line) (IsCertificateAnswer wrong_at_line IsCertificateTold c.args.name.now (Some content)) c.tell_refusal.result _ _
     (λ a is. subst (λ x. IsCertificateAnswer wrong_at_line IsCertificateTold c.args.name.now (Some content) x) (sym is) bad) c.tell_refusal.ensures.answer
 

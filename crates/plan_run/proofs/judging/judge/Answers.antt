@@ -18,7 +18,7 @@ failed fault = Err fault
 pub returns-in-Err-BadCertText-clause-answer : goal.returns-in-Err-BadCertText-clause-answer
 returns-in-Err-BadCertText-clause-answer g c = λ content e short. (
   bad-line bad_line (IsVerdict c.args.list.now) c.args.name.now (g.I.ByteIn.coming c.args.input.now) (failed c.in-Err-BadCertText.field-0) c.in-Err-BadCertText.line content
-      c.in-Err-BadCertText.ensures.bad_line (ap failed c.in-Err-BadCertText.field-0-is) e,
+      c.in-Err-BadCertText.ensures.bad_line c.in-Err-BadCertText.ensures.shown (ap failed c.in-Err-BadCertText.field-0-is) e,
   Appends-nil _,
 )
 
