@@ -1,5 +1,5 @@
 //! From patterns to a plan in a handle.
-ghost use Rattle.std.specs.Prelude.{◌≡◌, ◌≤◌, ◌<◌, ◌⊎◌, ℕ, [], IfErr, IfOk, IsSomeAnd, None, Some, length, map, take};
+ghost use Rattle.std.specs.Prelude.{◌≡◌, ◌≤◌, ◌<◌, ◌⊎◌, ℕ, [], IfErr, IfOk, IsSomeAnd, None, Some, drop, length, map, take};
 ghost use Rattle.std.specs.Arc.{arc_value};
 ghost use Rattle.std.specs.List.{AllZip};
 ghost use Rattle.lit_base.specs.NormalForm.{IsPlaceOf, normal_form};
@@ -97,7 +97,9 @@ pub(crate) fn plan_of(
 
 /// Writes the numbers of literals to the front of a buffer, if it has room for them.
 pub(crate) fn write_numbers(places: &[Option<u16>], numbers: &mut [u32])
-    ensures { length places.now ≤ length numbers.old → take (length places.now) numbers.new ≡ map number_at places.now }
+    ensures written { length places.now ≤ length numbers.old → take (length places.now) numbers.new ≡ map number_at places.now }
+    ensures behind { drop (length places.now) numbers.new ≡ drop (length places.now) numbers.old }
+    ensures small { length numbers.old < length places.now → numbers.new ≡ numbers.old }
 {
     if places.len() > numbers.len() {
         return;
