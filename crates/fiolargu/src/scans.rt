@@ -65,6 +65,7 @@ pub extern "C" fn fiolargu_scan(
         StopsAt p.literals text.now place.old place.old (length buffer.old - length p.literals.texts) place.new [] (map hit_of (take count.new buffer.new))) }
     ensures lengths { result ≡ OK → IfSome (plan_of plan.old.held) (λ p. HaveLengths p.literals (take count.new buffer.new)) }
     ensures behind { result ≡ OK → drop count.new buffer.new ≡ drop count.new buffer.old }
+    ensures unwritten { (result ≡ OK → ⊥) → buffer.new ≡ buffer.old }
     ensures null { result ≡ NULL_HANDLE ↔ plan_of plan.old.held ≡ None }
     ensures room { IfSome (plan_of plan.old.held) (λ p. result ≡ SMALL_BUFFER ↔ (length buffer.old ≤ length p.literals.texts)) }
     ensures range { result ≡ OUT_OF_RANGE → length text.now < place.old }
@@ -96,6 +97,7 @@ fn scan_held(
         (map hit_of (take count.new buffer.new)) }
     ensures lengths { result ≡ OK → HaveLengths held.old.plan.literals (take count.new buffer.new) }
     ensures behind { result ≡ OK → drop count.new buffer.new ≡ drop count.new buffer.old }
+    ensures unwritten { (result ≡ OK → ⊥) → buffer.new ≡ buffer.old }
     ensures not_null { result ≡ NULL_HANDLE → ⊥ }
     ensures room { result ≡ SMALL_BUFFER ↔ (length buffer.old ≤ length held.old.plan.literals.texts) }
     ensures range { result ≡ OUT_OF_RANGE → length text.now < place.old }
