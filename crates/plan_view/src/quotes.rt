@@ -1,5 +1,5 @@
 //! Literals as they are shown.
-ghost use Rattle.std.specs.Prelude.{◌≡◌, ◌<◌, ◌++◌, OnOk, flat_map};
+ghost use Rattle.std.specs.Prelude.{◌≡◌, ◌<◌, ◌++◌, ℕ, List, OnOk, flat_map};
 ghost use Rattle.plan_view.specs.Quotes.{hex_digit, quoted, shown_byte, whole};
 
 use std::alloc::AllocError;
@@ -23,9 +23,10 @@ pub fn push_quoted(literal: &[u8], text: &mut Vec<u8>) -> Result<(), AllocError>
 /// Appends a literal between quotes, whole, in printable ASCII.
 ///
 /// # Errors
-/// `AllocError`, where a growth was refused.
+/// `AllocError`, where a growth was refused. What stood in the text stays.
 pub fn push_literal(literal: &[u8], text: &mut Vec<u8>) -> Result<(), AllocError>
-    ensures { OnOk result (text.new.items ≡ text.old.items ++ whole literal.now) }
+    ensures ok { OnOk result (text.new.items ≡ text.old.items ++ whole literal.now) }
+    ensures kept { (more : List ℕ) × (text.new.items ≡ text.old.items ++ more) }
 {
     text.push(b'"')?;
     push_shown(literal, text)?;
@@ -35,7 +36,8 @@ pub fn push_literal(literal: &[u8], text: &mut Vec<u8>) -> Result<(), AllocError
 
 /// Appends bytes in printable ASCII.
 fn push_shown(bytes: &[u8], text: &mut Vec<u8>) -> Result<(), AllocError>
-    ensures { OnOk result (text.new.items ≡ text.old.items ++ flat_map shown_byte bytes.now) }
+    ensures ok { OnOk result (text.new.items ≡ text.old.items ++ flat_map shown_byte bytes.now) }
+    ensures kept { (more : List ℕ) × (text.new.items ≡ text.old.items ++ more) }
 {
     for byte in bytes {
         push_byte(*byte, text)?;
@@ -45,7 +47,8 @@ fn push_shown(bytes: &[u8], text: &mut Vec<u8>) -> Result<(), AllocError>
 
 /// Appends a byte in printable ASCII.
 fn push_byte(byte: u8, text: &mut Vec<u8>) -> Result<(), AllocError>
-    ensures { OnOk result (text.new.items ≡ text.old.items ++ shown_byte byte) }
+    ensures ok { OnOk result (text.new.items ≡ text.old.items ++ shown_byte byte) }
+    ensures kept { (more : List ℕ) × (text.new.items ≡ text.old.items ++ more) }
 {
     match byte {
         b'"' | b'\\' => text.extend_from_slice(&[b'\\', byte])?,
