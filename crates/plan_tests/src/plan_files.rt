@@ -8,7 +8,7 @@ use std::alloc::{AllocError, Global};
 use std::test::Fail;
 
 /// The file of one plan: of the literal `a`, with eight buckets.
-const ONE: [u8; 89] = [
+pub(crate) const ONE: [u8; 89] = [
     0x4C, 0x50, 0x4C, 0x46, 0x00, 0x02, 0x00, 0x01, // LPLF, version 2, one plan
     0x00, 0x00, 0x01, // no folding, eight buckets, one literal
     0x00, 0x01, 0x61, // `a`

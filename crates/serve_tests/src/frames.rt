@@ -457,3 +457,22 @@ fn appends_behind_what_is_there(rt: HostRuntime) -> Result<(), Fail> {
     assert!(rt; replies_behind_a_byte(rt.alloc())?.as_slice() == text.as_slice());
     Ok(())
 }
+
+/// Whether a cause of a bad frame has this text.
+fn is_named(alloc: Global, cause: Cause, text: &str) -> Option<bool> {
+    let shown = format!(in alloc; "{cause}").ok()?;
+    Some(shown.as_str() == text)
+}
+
+#[test]
+fn names_the_causes_of_bad_frames(rt: HostRuntime) {
+    let alloc = rt.alloc();
+    let length = is_named(alloc, Cause::Length, "its length is out of range");
+    assert_eq!(rt; length, Some(true));
+    let kind = is_named(alloc, Cause::Kind, "no request has its kind");
+    assert_eq!(rt; kind, Some(true));
+    let stream = is_named(alloc, Cause::Stream, "it publishes on a stream");
+    assert_eq!(rt; stream, Some(true));
+    let payload = is_named(alloc, Cause::Payload, "its payload is not one of its kind");
+    assert_eq!(rt; payload, Some(true));
+}

@@ -1,0 +1,41 @@
+//! Plans that a file publishes: the store in which they are found then, which no clause says.
+use crate::plan_files::ONE;
+use lit_base::{CutIn, CutOut};
+use plan_store::PlanStore;
+use scan_run::load_plans;
+use std::alloc::Global;
+use std::sync::Wait;
+
+/// Whether the plan under 0 is of the literal `a` alone, and there is no other.
+fn has_one(store: &PlanStore) -> bool {
+    let Some(ticket) = store.find(0) else {
+        return false;
+    };
+    let list = store.at(&ticket).list();
+    list.len() == 1 && list.get(0) == b"a".as_slice() && store.find(1).is_none()
+}
+
+/// Whether the file of one plan is loaded into a new store with the line of its number, and is found there.
+fn loads_one<R: Wait>(rt: &R, alloc: Global) -> Option<(bool, bool)> {
+    let store = PlanStore::new(alloc).ok()?;
+    let mut space = [0; 64];
+    let mut err = CutOut::within(&mut space);
+    load_plans(
+        rt,
+        alloc,
+        &store,
+        &mut CutIn::whole(&ONE),
+        "plans",
+        &mut err,
+    )
+    .ok()?;
+    Some((
+        err.written() == b"scand: plan 0\n".as_slice(),
+        has_one(&store),
+    ))
+}
+
+#[test]
+fn loads_plans_into_the_store_that_is_given(rt: HostRuntime) {
+    assert_eq!(rt; loads_one(&rt, rt.alloc()), Some((true, true)));
+}
