@@ -37,7 +37,8 @@ class Run(NamedTuple):
     before the fault. `sources` are the sources that exist, in the order of reading, with their sizes.
     `is_starved` and `is_unwritten` take the ending where nothing is refused, and another one. They answer whether the
     other one is right for want of memory, and after a write that failed.
-    `made` names the files that the run makes. `growths_alone` limits a run that reads much to refusals of memory."""
+    `made` names the files that the run makes. `growths_alone` limits a run that reads much to refusals of memory. A run
+    that `learns` makes a finder, and goes on without it if memory for it is refused."""
 
     words: list
     answer: Callable
@@ -48,6 +49,7 @@ class Run(NamedTuple):
     made: tuple = ()
     has_threads: bool = False
     growths_alone: bool = False
+    learns: bool = False
 
 
 def is_prefix(part, whole):
@@ -324,7 +326,7 @@ BAD = session_cases.FIRST_THREE + b"\0\0\0\4"
 LONG = publish(PHRASES) + open_stream(1, 0) + b"".join(
     feed(1, FILES["big"][at : at + 65536]) for _ in range(2) for at in range(0, len(FILES["big"]), 65536))
 SESSIONS = [served(text) for text in (session_cases.FIRST_THREE, BAD, MIXED, MANY_HITS)]
-SESSIONS += [served(LONG)._replace(growths_alone=True)]
+SESSIONS += [served(LONG)._replace(growths_alone=True, learns=True)]
 
 
 def preplanned(name, lists, text):
