@@ -9,9 +9,9 @@ use Rattle.lit_base.specs.declared.fold.Fold.{Fold}
 use Rattle.lit_base.specs.declared.fold.Fold.TheVariants.{Ascii, No}
 use Rattle.lit_base.specs.declared.profile.Profile.{Profile}
 use Rattle.lit_base.specs.declared.profile.Profile.TheVariants.{Eight, Sixteen}
-use Rattle.plan_run.specs.declared.notation.Notation.{Notation}
-use Rattle.plan_run.specs.declared.notation.Notation.TheVariants.{Bytes, Hex}
-use Rattle.plan_run.specs.declared.notation.Reading.{Reading}
+use Rattle.plan_pack.specs.declared.notation.Notation.{Notation}
+use Rattle.plan_pack.specs.declared.notation.Notation.TheVariants.{Bytes, Hex}
+use Rattle.plan_pack.specs.declared.notation.Reading.{Reading}
 use Rattle.plan_run.specs.declared.request.Request.{Request}
 use Rattle.plan_run.specs.declared.request.Request.TheVariants.{Check, CheckPlan, Explain, ExplainCertificate, ExplainPlan, Migrate, Pack, Plan, Scan}
 use Rattle.program_words.specs.Matches.{IsNumber}

@@ -1,5 +1,5 @@
 -- Answers: from what a list has to answer to what a request has.
-use Rattle.std.proofs.Common.{◌≡◌, ◌≢◌, ℕ, ◌*◌, ◌/◌, ◌^◌, ◌<◌, ◌≤◌, Bool, true, false, cond, List, [], ◌∷◌, ◌++◌, length, Option, None, Some, IfSome, is_some, MatchOption, Result, Ok, Err, refl, sym, ap, ◌∙◌, subst, append-nil, arith}
+use Rattle.std.proofs.Common.{◌≡◌, ◌≢◌, ℕ, ◌*◌, ◌/◌, ◌^◌, ◌<◌, ◌≤◌, Bool, true, cond, List, [], ◌∷◌, ◌++◌, length, Option, None, Some, IfSome, is_some, MatchOption, Result, Ok, Err, refl, sym, ap, ◌∙◌, subst, arith}
 use Rattle.std.specs.Global.{Vec}
 use Rattle.std.proofs.KnownBytes.{Appends-nil}
 use Rattle.std.proofs.Math.Nat.{mul_comm, mul-div_cancel}
@@ -17,19 +17,24 @@ use Rattle.lit_cert.specs.Reading.{IsFirstBad}
 use Rattle.lit_cert.specs.Spelling.{HasText, IsShaped, literals_in, spelling}
 use Rattle.lit_cert.specs.declared.fault.Fault.{Fault}
 use Rattle.lit_cert.specs.declared.fault.Fault.TheVariants.{BadCertText, ReadFault}
-use Rattle.plan_run.specs.declared.notation.Reading.{Reading}
+use Rattle.plan_pack.specs.Asking.{Asks}
 use Rattle.lit_base.specs.declared.profile.Profile.{Profile}
 use Rattle.lit_base.specs.declared.profile.Profile.TheVariants.{Eight, Sixteen}
 use Rattle.lit_base.specs.declared.lit_list.Normal.{Normal}
+use Rattle.plan_pack.specs.Lists.{ArePlaces, input_message, list_in, list_message, patterns_in, search_message, text_in}
+use Rattle.plan_pack.specs.Messages.{message_on, unusable}
+use Rattle.plan_pack.specs.Migrated.{IsNoPlanFile}
+use Rattle.plan_pack.specs.Stops.{Explains}
+use Rattle.plan_pack.specs.Taken.{NamesStop, TakesList, TakesPlaces, TakesPlan, TakesPlans, TakesText}
+use Rattle.plan_pack.specs.declared.notation.Reading.{Reading}
+use Rattle.plan_pack.specs.declared.stop.Refusal.{Refusal}
+use Rattle.plan_pack.specs.declared.stop.Stop.{Stop}
+use Rattle.plan_pack.specs.declared.stop.Stop.TheVariants.{OutOfMemory, Refused, WriteFault}
+use Rattle.plan_pack.proofs.AskLemmas.{asks-all, asks-stopped}
+use Rattle.plan_pack.proofs.MigrateLemmas.{false-if, true-if}
 use Rattle.plan_run.specs.Answers.{Answer, AnswersCheck, AnswersExplain, AnswersExplainCertificate, AnswersInput, AnswersList, AnswersPlan, AnswersPlanAt, AnswersScan, AnswersUnless, AreHitsTold, BadLine, HasList, HasPlans, IsCertificateAnswer, IsCertificateTold, IsCheckAnswer, IsExplainAnswer, IsNoList, IsPlanAnswer, IsPlanAnswerAt, Judged, NoFile, NoList, Unread, certificate_source, check_asks, input_source, refused_with, refuses, scan_asks, told, where_wrong, wrong_at_line}
-use Rattle.plan_run.specs.Lists.{ArePlaces, input_message, list_in, list_message, patterns_in, search_message, text_in}
-use Rattle.plan_run.specs.Messages.{message_on, unusable}
-use Rattle.plan_run.specs.Migrated.{IsNoPlanFile}
-use Rattle.plan_run.specs.Running.{Asks, Begun, Explains, NamesStop, Silent, TakesList, TakesPlaces, TakesPlan, TakesPlans, TakesText, Tells, TellsStop, Writes}
+use Rattle.plan_run.specs.Running.{Begun, Silent, Tells, TellsStop, Writes}
 use Rattle.plan_run.specs.declared.status.Status.{Status}
-use Rattle.plan_run.specs.declared.stop.Refusal.{Refusal}
-use Rattle.plan_run.specs.declared.stop.Stop.{Stop}
-use Rattle.plan_run.specs.declared.stop.Stop.TheVariants.{OutOfMemory, Refused, WriteFault}
 
 -- a text that was written is an answer for which P holds
 pub tells-text : (P : Answer → Type 0) (text : List ℕ) (status : Status) (r : Result Status Stop) (old new : Option (List ℕ))
@@ -76,13 +81,6 @@ pub tells-stop : (reading : Reading) (name : List ℕ) (source : Option Content)
     → Explains stop (list_message reading name source) → Tells (AnswersList reading name source P) (Err stop) known known
 tells-stop reading name source P stop known e = tells-reason (list_message reading name source) (P (list_in reading source)) stop known e
 
--- all asks were made
-pub asks-all : {T : Type 0} (r : Result T Stop) (all : List Ask) (s left : Sources) → left ≡ after_all all s → Asks r all s left
-asks-all (Ok _) all s left e = e
-asks-all (Err (Refused refusal)) all s left e = e
-asks-all (Err WriteFault) all s left e = e
-asks-all (Err OutOfMemory) all s left e = record { made = all; rest = []; parts = sym (append-nil all); after = e }
-
 -- the plan of a list that is had
 pub plan-had : (reading : Reading) (profile : Profile) (file : List ℕ) (known mid : Option Sources) (list : Literals) (r : Result Status Stop) (old new : Option (List ℕ))
     → Told known mid (λ s left. AreShort s → (left ≡ after (ask_of file) s) × TakesList reading file (taken_by (ask_of file) s) (Ok list)) → Tells (IsPlanAnswer profile list) r old new
@@ -100,19 +98,6 @@ plan-stopped reading profile file known mid stop out reads =
     Told-weaker known mid _ (λ s left. AreShort s → Asks {T = Status} (Err stop) (ask_of file ∷ []) s left × Tells (AnswersPlan reading profile file s) (Err stop) out out) reads (λ s left h short.
     let taken = h short in
     (asks-all {T = Status} (Err stop) (ask_of file ∷ []) s left taken.0, tells-stop reading file (taken_by (ask_of file) s) (IsPlanAnswer profile) stop out taken.1))
-
--- behind one ask, more were made
-pub asks-more : {T : Type 0} (r : Result T Stop) (a : Ask) (more : List Ask) (s left : Sources) → Asks r more (after a s) left → Asks r (a ∷ more) s left
-asks-more (Ok _) a more s left e = e
-asks-more (Err (Refused refusal)) a more s left e = e
-asks-more (Err WriteFault) a more s left e = e
-asks-more (Err OutOfMemory) a more s left e = record { made = a ∷ e.made; rest = e.rest; parts = ap (λ xs. a ∷ xs) e.parts; after = e.after }
-
--- where there is no message, they follow
-pub same-asks : {T : Type 0} (r : Result T Stop) (a : Ask) (more : List Ask) (message : Option (List ℕ)) (s left : Sources) → message ≡ None
-    → Asks r (a ∷ more) s left → Asks r (a ∷ cond (is_some message) [] more) s left
-same-asks r a more None s left e asks = asks
-same-asks r a more (Some text) s left e asks = absurd (cc)
 
 -- a stop has made the same asks in any answer
 pub asks-any : (T U : Type 0) (all : List Ask) (s left : Sources) (stop : Stop) → Asks {T = T} (Err stop) all s left → Asks {T = U} (Err stop) all s left
@@ -141,15 +126,6 @@ check-had reading file certificate known mid left list r old new reads judges =
       asks-all r (check_asks reading file certificate s) s l (made ∙ ap (λ asks. after_all asks s) (sym (asks-both file (Named certificate) message taken.1.0))),
       tells-list reading file (taken_by (ask_of file) s) (λ ls. IsCheckAnswer ls certificate (certificate_source file certificate s)) list r old new taken.1 tells,
     ))
-
--- where there is one, none does
-pub asks-stopped : (T : Type 0) (file : List ℕ) (next : List Ask) (message : Option (List ℕ)) (stop : Stop) (s left : Sources) → Explains stop message → left ≡ after (ask_of file) s
-    → Asks {T = T} (Err stop) (ask_of file ∷ cond (is_some message) [] next) s left
-asks-stopped T file next None (Refused refusal) s left e after = (cc)
-asks-stopped T file next (Some text) (Refused refusal) s left e after = after
-asks-stopped T file next message WriteFault s left e after = absurd e
-asks-stopped T file next message OutOfMemory s left e after =
-    record { made = ask_of file ∷ []; rest = cond (is_some message) [] next; parts = refl; after = after }
 
 pub check-stopped : (reading : Reading) (file certificate : List ℕ) (known mid : Option Sources) (stop : Stop) (out : Option (List ℕ))
     → Told known mid (λ s left. AreShort s → (left ≡ after (ask_of file) s) × TakesList reading file (taken_by (ask_of file) s) (Err stop))
@@ -238,15 +214,6 @@ shaped list c p few =
       ends = ends-some (length list.texts) c.ends p.priced.cut.some p.priced.cut.cuts;
       few_ends = p.priced.cut.few;
     }
-
--- a test that is not true is false
-pub false-if : (b : Bool) → b ≢ true → b ≡ false
-false-if true not = absurd (not refl)
-false-if false not = refl
-
-pub true-if : (b : Bool) → b ≢ false → b ≡ true
-true-if true not = refl
-true-if false not = absurd (not refl)
 
 -- a fault in reading a certificate: one follows the file's bytes
 pub unread : (wrong : ℕ → Answer) (P : CertificateParts → Answer → Type 0) (name : List ℕ) (known : Option Coming) (r : Result CertificateParts Fault) (c : Content)

@@ -5,15 +5,15 @@ use Rattle.byte_io.specs.Devices.{Told}
 use Rattle.std.specs.Prelude.{string_bytes}
 use Rattle.byte_io.specs.Sources.{AreShort, Ask, AsksFront, Sources, after_all}
 use Rattle.byte_io.proofs.ToldLemmas.{Told-weaker}
+use Rattle.plan_pack.specs.Messages.{message_on}
+use Rattle.plan_pack.specs.declared.stop.Stop.{Stop}
+use Rattle.plan_pack.specs.declared.stop.Stop.TheVariants.{OutOfMemory, Refused, WriteFault}
 use Rattle.plan_run.specs.Answers.{IsLeftBy, asks_of, refused_with}
-use Rattle.plan_run.specs.Messages.{message_on}
-use Rattle.plan_run.specs.Running.{Answers, Broken, Ends, Silent, SaysStop, Starved, Whole, is_write_fault}
+use Rattle.plan_run.specs.Running.{Answers, Broken, Ends, SaysStop, Silent, Starved, Whole, is_write_fault}
 use Rattle.plan_run.specs.declared.request.Request.{Request}
 use Rattle.plan_run.specs.declared.request.Request.TheVariants.{Check, CheckPlan, Explain, ExplainCertificate, ExplainPlan, Migrate, Pack, Plan, Scan}
 use Rattle.plan_run.specs.declared.status.Status.{Status}
 use Rattle.plan_run.specs.declared.status.Status.TheVariants.{Trouble}
-use Rattle.plan_run.specs.declared.stop.Stop.{Stop}
-use Rattle.plan_run.specs.declared.stop.Stop.TheVariants.{OutOfMemory, Refused, WriteFault}
 use Rattle.byte_io.proofs.SayLemmas.{says-nothing}
 use Rattle.plan_run.proofs.MigrateLemmas.{leaves-front}
 

@@ -1,7 +1,5 @@
 pub mod AnswerLemmas
 pub mod EndLemmas
-pub mod HexLemmas
-pub mod ListLemmas
 pub mod ListingLemmas
 pub mod MigrateLemmas
 pub mod PackLemmas

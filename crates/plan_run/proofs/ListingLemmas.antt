@@ -5,11 +5,11 @@ use Rattle.std.proofs.KnownBytes.{Appends-nil, Appends-trans}
 use Rattle.std.proofs.lemmas.List.Concat.{flat_map-append}
 use Rattle.lit_base.specs.Literals.{Literals}
 use Rattle.byte_io.specs.Transfers.{AppendsFront}
+use Rattle.plan_pack.specs.declared.stop.Stop.{Stop}
+use Rattle.plan_pack.specs.declared.stop.Stop.TheVariants.{OutOfMemory, Refused, WriteFault}
 use Rattle.plan_run.specs.Messages.{hit_lines, line_of}
 use Rattle.plan_run.specs.Running.{Writes}
 use Rattle.plan_run.specs.declared.status.Status.{Status}
-use Rattle.plan_run.specs.declared.stop.Stop.{Stop}
-use Rattle.plan_run.specs.declared.stop.Stop.TheVariants.{OutOfMemory, Refused, WriteFault}
 
 -- nothing was written before memory ran out
 pub none-written : (text : List ℕ) (status : Status) (r : Result Status Stop) (known : Option (List ℕ)) → r ≡ Err OutOfMemory → Writes text status r known known

@@ -1,186 +1,27 @@
--- A plan file that is made, from the plans and the file of them to what a request has to answer.
-use Rattle.std.proofs.Common.{◌≡◌, ℕ, Bool, true, false, cond, List, [], ◌∷◌, ◌++◌, Option, None, Some, IfSome, Result, Ok, Err, inl, inr, ◌-◌, ◌<◌, ◌≤◌, arith, drop, get_or, length, take, refl, sym, ap, subst, ◌∙◌, append_assoc, append-nil, take_all}
+-- A plan file that is made: from the file of plans to what a request has to answer.
+use Rattle.std.proofs.Common.{◌≡◌, ℕ, Bool, false, cond, List, [], Option, None, Some, IfSome, Result, Ok, Err, inl, inr, refl, sym, ap, subst, ◌∙◌}
 use Rattle.std.proofs.KnownBytes.{Appends-nil}
 use Rattle.std.specs.Global.{Global}
 use Rattle.std.specs.Prelude.{String, map, string_bytes}
 use Rattle.byte_io.specs.Devices.{Told}
-use Rattle.byte_io.specs.Sources.{AreShort, Ask, Created, Named, Sources, Standard, after, ask_of, can_create, taken_by}
-use Rattle.byte_io.proofs.OpenerLemmas.{short-after}
-use Rattle.byte_io.proofs.ToldLemmas.{Told-none, Told-then, Told-weaker}
-use Rattle.lit_plan.specs.Plans.{Plan}
-use Rattle.plan_run.specs.declared.notation.Reading.{Reading}
+use Rattle.byte_io.specs.Sources.{AreShort, Sources, can_create}
+use Rattle.byte_io.proofs.ToldLemmas.{Told-weaker}
+use Rattle.plan_pack.specs.Asking.{Asks, pack_asks}
 use Rattle.lit_base.specs.declared.profile.Profile.{Profile}
-use Rattle.plan_run.specs.Answers.{Answer, AnswersPack, AnswersUnless, Cut, IsPackAnswer, Packed, Unmade, asks_for_plans, pack_asks, pack_message, reads_file, refused_with}
-use Rattle.plan_run.specs.Lists.{ArePlansOf, IsPlanOf, first_message, list_in, search_message, search_messages}
-use Rattle.plan_run.specs.Messages.{message_on, unusable}
-use Rattle.plan_run.specs.Packing.{LeavesPack, Made, MakesFile, MakesPack, Other, Own, PacksFiles, answer_of}
-use Rattle.plan_run.specs.PlanFiles.{HoldsFront, HoldsPlans}
-use Rattle.plan_run.specs.Running.{Answers, Asks, Explains, TakesPlan, Tells, is_refusal}
-use Rattle.plan_run.specs.declared.pattern_files.PatternFiles.{PatternFiles}
+use Rattle.plan_pack.specs.Lists.{ArePlansOf, first_message, search_messages}
+use Rattle.plan_pack.specs.Messages.{message_on, unusable}
+use Rattle.plan_pack.specs.Packing.{LeavesPack, Other, Own, PacksFiles}
+use Rattle.plan_pack.specs.Stops.{Explains, is_refusal}
+use Rattle.plan_pack.specs.declared.notation.Reading.{Reading}
+use Rattle.plan_pack.specs.declared.pattern_files.PatternFiles.{PatternFiles}
+use Rattle.plan_pack.specs.declared.stop.Stop.{Stop}
+use Rattle.plan_pack.specs.declared.stop.Stop.TheVariants.{OutOfMemory, Refused, WriteFault}
+use Rattle.plan_run.specs.Answers.{Answer, AnswersPack, AnswersUnless, Cut, IsPackAnswer, Packed, Unmade, pack_message, refused_with}
+use Rattle.plan_run.specs.Running.{Answers, Tells}
 use Rattle.plan_run.specs.declared.request.Request.TheVariants.{Pack}
 use Rattle.plan_run.specs.declared.status.Status.{Status}
 use Rattle.plan_run.specs.declared.status.Status.TheVariants.{Done}
-use Rattle.plan_run.specs.declared.stop.Stop.{Stop}
-use Rattle.plan_run.specs.declared.stop.Stop.TheVariants.{OutOfMemory, Refused, WriteFault}
-use Rattle.plan_run.proofs.AnswerLemmas.{asks-all, asks-any, asks-more, asks-stopped, same-asks, tells-reason, tells-silent, tells-text, tells-unless}
-
--- no ask changes under which names files can be made
-pub same-creatable : (ask : Ask) (s : Sources) → (after ask s).creatable ≡ s.creatable
-same-creatable (Named name) s = refl
-same-creatable Standard s = refl
-same-creatable (Created name) s = refl
-
--- the message that comes first explains a stop also where another would follow
-first-explains : (stop : Stop) (reason later : Option (List ℕ)) → Explains stop reason → Explains stop (first_message reason later)
-first-explains (Refused refusal) None later e = (cc)
-first-explains (Refused refusal) (Some text) later e = e
-first-explains WriteFault reason later e = e
-first-explains OutOfMemory reason later e = tt
-
--- where there is none, the other does
-then-explains : (stop : Stop) (reason later : Option (List ℕ)) → reason ≡ None → Explains stop later → Explains stop (first_message reason later)
-then-explains stop reason later none e = subst (λ r. Explains stop (first_message r later)) (sym none) e
-
--- ---- the file of plans behind no further files
-
-pub packs-made : {O : Type 0} (written : O → Option (List ℕ)) (reading : Reading) (profile : Profile) (before : List Plan) (output : List ℕ) (s left : Sources) (r : Made O)
-    → MakesFile written before output (can_create output s.creatable) r → MakesPack written reading profile before [] output s left r
-packs-made written reading profile before output s left (Ok made) makes =
-    (refl, makes.0, record { plans = []; right = refl; holds = subst (λ ps. HoldsPlans ps (written made)) (sym (append-nil before)) makes.1 })
-packs-made written reading profile before output s left (Err (stop, Some made)) makes =
-    (makes.0, (refl, makes.1.0, record { plans = []; right = refl; holds = subst (λ ps. HoldsFront ps (written made)) (sym (append-nil before)) makes.1.1 }))
-packs-made written reading profile before output s left (Err (stop, None)) makes = (makes.0, inr makes.1)
-
-pub pack-made : {O : Type 0} (written : O → Option (List ℕ)) (reading : Reading) (profile : Profile) (before : List Plan) (output : List ℕ) (known left : Option Sources) (r : Made O)
-    → Told known left (λ s l. (l ≡ after (Created output) s) × MakesFile written before output (can_create output s.creatable) r)
-    → Told known left (λ s l. AreShort s → Asks (answer_of r) (asks_for_plans reading [] (Created output) s) s l × MakesPack written reading profile before [] output s l r)
-pack-made written reading profile before output known left r makes =
-    Told-weaker known left _ (λ s l. AreShort s → Asks (answer_of r) (asks_for_plans reading [] (Created output) s) s l × MakesPack written reading profile before [] output s l r) makes (λ s l h short.
-    (asks-all (answer_of r) (Created output ∷ []) s l h.0, packs-made written reading profile before output s l r h.1))
-
--- ---- one file of patterns, and those behind it
-
-packs-next : {O : Type 0} (written : O → Option (List ℕ)) (reading : Reading) (profile : Profile) (before : List Plan) (file : List ℕ) (names : List (List ℕ)) (output : List ℕ) (s left : Sources) (plan : Plan) (r : Made O)
-    → search_message reading file (taken_by (ask_of file) s) ≡ None → IsPlanOf profile (list_in reading (taken_by (ask_of file) s)) plan
-    → MakesPack written reading profile (before ++ plan ∷ []) names output (after (ask_of file) s) left r → MakesPack written reading profile before (file ∷ names) output s left r
-packs-next written reading profile before file names output s left plan (Ok made) none right makes = (
-  ap (λ m. first_message m (search_messages reading names (after (ask_of file) s))) none ∙ makes.0,
-  ap (can_create output) (sym (same-creatable (ask_of file) s)) ∙ makes.1,
-  record {
-    plans = plan ∷ makes.2.plans;
-    right = (right, makes.2.right);
-    holds = subst (λ ps. HoldsPlans ps (written made)) (append_assoc before (plan ∷ []) makes.2.plans) makes.2.holds;
-  },
-)
-packs-next written reading profile before file names output s left plan (Err (stop, Some made)) none right makes =
-    let first : first_message (search_message reading file (taken_by (ask_of file) s)) (search_messages reading names (after (ask_of file) s)) ≡ search_messages reading names (after (ask_of file) s) =
-    ap (λ m. first_message m (search_messages reading names (after (ask_of file) s))) none in (
-      subst (λ m. Explains stop (first_message m (Some (unusable output)))) (sym first) makes.0,
-      (
-        first ∙ makes.1.0,
-        ap (can_create output) (sym (same-creatable (ask_of file) s)) ∙ makes.1.1,
-        record {
-          plans = plan ∷ makes.1.2.plans;
-          right = (right, makes.1.2.right);
-          holds = subst (λ ps. HoldsFront ps (written made)) (append_assoc before (plan ∷ []) makes.1.2.plans) makes.1.2.holds;
-        },
-      ),
-    )
-packs-next written reading profile before file names output s left plan (Err (stop, None)) none right (why, inl kept) =
-    let first : first_message (search_message reading file (taken_by (ask_of file) s)) (search_messages reading names (after (ask_of file) s)) ≡ search_messages reading names (after (ask_of file) s) =
-    ap (λ m. first_message m (search_messages reading names (after (ask_of file) s))) none in (
-      subst (λ m. Explains stop (first_message m (Some (unusable output)))) (sym first) why,
-      inl (inr kept.0, subst (λ m. Explains stop m) (sym first) kept.1),
-    )
-packs-next written reading profile before file names output s left plan (Err (stop, None)) none right (why, inr cannot) =
-    let first : first_message (search_message reading file (taken_by (ask_of file) s)) (search_messages reading names (after (ask_of file) s)) ≡ search_messages reading names (after (ask_of file) s) =
-    ap (λ m. first_message m (search_messages reading names (after (ask_of file) s))) none in (
-      subst (λ m. Explains stop (first_message m (Some (unusable output)))) (sym first) why,
-      inr (ap (can_create output) (sym (same-creatable (ask_of file) s)) ∙ cannot),
-    )
-
--- the plan file of patterns that have a plan
-pub pack-next : {O : Type 0} (written : O → Option (List ℕ)) (reading : Reading) (profile : Profile) (before : List Plan) (file : List ℕ) (names : List (List ℕ)) (output : List ℕ) (known mid left : Option Sources) (plan : Plan) (r : Made O)
-    → Told known mid (λ s m. AreShort s → (m ≡ after (ask_of file) s) × TakesPlan reading profile file (taken_by (ask_of file) s) (Ok plan))
-    → Told mid left (λ m l. AreShort m → Asks (answer_of r) (asks_for_plans reading names (Created output) m) m l × MakesPack written reading profile (before ++ plan ∷ []) names output m l r)
-    → Told known left (λ s l. AreShort s → Asks (answer_of r) (asks_for_plans reading (file ∷ names) (Created output) s) s l × MakesPack written reading profile before (file ∷ names) output s l r)
-pack-next written reading profile before file names output known mid left plan r reads makes =
-    Told-then known mid left _ _ (λ s l. AreShort s → Asks (answer_of r) (asks_for_plans reading (file ∷ names) (Created output) s) s l × MakesPack written reading profile before (file ∷ names) output s l r) reads makes (λ s m l h g short.
-    let taken = h short in
-    let rest = g (subst AreShort (sym taken.0) (short-after (ask_of file) s short)) in
-    let here = subst (λ x. Asks (answer_of r) (asks_for_plans reading names (Created output) x) x l × MakesPack written reading profile (before ++ plan ∷ []) names output x l r) taken.0 rest in
-    let more : List Ask = asks_for_plans reading names (Created output) (after (ask_of file) s) in
-    let message : Option (List ℕ) = search_message reading file (taken_by (ask_of file) s) in (
-      same-asks (answer_of r) (ask_of file) more message s l taken.1.0 (asks-more (answer_of r) (ask_of file) more s l here.0),
-      packs-next written reading profile before file names output s l plan r taken.1.0 taken.1.1 here.1,
-    ))
-
--- and of patterns that have none
-pub pack-stopped : {O : Type 0} (written : O → Option (List ℕ)) (reading : Reading) (profile : Profile) (before : List Plan) (file : List ℕ) (names : List (List ℕ)) (output : List ℕ) (known mid : Option Sources) (stop : Stop)
-    → Told known mid (λ s left. AreShort s → (left ≡ after (ask_of file) s) × TakesPlan reading profile file (taken_by (ask_of file) s) (Err stop))
-    → Told known mid (λ s left. AreShort s → Asks {T = O} (Err stop) (asks_for_plans reading (file ∷ names) (Created output) s) s left × MakesPack {O = O} written reading profile before (file ∷ names) output s left (Err (stop, None)))
-pack-stopped {O} written reading profile before file names output known mid stop reads =
-    Told-weaker known mid _ (λ s left. AreShort s → Asks {T = O} (Err stop) (asks_for_plans reading (file ∷ names) (Created output) s) s left × MakesPack {O = O} written reading profile before (file ∷ names) output s left (Err (stop, None))) reads (λ s left h short.
-    let taken = h short in
-    let message : Option (List ℕ) = search_message reading file (taken_by (ask_of file) s) in
-    let others : Option (List ℕ) = search_messages reading names (after (ask_of file) s) in
-    let first : Explains stop (first_message message others) = first-explains stop message others taken.1 in (
-      asks-stopped O file (asks_for_plans reading names (Created output) (after (ask_of file) s)) message stop s left taken.1 taken.0,
-      (first-explains stop (first_message message others) (Some (unusable output)) first, inl (inl taken.0, first)),
-    ))
-
--- memory ran out behind a plan
-pub pack-starved : {O : Type 0} (written : O → Option (List ℕ)) (reading : Reading) (profile : Profile) (before : List Plan) (file : List ℕ) (names : List (List ℕ)) (output : List ℕ) (known mid : Option Sources) (plan : Plan)
-    → Told known mid (λ s left. AreShort s → (left ≡ after (ask_of file) s) × TakesPlan reading profile file (taken_by (ask_of file) s) (Ok plan))
-    → Told known mid (λ s left. AreShort s → Asks {T = O} (Err OutOfMemory) (asks_for_plans reading (file ∷ names) (Created output) s) s left × MakesPack {O = O} written reading profile before (file ∷ names) output s left (Err (OutOfMemory, None)))
-pack-starved {O} written reading profile before file names output known mid plan reads =
-    pack-stopped {O = O} written reading profile before file names output known mid OutOfMemory
-    (Told-weaker known mid _ (λ s left. AreShort s → (left ≡ after (ask_of file) s) × TakesPlan reading profile file (taken_by (ask_of file) s) (Err OutOfMemory)) reads (λ s left h short. ((h short).0, tt)))
-
--- the same of the names of files that have such a list
-pub packs-of : {O : Type 0} (written : O → Option (List ℕ)) (reading : Reading) (profile : Profile) (before : List Plan) (all names : List (List ℕ)) (output : List ℕ) (known left : Option Sources) (r : Made O)
-    → all ≡ names
-    → Told known left (λ s l. AreShort s → Asks (answer_of r) (asks_for_plans reading names (Created output) s) s l × MakesPack written reading profile before names output s l r)
-    → Told known left (λ s l. AreShort s → Asks (answer_of r) (asks_for_plans reading all (Created output) s) s l × MakesPack written reading profile before all output s l r)
-packs-of written reading profile before all names output known left r same makes =
-    subst (λ xs. Told known left (λ s l. AreShort s → Asks (answer_of r) (asks_for_plans reading xs (Created output) s) s l × MakesPack written reading profile before xs output s l r)) (sym same) makes
-
--- none is left of them
-pub names-none : {Z : Type 0} (names : List (String Z)) → length names < 1 → map string_bytes names ≡ []
-names-none [] none = refl
-names-none (name ∷ names) none = absurd (omega arith)
-
--- the first of them, and the rest
-pub names-first : {Z : Type 0} (names : List (String Z)) (item default : String Z) (file : List ℕ) → 1 ≤ length names → item ≡ get_or names 0 default → file ≡ string_bytes item
-    → map string_bytes names ≡ file ∷ map string_bytes (take (length names - 1) (drop 1 names))
-names-first [] item default file some is same = absurd (omega arith)
-names-first (name ∷ rest) item default file some is same =
-    let all : take (length (name ∷ rest) - 1) (drop 1 (name ∷ rest)) ≡ rest = take_all (length (name ∷ rest) - 1) rest (omega arith) in
-    ap (λ n. n ∷ map string_bytes rest) (sym (same ∙ ap string_bytes is)) ∙ ap (λ xs. file ∷ map string_bytes xs) (sym all)
-
--- ---- files of patterns, unless one of them is the plan file
-
-pub pack-own : {O : Type 0} (written : O → Option (List ℕ)) (reading : Reading) (profile : Profile) (names : List (List ℕ)) (output : List ℕ) (known : Option Sources) (stop : Stop)
-    → reads_file names output ≡ true → Explains stop (Some (unusable output))
-    → Told known known (λ s l. AreShort s → Asks {T = O} (Err stop) (pack_asks reading names output s) s l × PacksFiles {O = O} written reading profile names output s l (Err (stop, None)))
-pack-own {O} written reading profile names output known stop own why =
-    Told-none known (λ s l. AreShort s → Asks {T = O} (Err stop) (pack_asks reading names output s) s l × PacksFiles {O = O} written reading profile names output s l (Err (stop, None))) (λ s short. (
-      subst (λ b. Asks {T = O} (Err stop) (cond b [] (asks_for_plans reading names (Created output) s)) s s) (sym own) (asks-all {T = O} (Err stop) [] s s refl),
-      Own stop own why refl refl,
-    ))
-
-pub pack-other : {O : Type 0} (written : O → Option (List ℕ)) (reading : Reading) (profile : Profile) (names : List (List ℕ)) (output : List ℕ) (known left : Option Sources) (r : Made O)
-    → reads_file names output ≡ false
-    → Told known left (λ s l. AreShort s → Asks (answer_of r) (asks_for_plans reading names (Created output) s) s l × MakesPack written reading profile [] names output s l r)
-    → Told known left (λ s l. AreShort s → Asks (answer_of r) (pack_asks reading names output s) s l × PacksFiles written reading profile names output s l r)
-pack-other written reading profile names output known left r other makes =
-    Told-weaker known left _ (λ s l. AreShort s → Asks (answer_of r) (pack_asks reading names output s) s l × PacksFiles written reading profile names output s l r) makes (λ s l h short.
-    let p = h short in (
-      subst (λ b. Asks (answer_of r) (cond b [] (asks_for_plans reading names (Created output) s)) s l) (sym other) p.0,
-      Other other p.1,
-    ))
-
--- ---- what is told
+use Rattle.plan_run.proofs.AnswerLemmas.{asks-any, tells-reason, tells-silent, tells-text, tells-unless}
 
 -- of a plan file that was made
 tells-packed : {O : Type 0} (written : O → Option (List ℕ)) (has_failed : O → Bool) (reading : Reading) (profile : Profile) (names : List (List ℕ)) (output : List ℕ) (s left : Sources) (made : O) (out : Option (List ℕ))

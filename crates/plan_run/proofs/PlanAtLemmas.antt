@@ -3,12 +3,12 @@ use Rattle.std.proofs.Common.{◌≡◌, ℕ, ◌<◌, ◌≤◌, List, length, 
 use Rattle.std.proofs.KnownBytes.{Appends-nil}
 use Rattle.std.proofs.lemmas.Option.{slice_get_past, slice_get_read}
 use Rattle.lit_plan.specs.Plans.{Plan}
+use Rattle.plan_pack.specs.declared.stop.Refusal.TheVariants.{NoPlan}
+use Rattle.plan_pack.specs.declared.stop.Stop.{Stop}
+use Rattle.plan_pack.specs.declared.stop.Stop.TheVariants.{Refused}
 use Rattle.plan_run.specs.Answers.{Answer, IsPlanAnswerAt, NoneThere, OneThere}
 use Rattle.plan_run.specs.Running.{Tells}
 use Rattle.plan_run.specs.declared.status.Status.{Status}
-use Rattle.plan_run.specs.declared.stop.Refusal.TheVariants.{NoPlan}
-use Rattle.plan_run.specs.declared.stop.Stop.{Stop}
-use Rattle.plan_run.specs.declared.stop.Stop.TheVariants.{Refused}
 use Rattle.plan_run.proofs.AnswerLemmas.{tells-weaker}
 
 -- what is told of the plan of this number

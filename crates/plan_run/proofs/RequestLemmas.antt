@@ -5,14 +5,15 @@ use Rattle.std.specs.Prelude.{String, string_bytes}
 use Rattle.byte_io.specs.Devices.{Told}
 use Rattle.byte_io.specs.Sources.{AreShort, Ask, Named, Sources, ask_of}
 use Rattle.byte_io.proofs.ToldLemmas.{Told-weaker}
-use Rattle.plan_run.specs.declared.notation.Reading.{Reading}
+use Rattle.plan_pack.specs.Asking.{Asks}
 use Rattle.lit_base.specs.declared.profile.Profile.{Profile}
+use Rattle.plan_pack.specs.declared.notation.Reading.{Reading}
+use Rattle.plan_pack.specs.declared.stop.Stop.{Stop}
 use Rattle.plan_run.specs.Answers.{Answer, AnswersCheck, AnswersCheckPlan, AnswersExplain, AnswersExplainCertificate, AnswersExplainPlan, check_asks}
-use Rattle.plan_run.specs.Running.{Answers, Asks, Tells}
+use Rattle.plan_run.specs.Running.{Answers, Tells}
 use Rattle.plan_run.specs.declared.request.Request.{Request}
 use Rattle.plan_run.specs.declared.request.Request.TheVariants.{Check, CheckPlan, Explain, ExplainCertificate, ExplainPlan}
 use Rattle.plan_run.specs.declared.status.Status.{Status}
-use Rattle.plan_run.specs.declared.stop.Stop.{Stop}
 
 -- what is asked for and answered under one name
 of-name : {O : Type 0} (written : O → Option (List ℕ)) (has_failed : O → Bool) (request : Request) (asks : List ℕ → Sources → List Ask) (P : List ℕ → Sources → Answer → Type 0) (from name : List ℕ) (known left : Option Sources) (r : Result Status Stop) (old new : Option (List ℕ))

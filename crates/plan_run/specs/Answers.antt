@@ -1,15 +1,14 @@
 -- What a request has to answer, for the files that there are.
-use Rattle.std.specs.Prelude.{◌≡◌, ℕ, Bool, true, false, List, [], ◌∷◌, ◌++◌, codes, length, if◌then◌else◌, is_some, map, Option, Some, None, MatchOption, string_bytes}
+use Rattle.std.specs.Prelude.{◌≡◌, ℕ, Bool, true, false, List, [], ◌∷◌, ◌++◌, length, if◌then◌else◌, is_some, map, Option, Some, None, MatchOption, string_bytes}
 use Rattle.std.specs.List.{slice_get}
-use Rattle.std.specs.Str.{bytes_eq}
-use Rattle.byte_io.specs.Sources.{Ask, Content, Created, Named, Sources, after, after_all, ask_of, can_create, taken_by}
+use Rattle.byte_io.specs.Sources.{Ask, Content, Named, Sources, after, after_all, ask_of, can_create, taken_by}
 use Rattle.lit_plan.specs.Plans as plan
 use Rattle.list_plan.specs.Planned.{IsPlanned}
 use Rattle.lit_base.specs.Costs.{run_cost}
 use Rattle.lit_base.specs.Literals.{Literals, lengths}
 use Rattle.lit_base.specs.Occurrences.{IsHits}
 use Rattle.lit_base.specs.Profiles.{buckets}
-use Rattle.plan_run.specs.declared.notation.Reading.{Reading}
+use Rattle.plan_pack.specs.Asking.{LeavesMigrate, migrate_asks, pack_asks, reads_file}
 use Rattle.lit_base.specs.declared.profile.Profile.{Profile}
 use Rattle.lit_cert.specs.Certificates.{CertificateParts}
 use Rattle.lit_cert.specs.Certified.{IsCertified, IsFirstFailure}
@@ -19,16 +18,18 @@ use Rattle.lit_cert.specs.declared.reason.Reason.{Reason}
 use Rattle.plan_view.specs.Drawings.{plan_svg}
 use Rattle.plan_view.specs.Texts.{plan_text}
 use Rattle.run_planner.specs.FirstCut.{IsFirstCut}
+use Rattle.plan_pack.specs.Lists.{ArePlaces, ArePlansOf, NamesRefused, input_message, list_in, list_message, patterns_in, search_message, search_messages, text_in}
+use Rattle.plan_pack.specs.Messages.{message_on, no_plan, refused, unusable}
+use Rattle.plan_pack.specs.Migrated.{AreMigrated, IsNoPlanFile, IsSourceOf, migrated_lines}
+use Rattle.plan_pack.specs.PlanFiles.{HoldsFront, HoldsPlans}
+use Rattle.plan_pack.specs.declared.notation.Reading.{Reading}
+use Rattle.plan_pack.specs.declared.stop.Refusal.{Refusal}
+use Rattle.plan_pack.specs.declared.stop.Refusal.TheVariants.{NoLiterals}
+use Rattle.plan_run.specs.Messages.{certificate_head, hits_text, not_certified, optimal, wrong_input, wrong_line}
 use Rattle.plan_run.specs.declared.request.Request.{Request}
-use Rattle.plan_run.specs.declared.request.Request.TheVariants.{Plan, Check, CheckPlan, Pack, Explain, ExplainPlan, ExplainCertificate, Migrate, Scan}
+use Rattle.plan_run.specs.declared.request.Request.TheVariants.{Check, CheckPlan, Explain, ExplainCertificate, ExplainPlan, Migrate, Pack, Plan, Scan}
 use Rattle.plan_run.specs.declared.status.Status.{Status}
 use Rattle.plan_run.specs.declared.status.Status.TheVariants.{Done, NotCertified, Trouble, Wrong}
-use Rattle.plan_run.specs.declared.stop.Refusal.{Refusal}
-use Rattle.plan_run.specs.declared.stop.Refusal.TheVariants.{NoLiterals}
-use Rattle.plan_run.specs.Lists.{ArePlaces, ArePlansOf, NamesRefused, input_message, list_in, list_message, patterns_in, search_message, search_messages, text_in}
-use Rattle.plan_run.specs.Messages.{certificate_head, hits_text, message_on, no_plan, not_certified, optimal, refused, unusable, wrong_input, wrong_line}
-use Rattle.plan_run.specs.Migrated.{AreMigrated, IsNoPlanFile, IsSourceOf, migrated_lines}
-use Rattle.plan_run.specs.PlanFiles.{HoldsFront, HoldsPlans}
 
 -- a text on standard output, a message, and a status
 pub record Answer : Type 0 where
@@ -134,14 +135,6 @@ pub data IsPackAnswer {O : Type 0} (written : O → Option (List ℕ)) (has_fail
   Cut : (plans : List plan.Plan) (made : O) → P plans → can ≡ true → HoldsFront plans (written made) → has_failed made ≡ true
       → a ≡ refused_with (unusable name) → IsPackAnswer written has_failed P name can a
 
--- whether the file of this name is one of the operands, of which `-` is standard input
-abbrev pub is_file : List ℕ → List ℕ → Bool
-is_file operand name = if bytes_eq operand (codes "-") then false else bytes_eq operand name
-
-abbrev pub reads_file : List (List ℕ) → List ℕ → Bool
-reads_file [] name = false
-reads_file (operand ∷ operands) name = if is_file operand name then true else reads_file operands name
-
 -- the message where no plan file is made: it is one of the files of patterns; or one of these gives no plan
 abbrev pub pack_message : Reading → List (List ℕ) → List ℕ → Sources → Option (List ℕ)
 pack_message reading names output s = if reads_file names output then Some (unusable output) else search_messages reading names s
@@ -243,24 +236,10 @@ abbrev pub check_asks : Reading → List ℕ → List ℕ → Sources → List A
 check_asks reading file certificate s =
     ask_of file ∷ (if is_some (list_message reading file (taken_by (ask_of file) s)) then [] else Named certificate ∷ [])
 
--- the files of patterns until one gives no plan, and what comes once all have one
-abbrev pub asks_for_plans : Reading → List (List ℕ) → Ask → Sources → List Ask
-asks_for_plans reading [] last s = last ∷ []
-asks_for_plans reading (name ∷ names) last s =
-    ask_of name ∷ (if is_some (search_message reading name (taken_by (ask_of name) s)) then [] else asks_for_plans reading names last (after (ask_of name) s))
-
--- to pack, nothing where the plan file is one of them, and else it comes last
-abbrev pub pack_asks : Reading → List (List ℕ) → List ℕ → Sources → List Ask
-pack_asks reading names output s = if reads_file names output then [] else asks_for_plans reading names (Created output) s
-
 -- likewise the file of patterns, and the input once there is a plan
 abbrev pub scan_asks : Reading → List ℕ → List ℕ → Sources → List Ask
 scan_asks reading file input s =
     ask_of file ∷ (if is_some (search_message reading file (taken_by (ask_of file) s)) then [] else ask_of input ∷ [])
-
--- likewise the plan file that is read, and the new one once there are plans
-abbrev pub migrate_asks : List ℕ → List ℕ → List Ask
-migrate_asks input output = ask_of input ∷ Created output ∷ []
 
 -- all that a request may ask for
 abbrev pub asks_of : Request → Sources → List Ask
@@ -273,13 +252,6 @@ asks_of (ExplainPlan svg file place) s = ask_of (string_bytes file) ∷ []
 asks_of (ExplainCertificate certificate) s = Named (string_bytes certificate) ∷ []
 asks_of (Migrate input output) s = migrate_asks (string_bytes input) (string_bytes output)
 asks_of (Scan r) s = scan_asks r.reading (string_bytes r.file) (string_bytes r.input) s
-
--- what migrating leaves: the other file is made only where there are plans
-pub data LeavesMigrate (input output : List ℕ) (s left : Sources) : Type 0 where
-  WithoutPlans : (refusal : Refusal) → IsNoPlanFile input (taken_by (ask_of input) s) refusal → left ≡ after (ask_of input) s
-      → LeavesMigrate input output s left
-  WithPlans : (plans : List plan.Plan) → IsSourceOf (taken_by (ask_of input) s) plans → left ≡ after_all (migrate_asks input output) s
-      → LeavesMigrate input output s left
 
 -- what a request leaves once it has asked for all
 abbrev pub IsLeftBy : Request → Sources → Sources → Type 0

@@ -1,13 +1,5 @@
 pub mod Answers
-pub mod Faults
-pub mod Lists
 pub mod Messages
-pub mod Migrated
-pub mod Migrating
-pub mod Notations
-pub mod Packing
-pub mod PatternFiles
-pub mod PlanFiles
 pub mod Running
 pub mod Statuses
 pub mod Workers

@@ -1,7 +1,7 @@
--- What is written: the messages on standard error, where an input is wrong, the verdicts on a certificate, and hits.
+-- What is written: the messages on a failed write and on want of memory, where an input is wrong, the verdicts on a certificate,
+-- and hits.
 use Rattle.std.specs.Prelude.{ℕ, ◌+◌, ◌-◌, Bool, List, [], ◌++◌, codes, decimal, flat_map, length, if◌then◌else◌, Option, None, Some}
 use Rattle.std.specs.List.{slice_get}
-use Rattle.lit_base.specs.Faults.{number_of}
 use Rattle.lit_base.specs.Literals.{Literals}
 use Rattle.lit_base.specs.declared.fault.Fault.{Fault}
 use Rattle.lit_base.specs.declared.fault.Fault.TheVariants.{ListTooLarge, LiteralTooLong, OutOfMemory, TooManyLiterals, TooManyPatterns}
@@ -10,24 +10,8 @@ use Rattle.lit_cert.specs.declared.reason.Reason.TheVariants.{Length, Ends, Tota
 use Rattle.plan_file.specs.declared.fault.Cause.{Cause}
 use Rattle.plan_file.specs.declared.fault.Cause.TheVariants.{Count, Flags, Literal, Magic, NotCertified, Order, Runs, Short, Trailing, Version}
 use Rattle.plan_view.specs.Quotes.{whole}
-use Rattle.plan_run.specs.declared.stop.Refusal.{Refusal}
-use Rattle.plan_run.specs.declared.stop.Refusal.TheVariants.{Unusable, Patterns, NotHex, NoLiterals, NoCertificate, NoPlanFile, NoPlan}
-
--- on a file that cannot be opened or read
-abbrev pub unusable : List ℕ → List ℕ
-unusable name = codes "litplan: " ++ (name ++ codes ": cannot be used\n")
-
--- on a plan file that has no plan of this number
-abbrev pub no_plan : List ℕ → ℕ → List ℕ
-no_plan name place = codes "litplan: " ++ (name ++ (codes ": no plan " ++ (decimal place ++ codes "\n")))
-
--- on a file of patterns whose line of this number should be hexadecimal
-abbrev pub not_hex : List ℕ → ℕ → List ℕ
-not_hex name line = codes "litplan: " ++ (name ++ (codes ": line " ++ (decimal line ++ codes " is not hexadecimal\n")))
-
--- on any other refusal, by its number
-abbrev pub refused : ℕ → List ℕ
-refused number = codes "litplan: refused (" ++ (decimal number ++ codes ")\n")
+use Rattle.plan_pack.specs.declared.stop.Refusal.{Refusal}
+use Rattle.plan_pack.specs.declared.stop.Refusal.TheVariants.{NoCertificate, NoLiterals, NoPlan, NoPlanFile, NotHex, Patterns, Unusable}
 
 -- on a write to standard output that failed, and on want of memory
 abbrev pub write_fault : List ℕ
@@ -35,16 +19,6 @@ write_fault = codes "litplan: refused (18)\n"
 
 abbrev pub out_of_memory : List ℕ
 out_of_memory = codes "litplan: refused (1)\n"
-
--- on a refusal
-abbrev pub message_on : Refusal → List ℕ
-message_on (Unusable name) = unusable name.now
-message_on (Patterns fault) = refused (number_of fault)
-message_on (NotHex name line) = not_hex name.now line
-message_on NoLiterals = refused 5
-message_on (NoCertificate line) = refused 9
-message_on (NoPlanFile place cause) = refused 10
-message_on (NoPlan name place) = no_plan name.now place
 
 -- the verdict that a certificate holds
 abbrev pub optimal : ℕ → List ℕ

@@ -1,7 +1,7 @@
 -- The numbers of statuses.
 use Rattle.std.specs.Prelude.{ℕ}
 use Rattle.plan_run.specs.declared.status.Status.{Status}
-use Rattle.plan_run.specs.declared.status.Status.TheVariants.{Done, NotCertified, Wrong, Trouble}
+use Rattle.plan_run.specs.declared.status.Status.TheVariants.{Done, NotCertified, Trouble, Wrong}
 
 -- the number that the program exits with
 abbrev pub code_of : Status → ℕ

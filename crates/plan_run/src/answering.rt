@@ -2,17 +2,16 @@
 ghost use Rattle.std.specs.Prelude.{◌≡◌, ◌||◌, ◌∷◌, []};
 ghost use Rattle.byte_io.specs.Devices.{Told};
 ghost use Rattle.byte_io.specs.Sources.{AreShort, ask_of};
+ghost use Rattle.plan_pack.specs.Asking.{Asks};
 ghost use Rattle.plan_run.specs.Answers.{AnswersCheck, AnswersPlan, IsPlanAnswer, check_asks};
-ghost use Rattle.plan_run.specs.Running.{Asks, Tells, is_write_fault};
+ghost use Rattle.plan_run.specs.Running.{Tells, is_write_fault};
 
 use crate::judging::check_list;
-use crate::notation::Reading;
-use crate::reading::list_of;
 use crate::status::Status;
-use crate::stop::{Refusal, Stop};
 use crate::telling::tell_certificate;
 use byte_io::{ByteOut, Files};
 use lit_base::{LitList, Profile};
+use plan_pack::{Reading, Refusal, Stop, list_of};
 use run_planner::{Fault, plan};
 use std::alloc::Global;
 

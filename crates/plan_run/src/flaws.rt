@@ -1,17 +1,18 @@
 //! Where an input is wrong, as `explain` says it.
 ghost use Rattle.std.specs.Prelude.{◌≡◌, ◌||◌, Err, IfOk, MatchResult, Ok, Some, false, string_bytes};
 ghost use Rattle.std.specs.Option.{option_map};
+ghost use Rattle.plan_pack.specs.Stops.{is_write};
 ghost use Rattle.plan_run.specs.Answers.{where_wrong};
 ghost use Rattle.plan_run.specs.Messages.{wrong_byte, wrong_field, wrong_input, wrong_list};
-ghost use Rattle.plan_run.specs.Running.{Tells, TellsStop, is_write, is_write_fault};
+ghost use Rattle.plan_run.specs.Running.{Tells, TellsStop, is_write_fault};
 
 use crate::judging::not_certified;
 use crate::status::Status;
-use crate::stop::{Refusal, Stop};
 use crate::telling::tell;
 use byte_io::ByteOut;
 use lit_base::Fault;
 use plan_file::Cause;
+use plan_pack::{Refusal, Stop};
 use std::alloc::{AllocError, Global};
 
 /// Writes where an input is wrong, for a stop that says so. Any other stop stays one.

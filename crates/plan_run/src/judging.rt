@@ -2,18 +2,18 @@
 ghost use Rattle.std.specs.Prelude.{◌≡◌, ◌||◌, ◌∷◌, [], IfOk, Some, string_bytes};
 ghost use Rattle.byte_io.specs.Devices.{Told};
 ghost use Rattle.byte_io.specs.Sources.{AreShort, Content, IsShort, Named, after, ask_of, coming_of, taken_by};
+ghost use Rattle.plan_pack.specs.Asking.{Asks};
 ghost use Rattle.plan_run.specs.Answers.{AnswersCheckPlan, IsCheckAnswer, IsPlanAnswerAt, IsVerdict};
 ghost use Rattle.plan_run.specs.Messages.{not_certified, optimal};
-ghost use Rattle.plan_run.specs.Running.{Asks, Tells, is_write_fault};
+ghost use Rattle.plan_run.specs.Running.{Tells, is_write_fault};
 
-use crate::reading::plans_of;
 use crate::status::Status;
-use crate::stop::{Refusal, Stop};
 use crate::telling::tell;
 use byte_io::{ByteIn, ByteOut, Files};
 use flow_scan::Compiled;
 use lit_base::LitList;
 use lit_cert::{Certificate, Fault, Reason, check, read_cert};
+use plan_pack::{Refusal, Stop, plans_of};
 use std::alloc::{AllocError, Global};
 
 /// Says whether the certificate of a file shows that no grouping of the list is cheaper.

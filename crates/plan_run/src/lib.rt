@@ -1,37 +1,27 @@
-//! A run of litplan: from a request and the files that there are to output, a message and a status.
+//! A run of litplan: from a request and the files that there are to output, a message and a status. `plan_pack` reads the
+//! files and makes plan files.
 #![tactic(auto)]
 
 mod answering;
 mod explaining;
-mod fault;
 mod flaws;
 mod judging;
 mod listing;
+mod making;
 mod message;
-mod migrating;
-mod notation;
-mod packing;
-mod pattern_files;
-mod patterns;
-mod planning;
-mod reading;
 mod request;
 mod running;
 mod scanning;
 mod status;
-mod stop;
 mod telling;
 mod workers;
 
-pub use fault::Fault;
 pub use message::say;
-pub use migrating::{migrate, migrate_file};
-pub use notation::{Notation, Reading};
-pub use packing::{Unmade, pack, pack_into};
-pub use pattern_files::PatternFiles;
-pub use patterns::hex_law;
+pub use plan_pack::{
+    Fault, Notation, PatternFiles, Reading, Refusal, Stop, Unmade, hex_law, migrate, migrate_file,
+    pack, pack_into,
+};
 pub use request::{Request, Scan};
 pub use running::{answer, run};
 pub use status::Status;
-pub use stop::{Refusal, Stop};
 pub use workers::Workers;

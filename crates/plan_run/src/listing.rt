@@ -1,15 +1,14 @@
 //! Writing hits to standard output.
 ghost use Rattle.std.specs.Prelude.{◌≡◌, ◌++◌, ◌∷◌, ◌||◌, [], IfOk, OnOk, Some, decimal, string_bytes};
-ghost use Rattle.plan_run.specs.Messages.{hit_count, hit_line, hit_lines, hits_text, line_of, literal_line};
+ghost use Rattle.plan_run.specs.Messages.{hit_line, hit_lines, hits_text, line_of, literal_line};
 ghost use Rattle.plan_run.specs.Running.{Writes, is_write_fault};
 
 use crate::request::Scan;
 use crate::status::Status;
-use crate::stop::Stop;
 use crate::telling::{tell, tell_bytes};
 use byte_io::ByteOut;
 use flow_scan::{Compiled, Hit};
-use itoa::Buffer;
+use plan_pack::{Stop, push_number};
 use plan_view::push_literal;
 use std::alloc::{AllocError, Global};
 
@@ -115,14 +114,4 @@ fn push_hit(hit: Hit, text: &mut Vec<u8>) -> Result<(), AllocError>
 {
     push_number(u64::from(hit.lit), b' ', text)?;
     push_number(hit.end_at, b'\n', text)
-}
-
-/// Appends a number, and the byte that ends it.
-pub fn push_number(number: u64, end: u8, text: &mut Vec<u8>) -> Result<(), AllocError>
-    ensures { OnOk result (text.new.items ≡ text.old.items ++ (decimal number ++ end ∷ [])) }
-{
-    let mut digits = Buffer::new();
-    text.extend_from_slice(digits.format(number).as_bytes())?;
-    text.push(end)?;
-    Ok(())
 }

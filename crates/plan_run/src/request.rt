@@ -1,8 +1,7 @@
 //! What the command line asks for.
-use crate::notation::Reading;
-use crate::pattern_files::PatternFiles;
 use crate::workers::Workers;
 use lit_base::Profile;
+use plan_pack::{PatternFiles, Reading};
 
 /// What the command line asks for.
 #[derive(Debug, Drop)]

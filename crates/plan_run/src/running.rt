@@ -7,14 +7,13 @@ ghost use Rattle.plan_run.specs.Running.{Answers, Ends, is_write_fault};
 use crate::answering::{answer_check, answer_plan};
 use crate::explaining::{answer_explain, answer_explain_certificate, answer_explain_plan};
 use crate::judging::answer_check_plan;
+use crate::making::{answer_migrate, answer_pack};
 use crate::message::say;
-use crate::migrating::answer_migrate;
-use crate::packing::answer_pack;
 use crate::request::Request;
 use crate::scanning::answer_scan;
 use crate::status::Status;
-use crate::stop::Stop;
 use byte_io::{ByteOut, Files};
+use plan_pack::Stop;
 use std::alloc::Global;
 use std::thread::Threads;
 

@@ -2,19 +2,18 @@
 ghost use Rattle.std.specs.Prelude.{◌≡◌, ◌||◌, string_bytes};
 ghost use Rattle.byte_io.specs.Devices.{Told};
 ghost use Rattle.byte_io.specs.Sources.{AreShort, after, ask_of, taken_by};
+ghost use Rattle.plan_pack.specs.Asking.{Asks};
 ghost use Rattle.plan_run.specs.Answers.{AnswersInput, AnswersScan, AreHitsTold, scan_asks};
-ghost use Rattle.plan_run.specs.Running.{Asks, Tells, is_write_fault};
+ghost use Rattle.plan_run.specs.Running.{Tells, is_write_fault};
 
 use crate::listing::tell_hits;
-use crate::planning::plan_of;
-use crate::reading::text_of;
 use crate::request::Scan;
 use crate::status::Status;
-use crate::stop::Stop;
 use byte_io::{ByteOut, Files};
 use flow_scan::Compiled;
 use lit_base::Profile;
 use par_scan::{Fault, NoGate, scan_parts};
+use plan_pack::{Stop, plan_of, text_of};
 use std::alloc::Global;
 use std::thread::Threads;
 

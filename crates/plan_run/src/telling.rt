@@ -4,9 +4,9 @@ ghost use Rattle.lit_cert.specs.Spelling.{IsShaped, spelling};
 ghost use Rattle.plan_run.specs.Running.{Writes, is_write_fault};
 
 use crate::status::Status;
-use crate::stop::Stop;
 use byte_io::{ByteOut, Failed, write_all};
 use lit_cert::{Certificate, Fault, write_cert};
+use plan_pack::Stop;
 use std::alloc::Global;
 
 /// Writes a text, and answers this status.

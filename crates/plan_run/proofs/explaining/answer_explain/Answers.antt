@@ -1,6 +1,6 @@
 -- The plan is explained, or there is no list.
 use Rattle.std.proofs.Common.{sym, subst}
-use Rattle.plan_run.specs.Lists.{ArePlaces}
+use Rattle.plan_pack.specs.Lists.{ArePlaces}
 use Rattle.plan_run.proofs.AnswerLemmas.{explain-had, explain-stopped}
 use Rattle.plan_run.proofs.explaining.answer_explain.Goals as goal
 

@@ -1,6 +1,6 @@
 -- A cut for plans of the profile can be shown.
 use Rattle.std.proofs.Common.{length}
-use Rattle.plan_run.proofs.MigrateLemmas.{wider}
+use Rattle.plan_pack.proofs.MigrateLemmas.{wider}
 use Rattle.plan_run.proofs.explaining.explained.Goals as goal
 
 pub plan_svg-requires : goal.plan_svg-requires

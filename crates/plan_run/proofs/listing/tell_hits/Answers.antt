@@ -1,7 +1,7 @@
 -- Memory may run out before the number of hits is written.
 use Rattle.std.proofs.Common.{◌≡◌, Err, rules}
+use Rattle.plan_pack.specs.declared.stop.Stop.TheVariants.{OutOfMemory}
 use Rattle.plan_run.specs.declared.status.Status.TheVariants.{Done}
-use Rattle.plan_run.specs.declared.stop.Stop.TheVariants.{OutOfMemory}
 use Rattle.plan_run.proofs.ListingLemmas.{none-written}
 use Rattle.plan_run.proofs.listing.tell_hits.Goals as goal
 

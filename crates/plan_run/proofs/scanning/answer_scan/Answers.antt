@@ -5,8 +5,8 @@ use Rattle.byte_io.specs.Devices.{Told}
 use Rattle.byte_io.specs.Sources.{AreShort, after, ask_of, taken_by}
 use Rattle.lit_plan.specs.Plans.{Plan}
 use Rattle.lit_base.specs.declared.profile.Profile.TheVariants.{Eight}
-use Rattle.plan_run.specs.Running.{TakesPlan}
-use Rattle.plan_run.specs.declared.stop.Stop.{Stop}
+use Rattle.plan_pack.specs.Taken.{TakesPlan}
+use Rattle.plan_pack.specs.declared.stop.Stop.{Stop}
 use Rattle.plan_run.proofs.AnswerLemmas.{scan-had, scan-stopped}
 use Rattle.plan_run.proofs.scanning.answer_scan.Goals as goal
 

@@ -4,8 +4,8 @@ use Rattle.std.specs.Global.{Vec}
 use Rattle.std.specs.Prelude.{string_bytes}
 use Rattle.byte_io.specs.Devices.{Told}
 use Rattle.byte_io.specs.Sources.{AreShort, after, ask_of, taken_by}
-use Rattle.plan_run.specs.Running.{TakesText}
-use Rattle.plan_run.specs.declared.stop.Stop.{Stop}
+use Rattle.plan_pack.specs.Taken.{TakesText}
+use Rattle.plan_pack.specs.declared.stop.Stop.{Stop}
 use Rattle.plan_run.proofs.AnswerLemmas.{input-had, input-stopped}
 use Rattle.plan_run.proofs.scanning.scan_input.Goals as goal
 

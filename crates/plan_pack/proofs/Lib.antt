@@ -1,0 +1,5 @@
+pub mod AskLemmas
+pub mod HexLemmas
+pub mod ListLemmas
+pub mod MigrateLemmas
+pub mod PackLemmas

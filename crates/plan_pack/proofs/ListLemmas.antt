@@ -1,0 +1,44 @@
+-- The refusal of a list: none where all is within its limits.
+use Rattle.std.proofs.Common.{◌≡◌, ℕ, List, IfErr, Option, None, Some, Ok, Err, Result, ap, refl, subst, sym}
+use Rattle.std.specs.List.{AllZip}
+use Rattle.byte_io.specs.Devices.{Told}
+use Rattle.byte_io.specs.Sources.{AreShort, Sources, after, ask_of, taken_by}
+use Rattle.byte_io.proofs.ToldLemmas.{Told-weaker}
+use Rattle.lit_base.specs.Faults.{RefusedBy}
+use Rattle.lit_base.specs.Literals.{Literals}
+use Rattle.lit_base.specs.NormalForm.{IsPlaceOf}
+use Rattle.lit_base.specs.declared.fault.Fault.{Fault}
+use Rattle.lit_base.specs.declared.fold.Fold.{Fold}
+use Rattle.lit_base.specs.declared.lit_list.Normal.{Normal}
+use Rattle.plan_pack.specs.Lists.{ArePlaces}
+use Rattle.plan_pack.specs.Taken.{NamesStop, TakesList, TakesPlaces}
+use Rattle.plan_pack.specs.declared.notation.Reading.{Reading}
+use Rattle.plan_pack.specs.declared.stop.Stop.{Stop}
+
+-- a call that was done is not refused
+pub not-refused : (refusal : Option Fault) (r : Result (Unit {0}) Fault) → RefusedBy refusal r → r ≡ Ok tt → refusal ≡ None
+not-refused None r a done = refl
+not-refused (Some fault) r a done = (cc)
+
+-- places in the list of a fold are places in the list
+pub placed : (fold : Fold) (texts : List (List ℕ)) (list : Literals) (patterns raw : List (List ℕ)) (places : List (Option ℕ)) → list ≡ record { folding = fold; texts = texts } → raw ≡ patterns
+    → AllZip (IsPlaceOf fold list.texts) raw places → ArePlaces list patterns places
+placed fold texts list patterns raw places e same p =
+    subst (λ f. AllZip (IsPlaceOf f list.texts) patterns places) (sym (ap (λ (l : Literals). l.folding) e)) (subst (λ xs. AllZip (IsPlaceOf fold list.texts) xs places) same p)
+
+-- a list that is had with its places is had
+pub without-places : (reading : Reading) (file : List ℕ) (known mid : Option Sources) (list : Literals) (normal : Normal)
+    → Told known mid (λ s left. AreShort s → (left ≡ after (ask_of file) s) × TakesPlaces reading file (taken_by (ask_of file) s) (Ok (list, normal)))
+    → Told known mid (λ s left. AreShort s → (left ≡ after (ask_of file) s) × TakesList reading file (taken_by (ask_of file) s) (Ok list))
+without-places reading file known mid list normal reads =
+    Told-weaker known mid _ (λ s left. AreShort s → (left ≡ after (ask_of file) s) × TakesList reading file (taken_by (ask_of file) s) (Ok list)) reads (λ s left h short.
+    let taken = h short in
+    (taken.0, (taken.1.0, taken.1.1)))
+
+-- where a list is refused, it is told which pattern is
+pub named-told : {T : Type 0} (reading : Reading) (file : List ℕ) (known left : Option Sources) (r : Result T Stop)
+    → Told known left (λ s l. AreShort s → (l ≡ after (ask_of file) s) × IfErr r (NamesStop reading (taken_by (ask_of file) s)))
+    → IfErr r (λ stop. Told known left (λ s l. AreShort s → NamesStop reading (taken_by (ask_of file) s) stop))
+named-told reading file known left (Ok list) named = tt
+named-told reading file known left (Err stop) named =
+    Told-weaker known left _ (λ s l. AreShort s → NamesStop reading (taken_by (ask_of file) s) stop) named (λ s l h short. (h short).1)

@@ -1,0 +1,8 @@
+-- The patterns stand in the list where their lines' places say.
+use Rattle.plan_pack.specs.Notations.{patterns_of}
+use Rattle.plan_pack.proofs.ListLemmas.{placed}
+use Rattle.plan_pack.proofs.reading.listed.Goals as goal
+
+pub returns-clause-places : goal.returns-clause-places
+returns-clause-places c =
+    placed c.args.reading.fold _ c.in_ok-normal.field-0.0 (patterns_of c.args.reading.notation c.args.text.now) c.in_ok-patterns.patterns c.in_ok-normal.field-0.1.place_of.items c.in_ok-normal.ensures.list c.in_ok-patterns.ensures.ok c.in_ok-normal.ensures.places

@@ -1,0 +1,18 @@
+-- Facts on the content that was read hold of the files' known source.
+use Rattle.std.proofs.Common.{IfErr}
+use Rattle.byte_io.specs.Sources.{ask_of}
+use Rattle.byte_io.proofs.OpenerLemmas.{opened}
+use Rattle.plan_pack.specs.Taken.{NamesStop, TakesPlaces}
+use Rattle.plan_pack.proofs.ListLemmas.{named-told}
+use Rattle.plan_pack.proofs.reading.placed_list_of.Goals as goal
+
+pub returns-in-Ok-clause-list : goal.returns-in-Ok-clause-list
+returns-in-Ok-clause-list g c =
+    opened _ c.in-Ok.input _ _ (ask_of c.args.file.now) (λ source. TakesPlaces c.args.reading c.args.file.now source c.list_from.result)
+    c.in-Ok.ensures.takes c.in-Ok.ensures.gives c.list_from.ensures.list
+
+pub returns-in-Ok-clause-named : goal.returns-in-Ok-clause-named
+returns-in-Ok-clause-named g c =
+    named-told c.args.reading c.args.file.now _ _ c.list_from.result
+    (opened _ c.in-Ok.input _ _ (ask_of c.args.file.now) (λ source. IfErr c.list_from.result (NamesStop c.args.reading source))
+    c.in-Ok.ensures.takes c.in-Ok.ensures.gives c.list_from.ensures.named)

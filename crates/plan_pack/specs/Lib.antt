@@ -1,0 +1,12 @@
+pub mod Asking
+pub mod Faults
+pub mod Lists
+pub mod Messages
+pub mod Migrated
+pub mod Migrating
+pub mod Notations
+pub mod Packing
+pub mod PatternFiles
+pub mod PlanFiles
+pub mod Stops
+pub mod Taken

@@ -1,0 +1,185 @@
+//! Plans of sixteen buckets in place of others.
+ghost use Rattle.std.specs.Prelude.{◌≡◌, ◌+◌, ◌++◌, ◌∷◌, ◌<◌, ◌≤◌, [], IfErr, IfOk, IfSome, OnOk, false, length, sum_by};
+ghost use Rattle.byte_io.specs.Devices.{Told};
+ghost use Rattle.byte_io.specs.Sources.{AreShort, Created};
+ghost use Rattle.lit_base.specs.declared.fault.Fault.TheVariants.{OutOfMemory as refused_memory};
+ghost use Rattle.lit_base.specs.declared.limits.TheConstants.{MAX_LIST_LEN, MAX_LITERAL_LEN, MAX_LITERALS};
+ghost use Rattle.plan_pack.specs.Asking.{Asks, LeavesMigrate, UnlessStarved, migrate_asks};
+ghost use Rattle.plan_pack.specs.Migrated.{AreMigrated, IsMigrated, migrated_line, migrated_lines};
+ghost use Rattle.plan_pack.specs.Migrating.{MakesMigrated, Migrates};
+ghost use Rattle.plan_pack.specs.Packing.{answer_of};
+ghost use Rattle.plan_pack.specs.Stops.{is_refusal, is_write};
+
+use crate::fault::Fault;
+use crate::numbers::push_number;
+use crate::packing::{Unmade, make};
+use crate::reading::plans_of;
+use crate::stop::Stop;
+use byte_io::Files;
+use flow_scan::Compiled;
+use list_plan::compile;
+use lit_base::{LitList, Profile, RawList};
+use std::alloc::{AllocError, Global};
+
+/// Migrates the plans of a plan file to another. Returns a line for each plan, and the new file as it was written. The
+/// first file is read whole, and all that takes memory but the new file's text is done, before the other is made.
+///
+/// # Errors
+/// - `Refused` with the fault of the first file; else with the other's name, where it cannot be made or not be written
+/// to its end.
+/// - `OutOfMemory`, where a growth was refused.
+///
+/// With them comes the file that was made, if one was. It holds a prefix of the plan file, and not all of it. A write
+/// to it failed exactly where its name is refused.
+pub fn migrate_file<'a, F: Files>(
+    alloc: Global,
+    input: &'a str,
+    output: &'a str,
+    files: &mut F,
+) -> Result<(Vec<u8>, F::Output), Unmade<'a, F::Output>>
+    ensures migrated { Told (F.sources files.old) (F.sources files.new) (λ s left. AreShort s
+        → UnlessStarved (answer_of result) (LeavesMigrate input.now output.now s left) (migrate_asks input.now output.now) s left
+        × Migrates F.Output.written input.now output.now s left result) }
+
+    // Whatever is known of the files, no write failed to a file that is returned, and one did to a file that is
+    // refused.
+    ensures flag { IfOk result (λ done. F.Output.has_failed done.1 ≡ false) }
+    ensures broken { IfErr result (λ stopped. IfSome stopped.1 (λ made. F.Output.has_failed made ≡ is_refusal stopped.0)) }
+    ensures unwritten { IfErr result (λ stopped. is_write stopped.0 ≡ false) }
+{
+    match plans_of(alloc, input, files) {
+        Ok(plans) => migrate_to(alloc, plans.as_slice(), output, files),
+        Err(stop) => Err((stop, None)),
+    }
+}
+
+/// Migrates plans to the plan file of a name.
+fn migrate_to<'a, F: Files>(
+    alloc: Global,
+    plans: &[Compiled],
+    name: &'a str,
+    files: &mut F,
+) -> Result<(Vec<u8>, F::Output), Unmade<'a, F::Output>>
+    requires { length plans.now ≤ 64 }
+    ensures migrated { Told (F.sources files.old) (F.sources files.new) (λ s left.
+        Asks (answer_of result) (Created name.now ∷ []) s left
+        × MakesMigrated F.Output.written plans.now name.now s left result) }
+    ensures flag { IfOk result (λ done. F.Output.has_failed done.1 ≡ false) }
+    ensures broken { IfErr result (λ stopped. IfSome stopped.1 (λ made. F.Output.has_failed made ≡ is_refusal stopped.0)) }
+    ensures unwritten { IfErr result (λ stopped. is_write stopped.0 ≡ false) }
+{
+    match migrate_with_lines(alloc, plans) {
+        Ok((new, lines)) => match make(alloc, new.as_slice(), name, files) {
+            Ok(made) => Ok((lines, made)),
+            Err(unmade) => Err(unmade),
+        },
+        Err(Fault::OutOfMemory) => Err((Stop::OutOfMemory, None)),
+    }
+}
+
+/// The migrated plans, and a line for each.
+fn migrate_with_lines(alloc: Global, plans: &[Compiled]) -> Result<(Vec<Compiled>, Vec<u8>), Fault>
+    requires { length plans.now ≤ 64 }
+    ensures plans { IfOk result (λ found. AreMigrated plans.now found.0.items) }
+    ensures lines { IfOk result (λ found. found.1.items ≡ migrated_lines 0 plans.now found.0.items) }
+{
+    let new = migrate(alloc, plans)?;
+    let mut lines = Vec::new(alloc);
+    push_lines(0, plans, new.as_slice(), &mut lines)?;
+    Ok((new, lines))
+}
+
+/// Plans the lists of plans anew, each for sixteen buckets, in their order. No new plan costs more than the old one.
+///
+/// # Errors
+/// `OutOfMemory`, where a growth was refused.
+pub fn migrate(alloc: Global, plans: &[Compiled]) -> Result<Vec<Compiled>, Fault>
+    ensures { IfOk result (λ new. AreMigrated plans.now new.items) }
+{
+    let mut new = Vec::new(alloc);
+    for plan in plans {
+        new.push(migrated(alloc, plan)?)?;
+    }
+    Ok(new)
+}
+
+/// The plan of sixteen buckets of a plan's list.
+fn migrated(alloc: Global, plan: &Compiled) -> Result<Compiled, AllocError>
+    ensures { IfOk result (IsMigrated plan.now) }
+{
+    // What its certificate shows is needed below: no cut into eight runs or sixteen is cheaper than the new one.
+    let _certificate = plan.certificate();
+    let list = copied(alloc, plan.list())?;
+    match compile(alloc, list, Profile::Sixteen) {
+        Ok(new) => Ok(new),
+        Err(run_planner::Fault::OutOfMemory) => Err(AllocError),
+        // A list that has a plan has a literal.
+        Err(run_planner::Fault::NoLiterals) => unreachable!(),
+    }
+}
+
+/// The same list once more.
+fn copied(alloc: Global, list: &LitList) -> Result<LitList, AllocError>
+    ensures { IfOk result (λ copy. copy ≡ list.now) }
+{
+    list.normal_law();
+    let mut raw = RawList::new(alloc);
+    for place in 0..list.len() {
+        push(&mut raw, list.get(place))?;
+    }
+    LitList::from_normal(alloc, raw, list.fold()).map_err(no_memory)
+}
+
+/// Appends a literal for which there is room.
+fn push(list: &mut RawList, literal: &[u8]) -> Result<(), AllocError>
+    requires few { length list.old < MAX_LITERALS }
+    requires short { length literal.now ≤ MAX_LITERAL_LEN }
+    requires small { sum_by length list.old + length literal.now ≤ MAX_LIST_LEN }
+    ensures { OnOk result (list.new ≡ list.old ++ literal.now ∷ []) }
+{
+    list.push(literal).map_err(no_memory)
+}
+
+/// The one refusal of a list that is within its limits.
+fn no_memory(_refusal: lit_base::Fault) -> AllocError
+    requires { _refusal ≡ refused_memory }
+{
+    AllocError
+}
+
+/// Appends the lines of plans; the first has this place.
+fn push_lines(
+    place: usize,
+    old: &[Compiled],
+    new: &[Compiled],
+    lines: &mut Vec<u8>,
+) -> Result<(), AllocError>
+    requires { place + length old.now ≤ 64 }
+    ensures { OnOk result (lines.new.items ≡ lines.old.items ++ migrated_lines place old.now new.now) }
+{
+    match old {
+        [] => Ok(()),
+        [from, old @ ..] => match new {
+            [] => Ok(()),
+            [to, new @ ..] => {
+                push_line(place, from, to, lines)?;
+                push_lines(place + 1, old, new, lines)
+            }
+        },
+    }
+}
+
+/// Appends the line of a plan: its place, its cost, and the cost of the new one.
+fn push_line(
+    place: usize,
+    old: &Compiled,
+    new: &Compiled,
+    lines: &mut Vec<u8>,
+) -> Result<(), AllocError>
+    ensures { OnOk result (lines.new.items ≡ lines.old.items ++ migrated_line place old.now new.now) }
+{
+    lines.extend_from_slice(b"plan ")?;
+    push_number(place as u64, b' ', lines)?;
+    push_number(old.certificate().cost, b' ', lines)?;
+    push_number(new.certificate().cost, b'\n', lines)
+}

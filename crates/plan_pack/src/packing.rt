@@ -1,0 +1,184 @@
+//! Making a plan file.
+ghost use Rattle.std.specs.Prelude.{◌≡◌, ◌≤◌, ◌+◌, ◌||◌, ◌++◌, ◌∷◌, [], IfErr, IfOk, IfSome, Option, false, length, map, string_bytes};
+ghost use Rattle.byte_io.specs.Devices.{Told};
+ghost use Rattle.byte_io.specs.Sources.{AreShort, Created, after, can_create};
+ghost use Rattle.plan_pack.specs.Asking.{Asks, asks_for_plans, is_file, pack_asks, reads_file};
+ghost use Rattle.plan_pack.specs.Packing.{MakesFile, MakesPack, Packs, PacksFiles, answer_of};
+ghost use Rattle.plan_pack.specs.Stops.{is_refusal, is_refused, is_write};
+
+use crate::notation::Reading;
+use crate::planning::plan_of;
+use crate::stop::{Refusal, Stop};
+use byte_io::{ByteOut, Files};
+use flow_scan::Compiled;
+use lit_base::Profile;
+use plan_file::{Fault, write_plans};
+use std::alloc::{AllocError, Global};
+
+/// Why a plan file was not made whole, and the file as far as it was made.
+pub type Unmade<'a, O> = (Stop<'a>, Option<O>);
+
+/// Why a plan file was not made whole. The file itself is dropped.
+pub fn stop_of<O: Drop>(unmade: Unmade<'_, O>) -> Stop<'_>
+    ensures { result ≡ unmade.entry.0 }
+{
+    let (stop, _begun) = unmade;
+    stop
+}
+
+/// Makes the plan file of files of patterns, which has a plan for each, in order; and answers it as it was written. The
+/// patterns of all are read and planned before it is made.
+///
+/// # Errors
+/// - `Refused` with the plan file's name, where it is also the name of a file of patterns: then nothing is read. Else with what
+///   is wrong with the patterns of the first file that gives no plan. Else with the plan file's name, where it cannot be made
+///   or not be written to its end.
+/// - `OutOfMemory`, where a growth was refused.
+///
+/// Beside them stands the file that was made, if one was: it holds a front of the plan file, and not all of
+/// it, and a write to it failed exactly where its name is refused.
+pub fn pack<'a, F: Files>(
+    alloc: Global,
+    reading: Reading,
+    profile: Profile,
+    names: &'a [String],
+    output: &'a str,
+    files: &mut F,
+) -> Result<F::Output, Unmade<'a, F::Output>>
+    requires { length names.now ≤ 64 }
+    ensures packed { Told (F.sources files.old) (F.sources files.new) (λ s left. AreShort s
+        → Asks (answer_of result) (pack_asks reading (map string_bytes names.now) output.now s) s left
+        × PacksFiles F.Output.written reading profile (map string_bytes names.now) output.now s left result) }
+
+    // Whatever is known of the files, no write failed to a file that is returned, and one did to a file that is
+    // refused.
+    ensures flag { IfOk result (λ made. F.Output.has_failed made ≡ false) }
+    ensures broken { IfErr result (λ stopped. IfSome stopped.1 (λ made. F.Output.has_failed made ≡ is_refusal stopped.0)) }
+    ensures unwritten { IfErr result (λ stopped. is_write stopped.0 ≡ false) }
+{
+    if reads_file(names, output) {
+        return Err((Stop::Refused(Refusal::Unusable(output)), None));
+    }
+    pack_with(
+        alloc,
+        reading,
+        profile,
+        Vec::new(alloc),
+        names,
+        output,
+        files,
+    )
+}
+
+/// Whether the file of a name is one of the operands.
+fn reads_file(operands: &[String], name: &str) -> bool
+    ensures { result ≡ reads_file (map string_bytes operands.now) name.now }
+{
+    match operands {
+        [] => false,
+        [operand, rest @ ..] => is_file(operand.as_str(), name) || reads_file(rest, name),
+    }
+}
+
+/// Whether an operand is the file of a name: `-` is standard input.
+fn is_file(operand: &str, name: &str) -> bool
+    ensures { result ≡ is_file operand.now name.now }
+{
+    if operand == "-" {
+        false
+    } else {
+        operand == name
+    }
+}
+
+/// Makes the plan file of these plans, and of those of files of patterns behind them.
+fn pack_with<'a, F: Files>(
+    alloc: Global,
+    reading: Reading,
+    profile: Profile,
+    plans: Vec<Compiled>,
+    names: &'a [String],
+    output: &'a str,
+    files: &mut F,
+) -> Result<F::Output, Unmade<'a, F::Output>>
+    requires { length plans.items + length names.now ≤ 64 }
+    ensures packed { Told (F.sources files.old) (F.sources files.new) (λ s left. AreShort s
+        → Asks (answer_of result) (asks_for_plans reading (map string_bytes names.now) (Created output.now) s) s left
+        × MakesPack F.Output.written reading profile plans.items (map string_bytes names.now) output.now s left result) }
+    ensures flag { IfOk result (λ made. F.Output.has_failed made ≡ false) }
+    ensures broken { IfErr result (λ stopped. IfSome stopped.1 (λ made. F.Output.has_failed made ≡ is_refusal stopped.0)) }
+    ensures unwritten { IfErr result (λ stopped. is_write stopped.0 ≡ false) }
+{
+    match names {
+        [] => make(alloc, plans.as_slice(), output, files),
+        [name, rest @ ..] => match plan_of(alloc, reading, profile, name.as_str(), files) {
+            Ok(plan) => match with_plan(plans, plan) {
+                Ok(more) => pack_with(alloc, reading, profile, more, rest, output, files),
+                Err(_) => Err((Stop::OutOfMemory, None)),
+            },
+            Err(stop) => Err((stop, None)),
+        },
+    }
+}
+
+/// The plans and one more behind them.
+fn with_plan(mut plans: Vec<Compiled>, plan: Compiled) -> Result<Vec<Compiled>, AllocError>
+    ensures { IfOk result (λ more. more.items ≡ plans.items ++ plan ∷ []) }
+{
+    match plans.push(plan) {
+        Ok(()) => Ok(plans),
+        Err(_) => Err(AllocError),
+    }
+}
+
+/// Makes the plan file of plans.
+pub fn make<'a, F: Files>(
+    alloc: Global,
+    plans: &[Compiled],
+    name: &'a str,
+    files: &mut F,
+) -> Result<F::Output, Unmade<'a, F::Output>>
+    requires { length plans.now ≤ 64 }
+    ensures made { Told (F.sources files.old) (F.sources files.new) (λ s left.
+        (left ≡ after (Created name.now) s)
+        × MakesFile F.Output.written plans.now name.now (can_create name.now s.creatable) result) }
+    ensures flag { IfOk result (λ made. F.Output.has_failed made ≡ false) }
+    ensures broken { IfErr result (λ stopped. IfSome stopped.1 (λ made. F.Output.has_failed made ≡ is_refusal stopped.0)) }
+    ensures unwritten { IfErr result (λ stopped. is_write stopped.0 ≡ false) }
+{
+    match files.create_named(name) {
+        Ok(mut made) => match pack_into(alloc, plans, name, &mut made) {
+            Ok(()) => Ok(made),
+            Err(stop) => Err((stop, Some(made))),
+        },
+        Err(_) => Err((Stop::Refused(Refusal::Unusable(name)), None)),
+    }
+}
+
+/// Writes the plan file of plans, at most 64, to a device, which is called so.
+///
+/// # Errors
+/// - `Refused`, with its name, where a write failed.
+/// - `OutOfMemory`, where a growth was refused.
+///
+/// After both of them a front of the plan file was written, and not all of it.
+pub fn pack_into<'a, W: ByteOut>(
+    alloc: Global,
+    plans: &[Compiled],
+    name: &'a str,
+    out: &mut W,
+) -> Result<(), Stop<'a>>
+    requires { length plans.now ≤ 64 }
+    ensures packed { Packs name.now plans.now result (W.written out.old) (W.written out.new) }
+
+    // It is refused exactly where a write failed.
+    ensures flag { W.has_failed out.new ≡ (W.has_failed out.old || is_refused result) }
+{
+    match write_plans(alloc, plans, out) {
+        Ok(()) => Ok(()),
+        Err(Fault::WriteFault) => Err(Stop::Refused(Refusal::Unusable(name))),
+        Err(Fault::OutOfMemory) => Err(Stop::OutOfMemory),
+        Err(Fault::BadPlanFile { .. }) => unreachable!(),
+        Err(Fault::ReadFault) => unreachable!(),
+    }
+}

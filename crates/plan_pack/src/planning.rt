@@ -1,0 +1,46 @@
+//! The plan of a file of patterns.
+ghost use Rattle.std.specs.Prelude.{◌≡◌, IfErr, false};
+ghost use Rattle.byte_io.specs.Devices.{Told};
+ghost use Rattle.byte_io.specs.Sources.{AreShort, after, ask_of, taken_by};
+ghost use Rattle.plan_pack.specs.Stops.{is_write};
+ghost use Rattle.plan_pack.specs.Taken.{PlansList, TakesPlan};
+
+use crate::notation::Reading;
+use crate::reading::list_of;
+use crate::stop::{Refusal, Stop};
+use byte_io::Files;
+use flow_scan::Compiled;
+use list_plan::compile;
+use lit_base::{LitList, Profile};
+use run_planner::Fault;
+use std::alloc::Global;
+
+/// The plan of a file's patterns, ready for a scan.
+pub fn plan_of<'a, F: Files>(
+    alloc: Global,
+    reading: Reading,
+    profile: Profile,
+    file: &'a str,
+    files: &mut F,
+) -> Result<Compiled, Stop<'a>>
+    ensures plan { Told (F.sources files.old) (F.sources files.new) (λ s left. AreShort s
+        → (left ≡ after (ask_of file.now) s) × TakesPlan reading profile file.now (taken_by (ask_of file.now) s) result) }
+    ensures unwritten { IfErr result (λ stop. is_write stop ≡ false) }
+{
+    match list_of(alloc, reading, file, files) {
+        Ok(list) => planned(alloc, profile, list),
+        Err(stop) => Err(stop),
+    }
+}
+
+/// The plan of a list.
+fn planned<'a>(alloc: Global, profile: Profile, list: LitList) -> Result<Compiled, Stop<'a>>
+    ensures plan { PlansList profile list result }
+    ensures unwritten { IfErr result (λ stop. is_write stop ≡ false) }
+{
+    match compile(alloc, list, profile) {
+        Ok(compiled) => Ok(compiled),
+        Err(Fault::NoLiterals) => Err(Stop::Refused(Refusal::NoLiterals)),
+        Err(Fault::OutOfMemory) => Err(Stop::OutOfMemory),
+    }
+}

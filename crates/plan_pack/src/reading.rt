@@ -1,0 +1,170 @@
+//! Reading a file of patterns, a plan file, and the input of a search.
+ghost use Rattle.std.specs.Prelude.{◌≡◌, ◌≢◌, ◌≤◌, length, IfErr, IfOk, MatchResult, None, Some, false};
+ghost use Rattle.byte_io.specs.Devices.{Told};
+ghost use Rattle.byte_io.specs.Sources.{AreShort, Content, IsShort, after, ask_of, coming_of, taken_by};
+ghost use Rattle.plan_pack.specs.Lists.{ArePlaces, literals_of};
+ghost use Rattle.plan_pack.specs.Notations.{list_refusal, patterns_of};
+ghost use Rattle.plan_pack.specs.Stops.{is_write};
+ghost use Rattle.plan_pack.specs.Taken.{NamesStop, TakesList, TakesPlaces, TakesPlans, TakesText};
+
+use crate::notation::Reading;
+use crate::patterns::{Unlisted, patterns_of};
+use crate::stop::{Refusal, Stop};
+use byte_io::{ByteIn, Files, ReadError, open_operand, read_to_end};
+use flow_scan::Compiled;
+use lit_base::{Fault, LitList, Normal};
+use plan_file::read_plans;
+use std::alloc::Global;
+
+/// The list of a file of patterns, which is read to its end unless it is too large; `-` is standard
+/// input.
+pub fn list_of<'a, F: Files>(
+    alloc: Global,
+    reading: Reading,
+    file: &'a str,
+    files: &mut F,
+) -> Result<LitList, Stop<'a>>
+    ensures list { Told (F.sources files.old) (F.sources files.new) (λ s left. AreShort s
+        → (left ≡ after (ask_of file.now) s) × TakesList reading file.now (taken_by (ask_of file.now) s) result) }
+    ensures unwritten { IfErr result (λ stop. is_write stop ≡ false) }
+{
+    match placed_list_of(alloc, reading, file, files) {
+        Ok((list, _normal)) => Ok(list),
+        Err(stop) => Err(stop),
+    }
+}
+
+/// The list of a file of patterns, and where each pattern stands in it.
+pub fn placed_list_of<'a, F: Files>(
+    alloc: Global,
+    reading: Reading,
+    file: &'a str,
+    files: &mut F,
+) -> Result<(LitList, Normal), Stop<'a>>
+    ensures list { Told (F.sources files.old) (F.sources files.new) (λ s left. AreShort s
+        → (left ≡ after (ask_of file.now) s) × TakesPlaces reading file.now (taken_by (ask_of file.now) s) result) }
+
+    // Where patterns are refused, it is told which.
+    ensures named { IfErr result (λ stop. Told (F.sources files.old) (F.sources files.new) (λ s left. AreShort s
+        → NamesStop reading (taken_by (ask_of file.now) s) stop)) }
+    ensures unwritten { IfErr result (λ stop. is_write stop ≡ false) }
+{
+    match open_operand(files, file) {
+        Ok(mut input) => list_from(alloc, reading, file, &mut input),
+        Err(_) => Err(Stop::Refused(Refusal::Unusable(file))),
+    }
+}
+
+/// The list of a file of patterns that is open, and where each pattern stands in it.
+fn list_from<'a, I: ByteIn>(
+    alloc: Global,
+    reading: Reading,
+    file: &'a str,
+    input: &mut I,
+) -> Result<(LitList, Normal), Stop<'a>>
+    ensures list { (c : Content) → I.coming input.old ≡ Some (coming_of c) → IsShort c
+        → TakesPlaces reading file.now (Some c) result }
+    ensures named { (c : Content) → I.coming input.old ≡ Some (coming_of c) → IsShort c
+        → IfErr result (NamesStop reading (Some c)) }
+    ensures unwritten { IfErr result (λ stop. is_write stop ≡ false) }
+{
+    let mut text = Vec::new(alloc);
+    match read_to_end(input, reading.notation.max_text_len(), &mut text) {
+        Ok(()) => match listed(alloc, reading, text.as_slice()) {
+            Ok(found) => Ok(found),
+            Err(Unlisted::BadPatterns(Fault::OutOfMemory)) => Err(Stop::OutOfMemory),
+            Err(Unlisted::BadPatterns(fault)) => Err(Stop::Refused(Refusal::Patterns(fault))),
+            Err(Unlisted::BadHex { line }) => Err(Stop::Refused(Refusal::NotHex { file, line })),
+        },
+        Err(ReadError::Failed) => Err(Stop::Refused(Refusal::Unusable(file))),
+        Err(ReadError::TooLong) => Err(Stop::Refused(Refusal::Patterns(Fault::ListTooLarge))),
+        Err(ReadError::OutOfMemory) => Err(Stop::OutOfMemory),
+    }
+}
+
+/// The list of a text's lines, and where the pattern of each line stands in it.
+fn listed(alloc: Global, reading: Reading, text: &[u8]) -> Result<(LitList, Normal), Unlisted>
+    ensures ok { IfOk result (λ found. found.0 ≡ record { folding = reading.fold; texts = literals_of reading text.now }) }
+    ensures places { IfOk result (λ found. ArePlaces found.0 (patterns_of reading.notation text.now) found.1.place_of.items) }
+    ensures refusal { MatchResult result
+        (λ _. list_refusal reading.notation text.now ≡ None)
+        (λ why. why ≢ Unlisted.BadPatterns Fault.OutOfMemory → list_refusal reading.notation text.now ≡ Some why) }
+{
+    let patterns = patterns_of(alloc, reading.notation, text)?;
+    Ok(LitList::normal(alloc, &patterns, reading.fold)?)
+}
+
+/// The plans of a plan file, which is read to its end; `-` is standard input.
+pub fn plans_of<'a, F: Files>(
+    alloc: Global,
+    file: &'a str,
+    files: &mut F,
+) -> Result<Vec<Compiled>, Stop<'a>>
+    ensures plans { Told (F.sources files.old) (F.sources files.new) (λ s left. AreShort s
+        → (left ≡ after (ask_of file.now) s) × TakesPlans file.now (taken_by (ask_of file.now) s) result) }
+    ensures few { IfOk result (λ plans. length plans.items ≤ 64) }
+    ensures unwritten { IfErr result (λ stop. is_write stop ≡ false) }
+{
+    match open_operand(files, file) {
+        Ok(mut input) => plans_from(alloc, file, &mut input),
+        Err(_) => Err(Stop::Refused(Refusal::Unusable(file))),
+    }
+}
+
+/// The plans of a plan file that is open.
+fn plans_from<'a, I: ByteIn>(
+    alloc: Global,
+    file: &'a str,
+    input: &mut I,
+) -> Result<Vec<Compiled>, Stop<'a>>
+    ensures plans { (c : Content) → I.coming input.old ≡ Some (coming_of c) → IsShort c
+        → TakesPlans file.now (Some c) result }
+    ensures few { IfOk result (λ plans. length plans.items ≤ 64) }
+    ensures unwritten { IfErr result (λ stop. is_write stop ≡ false) }
+{
+    match read_plans(alloc, input) {
+        Ok(plans) => Ok(plans),
+        Err(plan_file::Fault::BadPlanFile { place, cause }) => {
+            Err(Stop::Refused(Refusal::NoPlanFile { place, cause }))
+        }
+        Err(plan_file::Fault::OutOfMemory) => Err(Stop::OutOfMemory),
+        Err(plan_file::Fault::ReadFault) => Err(Stop::Refused(Refusal::Unusable(file))),
+        Err(plan_file::Fault::WriteFault) => unreachable!(),
+    }
+}
+
+/// The whole text of an operand.
+pub fn text_of<'a, F: Files>(
+    alloc: Global,
+    operand: &'a str,
+    files: &mut F,
+) -> Result<Vec<u8>, Stop<'a>>
+    ensures text { Told (F.sources files.old) (F.sources files.new) (λ s left. AreShort s
+        → (left ≡ after (ask_of operand.now) s) × TakesText operand.now (taken_by (ask_of operand.now) s) result) }
+    ensures unwritten { IfErr result (λ stop. is_write stop ≡ false) }
+{
+    match open_operand(files, operand) {
+        Ok(mut input) => text_from(alloc, operand, &mut input),
+        Err(_) => Err(Stop::Refused(Refusal::Unusable(operand))),
+    }
+}
+
+/// The whole text of an operand that is open.
+fn text_from<'a, I: ByteIn>(
+    alloc: Global,
+    operand: &'a str,
+    input: &mut I,
+) -> Result<Vec<u8>, Stop<'a>>
+    ensures text { (c : Content) → I.coming input.old ≡ Some (coming_of c) → IsShort c
+        → TakesText operand.now (Some c) result }
+    ensures unwritten { IfErr result (λ stop. is_write stop ≡ false) }
+{
+    let mut text = Vec::new(alloc);
+    match read_to_end(input, usize::MAX, &mut text) {
+        Ok(()) => Ok(text),
+        Err(ReadError::Failed) => Err(Stop::Refused(Refusal::Unusable(operand))),
+        // No list is that long.
+        Err(ReadError::TooLong) => unreachable!(),
+        Err(ReadError::OutOfMemory) => Err(Stop::OutOfMemory),
+    }
+}

@@ -1,7 +1,0 @@
-use Rattle.std.proofs.Common.{take}
-use Rattle.plan_run.specs.Migrated.{AreMigrated}
-use Rattle.plan_run.proofs.migrating.migrate.Given as goal
-
--- the plans so far were migrated
-abbrev pub invariant-loop-plan : goal.invariant-loop-plan
-invariant-loop-plan l = AreMigrated (take l.plan-index l.plans) l.new.items

@@ -1,0 +1,56 @@
+//! Answers that make a plan file.
+ghost use Rattle.std.specs.Prelude.{◌≡◌, ◌≤◌, ◌||◌, IfErr, List, Option, false, length, map, string_bytes, ℕ, ◌<◌};
+ghost use Rattle.byte_io.specs.Devices.{Told};
+ghost use Rattle.byte_io.specs.Sources.{AreShort};
+ghost use Rattle.plan_pack.specs.Asking.{Asks, LeavesMigrate, UnlessStarved, migrate_asks, pack_asks};
+ghost use Rattle.plan_pack.specs.Migrating.{Migrates};
+ghost use Rattle.plan_pack.specs.Stops.{is_write};
+ghost use Rattle.plan_run.specs.Answers.{AnswersMigrate, AnswersPack};
+ghost use Rattle.plan_run.specs.Running.{Tells, is_write_fault};
+
+use crate::status::Status;
+use crate::telling::tell_bytes;
+use byte_io::{ByteOut, Files};
+use lit_base::Profile;
+use plan_pack::{Reading, Stop, migrate_file, pack, stop_of};
+use std::alloc::Global;
+
+/// Makes the plan file of files of patterns, and answers nothing but that it stands.
+pub fn answer_pack<'a, F: Files>(
+    alloc: Global,
+    reading: Reading,
+    profile: Profile,
+    names: &'a [String],
+    output: &'a str,
+    files: &mut F,
+) -> Result<Status, Stop<'a>>
+    requires { length names.now ≤ 64 }
+    ensures answer { Told (F.sources files.old) (F.sources files.new) (λ s left. AreShort s
+        → Asks result (pack_asks reading (map string_bytes names.now) output.now s) s left
+        × ((out : Option (List ℕ)) → Tells (AnswersPack F.Output.written F.Output.has_failed reading profile (map string_bytes names.now) output.now s) result out out)) }
+    ensures unwritten { IfErr result (λ stop. is_write stop ≡ false) }
+{
+    match pack(alloc, reading, profile, names, output, files) {
+        Ok(_) => Ok(Status::Done),
+        Err(unmade) => Err(stop_of(unmade)),
+    }
+}
+
+/// Migrates the plans of a plan file to another, and writes the costs of each plan and of its new one.
+pub fn answer_migrate<'a, F: Files, W: ByteOut>(
+    alloc: Global,
+    input: &'a str,
+    output: &'a str,
+    files: &mut F,
+    out: &mut W,
+) -> Result<Status, Stop<'a>>
+    ensures answer { Told (F.sources files.old) (F.sources files.new) (λ s left. AreShort s
+        → UnlessStarved result (LeavesMigrate input.now output.now s left) (migrate_asks input.now output.now) s left
+        × Tells (AnswersMigrate F.Output.written F.Output.has_failed input.now output.now s) result (W.written out.old) (W.written out.new)) }
+    ensures flag { W.has_failed out.new ≡ (W.has_failed out.old || is_write_fault result) }
+{
+    match migrate_file(alloc, input, output, files) {
+        Ok((lines, _made)) => tell_bytes(lines.as_slice(), Status::Done, out),
+        Err(unmade) => Err(stop_of(unmade)),
+    }
+}
