@@ -37,8 +37,7 @@ class Run(NamedTuple):
     before the fault. `sources` are the sources that exist, in the order of reading, with their sizes.
     `is_starved` and `is_unwritten` take the ending where nothing is refused, and another one. They answer whether the
     other one is right for want of memory, and after a write that failed.
-    `made` names the files that the run makes. `growths_alone` limits a run that reads much to refusals of memory. A run
-    that `learns` makes a finder, and goes on without it if memory for it is refused."""
+    `made` names the files that the run makes. `growths_alone` limits a run that reads much to refusals of memory."""
 
     words: list
     answer: Callable
@@ -49,7 +48,6 @@ class Run(NamedTuple):
     made: tuple = ()
     has_threads: bool = False
     growths_alone: bool = False
-    learns: bool = False
 
 
 def is_prefix(part, whole):
@@ -322,11 +320,13 @@ MIXED = (
 )
 MANY_HITS = publish([b"a", b"aa"]) + open_stream(1, 0) + feed(1, b"a" * 5000) + feed(1, b"xa")
 BAD = session_cases.FIRST_THREE + b"\0\0\0\4"
-# A stream with that text twice, long enough for the server to tune itself.
+# A stream with that text twice, long enough for the server to tune itself. It goes on without memory for that, and a Feed
+# needs none, so a Publish at the end asks for some.
 LONG = publish(PHRASES) + open_stream(1, 0) + b"".join(
-    feed(1, FILES["big"][at : at + 65536]) for _ in range(2) for at in range(0, len(FILES["big"]), 65536))
+    feed(1, FILES["big"][at : at + 65536]) for _ in range(2) for at in range(0, len(FILES["big"]), 65536)
+) + publish([b"cat"])
 SESSIONS = [served(text) for text in (session_cases.FIRST_THREE, BAD, MIXED, MANY_HITS)]
-SESSIONS += [served(LONG)._replace(growths_alone=True, learns=True)]
+SESSIONS += [served(LONG)._replace(growths_alone=True)]
 
 
 def preplanned(name, lists, text):

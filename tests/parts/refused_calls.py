@@ -182,9 +182,9 @@ def judge_of(run, whole, sweep):
         return got.status == 2 and are_prefixes(got, whole) and got.messages != whole.messages
 
     if sweep.kind == "growth":
-        # A program may ask again for memory, except where all later growths are refused. Where a thread does not start, or
-        # a finder is not made, the scan goes on without it, and it may be the last that needs memory.
-        is_needed = sweep.suffix and not (run.has_threads or run.learns)
+        # A program may ask again for memory, except where all later growths are refused. Where a thread does not start, the
+        # scan goes on without it.
+        is_needed = sweep.suffix and not run.has_threads
         return lambda number, got: run.is_starved(whole, got) or (got == whole and number > 1 and not is_needed)
     if sweep.kind == "read":
         allowed = unread_endings(run, sweep.suffix)

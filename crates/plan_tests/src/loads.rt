@@ -5,6 +5,7 @@ use plan_store::PlanStore;
 use scan_run::load_plans;
 use std::alloc::Global;
 use std::sync::Wait;
+use std::test::Fail;
 
 /// Whether the plan under 0 is of the literal `a` alone, and there is no other.
 fn has_one(store: &PlanStore) -> bool {
@@ -16,8 +17,8 @@ fn has_one(store: &PlanStore) -> bool {
 }
 
 /// Whether the file of one plan is loaded into a new store with the line of its number, and is found there.
-fn loads_one<R: Wait>(rt: &R, alloc: Global) -> Option<(bool, bool)> {
-    let store = PlanStore::new(alloc).ok()?;
+fn loads_one<R: Wait>(rt: &R, alloc: Global) -> Result<(bool, bool), Fail> {
+    let store = PlanStore::new(alloc)?;
     let mut space = [0; 64];
     let mut err = CutOut::within(&mut space);
     load_plans(
@@ -27,15 +28,17 @@ fn loads_one<R: Wait>(rt: &R, alloc: Global) -> Option<(bool, bool)> {
         &mut CutIn::whole(&ONE),
         "plans",
         &mut err,
-    )
-    .ok()?;
-    Some((
+    )?;
+    Ok((
         err.written() == b"scand: plan 0\n".as_slice(),
         has_one(&store),
     ))
 }
 
 #[test]
-fn loads_plans_into_the_store_that_is_given(rt: HostRuntime) {
-    assert_eq!(rt; loads_one(&rt, rt.alloc()), Some((true, true)));
+fn loads_plans_into_the_store_that_is_given(rt: HostRuntime) -> Result<(), Fail> {
+    let (says_number, has_plan) = loads_one(&rt, rt.alloc())?;
+    assert!(rt; says_number);
+    assert!(rt; has_plan);
+    Ok(())
 }

@@ -459,20 +459,17 @@ fn appends_behind_what_is_there(rt: HostRuntime) -> Result<(), Fail> {
 }
 
 /// Whether a cause of a bad frame has this text.
-fn is_named(alloc: Global, cause: Cause, text: &str) -> Option<bool> {
-    let shown = format!(in alloc; "{cause}").ok()?;
-    Some(shown.as_str() == text)
+fn is_named(alloc: Global, cause: Cause, text: &str) -> Result<bool, AllocError> {
+    let shown = format!(in alloc; "{cause}")?;
+    Ok(shown.as_str() == text)
 }
 
 #[test]
-fn names_the_causes_of_bad_frames(rt: HostRuntime) {
+fn names_the_causes_of_bad_frames(rt: HostRuntime) -> Result<(), Fail> {
     let alloc = rt.alloc();
-    let length = is_named(alloc, Cause::Length, "its length is out of range");
-    assert_eq!(rt; length, Some(true));
-    let kind = is_named(alloc, Cause::Kind, "no request has its kind");
-    assert_eq!(rt; kind, Some(true));
-    let stream = is_named(alloc, Cause::Stream, "it publishes on a stream");
-    assert_eq!(rt; stream, Some(true));
-    let payload = is_named(alloc, Cause::Payload, "its payload is not one of its kind");
-    assert_eq!(rt; payload, Some(true));
+    assert!(rt; is_named(alloc, Cause::Length, "its length is out of range")?);
+    assert!(rt; is_named(alloc, Cause::Kind, "no request has its kind")?);
+    assert!(rt; is_named(alloc, Cause::Stream, "it publishes on a stream")?);
+    assert!(rt; is_named(alloc, Cause::Payload, "its payload is not one of its kind")?);
+    Ok(())
 }
