@@ -1,5 +1,5 @@
 -- Which ends of literals the bytes before some positions rule out, bucket by bucket: shift-or over buckets of literals.
-use Rattle.std.specs.Prelude.{◌≡◌, ℕ, ◌+◌, ◌-◌, ◌*◌, ◌%◌, ◌<◌, ◌≤◌, List, length, slice_index, ◌/◌, ◌^◌}
+use Rattle.std.specs.Prelude.{◌≡◌, ℕ, ◌+◌, ◌-◌, ◌*◌, ◌%◌, ◌<◌, ◌≤◌, ◌⊎◌, List, length, slice_index, ◌/◌, ◌^◌}
 use Rattle.std.specs.Int.{bit_at}
 use Rattle.std.specs.Int.RustNames.{bit_or}
 use Rattle.lit_base.specs.Literals.{Literals, literal_at}
@@ -66,6 +66,34 @@ pub record IsLetThrough (fold : Fold) (entries literal : List ℕ) (bucket : ℕ
 abbrev pub LetThrough : Literals → List ℕ → List ℕ → ℕ → Type 0
 LetThrough l buckets entries count = (place : ℕ) → place < count → place < length l.texts → IsLetThrough l.folding entries (literal_at l place) (bucket_at buckets place)
 
+-- a literal that ends `ahead` positions after two bytes does not reach back to them, begins with the last, or has both there
+abbrev pub FitsPair : Fold → List ℕ → ℕ → ℕ → Type 0
+FitsPair fold literal ahead number = (length literal ≤ ahead) ⊎ (((length literal ≡ 1 + ahead) × (number / 256 ≡ last_number_at fold literal 1)) ⊎ ((2 + ahead ≤ length literal) × (number ≡ number_at fold literal (length literal - ahead))))
+
+-- a literal of a bucket needs the entry of two bytes to lack a bit: that of its bucket and of an end where it fits the bytes
+pub record IsPassOf (fold : Fold) (literal : List ℕ) (bucket number bit : ℕ) : Type 0 where
+  pub ahead : ℕ
+  pub near : ahead < 8
+  pub its : bit ≡ 8 * ahead + bucket
+  pub fits : FitsPair fold literal ahead number
+
+-- one of the first literals of a list needs the entry to lack the bit
+pub record IsPass (l : Literals) (buckets : List ℕ) (count number bit : ℕ) : Type 0 where
+  pub place : ℕ
+  pub within : place < count
+  pub is : IsPassOf l.folding (literal_at l place) (bucket_at buckets place) number bit
+
+-- the bit is that of a bucket and of an end from which a literal of `len` bytes does not reach back to the entry's bytes
+pub record IsPastReach (len bucket bit : ℕ) : Type 0 where
+  pub ahead : ℕ
+  pub near : ahead < 8
+  pub its : bit ≡ 8 * ahead + bucket
+  pub past : len ≤ ahead
+
+-- each entry lacks a bit only if some literal needs it to lack that bit; its two bytes count without the case of letters
+abbrev pub RulesOutElse : Literals → List ℕ → List ℕ → Type 0
+RulesOutElse l buckets entries = (number bit : ℕ) → number < ENTRIES → bit < 64 → bit_at (slice_index entries number) bit ≡ 0 → IsPass l buckets (length l.texts) (bit_or number (pair_case_bits l.folding)) bit
+
 -- a table has an entry for each pair of bytes. The entries pass each literal, and do not depend on the case of letters if case is ignored
 pub record AreEntriesOf (l : Literals) (buckets entries : List ℕ) : Type 0 where
   pub all : length entries ≡ ENTRIES
@@ -76,7 +104,14 @@ pub record AreEntriesOf (l : Literals) (buckets entries : List ℕ) : Type 0 whe
 abbrev pub IsConfirmed : Fold → List ℕ → ℕ → List ℕ → ℕ → Type 0
 IsConfirmed fold table width literal bucket = IsMarked table (hash_of CONFIRM_BITS (suffix_key fold literal (length literal) width)) bucket
 
--- each literal is confirmed by the key length of its bucket, which no literal of the bucket is shorter than, and there is room for every hash
+-- a bucket's bit at a number is that of one of its literals, one of the first of a list
+pub record IsConfirmOf (l : Literals) (buckets widths : List ℕ) (count number bucket : ℕ) : Type 0 where
+  pub place : ℕ
+  pub within : place < count
+  pub its : bucket ≡ bucket_at buckets place
+  pub hash : number ≡ hash_of CONFIRM_BITS (suffix_key l.folding (literal_at l place) (length (literal_at l place)) (slice_index widths (bucket_at buckets place)))
+
+-- each literal is confirmed by the key length of its bucket, which no literal of the bucket is shorter than, nothing else is, and there is room for every hash
 pub record AreConfirmsOf (l : Literals) (buckets : List ℕ) (confirms : Confirms) : Type 0 where
   pub case : confirms.case_bits ≡ case_bits l.folding
   pub room : length confirms.table.items ≡ 2 ^ CONFIRM_BITS
@@ -85,3 +120,4 @@ pub record AreConfirmsOf (l : Literals) (buckets : List ℕ) (confirms : Confirm
   pub narrow : (bucket : ℕ) → bucket < 8 → slice_index confirms.widths.items bucket ≤ 8
   pub long : (place : ℕ) → place < length l.texts → slice_index confirms.widths.items (bucket_at buckets place) ≤ length (literal_at l place)
   pub confirmed : (place : ℕ) → place < length l.texts → IsConfirmed l.folding confirms.table.items (slice_index confirms.widths.items (bucket_at buckets place)) (literal_at l place) (bucket_at buckets place)
+  pub only : (number bucket : ℕ) → IsMarked confirms.table.items number bucket → IsConfirmOf l buckets confirms.widths.items (length l.texts) number bucket

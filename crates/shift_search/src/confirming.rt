@@ -1,8 +1,9 @@
 //! A second check of shift-or, bucket by bucket, before any chain of literals is walked.
-ghost use Rattle.std.specs.Prelude.{◌≡◌, ℕ, ◌^◌, ◌<◌, ◌≤◌, IfOk, length, slice_index, vec_len};
+ghost use Rattle.std.specs.Prelude.{◌≡◌, ℕ, ◌^◌, ◌<◌, ◌≤◌, ◌⊎◌, IfOk, length, slice_index, vec_len};
 ghost use Rattle.lit_base.specs.Literals.{literal_at};
 ghost use Rattle.list_index.specs.Marks.{IsMarked};
-ghost use Rattle.shift_search.specs.ShiftOr.{AreConfirmsOf, IsConfirmed, bucket_at};
+ghost use Rattle.list_index.specs.Suffixes.{hash_of, suffix_key};
+ghost use Rattle.shift_search.specs.ShiftOr.{AreConfirmsOf, IsConfirmOf, IsConfirmed, bucket_at};
 ghost use Rattle.shift_search.specs.declared.confirming.TheConstants.{CONFIRM_BITS};
 
 use crate::entries::{BUCKETS, bucket_of};
@@ -82,6 +83,8 @@ fn confirm_all(list: &LitList, buckets: &Vec<u8>, widths: &Vec<usize>, table: &m
     requires room { vec_len table.old ≡ 2 ^ CONFIRM_BITS }
     ensures room { vec_len table.new ≡ 2 ^ CONFIRM_BITS }
     ensures confirmed { (place : ℕ) → place < length list.now.texts → IsConfirmed list.now.folding table.new.items (slice_index widths.now.items (bucket_at buckets.now.items place)) (literal_at list.now place) (bucket_at buckets.now.items place) }
+    ensures only { (number bucket : ℕ) → IsMarked table.new.items number bucket
+        → (IsMarked table.old.items number bucket) ⊎ IsConfirmOf list.now buckets.now.items widths.now.items (length list.now.texts) number bucket }
 {
     for place in 0..list.len() {
         let bucket = bucket_of(buckets, place);
@@ -99,6 +102,8 @@ fn confirm(table: &mut Vec<u8>, fold: Fold, literal: &[u8], width: usize, bucket
     ensures room { vec_len table.new ≡ vec_len table.old }
     ensures confirmed { IsConfirmed fold table.new.items width literal.now bucket }
     ensures kept { (number other : ℕ) → IsMarked table.old.items number other → IsMarked table.new.items number other }
+    ensures only { (number other : ℕ) → IsMarked table.new.items number other
+        → (IsMarked table.old.items number other) ⊎ ((number ≡ hash_of CONFIRM_BITS (suffix_key fold literal.now (length literal.now) width)) × (other ≡ bucket)) }
 {
     let key = suffix_key(fold, literal, literal.len(), width);
     mark(table, hash_of(CONFIRM_BITS, key), bucket);

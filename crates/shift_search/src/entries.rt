@@ -1,8 +1,8 @@
 //! The entries of shift-or: which ends the two bytes before a position rule out.
-ghost use Rattle.std.specs.Prelude.{◌≡◌, ℕ, ◌+◌, ◌-◌, ◌*◌, ◌/◌, ◌^◌, ◌<◌, ◌≤◌, IsTrue, bit_or, length, slice_index, vec_capacity, vec_len};
+ghost use Rattle.std.specs.Prelude.{◌≡◌, ℕ, ◌+◌, ◌-◌, ◌*◌, ◌/◌, ◌^◌, ◌<◌, ◌≤◌, ◌⊎◌, IsTrue, bit_or, length, slice_index, vec_capacity, vec_len};
 ghost use Rattle.std.specs.Int.{bit_at};
 ghost use Rattle.lit_base.specs.Literals.{literal_at};
-ghost use Rattle.shift_search.specs.ShiftOr.{AreEntriesOf, LetThrough, bucket_at, number_at, last_number_at};
+ghost use Rattle.shift_search.specs.ShiftOr.{AreEntriesOf, IsPass, IsPassOf, IsPastReach, LetThrough, RulesOutElse, bucket_at, number_at, last_number_at};
 ghost use Rattle.shift_search.specs.declared.entries.TheConstants.{ENTRIES};
 
 use list_index::{case_bits, suffix_key};
@@ -34,7 +34,8 @@ pub(crate) fn fill_all(list: &LitList, buckets: &Vec<u8>, entries: &mut Vec<u64>
     requires buckets { vec_len buckets.now ≡ length list.now.texts }
     requires none { vec_len entries.old ≡ 0 }
     requires room { ENTRIES ≤ vec_capacity entries.old }
-    ensures { AreEntriesOf list.now buckets.now.items entries.new.items }
+    ensures through { AreEntriesOf list.now buckets.now.items entries.new.items }
+    ensures only { RulesOutElse list.now buckets.now.items entries.new.items }
 {
     fill_with(entries, base_of(list, buckets));
     let_all_through(list, buckets, entries);
@@ -48,6 +49,8 @@ fn let_all_through(list: &LitList, buckets: &Vec<u8>, entries: &mut Vec<u64>)
     requires short { (place ahead number : ℕ) → place < length list.now.texts → ahead < 8 → length (literal_at list.now place) ≤ ahead → number < ENTRIES → bit_at (slice_index entries.old.items number) (8 * ahead + bucket_at buckets.now.items place) ≡ 0 }
     ensures len { vec_len entries.new ≡ ENTRIES }
     ensures through { LetThrough list.now buckets.now.items entries.new.items (length list.now.texts) }
+    ensures only { (number bit : ℕ) → bit < 64 → bit_at (slice_index entries.new.items number) bit ≡ 0
+        → (bit_at (slice_index entries.old.items number) bit ≡ 0) ⊎ IsPass list.now buckets.now.items (length list.now.texts) number bit }
 {
     for place in 0..list.len() {
         let bucket = bucket_of(buckets, place);
@@ -72,7 +75,8 @@ fn leave_case_out(entries: &mut Vec<u64>, case_bits: usize)
 /// The entry that passes ends for which two bytes say nothing: ends too far ahead of them for the literal's length.
 fn base_of(list: &LitList, buckets: &Vec<u8>) -> u64
     requires { vec_len buckets.now ≡ length list.now.texts }
-    ensures { (place ahead : ℕ) → place < length list.now.texts → ahead < 8 → length (literal_at list.now place) ≤ ahead → bit_at result (8 * ahead + bucket_at buckets.now.items place) ≡ 0 }
+    ensures short { (place ahead : ℕ) → place < length list.now.texts → ahead < 8 → length (literal_at list.now place) ≤ ahead → bit_at result (8 * ahead + bucket_at buckets.now.items place) ≡ 0 }
+    ensures only { (number bit : ℕ) → bit < 64 → bit_at result bit ≡ 0 → IsPass list.now buckets.now.items (length list.now.texts) number bit }
 {
     let mut base = ALL;
     for place in 0..list.len() {
@@ -87,6 +91,7 @@ fn without_short(entry: u64, len: usize, bucket: usize) -> u64
     requires { bucket < 8 }
     ensures short { (ahead : ℕ) → ahead < 8 → len ≤ ahead → bit_at result (8 * ahead + bucket) ≡ 0 }
     ensures kept { (bit : ℕ) → bit < 64 → bit_at entry bit ≡ 0 → bit_at result bit ≡ 0 }
+    ensures only { (bit : ℕ) → bit < 64 → bit_at result bit ≡ 0 → (bit_at entry bit ≡ 0) ⊎ IsPastReach len bucket bit }
 {
     let mut found = entry;
     for ahead in 0..PLACES {
@@ -100,6 +105,7 @@ fn without_if(entry: u64, is_asked: bool, bit: usize) -> u64
     requires { bit < 64 }
     ensures cleared { IsTrue is_asked → bit_at result bit ≡ 0 }
     ensures kept { (other : ℕ) → other < 64 → bit_at entry other ≡ 0 → bit_at result other ≡ 0 }
+    ensures only { (other : ℕ) → other < 64 → bit_at result other ≡ 0 → (bit_at entry other ≡ 0) ⊎ ((IsTrue is_asked) × (other ≡ bit)) }
 {
     if is_asked { without(entry, bit) } else { entry }
 }
@@ -109,6 +115,7 @@ fn without(entry: u64, bit: usize) -> u64
     requires { bit < 64 }
     ensures cleared { bit_at result bit ≡ 0 }
     ensures kept { (other : ℕ) → other < 64 → bit_at entry other ≡ 0 → bit_at result other ≡ 0 }
+    ensures only { (other : ℕ) → other < 64 → bit_at result other ≡ 0 → (bit_at entry other ≡ 0) ⊎ (other ≡ bit) }
 {
     entry & !(1 << bit)
 }
@@ -133,6 +140,8 @@ fn let_through(entries: &mut Vec<u64>, fold: Fold, literal: &[u8], bucket: usize
     ensures pairs { (ahead : ℕ) → ahead < 8 → 2 + ahead ≤ length literal.now → bit_at (slice_index entries.new.items (number_at fold literal.now (length literal.now - ahead))) (8 * ahead + bucket) ≡ 0 }
     ensures first { (ahead number : ℕ) → ahead < 8 → length literal.now ≡ 1 + ahead → number < ENTRIES → number / 256 ≡ last_number_at fold literal.now 1 → bit_at (slice_index entries.new.items number) (8 * ahead + bucket) ≡ 0 }
     ensures kept { (number bit : ℕ) → bit < 64 → bit_at (slice_index entries.old.items number) bit ≡ 0 → bit_at (slice_index entries.new.items number) bit ≡ 0 }
+    ensures only { (number bit : ℕ) → bit < 64 → bit_at (slice_index entries.new.items number) bit ≡ 0
+        → (bit_at (slice_index entries.old.items number) bit ≡ 0) ⊎ IsPassOf fold literal.now bucket number bit }
 {
     let_pairs_through(entries, fold, literal, bucket);
     if literal.len() <= PLACES {
@@ -147,6 +156,8 @@ fn let_pairs_through(entries: &mut Vec<u64>, fold: Fold, literal: &[u8], bucket:
     ensures len { vec_len entries.new ≡ vec_len entries.old }
     ensures pairs { (ahead : ℕ) → ahead < 8 → 2 + ahead ≤ length literal.now → bit_at (slice_index entries.new.items (number_at fold literal.now (length literal.now - ahead))) (8 * ahead + bucket) ≡ 0 }
     ensures kept { (number bit : ℕ) → bit < 64 → bit_at (slice_index entries.old.items number) bit ≡ 0 → bit_at (slice_index entries.new.items number) bit ≡ 0 }
+    ensures only { (number bit : ℕ) → bit < 64 → bit_at (slice_index entries.new.items number) bit ≡ 0
+        → (bit_at (slice_index entries.old.items number) bit ≡ 0) ⊎ IsPassOf fold literal.now bucket number bit }
 {
     let last = PLACES.min(literal.len().saturating_sub(1));
     for ahead in 0..last {
@@ -163,6 +174,8 @@ fn let_pair_through(entries: &mut Vec<u64>, fold: Fold, literal: &[u8], ahead: u
     ensures len { vec_len entries.new ≡ vec_len entries.old }
     ensures pair { bit_at (slice_index entries.new.items (number_at fold literal.now (length literal.now - ahead))) (8 * ahead + bucket) ≡ 0 }
     ensures kept { (number bit : ℕ) → bit < 64 → bit_at (slice_index entries.old.items number) bit ≡ 0 → bit_at (slice_index entries.new.items number) bit ≡ 0 }
+    ensures only { (number bit : ℕ) → bit < 64 → bit_at (slice_index entries.new.items number) bit ≡ 0
+        → (bit_at (slice_index entries.old.items number) bit ≡ 0) ⊎ IsPassOf fold literal.now bucket number bit }
 {
     let key = suffix_key(fold, literal, literal.len() - ahead, 2);
     clear(entries, (key >> 48) as usize, 8 * ahead + bucket);
@@ -178,6 +191,8 @@ fn let_first_through(entries: &mut Vec<u64>, fold: Fold, literal: &[u8], bucket:
     ensures len { vec_len entries.new ≡ vec_len entries.old }
     ensures first { (number : ℕ) → number < ENTRIES → number / 256 ≡ last_number_at fold literal.now 1 → bit_at (slice_index entries.new.items number) (8 * (length literal.now - 1) + bucket) ≡ 0 }
     ensures kept { (number bit : ℕ) → bit < 64 → bit_at (slice_index entries.old.items number) bit ≡ 0 → bit_at (slice_index entries.new.items number) bit ≡ 0 }
+    ensures only { (number bit : ℕ) → bit < 64 → bit_at (slice_index entries.new.items number) bit ≡ 0
+        → (bit_at (slice_index entries.old.items number) bit ≡ 0) ⊎ IsPassOf fold literal.now bucket number bit }
 {
     let bit = 8 * (literal.len() - 1) + bucket;
     let first = (suffix_key(fold, literal, 1, 1) >> 56) as usize;
@@ -193,6 +208,8 @@ fn clear(entries: &mut Vec<u64>, number: usize, bit: usize)
     ensures len { vec_len entries.new ≡ vec_len entries.old }
     ensures cleared { bit_at (slice_index entries.new.items number) bit ≡ 0 }
     ensures kept { (other place : ℕ) → place < 64 → bit_at (slice_index entries.old.items other) place ≡ 0 → bit_at (slice_index entries.new.items other) place ≡ 0 }
+    ensures only { (other place : ℕ) → place < 64 → bit_at (slice_index entries.new.items other) place ≡ 0
+        → (bit_at (slice_index entries.old.items other) place ≡ 0) ⊎ ((other ≡ number) × (place ≡ bit)) }
 {
     entries[number] = without(entries[number], bit);
 }

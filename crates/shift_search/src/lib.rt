@@ -7,6 +7,7 @@ mod entries;
 mod joining;
 mod looking;
 mod looks;
+mod prices;
 mod runs;
 mod shift_or;
 mod shifted;

@@ -1,6 +1,7 @@
 //! Shift-or over buckets of literals, as in Hyperscan's FDR: the bytes before an end rule it out. Costs are in tenths
 //! of a nanosecond.
 ghost use Rattle.std.specs.Prelude.{◌≡◌, ℕ, ◌+◌, ◌-◌, ◌*◌, ◌<◌, ◌≤◌, ◌⊎◌, IfOk, IfSome, MatchOption, length, max, slice_index, false};
+ghost use Rattle.std.specs.Option.{IfNone};
 ghost use Rattle.shift_search.specs.Blocks.{AreNoted};
 ghost use Rattle.lit_base.specs.NextEnds.{Finds, IsFirstFound, NoEndUpTo};
 ghost use Rattle.shift_search.specs.ShiftOr.{AreEntriesOf, NoneOf, RulesOut, RulesOutWords};
@@ -14,10 +15,9 @@ use crate::entries::{ENTRIES, PLACES, fill_all};
 use crate::joining::{lacking, last_alone, last_of};
 use crate::looking::{Stride, four_looks, looks_by};
 use crate::looks::{Looks, Verified, bits_behind};
+use crate::prices::{cost_of, estimate};
 use crate::runs::cut_runs;
-use crate::tuning::{
-    EACH_COST, HIT_COST, LEFT_COST, LEFT_IN_BLOCK_COST, NEAR, SHIFT_OR_COST, SPARSE, START_COST,
-};
+use crate::tuning::NEAR;
 use lane_filter::split_lowest;
 use list_index::{ListIndex, hash_of, is_marked, last_bits, last_word};
 use std::alloc::{AllocError, Global};
@@ -61,7 +61,7 @@ pub struct ShiftOr {
 
 impl Model for ShiftOr {
     ghost use Rattle.std.specs.Prelude.{◌≡◌, ◌<◌, ◌≤◌, length, vec_capacity, vec_len};
-    ghost use Rattle.shift_search.specs.ShiftOr.{AreConfirmsOf, AreEntriesOf, Bucketing};
+    ghost use Rattle.shift_search.specs.ShiftOr.{AreConfirmsOf, AreEntriesOf, Bucketing, RulesOutElse};
     ghost use Rattle.shift_search.specs.declared.entries.TheConstants.{ENTRIES};
 
     ghost Value = { Bucketing };
@@ -71,7 +71,8 @@ impl Model for ShiftOr {
     ghost invariant = { λ s. (ENTRIES ≤ vec_capacity s.entries)
         × (0 < vec_len s.entries → AreEntriesOf s.index.value s.buckets.items s.entries.items)
         × (vec_len s.buckets ≡ length s.index.value.texts)
-        × AreConfirmsOf s.index.value s.buckets.items s.confirms };
+        × AreConfirmsOf s.index.value s.buckets.items s.confirms
+        × (0 < vec_len s.entries → RulesOutElse s.index.value s.buckets.items s.entries.items) };
 }
 
 impl ShiftOr {
@@ -112,8 +113,8 @@ impl ShiftOr {
             // Unreachable: the entries are made.
             return usize::MAX;
         };
-        let by_one = self.cost(entries, sample, Stride::One, rate);
-        let by_two = self.cost(entries, sample, Stride::Two, rate);
+        let by_one = estimate(entries, sample, Stride::One, rate);
+        let by_two = estimate(entries, sample, Stride::Two, rate);
         self.stride = if by_two < by_one {
             Stride::Two
         } else {
@@ -146,37 +147,6 @@ impl ShiftOr {
     /// nanosecond. The work that factors also do at each end is not included.
     pub fn cost_of(&self, count: usize, left: usize, found: EndRate) -> usize {
         cost_of(count, left, found, self.stride)
-    }
-
-    /// The estimate of a search at this stride for 1,024 bytes of a text like the sample, with ends at this rate.
-    fn cost(&self, entries: &[u64], sample: &[u8], stride: Stride, rate: EndRate) -> usize
-        requires entries { AreEntriesOf self.now.literals self.now.buckets entries.now }
-    {
-        let (left, all) = self.count_left(entries, sample, stride);
-        let ends = left.saturating_mul(1024) / all.max(1);
-        cost_of(1024, ends.saturating_sub(rate.ends), rate, stride)
-    }
-
-    /// How many of some ends in a sample are not ruled out at this stride, counted for each bucket, and how many ends
-    /// these are. They are the last of eight ends, which all probes that cover them have judged.
-    fn count_left(&self, entries: &[u64], sample: &[u8], stride: Stride) -> (usize, usize)
-        requires entries { AreEntriesOf self.now.literals self.now.buckets entries.now }
-    {
-        let told = match stride {
-            Stride::One => 1,
-            Stride::Two => 2,
-        };
-        let (mut left, mut all) = (0usize, 0usize);
-        for stretch in sample.chunks(SPARSE) {
-            if stretch.len() == SPARSE {
-                let at = SPARSE - (PLACES - 1);
-                let looks = looks_by(entries, stretch, at, stride);
-                let unruled = !looks.here >> (64 - 8 * told);
-                left = left.saturating_add(unruled.count_ones() as usize);
-                all = all.saturating_add(told);
-            }
-        }
-        (left, all)
     }
 
     /// The state of a search after a position.
@@ -223,9 +193,10 @@ impl ShiftOr {
         requires { AreLooksBehind self.now text.now from looks.old }
         ensures next { Finds self.now.literals text.now from (length text.now) result }
         ensures looks { IfSome result (λ found. AreLooksBehind self.now text.now found.0 looks.new) }
+        ensures over { IfNone result (looks.new ≡ looks.old) }
     {
         let Some(entries) = self.made_entries() else {
-            return self.next_plainly(text, from, looks);
+            return self.next_without_entries(text, from, looks);
         };
         match self.stride {
             Stride::One => self.next_by_step::<1>(entries, text, from, looks, left),
@@ -235,9 +206,15 @@ impl ShiftOr {
 
     /// As `next_by`, without entries, which rules out nothing.
     #[inline(never)]
-    fn next_plainly(&self, text: &[u8], from: usize, looks: &mut Looks) -> Option<(usize, usize)>
+    fn next_without_entries(
+        &self,
+        text: &[u8],
+        from: usize,
+        looks: &mut Looks,
+    ) -> Option<(usize, usize)>
         ensures next { Finds self.now.literals text.now from (length text.now) result }
         ensures looks { IfSome result (λ found. AreLooksBehind self.now text.now found.0 looks.new) }
+        ensures over { IfNone result (looks.new ≡ looks.old) }
     {
         let found = self.first_between(text, from, text.len());
         if let Some((end, _)) = found {
@@ -260,6 +237,7 @@ impl ShiftOr {
         requires looks { AreLooksBehind self.now text.now from looks.old }
         ensures next { Finds self.now.literals text.now from (length text.now) result }
         ensures looks { IfSome result (λ found. AreLooksBehind self.now text.now found.0 looks.new) }
+        ensures over { IfNone result (looks.new ≡ looks.old) }
     {
         if let Some(found) = self.end_in_front(text, from) {
             return Some(found);
@@ -430,6 +408,7 @@ impl ShiftOr {
         requires carried { RulesOut self.now text.now (rest.at + 8) rest.carried }
         ensures next { Finds self.now.literals text.now from (length text.now) result }
         ensures looks { IfSome result (λ found. AreLooksBehind self.now text.now found.0 looks.new) }
+        ensures over { IfNone result (looks.new ≡ looks.old) }
     {
         let mut at = rest.at;
         let mut carried = rest.carried;
@@ -589,24 +568,4 @@ impl ShiftOr {
         }
         None
     }
-}
-
-/// The cost of a search at this stride of `count` bytes, with `left` false positives and the ends `found`.
-fn cost_of(count: usize, left: usize, found: EndRate, stride: Stride) -> usize {
-    let cost = match stride {
-        Stride::One => EACH_COST,
-        Stride::Two => SHIFT_OR_COST,
-    };
-    let looks = count.saturating_mul(cost) / 1024;
-    let scanned = found.ends.saturating_sub(found.starts);
-    let is_by_blocks = found.ends.saturating_mul(NEAR + GROUP * GROUPS) < count;
-    let price = if is_by_blocks {
-        LEFT_IN_BLOCK_COST
-    } else {
-        LEFT_COST
-    };
-    looks
-        .saturating_add(left.saturating_mul(price))
-        .saturating_add(scanned.saturating_mul(HIT_COST))
-        .saturating_add(found.starts.saturating_mul(START_COST))
 }

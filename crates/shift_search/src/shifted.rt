@@ -39,7 +39,7 @@ fn next_end_by_looks(
 pub struct ShiftedEnds<'a> {
     shift_or: &'a ShiftOr,
     text: &'a [u8],
-    place: usize,
+    from: usize,
     looks: Looks,
     tally: Tally,
 }
@@ -51,9 +51,9 @@ impl<'a> Model for ShiftedEnds<'a> {
 
     ghost Value = { Walk };
 
-    ghost view = { λ w. record { literals = w.shift_or.now.literals; text = w.text.now; from = w.place } };
+    ghost view = { λ w. record { literals = w.shift_or.now.literals; text = w.text.now; from = w.from } };
 
-    ghost invariant = { λ w. AreLooksBehind w.shift_or.now w.text.now w.place w.looks };
+    ghost invariant = { λ w. AreLooksBehind w.shift_or.now w.text.now w.from w.looks };
 }
 
 impl<'a> ShiftedEnds<'a> {
@@ -66,7 +66,7 @@ impl<'a> ShiftedEnds<'a> {
         ShiftedEnds {
             shift_or,
             text,
-            place: from,
+            from,
             looks,
             tally: Tally::nothing(),
         }
@@ -89,13 +89,13 @@ impl<'a> Ends for ShiftedEnds<'a> {
         let found = next_end_by_looks(
             self.shift_or,
             self.text,
-            self.place,
+            self.from,
             &mut looks,
             &mut self.tally,
         );
         if let Some((end, _)) = found {
             self.tally.end();
-            self.place = end;
+            self.from = end;
             self.looks = looks;
         }
         found

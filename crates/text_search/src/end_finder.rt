@@ -6,7 +6,7 @@ ghost use Rattle.lit_base.specs.NextEnds.{IsNextEnd, NoEndAfter};
 ghost use Rattle.text_ends.specs.HitsBehind.{AreHitsBehind, Continues, StopsAt};
 
 use crate::hit_search::HitSearch;
-use crate::prices::{cost_by_automaton, cost_by_plan, cost_by_windows, cost_of_dense_ends};
+use crate::prices::{cost_by_automaton, cost_by_plan, cost_of_dense_ends};
 use crate::sampling::Sample;
 use crate::strategy::{
     Engine, Step, Strategy, Wanted, has_use, least_gathered, sample_len, span_behind,
@@ -272,7 +272,7 @@ impl EndFinder {
         let stop = add_hits_of(&mut ends, text, from, at, most, out)?;
         let tally = ends.tally();
         let found = EndRate::of_scan(tally.ends);
-        let spent = cost_by_windows(&self.windows, stop - from, tally, found);
+        let spent = self.windows.cost_of(stop - from, tally, found);
         self.strategy.note(stop - from, spent, found);
         Ok(stop)
     }
@@ -295,7 +295,7 @@ impl EndFinder {
         let found = ends.next_end();
         let tally = ends.tally();
         let count = passed(text, from, found);
-        let spent = cost_by_windows(&self.windows, count, tally, rate_of(found));
+        let spent = self.windows.cost_of(count, tally, rate_of(found));
         self.strategy.note(count, spent, rate_of(found));
         found
     }

@@ -18,7 +18,7 @@ pub use learning::make_if_long;
 pub use searching::next_end;
 pub use strategy::Engine;
 pub use text_search::TextSearch;
-pub use tuning::LEAST_SAMPLE;
+pub use tuning::{LEAST_LEARNED, LEAST_SAMPLE};
 
 #[cfg(test)]
 mod tests;

@@ -1,4 +1,4 @@
-//! The only module that chooses an engine. A choice changes the time of a search, never its result.
+//! The only module that chooses among the four engines. A choice changes the time of a search, never its result.
 //!
 //! | question | when | depends on | function |
 //! |---|---|---|---|

@@ -99,4 +99,4 @@ pub(crate) const SURE: usize = 10;
 
 /// A search has a finder once this many bytes were searched. At two nanoseconds a byte, a slow search of them takes as
 /// long as it takes to make a finder and to tune it. Not varied.
-pub(crate) const LEAST_LEARNED: u64 = 262_144;
+pub const LEAST_LEARNED: u64 = 262_144;

@@ -2,7 +2,7 @@
 use Rattle.std.specs.Prelude.{◌≡◌, ℕ, ◌+◌, ◌^◌, ◌<◌, ◌≤◌, List, length, slice_index}
 use Rattle.std.specs.Int.{bit_at}
 use Rattle.lit_base.specs.Literals.{Literals, literal_at}
-use Rattle.list_index.specs.Marks.{IsMarkedFor}
+use Rattle.list_index.specs.Marks.{IsMarkOf, IsMarked, IsMarkedFor}
 use Rattle.lit_base.specs.Occurrences.{Occurs}
 use Rattle.list_index.specs.declared.suffixes.marks.TheConstants.{HASH_BITS}
 use Rattle.window_search.specs.Shapes.{width_at}
@@ -41,8 +41,15 @@ pub record IsWindowed (l : Literals) (marks : List ℕ) (place width offset stri
   pub wide : width + offset + stride ≤ length (literal_at l place) + 1
   pub marked : IsMarkedFor marks l.folding (literal_at l place) width offset stride
 
--- each literal before a place has its hash bits
+-- the hash bit is that of a factor of one of the first literals of a list
+pub record IsFactorMark (l : Literals) (stride : ℕ) (offsets : List ℕ) (count number back : ℕ) : Type 0 where
+  pub place : ℕ
+  pub within : place < count
+  pub is : IsMarkOf l.folding (literal_at l place) (width_at l place) (slice_index offsets place) (slice_index offsets place + stride) number back
+
+-- each literal before a place has its hash bits, and no other bit is set
 pub record AreWindowed (l : Literals) (stride : ℕ) (offsets marks : List ℕ) (count : ℕ) : Type 0 where
   pub offsets_len : length offsets ≡ length l.texts
   pub marks_len : length marks ≡ 2 ^ HASH_BITS
   pub marked : (place : ℕ) → place < count → IsWindowed l marks place (width_at l place) (slice_index offsets place) stride
+  pub only : (number back : ℕ) → IsMarked marks number back → IsFactorMark l stride offsets count number back

@@ -3,13 +3,12 @@
 ghost use Rattle.std.specs.Prelude.{◌≡◌, ◌^◌, ◌<◌, ◌≤◌, length, vec_len};
 ghost use Rattle.list_index.specs.declared.suffixes.marks.TheConstants.{HASH_BITS};
 
-use crate::claiming::BLOCK;
-use crate::counts::{Counts, NEVER, PLACES};
+use crate::counts::{Counts, NEVER, OFFSETS};
 use crate::grouping::group;
+use crate::prices::{cost_of_blocks, cost_of_passes};
 use crate::shape::{Shape, WIDTH};
 use crate::tuning::{
-    BIAS, BLOCK_COST, LOOK_COST, MARK_COST, MOST_SIEVED, PASS_COST, SIEVE_COST, SIEVE_START_COST,
-    SPARSE, START_COST,
+    BIAS, LOOK_COST, MARK_COST, MOST_SIEVED, SIEVE_COST, SIEVE_START_COST, SPARSE, START_COST,
 };
 use list_index::HASH_BITS;
 use lit_base::LitList;
@@ -82,13 +81,6 @@ fn with_ends(list: &LitList, choice: Choice, rate: EndRate) -> Choice {
     Choice { cost, ..choice }
 }
 
-/// The extra cost of probes in `count` bytes with `ends` ends. A block with an end is probed as a whole, at half the
-/// cost again for each probe, and not skipped by two probes a turn.
-pub fn cost_of_blocks(ends: usize, count: usize, stride: usize, widths: usize) -> usize {
-    let looks = ends.min(count / BLOCK).saturating_mul(BLOCK) / stride.max(1);
-    looks.saturating_mul(LOOK_COST / 2).saturating_mul(widths)
-}
-
 /// The estimate for masks, with the factors that suit them.
 fn cost_of_sieve(
     list: &LitList,
@@ -111,15 +103,6 @@ fn cost_of_sieve(
     let in_sample = passed.saturating_mul(1024) / all.max(1);
     let passes = cost_of_passes(in_sample, 1024, Shape::of(list).widths());
     SIEVE_COST.saturating_add(passes)
-}
-
-/// The cost of `passed` positions that pass in `count` bytes, each probed by `widths` widths.
-pub(crate) fn cost_of_passes(passed: usize, count: usize, widths: usize) -> usize {
-    let price = PASS_COST.saturating_add((PASS_COST / 2).saturating_mul(widths));
-    let blocks = passed.min(count / BLOCK);
-    passed
-        .saturating_mul(price)
-        .saturating_add(blocks.saturating_mul(BLOCK_COST))
 }
 
 /// How many of some positions of a sample pass the masks, and how many positions these are.
@@ -204,7 +187,7 @@ fn best_offset(windows: [u32; 8], stride: usize) -> (usize, usize)
     ensures { result.0 < 8 }
 {
     let mut best = (0, usize::MAX);
-    for offset in 0..PLACES {
+    for offset in 0..OFFSETS {
         let cost = cost_at(windows, offset, stride);
         if cost < best.1 {
             best = (offset, cost);
@@ -262,9 +245,9 @@ fn choose_sieved(list: &LitList, counts: &Counts, offsets: &mut Vec<u8>)
 /// How often the factors from one offset on occurred, as many as a stride has positions.
 fn cost_at(windows: [u32; 8], offset: usize, stride: usize) -> usize {
     let mut cost = 0usize;
-    for step in 0..stride.min(PLACES) {
+    for step in 0..stride.min(OFFSETS) {
         let place = offset.saturating_add(step);
-        let more = if place < PLACES {
+        let more = if place < OFFSETS {
             windows[place]
         } else {
             NEVER

@@ -19,7 +19,7 @@ use text_ends::Tally;
 pub(crate) const BLOCK: usize = 56;
 
 /// The bits of the positions of a block.
-const PLACES: u64 = 0x00ff_ffff_ffff_ffff;
+const BLOCK_BITS: u64 = 0x00ff_ffff_ffff_ffff;
 
 /// Positions for which one step of the filter decides.
 const STEP: usize = 64;
@@ -120,7 +120,7 @@ fn sieve(windows: &Windows, text: &[u8], seen: usize, marks: u64, passing: u64) 
 {
     let _stride = windows.stride();
     let mut found = marks;
-    let mut rest = passing & PLACES;
+    let mut rest = passing & BLOCK_BITS;
     'places: while rest != 0 {
         let (back, others) = split_lowest(rest);
         let look = windows.marks_by_widths(text, seen + 1 + back);
@@ -293,10 +293,10 @@ fn skip_strides(windows: &Windows, text: &[u8], seen: usize) -> usize
     if windows.has_short() {
         return skip_by_all_widths(windows, text, seen);
     }
-    skip_unmarked(windows, text, seen, false)
+    skip_quiet_probes(windows, text, seen, false)
 }
 
-/// As `skip_unmarked`, for lists with short literals.
+/// As `skip_quiet_probes`, for lists with short literals.
 #[inline(never)]
 fn skip_by_all_widths(windows: &Windows, text: &[u8], seen: usize) -> usize
     requires behind { 3 ≤ seen }
@@ -307,12 +307,12 @@ fn skip_by_all_widths(windows: &Windows, text: &[u8], seen: usize) -> usize
         → AreClaimed windows.now text.now from from (seen + 1) 0
         → AreClaimed windows.now text.now from from (result + 1) 0 }
 {
-    skip_unmarked(windows, text, seen, true)
+    skip_quiet_probes(windows, text, seen, true)
 }
 
 /// A position from `seen` on up to which no probe has hash bits, by two probes a turn.
 #[inline(always)]
-fn skip_unmarked(windows: &Windows, text: &[u8], seen: usize, has_short: bool) -> usize
+fn skip_quiet_probes(windows: &Windows, text: &[u8], seen: usize, has_short: bool) -> usize
     requires behind { 3 ≤ seen }
     requires inside { seen ≤ length text.now }
     ensures ahead { seen ≤ result }

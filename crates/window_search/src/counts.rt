@@ -9,7 +9,7 @@ use std::alloc::{AllocError, Global};
 
 /// The factors of a literal to choose from: the last of them ends at the literal's end, each other a byte before the
 /// next.
-pub(crate) const PLACES: usize = 8;
+pub(crate) const OFFSETS: usize = 8;
 
 /// The count of a factor that a literal does not have.
 pub(crate) const NEVER: u32 = 1 << 28;
@@ -65,7 +65,7 @@ impl Counts {
     {
         let literal = list.get(place);
         let mut found = [NEVER; 8];
-        for back in 0..PLACES {
+        for back in 0..OFFSETS {
             if WIDTH + back <= literal.len() {
                 let key = suffix_key(list.fold(), literal, literal.len() - back, WIDTH);
                 found[back] = u32::from(self.fours[hash_of(HASH_BITS, key)]);
@@ -84,7 +84,7 @@ impl Counts {
         let literal = list.get(place);
         let fours = self.of_literal(list, place);
         let mut found = [NEVER; 8];
-        for back in 0..PLACES {
+        for back in 0..OFFSETS {
             if WIDTH + back <= literal.len() {
                 let key = suffix_key(list.fold(), literal, literal.len() - back, SIEVED);
                 let last_bytes = u32::from(self.threes[hash_of(HASH_BITS, key)]);

@@ -6,12 +6,12 @@ mod claiming;
 mod counts;
 mod grouping;
 mod marking;
+mod prices;
 mod shape;
 mod tuning;
 mod windowed;
 mod windows;
 
-pub use choosing::cost_of_blocks;
-pub use tuning::{LOOK_COST, MARK_COST, SIEVE_COST, START_COST};
+pub use tuning::SIEVE_COST;
 pub use windowed::WindowedEnds;
 pub use windows::Windows;

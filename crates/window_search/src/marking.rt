@@ -1,7 +1,7 @@
 //! Sets the hash bits of literals, each by its factors.
-ghost use Rattle.std.specs.Prelude.{◌≡◌, ◌≢◌, ℕ, ◌+◌, ◌^◌, ◌<◌, ◌≤◌, length, slice_index, vec_len};
+ghost use Rattle.std.specs.Prelude.{◌≡◌, ◌≢◌, ℕ, ◌+◌, ◌^◌, ◌<◌, ◌≤◌, ◌⊎◌, length, slice_index, vec_len};
 ghost use Rattle.lit_base.specs.Literals.{literal_at};
-ghost use Rattle.list_index.specs.Marks.{IsMarked};
+ghost use Rattle.list_index.specs.Marks.{IsMarkOf, IsMarked};
 ghost use Rattle.list_index.specs.declared.suffixes.marks.TheConstants.{HASH_BITS};
 ghost use Rattle.window_search.specs.Shapes.{width_at};
 ghost use Rattle.window_search.specs.Windows.{AreWindowed, IsWindowed};
@@ -40,6 +40,8 @@ fn mark_one(list: &LitList, place: usize, count: usize, offsets: &mut Vec<u8>, m
     ensures apart { (other : ℕ) → other ≢ place → slice_index offsets.old.items other ≡ slice_index offsets.new.items other }
     ensures kept { (number back : ℕ) → IsMarked marks.old.items number back → IsMarked marks.new.items number back }
     ensures windowed { IsWindowed list.now marks.new.items place (width_at list.now place) (slice_index offsets.new.items place) count }
+    ensures only { (number back : ℕ) → IsMarked marks.new.items number back
+        → (IsMarked marks.old.items number back) ⊎ IsMarkOf list.now.folding (literal_at list.now place) (width_at list.now place) (slice_index offsets.new.items place) (slice_index offsets.new.items place + count) number back }
 {
     let literal = list.get(place);
     let width = width_of(list, place);
@@ -51,7 +53,8 @@ fn mark_one(list: &LitList, place: usize, count: usize, offsets: &mut Vec<u8>, m
 
 /// Clears all hash bits.
 fn clear(marks: &mut Vec<u8>)
-    ensures { vec_len marks.new ≡ vec_len marks.old }
+    ensures len { vec_len marks.new ≡ vec_len marks.old }
+    ensures cleared { (number : ℕ) → slice_index marks.new.items number ≡ 0 }
 {
     for number in 0..marks.len() {
         marks[number] = 0;

@@ -4,12 +4,13 @@
 // Prices.
 
 /// A probe. How it was chosen is not recorded.
-pub const LOOK_COST: usize = 8;
+pub(crate) const LOOK_COST: usize = 8;
 
 /// A hash bit at which nothing ends. How it was chosen is not recorded.
-pub const MARK_COST: usize = 250;
+pub(crate) const MARK_COST: usize = 250;
 
-/// The masks for 1,024 bytes, if no position passes. How it was chosen is not recorded.
+/// The masks for 1,024 bytes, if no position passes. `text_search` charges it for the packed filter of a plan too. How
+/// it was chosen is not recorded.
 pub const SIEVE_COST: usize = 1536;
 
 /// A position that passes the masks and has no hash bit. Each width of its probe adds half of this. How it was chosen
@@ -23,7 +24,7 @@ pub(crate) const BLOCK_COST: usize = 60;
 
 /// A new start after an end: a block is probed from there on, and its last probes are mostly wasted. Shift-or starts
 /// with eight probes. Not varied.
-pub const START_COST: usize = 500;
+pub(crate) const START_COST: usize = 500;
 
 /// A start with masks, in addition. Without masks probes begin at once. Measured: with masks for all lists, 100
 /// frequent literals took 1.3 times as long in English text and log lines.

@@ -10,18 +10,20 @@ ghost use Rattle.nib_mask.specs.Halves.{widened};
 ghost use Rattle.window_search.specs.declared.shape.TheConstants.{WIDTH};
 ghost use Rattle.window_search.specs.Windows.{AreMarks, AreWithin};
 
-use crate::choosing::{best_choice, choose_offsets, cost_of_passes};
+use crate::choosing::{best_choice, choose_offsets};
 use crate::counts::Counts;
 use crate::grouping::group;
 use crate::marking::mark_all;
+use crate::prices::{cost_of_masks, cost_of_strides};
 use crate::shape::{Shape, WIDTH};
+use crate::tuning::{MARK_COST, START_COST};
 use list_index::{HASH_BITS, ListIndex, case_bits, hash_of, last_bits, suffix_key};
 use lit_base::{Fold, LitList};
 use nib_mask::ByteMasks;
 use std::alloc::{AllocError, Global};
 use std::marker::Model;
 use std::sync::Arc;
-use text_ends::EndRate;
+use text_ends::{EndRate, Tally};
 
 /// The literals of a list, with hash bits for some of their factors: those that are rare in a given text.
 ///
@@ -65,7 +67,8 @@ impl Model for Windows {
 impl Windows {
     /// The literals of a list without masks, at stride 1, with hash bits for their last bytes.
     pub fn new(alloc: Global, index: Arc<ListIndex>) -> Result<Windows, AllocError>
-        ensures { IfOk result (λ windows. windows.literals ≡ index.value) }
+        ensures literals { IfOk result (λ windows. windows.literals ≡ index.value) }
+        ensures stride { IfOk result (λ windows. windows.stride ≡ 1) }
     {
         let list = index.list();
         let shape = Shape::of(list);
@@ -201,17 +204,17 @@ impl Windows {
         self.marks_by_widths(text, at)
     }
 
-    /// The number of widths of factors, and so the cost of a probe relative to one width.
-    #[inline]
-    pub fn widths(&self) -> usize {
-        self.shape.widths()
-    }
-
-    /// The cost of `passed` positions that pass the masks in `count` bytes and have no hash bit, in tenths of a
-    /// nanosecond.
-    #[inline]
-    pub fn cost_of_passes(&self, passed: usize, count: usize) -> usize {
-        cost_of_passes(passed, count, self.shape.widths())
+    /// The cost of a search of `count` bytes with the counters `tally` and the ends `found`, in tenths of a nanosecond,
+    /// without the work at the ends themselves.
+    pub fn cost_of(&self, count: usize, tally: Tally, found: EndRate) -> usize {
+        let widths = self.shape.widths();
+        let looks = match self.masks {
+            Some(_) => cost_of_masks(count, tally.passed, widths),
+            None => cost_of_strides(count, found.ends, self.stride, widths),
+        };
+        looks
+            .saturating_add(tally.marked.saturating_mul(MARK_COST))
+            .saturating_add(found.starts.saturating_mul(START_COST))
     }
 }
 

@@ -55,6 +55,7 @@ eights-preserved c =
       within = made.within;
       none = none_joined b.literals text c.args.from (c.eights.at + 7) start (c.eights.at + 8 + 7) before.near before.none (c.in_default.ensures start made);
       carried = is.behind;
+      looks = before.looks;
     }
 
 pub returns-in-Some-found-clause-next : goal.returns-in-Some-found-clause-next

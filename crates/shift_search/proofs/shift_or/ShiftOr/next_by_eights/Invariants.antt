@@ -1,4 +1,4 @@
-use Rattle.std.proofs.Common.{◌+◌, ◌-◌, ◌≤◌, length, max}
+use Rattle.std.proofs.Common.{◌≡◌, ◌+◌, ◌-◌, ◌≤◌, length, max}
 use Rattle.lit_base.specs.NextEnds.{NoEndUpTo}
 use Rattle.shift_search.specs.ShiftOr.{RulesOut}
 use Rattle.shift_search.specs.declared.shift_or.TheConstants.{FRONT}
@@ -12,6 +12,7 @@ invariant-eights l = record {
   within : l.at + 7 ≤ max (max l.from FRONT) (length l.text);
   none : NoEndUpTo l.self.literals l.text l.from (l.at + 7);
   carried : RulesOut l.self l.text (l.at + 8) l.carried;
+  looks : l.looks ≡ l.fn.looks;
 }
 
 abbrev pub decreases-eights : goal.decreases-eights

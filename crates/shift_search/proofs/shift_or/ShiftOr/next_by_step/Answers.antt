@@ -1,5 +1,5 @@
 -- The start of the text is verified position by position, then the remaining ends of the given state, then 32 positions a turn.
-use Rattle.std.proofs.Common.{◌≡◌, ℕ, ◌+◌, ◌-◌, ◌*◌, inl, inr, max, slice_index, sym, ap, ◌∙◌, subst, arith}
+use Rattle.std.proofs.Common.{◌≡◌, ℕ, ◌+◌, ◌-◌, ◌*◌, inl, inr, max, slice_index, refl, sym, ap, ◌∙◌, subst, arith}
 use Rattle.std.specs.Int.{bit_at}
 use Rattle.std.proofs.lemmas.Nat.Bits.{bit_at-zero}
 use Rattle.shift_search.specs.Looks.{AreLooks, IsVerified}
@@ -34,6 +34,7 @@ fours-init g c =
       within = looks.within;
       none = none_joined b.literals text c.args.from start start (c.args.looks.now.at + 7) (omega arith) c.in_default.ensures (c.in_default-end_left.ensures start looks);
       before = subst (RulesOut b text (c.args.looks.now.at + 8)) (sym c.last_alone-before.ensures) looks.carried;
+      looks = refl;
     }
 
 pub verify_four-requires-clause-ruled : goal.verify_four-requires-clause-ruled
@@ -89,6 +90,7 @@ fours-preserved g c =
       within = omega (arith, c.fours-test.true, before.some, c.saturating_sub-last_four.ensures);
       none = none_joined b.literals text c.args.from (c.fours.at + 7) (c.fours.at + 7) (c.fours.at + 32 + 7) (omega arith) before.none (λ end after within. own end (omega (arith, after)) (omega (arith, within)));
       before = subst (λ p. RulesOut b text p (slice_index c.four_looks-now.result.behind 3)) there (are.behind 3 (omega arith));
+      looks = before.looks;
     }
 
 pub skip_if_open-quiet-requires-clause-carried : goal.skip_if_open-quiet-requires-clause-carried
@@ -118,4 +120,5 @@ fours-preserved-then-lacking-ne0 g c =
       ];
       none = none_joined b.literals text c.args.from (c.fours.at + 32 + 7) (c.fours.at + 32 + 7) (c.skip_if_open-quiet.result.at + 7) (omega arith) passed quiet.none;
       before = subst (RulesOut b text (c.skip_if_open-quiet.result.at + 8)) (sym c.last_alone-before-then-lacking-ne0.ensures) quiet.carried;
+      looks = before.looks;
     }

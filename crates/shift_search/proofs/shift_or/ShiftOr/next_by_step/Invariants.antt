@@ -1,4 +1,4 @@
-use Rattle.std.proofs.Common.{◌+◌, ◌-◌, ◌≤◌, length, max, slice_index}
+use Rattle.std.proofs.Common.{◌≡◌, ◌+◌, ◌-◌, ◌≤◌, length, max, slice_index}
 use Rattle.lit_base.specs.NextEnds.{NoEndUpTo}
 use Rattle.shift_search.specs.ShiftOr.{RulesOut}
 use Rattle.shift_search.specs.declared.shift_or.TheConstants.{FRONT}
@@ -12,6 +12,7 @@ invariant-fours g l = record {
   within : l.at + 7 ≤ max (max l.from FRONT) (length l.text);
   none : NoEndUpTo l.self.literals l.text l.from (l.at + 7);
   before : RulesOut l.self l.text (l.at + 8) (slice_index l.before 3);
+  looks : l.looks ≡ l.fn.looks;
 }
 
 abbrev pub decreases-fours : goal.decreases-fours

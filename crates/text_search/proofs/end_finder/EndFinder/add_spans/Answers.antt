@@ -3,7 +3,7 @@ use Rattle.std.proofs.Common.{◌≡◌, ◌-◌, ◌≤◌, ℕ, length, take, 
 use Rattle.std.proofs.lemmas.Bool.{false≢true}
 use Rattle.text_ends.specs.HitsBehind.{GainsHitsBehind, StopsAt}
 use Rattle.text_ends.proofs.HitLists.{gained_more, none_in_front}
-use Rattle.text_ends.proofs.Stops.{gained_nothing, span_end, span_gained, stopped_further}
+use Rattle.text_ends.proofs.Stops.{gained_nothing, none_late, span_end, span_gained, stopped_further}
 use Rattle.text_search.proofs.end_finder.EndFinder.add_spans.Goals as goal
 use Rattle.text_search.proofs.end_finder.EndFinder.add_spans.Goals.{In-Ok}
 
@@ -80,5 +80,6 @@ returns-clause-ok c =
       within = omega arith;
       gained = subst (λ (p : ℕ). GainsHitsBehind c.args.compiled.now.literals (take p text) c.args.from c.args.from c.args.out.now.items c.spans.out.items) there all.gained;
       enough = λ more. absurd (omega (arith, more));
+      least = λ hit inside. absurd (none_late _ c.spans.out.items hit all.few inside);
       few = omega (arith, all.few);
     }

@@ -8,7 +8,7 @@ invariant-spans l = record {
   finder : l.self ≡ l.compiled.literals;
   ahead : l.from ≤ l.place;
   within : l.place ≤ length l.text;
-  few : length l.out.items ≤ length l.fn.out.items + l.most;
+  few : length l.out.items ≤ length l.fn.out.items + (l.most - 1);
   gained : GainsHitsBehind l.compiled.literals (take l.place l.text) l.from l.from l.fn.out.items l.out.items;
 }
 

@@ -1,6 +1,6 @@
 use Rattle.std.proofs.Common.{ℕ, ◌+◌, ◌-◌, ◌<◌, ◌≤◌, length}
 use Rattle.window_search.specs.Windowed.{AreClaimed}
-use Rattle.window_search.proofs.claiming.skip_unmarked.Given as goal
+use Rattle.window_search.proofs.claiming.skip_quiet_probes.Given as goal
 
 -- no end is pending by the probes passed
 abbrev pub invariant-strides : goal.invariant-strides

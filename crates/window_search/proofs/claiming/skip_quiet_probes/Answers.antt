@@ -4,7 +4,7 @@ use Rattle.std.proofs.lemmas.Nat.{le_or_l, le_or_r}
 use Rattle.window_search.specs.Windows.{AreMarksOf}
 use Rattle.window_search.specs.Windowed.{AreClaimed}
 use Rattle.window_search.proofs.ClaimSteps.{none_marked}
-use Rattle.window_search.proofs.claiming.skip_unmarked.Goals as goal
+use Rattle.window_search.proofs.claiming.skip_quiet_probes.Goals as goal
 
 pub strides-preserved : goal.strides-preserved
 strides-preserved c =
