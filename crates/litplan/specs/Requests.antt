@@ -65,13 +65,13 @@ profile_of m = if bytes_eq (text_of m (codes "buckets")) (codes "16") then Sixte
 
 -- the request in the matches of the subcommand of a name, each argument under its name as id
 abbrev pub IsRequestOf : List ℕ → ArgMatches → Request → Type 0
-IsRequestOf name m (Plan reading profile file) = (name ≡ codes "plan") × IsReading m reading × (profile ≡ profile_of m) × (string_bytes file ≡ text_of m (codes "file"))
-IsRequestOf name m (Check reading file certificate) = (name ≡ codes "check") × (is_given m (codes "plan") ≡ false) × IsReading m reading × (string_bytes file ≡ text_of m (codes "file"))
-    × (string_bytes certificate ≡ text_of m (codes "certificate"))
+IsRequestOf name m (Plan r) = (name ≡ codes "plan") × IsReading m r.reading × (r.profile ≡ profile_of m) × (string_bytes r.file ≡ text_of m (codes "file"))
+IsRequestOf name m (Check r) = (name ≡ codes "check") × (is_given m (codes "plan") ≡ false) × IsReading m r.reading × (string_bytes r.file ≡ text_of m (codes "file"))
+    × (string_bytes r.certificate ≡ text_of m (codes "certificate"))
 IsRequestOf name m (CheckPlan file place) = (name ≡ codes "check") × (is_given m (codes "plan") ≡ true) × (string_bytes file ≡ text_of m (codes "plan")) × IsPlace m place
-IsRequestOf name m (Pack reading profile files output) = (name ≡ codes "pack") × IsReading m reading × (profile ≡ profile_of m) × (map string_bytes files.names.items ≡ texts_of m (codes "file"))
-    × (string_bytes output ≡ text_of m (codes "output"))
-IsRequestOf name m (Explain reading profile svg file) = (name ≡ codes "explain") × (is_given m (codes "plan") ≡ false) × (is_given m (codes "certificate") ≡ false) × IsReading m reading × (profile ≡ profile_of m) × IsFlag m (codes "svg") svg × (string_bytes file ≡ text_of m (codes "file"))
+IsRequestOf name m (Pack r) = (name ≡ codes "pack") × IsReading m r.reading × (r.profile ≡ profile_of m) × (map string_bytes r.files.names.items ≡ texts_of m (codes "file"))
+    × (string_bytes r.output ≡ text_of m (codes "output"))
+IsRequestOf name m (Explain r) = (name ≡ codes "explain") × (is_given m (codes "plan") ≡ false) × (is_given m (codes "certificate") ≡ false) × IsReading m r.reading × (r.profile ≡ profile_of m) × IsFlag m (codes "svg") r.svg × (string_bytes r.file ≡ text_of m (codes "file"))
 IsRequestOf name m (ExplainPlan svg file place) = (name ≡ codes "explain") × (is_given m (codes "plan") ≡ true) × IsFlag m (codes "svg") svg × (string_bytes file ≡ text_of m (codes "plan")) × IsPlace m place
 IsRequestOf name m (ExplainCertificate certificate) = (name ≡ codes "explain") × (is_given m (codes "plan") ≡ false) × (is_given m (codes "certificate") ≡ true)
     × (string_bytes certificate ≡ text_of m (codes "certificate"))

@@ -5,7 +5,10 @@ ghost use Rattle.litplan.specs.Requests.{IsFlag, IsFold, IsNotation, IsPlace, Is
 
 use clap::{Arg, ArgAction, ArgMatches, Command, value_parser};
 use lit_base::{Fold, Profile};
-use plan_run::{Notation, PatternFiles, Reading, Request, Scan, Workers};
+use plan_run::{
+    CheckRequest, ExplainRequest, Notation, PackRequest, PatternFiles, PlanRequest, Reading,
+    Request, Scan, Workers,
+};
 use program_words::{Fault, VERSION, matches_of, with_arg, with_subcommand};
 use std::alloc::{AllocError, Global};
 
@@ -32,11 +35,11 @@ pub fn request_of(alloc: Global, name: &str, found: &ArgMatches<'_>) -> Result<R
     ensures { IfOk result (IsRequestOf name.now found.now) }
 {
     match name {
-        "plan" => Ok(Request::Plan {
+        "plan" => Ok(Request::Plan(PlanRequest {
             reading: reading_of(found),
             profile: profile_of(found),
             file: value(alloc, found, "file")?,
-        }),
+        })),
         "check" => check_of(alloc, found),
         "pack" => pack_of(alloc, found),
         "explain" => explain_of(alloc, found),
@@ -59,11 +62,11 @@ fn check_of(alloc: Global, found: &ArgMatches<'_>) -> Result<Request, Fault>
             place: place_of(alloc, found)?,
         });
     }
-    Ok(Request::Check {
+    Ok(Request::Check(CheckRequest {
         reading: reading_of(found),
         file: value(alloc, found, "file")?,
         certificate: value(alloc, found, "certificate")?,
-    })
+    }))
 }
 
 /// The plan file to be made that clap's matches tell.
@@ -76,12 +79,12 @@ fn pack_of(alloc: Global, found: &ArgMatches<'_>) -> Result<Request, Fault>
             "litplan: more than 64 files of patterns\n",
         )));
     };
-    Ok(Request::Pack {
+    Ok(Request::Pack(PackRequest {
         reading: reading_of(found),
         profile: profile_of(found),
         files,
         output: value(alloc, found, "output")?,
-    })
+    }))
 }
 
 /// What clap's matches tell to explain: a list, a plan of a plan file, or a certificate.
@@ -99,12 +102,12 @@ fn explain_of(alloc: Global, found: &ArgMatches<'_>) -> Result<Request, Fault>
         let certificate = value(alloc, found, "certificate")?;
         return Ok(Request::ExplainCertificate { certificate });
     }
-    Ok(Request::Explain {
+    Ok(Request::Explain(ExplainRequest {
         reading: reading_of(found),
         profile: profile_of(found),
         svg: flag_of(found, "svg"),
         file: value(alloc, found, "file")?,
-    })
+    }))
 }
 
 /// The number of a plan, which stands where a file of patterns else does: 0 if there is none.

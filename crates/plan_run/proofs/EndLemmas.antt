@@ -33,11 +33,11 @@ all-asked all s l asked = record { made = all; rest = []; parts = sym (append-ni
 
 -- the sources left by all asks of a request are left by a front of its asks
 left-front : (r : Request) (s l : Sources) → IsLeftBy r s l → AsksFront (asks_of r s) s l
-left-front (Plan reading profile file) s l left = all-asked (asks_of (Plan reading profile file) s) s l left
-left-front (Check reading file certificate) s l left = all-asked (asks_of (Check reading file certificate) s) s l left
+left-front (Plan r) s l left = all-asked (asks_of (Plan r) s) s l left
+left-front (Check r) s l left = all-asked (asks_of (Check r) s) s l left
 left-front (CheckPlan file place) s l left = all-asked (asks_of (CheckPlan file place) s) s l left
-left-front (Pack reading profile files output) s l left = all-asked (asks_of (Pack reading profile files output) s) s l left
-left-front (Explain reading profile svg file) s l left = all-asked (asks_of (Explain reading profile svg file) s) s l left
+left-front (Pack r) s l left = all-asked (asks_of (Pack r) s) s l left
+left-front (Explain r) s l left = all-asked (asks_of (Explain r) s) s l left
 left-front (ExplainPlan svg file place) s l left = all-asked (asks_of (ExplainPlan svg file place) s) s l left
 left-front (ExplainCertificate certificate) s l left = all-asked (asks_of (ExplainCertificate certificate) s) s l left
 left-front (Migrate input output) s l left = leaves-front (string_bytes input) (string_bytes output) s l left

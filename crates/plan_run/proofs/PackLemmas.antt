@@ -1,8 +1,7 @@
 -- A plan file that is made: from the file of plans to what a request has to answer.
 use Rattle.std.proofs.Common.{◌≡◌, ℕ, Bool, false, cond, List, [], Option, None, Some, IfSome, Result, Ok, Err, inl, inr, refl, sym, ap, subst, ◌∙◌}
 use Rattle.std.proofs.KnownBytes.{Appends-nil}
-use Rattle.std.specs.Global.{Global}
-use Rattle.std.specs.Prelude.{String, map, string_bytes}
+use Rattle.std.specs.Prelude.{map, string_bytes}
 use Rattle.byte_io.specs.Devices.{Told}
 use Rattle.byte_io.specs.Sources.{AreShort, Sources, can_create}
 use Rattle.byte_io.proofs.ToldLemmas.{Told-weaker}
@@ -13,11 +12,11 @@ use Rattle.plan_pack.specs.Messages.{message_on, unusable}
 use Rattle.plan_pack.specs.Packing.{LeavesPack, Other, Own, PacksFiles}
 use Rattle.plan_pack.specs.Stops.{Explains, is_refusal}
 use Rattle.plan_pack.specs.declared.notation.Reading.{Reading}
-use Rattle.plan_pack.specs.declared.pattern_files.PatternFiles.{PatternFiles}
 use Rattle.plan_pack.specs.declared.stop.Stop.{Stop}
 use Rattle.plan_pack.specs.declared.stop.Stop.TheVariants.{OutOfMemory, Refused, WriteFault}
 use Rattle.plan_run.specs.Answers.{Answer, AnswersPack, AnswersUnless, Cut, IsPackAnswer, Packed, Unmade, pack_message, refused_with}
 use Rattle.plan_run.specs.Running.{Answers, Tells}
+use Rattle.plan_run.specs.declared.request.PackRequest.{PackRequest}
 use Rattle.plan_run.specs.declared.request.Request.TheVariants.{Pack}
 use Rattle.plan_run.specs.declared.status.Status.{Status}
 use Rattle.plan_run.specs.declared.status.Status.TheVariants.{Done}
@@ -91,14 +90,11 @@ pack-untold {O} written has_failed reading profile names output known left stopp
     ))
 
 -- the answer and the asks are right for the request
-pub pack-answers : {O : Type 0} (written : O → Option (List ℕ)) (has_failed : O → Bool) (reading : Reading) (profile : Profile) (files : PatternFiles) (output : String Global) (from : List (String Global)) (to : List ℕ) (known left : Option Sources) (r : Result Status Stop) (out : Option (List ℕ))
-    → from ≡ files.names.items → to ≡ string_bytes output
-    → Told known left (λ s l. AreShort s → Asks r (pack_asks reading (map string_bytes from) to s) s l × ((old : Option (List ℕ)) → Tells (AnswersPack written has_failed reading profile (map string_bytes from) to s) r old old))
-    → Told known left (λ s l. AreShort s → Answers written has_failed (Pack reading profile files output) s l r out out)
-pack-answers written has_failed reading profile files output from to known left r out here there answers =
-    Told-weaker known left _ (λ s l. AreShort s → Answers written has_failed (Pack reading profile files output) s l r out out) answers (λ s l h short.
+pub pack-answers : {O : Type 0} (written : O → Option (List ℕ)) (has_failed : O → Bool) (request : PackRequest) (known left : Option Sources) (r : Result Status Stop) (out : Option (List ℕ))
+    → Told known left (λ s l. AreShort s → Asks r (pack_asks request.reading (map string_bytes request.files.names.items) (string_bytes request.output) s) s l
+    × ((old : Option (List ℕ)) → Tells (AnswersPack written has_failed request.reading request.profile (map string_bytes request.files.names.items) (string_bytes request.output) s) r old old))
+    → Told known left (λ s l. AreShort s → Answers written has_failed (Pack request) s l r out out)
+pack-answers written has_failed request known left r out answers =
+    Told-weaker known left _ (λ s l. AreShort s → Answers written has_failed (Pack request) s l r out out) answers (λ s l h short.
     let t = h short in
-    record {
-      asks = subst (λ x. Asks r (pack_asks reading (map string_bytes x) (string_bytes output) s) s l) here (subst (λ y. Asks r (pack_asks reading (map string_bytes from) y s) s l) there t.0);
-      tells = subst (λ x. Tells (AnswersPack written has_failed reading profile (map string_bytes x) (string_bytes output) s) r out out) here (subst (λ y. Tells (AnswersPack written has_failed reading profile (map string_bytes from) y s) r out out) there (t.1 out));
-    })
+    record { asks = t.0; tells = t.1 out })

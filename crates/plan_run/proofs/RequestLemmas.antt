@@ -6,13 +6,12 @@ use Rattle.byte_io.specs.Devices.{Told}
 use Rattle.byte_io.specs.Sources.{AreShort, Ask, Named, Sources, ask_of}
 use Rattle.byte_io.proofs.ToldLemmas.{Told-weaker}
 use Rattle.plan_pack.specs.Asking.{Asks}
-use Rattle.lit_base.specs.declared.profile.Profile.{Profile}
-use Rattle.plan_pack.specs.declared.notation.Reading.{Reading}
 use Rattle.plan_pack.specs.declared.stop.Stop.{Stop}
-use Rattle.plan_run.specs.Answers.{Answer, AnswersCheck, AnswersCheckPlan, AnswersExplain, AnswersExplainCertificate, AnswersExplainPlan, check_asks}
+use Rattle.plan_run.specs.Answers.{Answer, AnswersCheckPlan, AnswersExplain, AnswersExplainCertificate, AnswersExplainPlan}
 use Rattle.plan_run.specs.Running.{Answers, Tells}
+use Rattle.plan_run.specs.declared.request.ExplainRequest.{ExplainRequest}
 use Rattle.plan_run.specs.declared.request.Request.{Request}
-use Rattle.plan_run.specs.declared.request.Request.TheVariants.{Check, CheckPlan, Explain, ExplainCertificate, ExplainPlan}
+use Rattle.plan_run.specs.declared.request.Request.TheVariants.{CheckPlan, Explain, ExplainCertificate, ExplainPlan}
 use Rattle.plan_run.specs.declared.status.Status.{Status}
 
 -- what is asked for and answered under one name
@@ -25,15 +24,6 @@ of-name written has_failed request asks P from name known left r old new same bu
     let t = h short in
     build s l (subst (λ n. Asks r (asks n s) s l) same t.0) (subst (λ n. Tells (P n s) r old new) same t.1))
 
-pub check-answers : {O : Type 0} (written : O → Option (List ℕ)) (has_failed : O → Bool) (reading : Reading) (file certificate : String Global) (from to : List ℕ) (known left : Option Sources) (r : Result Status Stop) (old new : Option (List ℕ))
-    → from ≡ string_bytes file → to ≡ string_bytes certificate
-    → Told known left (λ s l. AreShort s → Asks r (check_asks reading from to s) s l × Tells (AnswersCheck reading from to s) r old new)
-    → Told known left (λ s l. AreShort s → Answers written has_failed (Check reading file certificate) s l r old new)
-check-answers written has_failed reading file certificate from to known left r old new here there answers =
-    of-name written has_failed (Check reading file certificate) (λ n s. check_asks reading n (string_bytes certificate) s) (λ n s. AnswersCheck reading n (string_bytes certificate) s) from (string_bytes file) known left r old new here
-    (λ s l asked tells. record { asks = asked; tells = tells })
-    (subst (λ n. Told known left (λ s l. AreShort s → Asks r (check_asks reading from n s) s l × Tells (AnswersCheck reading from n s) r old new)) there answers)
-
 pub check-plan-answers : {O : Type 0} (written : O → Option (List ℕ)) (has_failed : O → Bool) (file : String Global) (place : ℕ) (from : List ℕ) (known left : Option Sources) (r : Result Status Stop) (old new : Option (List ℕ))
     → from ≡ string_bytes file
     → Told known left (λ s l. AreShort s → Asks r (ask_of from ∷ []) s l × Tells (AnswersCheckPlan from place s) r old new)
@@ -42,13 +32,13 @@ check-plan-answers written has_failed file place from known left r old new here 
     of-name written has_failed (CheckPlan file place) (λ n s. ask_of n ∷ []) (λ n s. AnswersCheckPlan n place s) from (string_bytes file) known left r old new here
     (λ s l asked tells. record { asks = asked; tells = tells }) answers
 
-pub explain-answers : {O : Type 0} (written : O → Option (List ℕ)) (has_failed : O → Bool) (reading : Reading) (profile : Profile) (svg : Bool) (file : String Global) (from : List ℕ) (known left : Option Sources) (r : Result Status Stop) (old new : Option (List ℕ))
-    → from ≡ string_bytes file
-    → Told known left (λ s l. AreShort s → Asks r (ask_of from ∷ []) s l × Tells (AnswersExplain reading profile svg from s) r old new)
-    → Told known left (λ s l. AreShort s → Answers written has_failed (Explain reading profile svg file) s l r old new)
-explain-answers written has_failed reading profile svg file from known left r old new here answers =
-    of-name written has_failed (Explain reading profile svg file) (λ n s. ask_of n ∷ []) (λ n s. AnswersExplain reading profile svg n s) from (string_bytes file) known left r old new here
-    (λ s l asked tells. record { asks = asked; tells = tells }) answers
+pub explain-answers : {O : Type 0} (written : O → Option (List ℕ)) (has_failed : O → Bool) (request : ExplainRequest) (known left : Option Sources) (r : Result Status Stop) (old new : Option (List ℕ))
+    → Told known left (λ s l. AreShort s → Asks r (ask_of (string_bytes request.file) ∷ []) s l × Tells (AnswersExplain request.reading request.profile request.svg (string_bytes request.file) s) r old new)
+    → Told known left (λ s l. AreShort s → Answers written has_failed (Explain request) s l r old new)
+explain-answers written has_failed request known left r old new answers =
+    Told-weaker known left _ (λ s l. AreShort s → Answers written has_failed (Explain request) s l r old new) answers (λ s l h short.
+    let t = h short in
+    record { asks = t.0; tells = t.1 })
 
 pub explain-plan-answers : {O : Type 0} (written : O → Option (List ℕ)) (has_failed : O → Bool) (svg : Bool) (file : String Global) (place : ℕ) (from : List ℕ) (known left : Option Sources) (r : Result Status Stop) (old new : Option (List ℕ))
     → from ≡ string_bytes file

@@ -221,11 +221,11 @@ pub data AnswersMigrate {O : Type 0} (written : O → Option (List ℕ)) (has_fa
 
 -- what a request has to answer, with what the device of a file that it makes tells of it
 abbrev pub IsAnswerTo : {O : Type 0} → (O → Option (List ℕ)) → (O → Bool) → Request → Sources → Answer → Type 0
-IsAnswerTo written has_failed (Plan reading profile file) s a = AnswersPlan reading profile (string_bytes file) s a
-IsAnswerTo written has_failed (Check reading file certificate) s a = AnswersCheck reading (string_bytes file) (string_bytes certificate) s a
+IsAnswerTo written has_failed (Plan r) s a = AnswersPlan r.reading r.profile (string_bytes r.file) s a
+IsAnswerTo written has_failed (Check r) s a = AnswersCheck r.reading (string_bytes r.file) (string_bytes r.certificate) s a
 IsAnswerTo written has_failed (CheckPlan file place) s a = AnswersCheckPlan (string_bytes file) place s a
-IsAnswerTo written has_failed (Pack reading profile files output) s a = AnswersPack written has_failed reading profile (map string_bytes files.names.items) (string_bytes output) s a
-IsAnswerTo written has_failed (Explain reading profile svg file) s a = AnswersExplain reading profile svg (string_bytes file) s a
+IsAnswerTo written has_failed (Pack r) s a = AnswersPack written has_failed r.reading r.profile (map string_bytes r.files.names.items) (string_bytes r.output) s a
+IsAnswerTo written has_failed (Explain r) s a = AnswersExplain r.reading r.profile r.svg (string_bytes r.file) s a
 IsAnswerTo written has_failed (ExplainPlan svg file place) s a = AnswersExplainPlan svg (string_bytes file) place s a
 IsAnswerTo written has_failed (ExplainCertificate certificate) s a = AnswersExplainCertificate (string_bytes certificate) s a
 IsAnswerTo written has_failed (Migrate input output) s a = AnswersMigrate written has_failed (string_bytes input) (string_bytes output) s a
@@ -243,11 +243,11 @@ scan_asks reading file input s =
 
 -- all that a request may ask for
 abbrev pub asks_of : Request → Sources → List Ask
-asks_of (Plan reading profile file) s = ask_of (string_bytes file) ∷ []
-asks_of (Check reading file certificate) s = check_asks reading (string_bytes file) (string_bytes certificate) s
+asks_of (Plan r) s = ask_of (string_bytes r.file) ∷ []
+asks_of (Check r) s = check_asks r.reading (string_bytes r.file) (string_bytes r.certificate) s
 asks_of (CheckPlan file place) s = ask_of (string_bytes file) ∷ []
-asks_of (Pack reading profile files output) s = pack_asks reading (map string_bytes files.names.items) (string_bytes output) s
-asks_of (Explain reading profile svg file) s = ask_of (string_bytes file) ∷ []
+asks_of (Pack r) s = pack_asks r.reading (map string_bytes r.files.names.items) (string_bytes r.output) s
+asks_of (Explain r) s = ask_of (string_bytes r.file) ∷ []
 asks_of (ExplainPlan svg file place) s = ask_of (string_bytes file) ∷ []
 asks_of (ExplainCertificate certificate) s = Named (string_bytes certificate) ∷ []
 asks_of (Migrate input output) s = migrate_asks (string_bytes input) (string_bytes output)
@@ -255,11 +255,11 @@ asks_of (Scan r) s = scan_asks r.reading (string_bytes r.file) (string_bytes r.i
 
 -- what a request leaves once it has asked for all
 abbrev pub IsLeftBy : Request → Sources → Sources → Type 0
-IsLeftBy (Plan reading profile file) s left = left ≡ after_all (asks_of (Plan reading profile file) s) s
-IsLeftBy (Check reading file certificate) s left = left ≡ after_all (asks_of (Check reading file certificate) s) s
+IsLeftBy (Plan r) s left = left ≡ after_all (asks_of (Plan r) s) s
+IsLeftBy (Check r) s left = left ≡ after_all (asks_of (Check r) s) s
 IsLeftBy (CheckPlan file place) s left = left ≡ after_all (asks_of (CheckPlan file place) s) s
-IsLeftBy (Pack reading profile files output) s left = left ≡ after_all (asks_of (Pack reading profile files output) s) s
-IsLeftBy (Explain reading profile svg file) s left = left ≡ after_all (asks_of (Explain reading profile svg file) s) s
+IsLeftBy (Pack r) s left = left ≡ after_all (asks_of (Pack r) s) s
+IsLeftBy (Explain r) s left = left ≡ after_all (asks_of (Explain r) s) s
 IsLeftBy (ExplainPlan svg file place) s left = left ≡ after_all (asks_of (ExplainPlan svg file place) s) s
 IsLeftBy (ExplainCertificate certificate) s left = left ≡ after_all (asks_of (ExplainCertificate certificate) s) s
 IsLeftBy (Migrate input output) s left = LeavesMigrate (string_bytes input) (string_bytes output) s left

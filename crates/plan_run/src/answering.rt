@@ -1,5 +1,5 @@
 //! Answering each request.
-ghost use Rattle.std.specs.Prelude.{◌≡◌, ◌||◌, ◌∷◌, []};
+ghost use Rattle.std.specs.Prelude.{◌≡◌, ◌||◌, ◌∷◌, [], string_bytes};
 ghost use Rattle.byte_io.specs.Devices.{Told};
 ghost use Rattle.byte_io.specs.Sources.{AreShort, ask_of};
 ghost use Rattle.plan_pack.specs.Asking.{Asks};
@@ -7,30 +7,29 @@ ghost use Rattle.plan_run.specs.Answers.{AnswersCheck, AnswersPlan, IsPlanAnswer
 ghost use Rattle.plan_run.specs.Running.{Tells, is_write_fault};
 
 use crate::judging::check_list;
+use crate::request::{CheckRequest, PlanRequest};
 use crate::status::Status;
 use crate::telling::tell_certificate;
 use byte_io::{ByteOut, Files};
 use lit_base::{LitList, Profile};
-use plan_pack::{Reading, Refusal, Stop, list_of};
+use plan_pack::{Refusal, Stop, list_of};
 use run_planner::{Fault, plan};
 use std::alloc::Global;
 
 /// Writes the certificate of the plan of a file's patterns.
 pub fn answer_plan<'a, F: Files, W: ByteOut>(
     alloc: Global,
-    reading: Reading,
-    profile: Profile,
-    file: &'a str,
+    request: &'a PlanRequest,
     files: &mut F,
     out: &mut W,
 ) -> Result<Status, Stop<'a>>
     ensures answer { Told (F.sources files.old) (F.sources files.new) (λ s left. AreShort s
-        → Asks result (ask_of file.now ∷ []) s left
-        × Tells (AnswersPlan reading profile file.now s) result (W.written out.old) (W.written out.new)) }
+        → Asks result (ask_of (string_bytes request.now.file) ∷ []) s left
+        × Tells (AnswersPlan request.now.reading request.now.profile (string_bytes request.now.file) s) result (W.written out.old) (W.written out.new)) }
     ensures flag { W.has_failed out.new ≡ (W.has_failed out.old || is_write_fault result) }
 {
-    match list_of(alloc, reading, file, files) {
-        Ok(list) => plan_list(alloc, profile, &list, out),
+    match list_of(alloc, request.reading, request.file.as_str(), files) {
+        Ok(list) => plan_list(alloc, request.profile, &list, out),
         Err(stop) => Err(stop),
     }
 }
@@ -38,19 +37,18 @@ pub fn answer_plan<'a, F: Files, W: ByteOut>(
 /// Says whether a file's certificate shows that no grouping of a file's patterns is cheaper.
 pub fn answer_check<'a, F: Files, W: ByteOut>(
     alloc: Global,
-    reading: Reading,
-    file: &'a str,
-    certificate: &'a str,
+    request: &'a CheckRequest,
     files: &mut F,
     out: &mut W,
 ) -> Result<Status, Stop<'a>>
     ensures answer { Told (F.sources files.old) (F.sources files.new) (λ s left. AreShort s
-        → Asks result (check_asks reading file.now certificate.now s) s left
-        × Tells (AnswersCheck reading file.now certificate.now s) result (W.written out.old) (W.written out.new)) }
+        → Asks result (check_asks request.now.reading (string_bytes request.now.file) (string_bytes request.now.certificate) s) s left
+        × Tells (AnswersCheck request.now.reading (string_bytes request.now.file) (string_bytes request.now.certificate) s)
+        result (W.written out.old) (W.written out.new)) }
     ensures flag { W.has_failed out.new ≡ (W.has_failed out.old || is_write_fault result) }
 {
-    match list_of(alloc, reading, file, files) {
-        Ok(list) => check_list(alloc, &list, certificate, files, out),
+    match list_of(alloc, request.reading, request.file.as_str(), files) {
+        Ok(list) => check_list(alloc, &list, request.certificate.as_str(), files, out),
         Err(stop) => Err(stop),
     }
 }

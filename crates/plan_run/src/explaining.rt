@@ -11,6 +11,7 @@ ghost use Rattle.plan_run.specs.Messages.{certificate_head};
 ghost use Rattle.plan_run.specs.Running.{Tells, is_write_fault};
 
 use crate::flaws::{tell_refusal, tell_stop};
+use crate::request::ExplainRequest;
 use crate::status::Status;
 use crate::telling::{tell, tell_bytes};
 use byte_io::{ByteIn, ByteOut, Files};
@@ -25,22 +26,21 @@ use std::alloc::{AllocError, Global};
 /// Writes what there is to see of the plan of a file's patterns, a text or a drawing; or where they are wrong.
 pub fn answer_explain<'a, F: Files, W: ByteOut>(
     alloc: Global,
-    reading: Reading,
-    profile: Profile,
-    svg: bool,
-    file: &'a str,
+    request: &'a ExplainRequest,
     files: &mut F,
     out: &mut W,
 ) -> Result<Status, Stop<'a>>
     ensures answer { Told (F.sources files.old) (F.sources files.new) (λ s left. AreShort s
-        → Asks result (ask_of file.now ∷ []) s left
-        × Tells (AnswersExplain reading profile svg file.now s) result (W.written out.old) (W.written out.new)) }
+        → Asks result (ask_of (string_bytes request.now.file) ∷ []) s left
+        × Tells (AnswersExplain request.now.reading request.now.profile request.now.svg (string_bytes request.now.file) s)
+        result (W.written out.old) (W.written out.new)) }
     ensures flag { W.has_failed out.new ≡ (W.has_failed out.old || is_write_fault result) }
 {
-    match placed_list_of(alloc, reading, file, files) {
+    match placed_list_of(alloc, request.reading, request.file.as_str(), files) {
         Ok((list, normal)) => {
-            explain_list(alloc, profile, svg, &list, normal.place_of.as_slice(), out)
-        },
+            let places = normal.place_of.as_slice();
+            explain_list(alloc, request.profile, request.svg, &list, places, out)
+        }
         Err(stop) => tell_stop(alloc, stop, out),
     }
 }

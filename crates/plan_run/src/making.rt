@@ -8,29 +8,35 @@ ghost use Rattle.plan_pack.specs.Stops.{is_write};
 ghost use Rattle.plan_run.specs.Answers.{AnswersMigrate, AnswersPack};
 ghost use Rattle.plan_run.specs.Running.{Tells, is_write_fault};
 
+use crate::request::PackRequest;
 use crate::status::Status;
 use crate::telling::tell_bytes;
 use byte_io::{ByteOut, Files};
-use lit_base::Profile;
-use plan_pack::{Reading, Stop, migrate_file, pack, stop_of};
+use plan_pack::{Stop, migrate_file, pack, stop_of};
 use std::alloc::Global;
 
 /// Makes the plan file of files of patterns, and answers nothing but that it stands.
 pub fn answer_pack<'a, F: Files>(
     alloc: Global,
-    reading: Reading,
-    profile: Profile,
-    names: &'a [String],
-    output: &'a str,
+    request: &'a PackRequest,
     files: &mut F,
 ) -> Result<Status, Stop<'a>>
-    requires { length names.now ≤ 64 }
     ensures answer { Told (F.sources files.old) (F.sources files.new) (λ s left. AreShort s
-        → Asks result (pack_asks reading (map string_bytes names.now) output.now s) s left
-        × ((out : Option (List ℕ)) → Tells (AnswersPack F.Output.written F.Output.has_failed reading profile (map string_bytes names.now) output.now s) result out out)) }
+        → Asks result (pack_asks request.now.reading (map string_bytes request.now.files.names.items) (string_bytes request.now.output) s) s left
+        × ((out : Option (List ℕ)) → Tells (AnswersPack F.Output.written F.Output.has_failed request.now.reading request.now.profile
+        (map string_bytes request.now.files.names.items) (string_bytes request.now.output) s) result out out)) }
     ensures unwritten { IfErr result (λ stop. is_write stop ≡ false) }
 {
-    match pack(alloc, reading, profile, names, output, files) {
+    let names = request.files.names();
+    let output = request.output.as_str();
+    match pack(
+        alloc,
+        request.reading,
+        request.profile,
+        names,
+        output,
+        files,
+    ) {
         Ok(_) => Ok(Status::Done),
         Err(unmade) => Err(stop_of(unmade)),
     }

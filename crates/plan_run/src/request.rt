@@ -7,23 +7,9 @@ use plan_pack::{PatternFiles, Reading};
 #[derive(Debug, Drop)]
 pub enum Request {
     /// Plan the patterns of a file.
-    Plan {
-        /// How the file of patterns is read.
-        reading: Reading,
-        /// How many buckets the plan may have.
-        profile: Profile,
-        /// The file of patterns; `-` is standard input.
-        file: String,
-    },
+    Plan(PlanRequest),
     /// Check a certificate against the patterns of a file.
-    Check {
-        /// How the file of patterns is read.
-        reading: Reading,
-        /// The file of patterns; `-` is standard input.
-        file: String,
-        /// The file of the certificate.
-        certificate: String,
-    },
+    Check(CheckRequest),
     /// Check a plan of a plan file once more.
     CheckPlan {
         /// The plan file; `-` is standard input.
@@ -32,27 +18,9 @@ pub enum Request {
         place: usize,
     },
     /// Write the plans of the patterns of files to a plan file, in order.
-    Pack {
-        /// How each file of patterns is read.
-        reading: Reading,
-        /// How many buckets each plan may have.
-        profile: Profile,
-        /// The files of patterns; `-` is standard input.
-        files: PatternFiles,
-        /// The plan file, which is made or emptied.
-        output: String,
-    },
+    Pack(PackRequest),
     /// Explain the plan of the patterns of a file.
-    Explain {
-        /// How the file of patterns is read.
-        reading: Reading,
-        /// How many buckets the plan may have.
-        profile: Profile,
-        /// Whether the plan is drawn, in place of a text.
-        svg: bool,
-        /// The file of patterns; `-` is standard input.
-        file: String,
-    },
+    Explain(ExplainRequest),
     /// Explain a plan of a plan file.
     ExplainPlan {
         /// Whether the plan is drawn, in place of a text.
@@ -76,6 +44,54 @@ pub enum Request {
     },
     /// Find the patterns of a file in an input, by a plan of eight buckets.
     Scan(Scan),
+}
+
+/// The patterns to plan.
+#[derive(Debug, Drop)]
+pub struct PlanRequest {
+    /// How the file of patterns is read.
+    pub reading: Reading,
+    /// How many buckets the plan may have.
+    pub profile: Profile,
+    /// The file of patterns; `-` is standard input.
+    pub file: String,
+}
+
+/// The certificate to check, and its patterns.
+#[derive(Debug, Drop)]
+pub struct CheckRequest {
+    /// How the file of patterns is read.
+    pub reading: Reading,
+    /// The file of patterns; `-` is standard input.
+    pub file: String,
+    /// The file of the certificate.
+    pub certificate: String,
+}
+
+/// The patterns to plan for a plan file.
+#[derive(Debug, Drop)]
+pub struct PackRequest {
+    /// How each file of patterns is read.
+    pub reading: Reading,
+    /// How many buckets each plan may have.
+    pub profile: Profile,
+    /// The files of patterns; `-` is standard input.
+    pub files: PatternFiles,
+    /// The plan file, which is made or emptied.
+    pub output: String,
+}
+
+/// The patterns to explain a plan of.
+#[derive(Debug, Drop)]
+pub struct ExplainRequest {
+    /// How the file of patterns is read.
+    pub reading: Reading,
+    /// How many buckets the plan may have.
+    pub profile: Profile,
+    /// Whether the plan is drawn, in place of a text.
+    pub svg: bool,
+    /// The file of patterns; `-` is standard input.
+    pub file: String,
 }
 
 /// The patterns of a search, and its input.

@@ -62,45 +62,13 @@ pub fn answer<'a, R: Threads + Sync, F: Files, W: ByteOut>(
     ensures flag { W.has_failed out.new ≡ (W.has_failed out.old || is_write_fault result) }
 {
     match request {
-        Request::Plan {
-            reading,
-            profile,
-            file,
-        } => answer_plan(alloc, *reading, *profile, file.as_str(), files, out),
-        Request::Check {
-            reading,
-            file,
-            certificate,
-        } => answer_check(
-            alloc,
-            *reading,
-            file.as_str(),
-            certificate.as_str(),
-            files,
-            out,
-        ),
+        Request::Plan(plan) => answer_plan(alloc, plan, files, out),
+        Request::Check(check) => answer_check(alloc, check, files, out),
         Request::CheckPlan { file, place } => {
             answer_check_plan(alloc, file.as_str(), *place, files, out)
         }
-        Request::Pack {
-            reading,
-            profile,
-            files: sources,
-            output,
-        } => answer_pack(
-            alloc,
-            *reading,
-            *profile,
-            sources.names(),
-            output.as_str(),
-            files,
-        ),
-        Request::Explain {
-            reading,
-            profile,
-            svg,
-            file,
-        } => answer_explain(alloc, *reading, *profile, *svg, file.as_str(), files, out),
+        Request::Pack(pack) => answer_pack(alloc, pack, files),
+        Request::Explain(explain) => answer_explain(alloc, explain, files, out),
         Request::ExplainPlan { svg, file, place } => {
             answer_explain_plan(alloc, *svg, file.as_str(), *place, files, out)
         }

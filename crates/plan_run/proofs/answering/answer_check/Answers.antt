@@ -1,10 +1,29 @@
 -- The certificate is judged for the list, or there is none.
+use Rattle.std.proofs.Common.{◌≡◌, List, ℕ, Result, Err, subst}
+use Rattle.std.specs.Prelude.{string_bytes}
+use Rattle.byte_io.specs.Devices.{Told}
+use Rattle.byte_io.specs.Sources.{AreShort, after, ask_of, taken_by}
+use Rattle.lit_base.specs.Literals.{Literals}
+use Rattle.plan_pack.specs.Taken.{TakesList}
+use Rattle.plan_pack.specs.declared.stop.Stop.{Stop}
 use Rattle.plan_run.proofs.AnswerLemmas.{check-had, check-stopped}
 use Rattle.plan_run.proofs.answering.answer_check.Goals as goal
 
 pub returns-in-Ok-clause-answer : goal.returns-in-Ok-clause-answer
 returns-in-Ok-clause-answer g c =
-    check-had c.args.reading c.args.file.now c.args.certificate.now _ _ _ c.in-Ok.list c.check_list.result _ _ c.in-Ok.ensures.list c.check_list.ensures.answer
+    rw (c.as_str.ensures.value, c.as_str-in-Ok.ensures.value) at (check-had c.args.request.now.reading c.as_str.result.now c.as_str-in-Ok.result.now
+    (g.F.Opener.sources c.args.files.now) (g.F.Opener.sources c.list_of.new.files) (g.F.Opener.sources c.check_list.new.files) c.in-Ok.list c.check_list.result
+    (g.W.ByteOut.written c.args.out.now) (g.W.ByteOut.written c.check_list.new.out) c.in-Ok.ensures.list c.check_list.ensures.answer)
+
+-- no list was read
+abbrev stopped : Stop → Result Literals Stop
+stopped stop = Err stop
 
 pub returns-in-Err-clause-answer : goal.returns-in-Err-clause-answer
-returns-in-Err-clause-answer g c = check-stopped c.args.reading c.args.file.now c.args.certificate.now _ _ c.in-Err.stop _ c.in-Err.ensures.list
+returns-in-Err-clause-answer g c =
+    let known = g.F.Opener.sources c.args.files.now in
+    let left = g.F.Opener.sources c.list_of.new.files in
+    let reading = c.args.request.now.reading in
+    let stop = c.in-Err.stop in
+    check-stopped reading (string_bytes c.args.request.now.file) (string_bytes c.args.request.now.certificate) known left stop (g.W.ByteOut.written c.args.out.now)
+    (subst (λ (name : List ℕ). Told known left (λ s l. AreShort s → (l ≡ after (ask_of name) s) × TakesList reading name (taken_by (ask_of name) s) (stopped stop))) c.as_str.ensures.value c.in-Err.ensures.list)
