@@ -13,6 +13,8 @@ mod lent_files;
 #[cfg(test)]
 mod limits;
 #[cfg(test)]
+mod linking;
+#[cfg(test)]
 mod lit_lists;
 #[cfg(test)]
 mod masks;

@@ -18,6 +18,7 @@ mod plain;
 mod rare_look;
 mod skipping;
 mod tables;
+mod tuning;
 mod wide_lanes;
 
 pub use any_of::AnyOf;

@@ -1,5 +1,7 @@
 //! Which byte of a literal is searched for alone, and when. This decides only how soon an end is found, not whether.
 
+use crate::tuning::{MOST_CREDIT, START_CREDIT, STOP_COST, WAIT};
+
 /// One of up to three bytes of a literal, the rarest in usual text first.
 #[derive(Clone, Copy, Debug)]
 pub enum Turn {
@@ -7,22 +9,6 @@ pub enum Turn {
     Second,
     Third,
 }
-
-/// After each byte of a literal was common, this many bytes of the text are searched by all of them before the first has
-/// another turn. That is half of the bytes that a run of grep reads at once. Measured: 8,192 at first, and four times as
-/// many each further time, makes no difference.
-const WAIT: usize = 65536;
-
-/// A stop costs about as much as the search for one byte alone saves in this many blocks: two mispredicted branches,
-/// and a comparison of all bytes, for some 3 ns a block. The number is an estimate; measured, 4 makes no difference.
-const STOP_COST: usize = 8;
-
-/// The number of blocks that a byte starts with before it counts as common.
-const START_CREDIT: usize = STOP_COST;
-
-/// The most blocks of gain that count, so that a byte is soon given up where it becomes common. Chosen without
-/// measurement.
-const MOST_CREDIT: usize = 64;
 
 /// Which byte is searched for alone, and its gain so far. The rarest byte of a text is mostly one of the three that are
 /// rare in usual text, but not always the first. So each has a turn, until one is rare.

@@ -4,14 +4,10 @@ ghost use Rattle.byte_lanes.specs.PlacesAfter.{NoneWithin};
 
 use crate::end_test::EndTest;
 use crate::rare_look::{RareLook, Turn};
+use crate::tuning::NEAR;
 
 /// The number of ends tested together.
 const BLOCK: usize = 128;
-
-/// A candidate at most this near is found by all bytes that the test reads; only after this many ends is one byte of a
-/// literal searched for alone. Measured with a literal each 1,300 bytes: with 2,048 it takes 1.12 times as long as
-/// without the search for one byte, with this 1.01 to 1.05.
-const NEAR: usize = 8192;
 
 /// A position up to which there is no candidate after `from`.
 #[inline(always)]

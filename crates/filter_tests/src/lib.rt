@@ -7,4 +7,6 @@ mod automata;
 #[cfg(test)]
 mod filtering;
 #[cfg(test)]
+mod prices;
+#[cfg(test)]
 mod windows;

@@ -1,4 +1,6 @@
 //! Factors of lists with short literals and with long ones, and of literals whose last bytes are frequent in a text.
+ghost use Rattle.std.specs.Prelude.{◌≤◌, length};
+
 use list_index::ListIndex;
 use lit_base::{Fold, LitList, RawList};
 use shift_search::{ShiftOr, cut_runs};
@@ -20,7 +22,7 @@ const WITH_CAPITALS: &[u8] = b"Q xY FOX oVer Lazy DOGS";
 const ENDS: [usize; 5] = [1, 4, 8, 13, 23];
 
 /// Literals that leave room for strides of five places.
-const LONG_WORDS: [&[u8]; 3] = [b"jumps over", b"lazy dog", b"the quick"];
+pub(crate) const LONG_WORDS: [&[u8]; 3] = [b"jumps over", b"lazy dog", b"the quick"];
 
 /// Each of them in turn.
 const WITH_LONG_WORDS: &[u8] = b"the quick..jumps over the lazy dog";
@@ -29,7 +31,7 @@ const WITH_LONG_WORDS: &[u8] = b"the quick..jumps over the lazy dog";
 const LONG_ENDS: [usize; 3] = [9, 21, 34];
 
 /// The index of the literals.
-fn index_of(alloc: Global, fold: Fold, literals: &[&[u8]]) -> Option<Arc<ListIndex>> {
+pub(crate) fn index_of(alloc: Global, fold: Fold, literals: &[&[u8]]) -> Option<Arc<ListIndex>> {
     let mut raw = RawList::new(alloc);
     for literal in literals {
         raw.push(literal).ok()?;
@@ -39,7 +41,7 @@ fn index_of(alloc: Global, fold: Fold, literals: &[&[u8]]) -> Option<Arc<ListInd
 }
 
 /// These four bytes, 5,000 times.
-fn sample_of(alloc: Global, bytes: [u8; 4]) -> Option<Vec<u8>> {
+pub(crate) fn sample_of(alloc: Global, bytes: [u8; 4]) -> Option<Vec<u8>> {
     let mut sample = Vec::new(alloc);
     for _ in 0..5000 {
         sample.extend_from_slice(&bytes).ok()?;
@@ -180,10 +182,25 @@ fn meets_long_literals_of_common_bytes(rt: HostRuntime) {
     assert_eq!(rt; meets_long_words(rt.alloc(), *b"y do"), Some((true, true)));
 }
 
+/// Whether a search behind the front of a text sees the hash bits of a place.
+fn sees_marks(windows: &Windows, text: &[u8], at: usize) -> bool
+    requires { at ≤ length text.now }
+{
+    if at < 4 {
+        return true;
+    }
+    let marks = windows.marks_behind_front(text, at, windows.has_short());
+    marks == windows.marks_at(text, at)
+}
+
 /// At how many places of a text a search has to look closer: those with marks where literals are strided, or those that pass.
+/// `usize::MAX` if a search behind the front sees other marks.
 fn count_marked(windows: &Windows, text: &[u8]) -> usize {
     let mut count = 0usize;
     for at in 3..text.len() {
+        if !sees_marks(windows, text, at) {
+            return usize::MAX;
+        }
         let has_marks = windows.masks().is_none() && windows.marks_at(text, at) != 0;
         if has_marks || passes(windows, text, at) {
             count = count.saturating_add(1);
@@ -260,7 +277,7 @@ fn sieves_short_literals_and_long_ones(rt: HostRuntime) {
 }
 
 /// Literals of four bytes, which probes at every second position know by all of them or by the first three.
-const FOURS: [&[u8]; 2] = [b"wxyz", b"abcd"];
+pub(crate) const FOURS: [&[u8]; 2] = [b"wxyz", b"abcd"];
 
 /// Some of them at even positions and at odd ones, and a beginning of one.
 const WITH_FOURS: &[u8] = b"..wxyz.abcd..wxyz..wxy..abcdwxyz";

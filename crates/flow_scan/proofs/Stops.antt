@@ -1,5 +1,5 @@
 -- Where a search through a piece stops, seen from its first bytes and from the rest of it.
-use Rattle.std.proofs.Common.{◌≡◌, ℕ, ◌+◌, ◌-◌, ◌<◌, ◌≤◌, List, ◌++◌, length, take, inl, inr, sym, subst, arith}
+use Rattle.std.proofs.Common.{◌≡◌, ℕ, ◌+◌, ◌-◌, ◌<◌, ◌≤◌, List, ◌++◌, length, take, drop, Contains, inl, inr, sym, subst, arith}
 use Rattle.std.proofs.lemmas.Bool.{cases_lt}
 use Rattle.std.proofs.lemmas.List.{length-append, length-take, take-take, take_all}
 use Rattle.lit_base.specs.Literals.{Literals}
@@ -7,7 +7,7 @@ use Rattle.lit_plan.specs.Bounds.{HasBounds, carry_of}
 use Rattle.text_ends.specs.HitsBehind.{AreHitsBehind, GainsHitsBehind, StopsAt}
 use Rattle.flow_scan.specs.Tails.{AreAdded, StopsIn}
 use Rattle.text_ends.proofs.HitLists.{gained_both, gained_more}
-use Rattle.text_ends.proofs.Stops.{to_end}
+use Rattle.text_ends.proofs.Stops.{same_number, to_end}
 use Rattle.flow_scan.proofs.SeamLemmas.{front_behind}
 use Rattle.flow_scan.proofs.TailSteps.{added_in_place}
 
@@ -18,6 +18,7 @@ stopped_in_front l tail piece carry at most stop old new search enough = record 
   within = omega (arith, search.after, search.within, length-append tail (take carry piece), length-take carry piece);
   gained = subst (λ t. GainsHitsBehind l t (length tail) at old new) (front_behind tail piece carry stop search.after search.within) search.gained;
   enough = enough;
+  least = search.least;
   few = search.few;
 }
 
@@ -43,6 +44,9 @@ stopped_in_place l tail piece at most stop count old middle new bounds first few
         added = added_in_place l tail (take count piece) at first.gained.found second.gained.found bounds long early second.gained.added;
       };
       enough = λ sooner. omega (arith, second.enough sooner, few, more);
+      least = λ hit inside.
+          let later = subst (λ n. Contains (drop n new) hit) (sym (same_number most old middle more (omega (arith, few)))) inside in
+          omega (arith, second.least hit later, second.after);
       few = omega (arith, second.few, few, more);
     }
 

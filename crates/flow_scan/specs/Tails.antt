@@ -1,5 +1,5 @@
 -- The hits that a piece of a stream adds, seen from the last bytes before it.
-use Rattle.std.specs.Prelude.{◌≡◌, ℕ, ◌+◌, ◌-◌, ◌<◌, ◌≤◌, List, [], ◌∷◌, ◌++◌, length, take, drop, map}
+use Rattle.std.specs.Prelude.{◌≡◌, ℕ, ◌+◌, ◌-◌, ◌<◌, ◌≤◌, List, [], ◌∷◌, ◌++◌, length, take, drop, map, Contains}
 use Rattle.std.specs.List.{concat}
 use Rattle.std.specs.Global.{Vec}
 use Rattle.lit_base.specs.Literals.{Literals}
@@ -30,12 +30,13 @@ AreSteps l tail at (piece ∷ pieces) hits =
 abbrev pub GainsHits : Literals → List ℕ → List ℕ → ℕ → List (ℕ × ℕ) → List (ℕ × ℕ) → Type 0
 GainsHits l tail piece at = GainsHitsBehind l (tail ++ piece) (length tail) at
 
--- a search through the first `count` bytes of a piece after a tail: a list of hits has gained those up to there, and it stopped before the piece's end only after it had gained `most`
+-- a search through the first `count` bytes of a piece after a tail: a list of hits has gained those up to there. It stopped before the piece's end only after it had gained `most`. It stopped at the first such position: the hits from the `most`th on end there
 pub record StopsIn (l : Literals) (tail piece : List ℕ) (at most count : ℕ) (old new : List (ℕ × ℕ)) : Type 0 where
   pub within : count ≤ length piece
   pub gained : GainsHits l tail (take count piece) at old new
   pub enough : count < length piece → length old + most ≤ length new
-  pub few : length new < length old + most + length l.texts + 1
+  pub least : (hit : ℕ × ℕ) → Contains (drop (length old + (most - 1)) new) hit → hit.1 ≡ at + count
+  pub few : length new ≤ length old + (most - 1) + length l.texts
 
 -- steps from no bytes on give the hits of the joined pieces, counted from the base; from 0 on, they are the text's hits
 pub record PiecesLaw (l : Literals) (pieces : List (List ℕ)) : Type 0 where

@@ -15,7 +15,7 @@ pub use scanner::Scanner;
 pub use scanning::{pieces_law, scan_all, scan_behind, scan_pieces};
 pub use stream::Stream;
 pub use text_ends::Hit;
-pub use text_search::{EndFinder, LEAST_SAMPLE, TextSearch, next_end};
+pub use text_search::{EndFinder, LEAST_LEARNED, LEAST_SAMPLE, TextSearch, make_if_long, next_end};
 pub use tuned_plan::TunedPlan;
 pub use until::scan_until;
 

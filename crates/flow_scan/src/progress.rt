@@ -62,7 +62,9 @@ impl Progress {
     }
 
     /// How many bytes were fed.
-    pub(crate) fn fed(&self) -> u64 {
+    pub(crate) fn fed(&self) -> u64
+        ensures { self.now.place ≡ self.now.base + result }
+    {
         self.count
     }
 

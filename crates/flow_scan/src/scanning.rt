@@ -10,10 +10,11 @@ ghost use Rattle.text_ends.specs.HitsBehind.{AreHitsBehind, Continues};
 ghost use Rattle.flow_scan.specs.Tails.{PiecesLaw, bytes_of};
 
 use crate::scanner::Scanner;
+use crate::until::scan_until;
 use lit_base::LitList;
 use lit_plan::{Compiled, Fault, carry, least_law};
 use std::alloc::Global;
-use text_ends::{Hit, add_hits_of};
+use text_ends::Hit;
 
 /// All hits in a text, in order. The only refusal is `OutOfMemory`.
 pub fn scan_all(alloc: Global, compiled: &Compiled, text: &[u8]) -> Result<Vec<Hit>, Fault>
@@ -46,15 +47,13 @@ pub fn scan_behind(
 {
     let _carry = compiled.carry();
     let mut hits = Vec::new(alloc);
-    let at = from as u64;
-    let mut ends = compiled.ends_behind(text, from);
-    add_hits_of(&mut ends, text, from, at, usize::MAX, &mut hits)?;
+    scan_until(compiled, text, from, usize::MAX, &mut hits)?;
     Ok(hits)
 }
 
 /// The guarantees of a plan and its scan, on one call that feeds a scanner any pieces. No assignment of the literals to
-/// at most eight buckets costs less than the plan's certificate says. The returned hits are exactly the literals and
-/// ends that occur in the joined pieces, each once and in order.
+/// at most as many buckets as its profile has costs less than the plan's certificate says. The returned hits are exactly
+/// the literals and ends that occur in the joined pieces, each once and in order.
 ///
 /// Refusals: `StreamTooLong` if the pieces together have 2^64 bytes or more, and `OutOfMemory`.
 pub fn scan_pieces(

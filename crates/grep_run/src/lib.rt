@@ -13,6 +13,7 @@ mod running;
 mod scanning;
 mod searcher;
 mod status;
+mod tuning;
 
 pub use byte_io::{Missing, Opener};
 pub use message::{say_out_of_memory, write_whole};

@@ -18,6 +18,7 @@ use crate::options::GrepOptions;
 use crate::request::{Found, Request};
 use crate::scanning::{picker_for, read_lines};
 use crate::status::Stop;
+use crate::tuning::MANY_INPUTS;
 use byte_io::{ByteIn, ByteOut, Opener, open_operand};
 use flow_scan::EndFinder;
 use std::alloc::AllocError;
@@ -37,10 +38,6 @@ const UNUSED: usize = 48;
 /// How many bytes may be held of names, numbers and newlines, before the lines of a piece are written.
 /// The lines themselves take no more than the piece.
 const MOST_HELD: usize = 4 * 1024 * 1024;
-
-/// After this many inputs a run is long. Measured when a finder's tables were written at once: to search them took
-/// about as long as to make the finder. Inputs of 16 KiB and more gain by it as well.
-const MANY_INPUTS: usize = 16;
 
 /// The bytes that a line takes besides its name and itself: a number, a colon after each, and its newline.
 const NUMBER_SIZE: usize = 23;

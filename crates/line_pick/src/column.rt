@@ -1,11 +1,7 @@
 //! Where in its line a literal probably ends.
 ghost use Rattle.std.specs.Prelude.{◌≡◌, ◌≢◌, ◌+◌, ◌-◌, ◌<◌, ◌≤◌, MatchOption, min};
 
-/// A column is tried once this many more hits in a row had it. The number was chosen without measurement.
-const LEAST_TRUST: u8 = 2;
-
-/// The bound of trust: a column survives two lines in a row that are made otherwise, and is given up at the third.
-const MOST_TRUST: u8 = 4;
+use crate::tuning::{LEAST_TRUST, MOST_TRUST};
 
 /// Where in its line a literal probably ends. The lines of a log, or of JSON, begin alike: where literals are frequent,
 /// one often ends as many bytes after the start of a line as in the line before. That position is tried first, and the

@@ -6,16 +6,8 @@ ghost use Rattle.line_pick.specs.Cutting.{AreNewlines, IsFirstLine, IsLastCut};
 use crate::counting::{
     LANES, bytes_behind_newline, count_newlines, first_newline, first_newline_of_two, newline_mask,
 };
+use crate::tuning::{MOSTLY_EMPTY, SAMPLE, SHORT_LINE};
 use memchr::{memchr, memrchr};
-
-/// Lines of fewer bytes are short: some of them end in the same 64 bytes.
-const SHORT_LINE: usize = 16;
-
-/// The number of bytes at the start of a text that show how long its lines are.
-const SAMPLE: usize = 1024;
-
-/// Where more of the sample's bytes are newlines, most lines are empty.
-const MOSTLY_EMPTY: usize = SAMPLE / 4 * 3;
 
 /// Whether the first lines of a text are short. A text of fewer bytes than the sample has none that count.
 pub(crate) fn has_short_lines(text: &[u8]) -> bool {

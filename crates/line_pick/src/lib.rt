@@ -17,6 +17,7 @@ mod progress;
 mod sink;
 mod state;
 mod text_lending;
+mod tuning;
 mod whole_lines;
 
 pub use fault::Fault;

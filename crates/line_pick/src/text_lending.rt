@@ -15,24 +15,9 @@ use crate::line_rule::LineRule;
 use crate::line_search::LineSearch;
 use crate::matcher::{Matcher, is_literal};
 use crate::sink::Sink;
+use crate::tuning::{FEW_LITERALS, HIT_BYTES, MOST_HITS_IN_A_ROW, SHORT_LINE_HIT_BYTES};
 use crate::whole_lines::WholeLines;
 use flow_scan::Compiled;
-
-/// A hit and its line take about as long as splitting this many bytes into lines. Measured in English text: 120 ns for
-/// a hit of one literal, 0.5 ns a byte for splitting. With 1,000 literals a hit takes ten times as long.
-const HIT_COST: usize = 256;
-
-/// The same where lines are short: a byte of them takes four times as long to split.
-const SHORT_HIT_COST: usize = 64;
-
-/// After this many hits, with nothing passed over between them, the rest of a text is split line by line. With 1,000
-/// words, one in most lines, that is 16 times as fast.
-const HITS: usize = 16;
-
-/// A list of at most this many literals is searched for by two or three bytes of each, which is faster in any text than
-/// splitting its lines. A search for more may take several times as long, if they are words of the text. Measured with
-/// 30 words in English text: 4.5 ns a byte, against 0.6 to split and compare each line.
-const FEW_LITERALS: usize = 3;
 
 /// Emits the selected lines among those that a newline ends in the text, by the method that should take less time.
 /// Returns how many lines there are by its end, if they are numbered; `before` lines stand before it. Without numbers,
@@ -68,19 +53,30 @@ pub(crate) fn lend_text<S: Sink>(
     if matcher.rule.whole && compiled.list().len() > FEW_LITERALS && !are_short {
         return lend_whole_lines(compiled, matcher.rule, text, before, sink);
     }
-    let hit_cost = if are_short { SHORT_HIT_COST } else { HIT_COST };
+    let hit_bytes = if are_short {
+        SHORT_LINE_HIT_BYTES
+    } else {
+        HIT_BYTES
+    };
     let mut hits = HitLines::new(compiled, search.finder.take(), text);
-    let lent = lend_hits(&mut hits, matcher.rule, hit_cost, before, is_numbered, sink);
+    let lent = lend_hits(
+        &mut hits,
+        matcher.rule,
+        hit_bytes,
+        before,
+        is_numbered,
+        sink,
+    );
     search.finder = hits.into_finder();
     lent
 }
 
 /// Emits the lines that hold a literal, or under -x those that are one, or under -v the others, searching for hits
-/// first. Under -x a hit costs as much as splitting `hit_cost` bytes.
+/// first. Under -x a hit costs as much as splitting `hit_bytes` bytes.
 fn lend_hits<S: Sink>(
     hits: &mut HitLines<'_>,
     rule: LineRule,
-    hit_cost: usize,
+    hit_bytes: usize,
     before: u64,
     is_numbered: bool,
     sink: &mut S,
@@ -96,13 +92,13 @@ fn lend_hits<S: Sink>(
 {
     let compiled = hits.compiled();
     let mut lines = before;
-    let mut credit = hit_cost.saturating_mul(HITS);
+    let mut credit = hit_bytes.saturating_mul(MOST_HITS_IN_A_ROW);
     while let Some(hit) = hits.next_line() {
         lines = lend_all(rule.invert, hit.missed, lines, is_numbered, sink)?;
         let selected = selects_at_hit(compiled, rule, hit.line);
         lend_if(selected, hit.line, lines, sink)?;
         lines += 1;
-        credit = credit_behind(hit_cost, credit, hit.missed);
+        credit = credit_behind(hit_bytes, credit, hit.missed);
         if rule.whole && credit == 0 {
             return lend_whole_lines(compiled, rule, hit.behind, lines, sink);
         }
@@ -112,11 +108,11 @@ fn lend_hits<S: Sink>(
 
 /// The credit after a hit under -x: more by the text that the search passed over, less by the cost of a hit.
 #[inline(always)]
-fn credit_behind(hit_cost: usize, credit: usize, missed: &[u8]) -> usize {
+fn credit_behind(hit_bytes: usize, credit: usize, missed: &[u8]) -> usize {
     let gained = credit.saturating_add(missed.len());
     gained
-        .min(hit_cost.saturating_mul(HITS))
-        .saturating_sub(hit_cost)
+        .min(hit_bytes.saturating_mul(MOST_HITS_IN_A_ROW))
+        .saturating_sub(hit_bytes)
 }
 
 /// Emits the lines that are a literal, or under -v the others; each line is split and compared.

@@ -1,10 +1,11 @@
 -- Marks: one more, and that a text has the mark of each literal that ends in it.
-use Rattle.std.proofs.Common.{◌≡◌, ℕ, ◌+◌, ◌-◌, ◌++◌, replicate, refl, ◌*◌, ◌%◌, ◌^◌, ◌<◌, ◌≤◌, List, length, get_or, set, inl, inr, sym, ap, ◌∙◌, subst, arith, get_or-set_same, get_or-set_other}
+use Rattle.std.proofs.Common.{◌≡◌, ℕ, ◌+◌, ◌-◌, ◌++◌, replicate, refl, ◌*◌, ◌%◌, ◌^◌, ◌<◌, ◌≤◌, List, length, get_or, set, ◌⊎◌, inl, inr, sym, ap, ◌∙◌, subst, arith, get_or-set_same, get_or-set_other}
 use Rattle.std.specs.Int.{bit_at, w8}
 use Rattle.std.specs.Int.RustNames.{bit_and, bit_or}
 use Rattle.std.specs.List.{slice_range}
-use Rattle.std.proofs.lemmas.Bool.{cases_eq}
-use Rattle.std.proofs.lemmas.Nat.Bits.{bit_at_set_same, bit_at_set_other}
+use Rattle.std.proofs.lemmas.Bool.{cases_eq, cases_lt}
+use Rattle.std.proofs.lemmas.List.{get_or-replicate, get_or_past, length-replicate}
+use Rattle.std.proofs.lemmas.Nat.Bits.{bit_at-zero, bit_at_set_same, bit_at_set_other}
 use Rattle.std.proofs.lemmas.Option.{slice_get_within}
 use Rattle.list_index.specs.declared.suffixes.marks.SuffixMarks.{SuffixMarks}
 use Rattle.list_index.specs.declared.suffixes.marks.TheConstants.{HASH_BITS}
@@ -35,6 +36,30 @@ module _ (marks : List ℕ) (number byte back : ℕ) (room : number < length mar
         ]
     | inr apart ↦ ap (λ w. bit_at w place) (get_or-set_other marks number other marked_byte 0 apart) ∙ old
   ]
+
+  -- and nothing else is marked
+  pub marked_before : (other place : ℕ) → IsMarked (set marks number marked_byte) other place → (IsMarked marks other place) ⊎ ((other ≡ number) × (place ≡ back))
+  marked_before other place now = elim (cases_eq other number) [
+    | inr apart ↦ inl (ap (λ w. bit_at w place) (sym (get_or-set_other marks number other marked_byte 0 apart)) ∙ now)
+    | inl here ↦ elim (cases_eq place back) [
+      | inl there ↦ inr (here, there)
+      | inr apart ↦ inl (
+          ap (λ w. bit_at w place) (ap (λ k. get_or marks k 0) here ∙ sym read)
+          ∙ sym (bit_at_set_other w8 byte back bit place apart)
+          ∙ ap (λ w. bit_at w place) (sym (get_or-set_same marks number marked_byte 0 room))
+          ∙ ap (λ k. bit_at (get_or (set marks number marked_byte) k 0) place) (sym here)
+          ∙ now)
+    ]
+  ]
+
+-- where all bytes are 0, nothing is marked
+pub none_marked : (marks : List ℕ) (count number back : ℕ) → marks ≡ replicate count 0 → ¬ IsMarked marks number back
+none_marked marks count number back zeros marked =
+    let byte : get_or marks number 0 ≡ 0 = ap (λ m. get_or m number 0) zeros ∙ elim (cases_lt number count) [
+      | inl inside ↦ get_or-replicate count number 0 0 inside
+      | inr past ↦ get_or_past (replicate count 0) number 0 (omega (arith, length-replicate {A = ℕ} count 0, past))
+    ] in
+    omega (arith, ap (λ b. bit_at b back) byte, bit_at-zero back, marked)
 
 -- where a literal ends, the text's hash before it is marked
 pub marked-occurs : (l : Literals) (marks : SuffixMarks) (text : List ℕ) (place at back end : ℕ) → AreMarksOf l marks → AreBytes text → at + back ≡ end → back < 1 → 8 ≤ at → Occurs l text place end

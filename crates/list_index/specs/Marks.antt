@@ -16,7 +16,19 @@ IsMarked marks number back = bit_at (slice_index marks number) back ≡ 1
 abbrev pub IsMarkedFor : List ℕ → Fold → List ℕ → ℕ → ℕ → ℕ → Type 0
 IsMarkedFor marks fold literal width offset stride = (back : ℕ) → offset ≤ back → back < offset + stride → IsMarked marks (hash_of HASH_BITS (suffix_key fold literal (length literal - back) width)) back
 
--- the end of each literal is marked, and there is room for every hash
+-- the number is the hash of the bytes of a literal before a position, of those this far before its end
+pub record IsMarkOf (fold : Fold) (literal : List ℕ) (width least below number back : ℕ) : Type 0 where
+  pub far : least ≤ back
+  pub near : back < below
+  pub hash : number ≡ hash_of HASH_BITS (suffix_key fold literal (length literal - back) width)
+
+-- the mark is that of the end of one of the first literals of a list
+pub record IsEndMark (l : Literals) (width count number back : ℕ) : Type 0 where
+  pub place : ℕ
+  pub within : place < count
+  pub is : IsMarkOf l.folding (literal_at l place) width 0 1 number back
+
+-- the end of each literal is marked, nothing else is, and there is room for every hash
 pub record AreMarksOf (l : Literals) (marks : SuffixMarks) : Type 0 where
   pub some : 0 < marks.width
   pub narrow : marks.width ≤ 8
@@ -25,3 +37,4 @@ pub record AreMarksOf (l : Literals) (marks : SuffixMarks) : Type 0 where
   pub room : length marks.marks.items ≡ 2 ^ HASH_BITS
   pub wide : (place : ℕ) → place < length l.texts → marks.width ≤ length (literal_at l place)
   pub marked : (place : ℕ) → place < length l.texts → IsMarkedFor marks.marks.items l.folding (literal_at l place) marks.width 0 1
+  pub only : (number back : ℕ) → IsMarked marks.marks.items number back → IsEndMark l marks.width (length l.texts) number back

@@ -46,9 +46,9 @@ impl Model for Compiled {
 }
 
 impl Compiled {
-    /// The plan, if the certificate shows that no assignment of the literals to at most eight buckets is cheaper.
-    /// Otherwise `NotCertified` with the first condition that fails, and the list and the certificate unchanged. It
-    /// takes no memory.
+    /// The plan, if the certificate shows that no assignment of the literals to at most as many buckets as its profile
+    /// has is cheaper. Otherwise `NotCertified` with the first condition that fails, and the list and the certificate
+    /// unchanged. It takes no memory.
     pub fn new(
         index: Arc<ListIndex>,
         certificate: Certificate,

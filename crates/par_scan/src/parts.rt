@@ -1,5 +1,5 @@
 //! A text in parts, each scanned by a worker of its own.
-ghost use Rattle.std.specs.Prelude.{◌≡◌, ◌+◌, ◌-◌, ◌*◌, ◌<◌, ◌≤◌, IfOk, IfSome, IsOk, IsOkUnless, length};
+ghost use Rattle.std.specs.Prelude.{◌≡◌, ◌+◌, ◌-◌, ◌*◌, ◌<◌, ◌≤◌, IfOk, IsOk, IsOkUnless, length};
 ghost use Rattle.lit_base.specs.Occurrences.{IsHits};
 ghost use Rattle.lit_base.specs.NextEnds.{NoEndAfter};
 ghost use Rattle.text_ends.specs.HitsBehind.{Continues};
@@ -9,16 +9,12 @@ ghost use denote.Param.Send.{IsSync};
 
 use crate::fault::Fault;
 use crate::gate::Gate;
-use flow_scan::{Compiled, EndFinder, Hit, scan_behind};
+use flow_scan::{Compiled, Hit, make_if_long, scan_behind};
 use std::alloc::Global;
 use std::thread::{Threads, join};
 
 /// How many workers may share a text.
 pub const MAX_WORKERS: usize = 16;
-
-/// A finder tunes itself only to parts of at least this many bytes: a slow search, at two nanoseconds a byte, takes
-/// half a millisecond for them, and tuning takes as long.
-const LEAST_LEARNED: usize = 262_144;
 
 /// All hits in a text, in order, found by `workers` workers. Each calls the gate, scans a part of the text, and calls
 /// the gate again. The parts are as even as they can be. The calling thread scans the part of a worker that cannot be
@@ -112,21 +108,10 @@ fn hits_behind(
     ensures refused { IsOkUnless result flow.OutOfMemory }
     ensures quiet { NoEndAfter compiled.now.literals text.now from → IsOk result }
 {
-    match finder_for(alloc, compiled, text.len() - from) {
+    let mut finder = None;
+    make_if_long(&mut finder, alloc, compiled, (text.len() - from) as u64);
+    match finder {
         Some(mut finder) => finder.scan_behind(alloc, compiled, text, from),
         None => scan_behind(alloc, compiled, text, from),
-    }
-}
-
-/// A finder for `count` bytes of a text, if these are many and there is memory for it.
-fn finder_for(alloc: Global, compiled: &Compiled, count: usize) -> Option<EndFinder>
-    ensures { IfSome result (λ list. list ≡ compiled.now.literals) }
-{
-    if count < LEAST_LEARNED {
-        return None;
-    }
-    match EndFinder::new_unless_few(alloc, compiled) {
-        Ok(finder) => finder,
-        Err(_) => None,
     }
 }

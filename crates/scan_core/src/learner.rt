@@ -6,18 +6,11 @@ ghost use Rattle.flow_scan.specs.Tails.{StopsIn};
 ghost use Rattle.scan_core.specs.declared.fault.Fault.TheVariants.{OutOfMemory};
 
 use crate::fault::Fault;
-use flow_scan::{EndFinder, Hit, Scanner};
+use crate::tuning::MOST_STRANGE;
+use flow_scan::{EndFinder, Hit, LEAST_LEARNED, Scanner};
 use plan_store::{PlanStore, Ticket};
 use std::alloc::Global;
 use std::marker::Model;
-
-/// A stream is searched by a finder once this many bytes of it were fed. At two nanoseconds a byte, they are scanned in
-/// the time that it takes to make a finder and to tune it.
-const LEAST_LEARNED: u64 = 262_144;
-
-/// Once streams of other plans were fed this many bytes, and no stream of its own plan since, the finder is made anew
-/// for one of them. Where two plans take turns, the first keeps it.
-const MOST_STRANGE: usize = 1 << 20;
 
 /// A finder by the plan of a ticket.
 #[derive(Drop)]

@@ -13,6 +13,7 @@ mod session;
 mod stream;
 mod tickets;
 mod together;
+mod tuning;
 mod world;
 
 pub use fault::Fault;

@@ -3,6 +3,7 @@ mod extending;
 mod profiles;
 mod single;
 mod spoilt;
+mod stopping;
 
 use flow_scan::{Compiled, Fault, Hit, Scanner, least_law, pieces_law, scan_all, scan_pieces};
 use list_index::ListIndex;

@@ -328,6 +328,26 @@ fn tells_a_bad_frame_for_good(rt: HostRuntime) -> Result<(), Fail> {
     Ok(())
 }
 
+/// Both frames, and a whole frame of no known kind.
+static WITH_A_BAD_FRAME: [u8; 43] = [
+    0, 0, 0, 13, 1, 0, 0, 0, 0, 0, 0, 1, 0, 3, b'c', b'a', b't', 0, 0, 0, 13, 2, 0, 0, 0, 7, 0, 0,
+    0, 0, 0, 0, 0, 0, 0, 0, 0, 5, 9, 0, 0, 0, 0,
+];
+
+#[test]
+fn reads_the_frames_before_a_bad_one(rt: HostRuntime) -> Result<(), Fail> {
+    let outcome = in_two(rt.alloc(), &[], &WITH_A_BAD_FRAME)?;
+    assert_eq!(rt;
+        outcome,
+        Outcome {
+            requests: 2,
+            between: false,
+            cause: Some(Cause::Kind)
+        }
+    );
+    Ok(())
+}
+
 /// How many literals are read of the Publish of `count` empty literals, if it is whole.
 fn count_read(alloc: Global, count: u16) -> Result<Option<u64>, Fail> {
     let frame = empty_literals(alloc, count)?;

@@ -63,7 +63,8 @@ impl Automaton {
     /// The automaton of a list, with memory but without tables: it reads nothing before `learn`. `Err` if memory is
     /// short.
     pub fn new(alloc: Global, index: Arc<ListIndex>) -> Result<Automaton, AllocError>
-        ensures { IfOk result (λ made. made.literals ≡ index.value) }
+        ensures literals { IfOk result (λ made. made.literals ≡ index.value) }
+        ensures unmade { IfOk result (λ made. made.is_made ≡ false) }
     {
         let room = room_for(index.list());
         Ok(Automaton {

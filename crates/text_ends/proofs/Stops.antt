@@ -1,7 +1,9 @@
 -- Where a search through a text stops, and what a list of hits has gained by then.
-use Rattle.std.proofs.Common.{◌≡◌, ℕ, ◌+◌, ◌-◌, ◌<◌, ◌≤◌, List, [], ◌++◌, length, take, inl, inr, sym, ap, ◌∙◌, subst, arith}
+use Rattle.std.proofs.Common.{◌≡◌, ℕ, ◌+◌, ◌-◌, ◌<◌, ◌≤◌, List, [], ◌++◌, length, take, drop, Contains, inl, inr, sym, ap, ◌∙◌, subst, arith}
 use Rattle.std.proofs.lemmas.Bool.{cases_lt}
-use Rattle.std.proofs.lemmas.List.{append-nil, length-take, take-take, take_all}
+use Rattle.std.proofs.Math.Seq.{drop-append-add}
+use Rattle.std.proofs.lemmas.List.{append-nil, length-drop, length-take, take-append-drop, take-take, take_all}
+use Rattle.std.proofs.lemmas.List.Elements.{Contains-append_right}
 use Rattle.lit_base.specs.Literals.{Literals}
 use Rattle.lit_base.specs.NextEnds.{IsNextEnd, NoEndAfter}
 use Rattle.text_ends.specs.HitsAt.{GainsHitsAt}
@@ -48,8 +50,25 @@ span_gained l text from m span most stop old middle new starts within early late
     let front : take stop (take span text) ≡ take stop text = take-take stop span text inside in
     gained_further l text from m stop old middle new starts late.after (omega (arith, inside, within)) early (subst (λ t. GainsHitsBehind l t m m middle new) front late.gained)
 
+-- from the end of a list on there are no hits
+pub none_late : (n : ℕ) (new : List (ℕ × ℕ)) (hit : ℕ × ℕ) → length new ≤ n → ¬ Contains (drop n new) hit
+none_late n new hit short inside = omega (arith, inside.1, length-drop n new, short)
+
+-- the later hits of a list that gained some are among those gained
+pub gained_late : (n : ℕ) (old new found : List (ℕ × ℕ)) (hit : ℕ × ℕ) → length old ≤ n → new ≡ old ++ found → Contains (drop n new) hit → Contains found hit
+gained_late n old new found hit short grown inside =
+    let k = n - length old in
+    let at : n ≡ length old + k = omega (arith, short) in
+    let later : drop n new ≡ drop k found = ap (drop n) grown ∙ ap (λ m. drop m (old ++ found)) at ∙ drop-append-add old found k in
+    let there : Contains (drop k found) hit = subst (λ (xs : List (ℕ × ℕ)). Contains xs hit) later inside in
+    subst (λ (xs : List (ℕ × ℕ)). Contains xs hit) (take-append-drop k found) (Contains-append_right (take k found) (drop k found) hit there)
+
+-- the number of the first hit that is wanted of a later search is that of the whole search
+pub same_number : (most : ℕ) (old middle : List (ℕ × ℕ)) → length old ≤ length middle → length middle ≤ length old + (most - 1) → length middle + (most - (length middle - length old) - 1) ≡ length old + (most - 1)
+same_number most old middle more room = omega (arith, more, room)
+
 -- and it stops at the end of the text or after enough hits
-pub stopped_further : (l : Literals) (text : List ℕ) (from m span most stop : ℕ) (old middle new : List (ℕ × ℕ)) → from ≤ m → span ≤ length text → length middle ≤ length old + most
+pub stopped_further : (l : Literals) (text : List ℕ) (from m span most stop : ℕ) (old middle new : List (ℕ × ℕ)) → from ≤ m → span ≤ length text → length middle ≤ length old + (most - 1)
     → GainsHitsBehind l (take m text) from from old middle → StopsAt l (take span text) m m (most - (length middle - length old)) stop middle new
     → (stop < length text → length old + most ≤ length new) → StopsAt l text from from most stop old new
 stopped_further l text from m span most stop old middle new starts within room early late enough =
@@ -59,11 +78,14 @@ stopped_further l text from m span most stop old middle new starts within room e
       within = omega (arith, late.within, length-take span text, within);
       gained = span_gained l text from m span (most - (length middle - length old)) stop old middle new starts within early late;
       enough = enough;
+      least = λ hit inside.
+          let there = subst (λ n. Contains (drop n new) hit) (sym (same_number most old middle more room)) inside in
+          omega (arith, late.least hit there, starts, late.after);
       few = omega (arith, late.few, room, more);
     }
 
 -- a search of a span that gained too few hits reached its end
-pub span_end : (l : Literals) (text : List ℕ) (m span most stop : ℕ) (old middle new : List (ℕ × ℕ)) → span ≤ length text → length old ≤ length middle → length middle ≤ length old + most
+pub span_end : (l : Literals) (text : List ℕ) (m span most stop : ℕ) (old middle new : List (ℕ × ℕ)) → span ≤ length text → length old ≤ length middle → length middle ≤ length old + (most - 1)
     → StopsAt l (take span text) m m (most - (length middle - length old)) stop middle new → length new - length old < most → stop ≡ span
 span_end l text m span most stop old middle new within more room late few =
     to_end l (take span text) m m (most - (length middle - length old)) stop middle new late (omega (arith, few, more, room)) ∙ length-take span text ∙ omega (arith, within)

@@ -1,5 +1,5 @@
 -- The hits after a position of a text.
-use Rattle.std.specs.Prelude.{◌≡◌, ℕ, ◌+◌, ◌-◌, ◌<◌, ◌≤◌, ◌↔◌, List, ◌++◌, length, take, Contains}
+use Rattle.std.specs.Prelude.{◌≡◌, ℕ, ◌+◌, ◌-◌, ◌<◌, ◌≤◌, ◌↔◌, List, ◌++◌, length, take, drop, Contains}
 use Rattle.std.specs.List.Sorted.{IsStrictlySortedBy}
 use Rattle.lit_base.specs.Literals.{Literals}
 use Rattle.lit_base.specs.Occurrences.{IsHits, Occurs, hit_cmp}
@@ -15,13 +15,14 @@ pub record GainsHitsBehind (l : Literals) (text : List ℕ) (from at : ℕ) (old
   pub grown : new ≡ old ++ found
   pub added : AreHitsBehind l text from at found
 
--- a search through a text has stopped at a position: a list of hits has gained those up to there, and it stopped before the text's end only after it had gained `most`
+-- a search through a text has stopped at a position: a list of hits has gained those up to there. It stopped before the text's end only after it had gained `most`. It stopped at the first such position: the hits from the `most`th on end there
 pub record StopsAt (l : Literals) (text : List ℕ) (from at most stop : ℕ) (old new : List (ℕ × ℕ)) : Type 0 where
   pub after : from ≤ stop
   pub within : stop ≤ length text
   pub gained : GainsHitsBehind l (take stop text) from at old new
   pub enough : stop < length text → length old + most ≤ length new
-  pub few : length new < length old + most + length l.texts + 1
+  pub least : (hit : ℕ × ℕ) → Contains (drop (length old + (most - 1)) new) hit → hit.1 ≡ at + (stop - from)
+  pub few : length new ≤ length old + (most - 1) + length l.texts
 
 -- hits that continue the hits up to a position: both together are the hits of the text
 abbrev pub Continues : Literals → List ℕ → ℕ → List (ℕ × ℕ) → Type 0

@@ -8,7 +8,7 @@ use lit_base::{Fold, LitList, Profile, RawList};
 use lit_plan::Compiled;
 use run_planner::plan;
 use std::alloc::Global;
-use text_search::{EndFinder, next_end};
+use text_search::{EndFinder, Engine, next_end};
 
 /// The words of texts.
 pub(super) const WORDS: [&[u8]; 12] = [
@@ -275,4 +275,37 @@ fn finds_them_in_texts_of_few_bytes(rt: HostRuntime) {
         agree(rt.alloc(), Fold::No, [&WORDS, &WORDS], 2, 1, 13),
         Some(true)
     );
+}
+
+/// Whether a finder that finds nothing in a text, twice, has left the plan then.
+pub(super) fn leaves_the_plan(compiled: &Compiled, finder: &mut EndFinder, text: &[u8]) -> bool
+    requires { finder.old ≡ compiled.now.literals }
+{
+    let first = finder.next_end(compiled, text, 0);
+    let second = finder.next_end(compiled, text, 0);
+    first.is_none() && second.is_none() && finder.engine() != Engine::Plan
+}
+
+/// Literals whose last bytes do not show which of them a text has.
+const LONG_WORDS: [&[u8]; 4] = [b"jumps over", b"lazy dog", b"the quick", b"brown fox"];
+
+/// The last bytes of one of them, 25,000 times.
+fn near_misses(alloc: Global) -> Option<Vec<u8>> {
+    let mut text = Vec::new(alloc);
+    for _ in 0..25_000 {
+        text.extend_from_slice(b"....over").ok()?;
+    }
+    Some(text)
+}
+
+/// Whether it does for these literals.
+fn leaves_near_misses(alloc: Global) -> Option<bool> {
+    let text = near_misses(alloc)?;
+    let compiled = plan_of(alloc, &LONG_WORDS)?;
+    agrees(alloc, &compiled, &text, How::NearMisses)
+}
+
+#[test]
+fn leaves_the_plan_where_false_positives_are_many(rt: HostRuntime) {
+    assert_eq!(rt; leaves_near_misses(rt.alloc()), Some(true));
 }

@@ -3,7 +3,7 @@
 ghost use Rattle.std.specs.Prelude.{◌≡◌};
 
 use crate::tests::choosing::changes_the_same;
-use crate::tests::finding::find_the_same;
+use crate::tests::finding::{find_the_same, leaves_the_plan};
 use crate::tests::going_on::go_on_the_same;
 use crate::tests::scanned::scans_the_same;
 use crate::tests::streamed::{feed_the_same, learns_in_pieces};
@@ -26,6 +26,8 @@ pub(super) enum How {
     StreamTuned(usize),
     /// With changes of the engine, drawn from a seed.
     Changing(u64),
+    /// End after end in a text of near-misses, which make it leave the plan.
+    NearMisses,
 }
 
 /// Whether a new finder finds in a text what the plan alone finds.
@@ -51,5 +53,6 @@ fn agrees_by(
         How::Stream => feed_the_same(alloc, compiled, finder, text),
         How::StreamTuned(size) => learns_in_pieces(alloc, compiled, finder, text, size),
         How::Changing(seed) => changes_the_same(alloc, compiled, finder, text, seed),
+        How::NearMisses => Some(leaves_the_plan(compiled, finder, text)),
     }
 }

@@ -1,9 +1,9 @@
 //! Checks by the last bytes of keys, for the positions that the hash bits pass.
-ghost use Rattle.std.specs.Prelude.{◌≡◌, ℕ, ◌-◌, ◌^◌, ◌<◌, ◌≤◌, length, min, slice_index, vec_len, IfOk};
+ghost use Rattle.std.specs.Prelude.{◌≡◌, ℕ, ◌-◌, ◌^◌, ◌<◌, ◌≤◌, ◌⊎◌, length, min, slice_index, vec_len, IfOk};
 ghost use Rattle.std.specs.Int.{bit_at};
 ghost use Rattle.std.specs.Int.RustNames.{bit_and, bit_or};
 ghost use Rattle.list_index.specs.Chains.{told_at};
-ghost use Rattle.list_index.specs.Checks.{AreChecksOf, IsChecked};
+ghost use Rattle.list_index.specs.Checks.{AreChecksOf, IsCheckOf, IsChecked};
 ghost use Rattle.lit_base.specs.Literals.{Literals};
 ghost use Rattle.list_index.specs.Marks.{IsMarked};
 ghost use Rattle.lit_base.specs.Occurrences.{Occurs};
@@ -117,6 +117,7 @@ fn check_literal(widths: &mut Vec<u8>, fold: Fold, literal: &[u8], most: usize)
     ensures short { told_width (length literal.now) < 8 → IsChecked widths.new.items (told_width (length literal.now)) (suffix_key fold literal.now (length literal.now) (min (told_width (length literal.now)) most)) }
     ensures long { told_width (length literal.now) ≡ 8 → IsChecked widths.new.items (told_width (length literal.now)) (suffix_key fold literal.now (length literal.now) (min (told_width (length literal.now)) 8)) }
     ensures kept { (hash back : ℕ) → IsMarked widths.old.items hash back → IsMarked widths.new.items hash back }
+    ensures only { (hash back : ℕ) → IsMarked widths.new.items hash back → (IsMarked widths.old.items hash back) ⊎ IsCheckOf fold literal.now most hash back }
 {
     let width = told_width(literal.len());
     let key = suffix_key(fold, literal, literal.len(), checked_width(width, most));

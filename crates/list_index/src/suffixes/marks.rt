@@ -1,7 +1,7 @@
 //! Hash bits for the bytes shortly before each literal's end.
-ghost use Rattle.std.specs.Prelude.{◌≡◌, ◌≢◌, ℕ, ◌+◌, ◌^◌, ◌<◌, ◌≤◌, ◌↔◌, length, vec_len, slice_index, slice_range, ◌-◌, IfOk, IsTrue};
+ghost use Rattle.std.specs.Prelude.{◌≡◌, ◌≢◌, ℕ, ◌+◌, ◌^◌, ◌<◌, ◌≤◌, ◌⊎◌, ◌↔◌, length, vec_len, slice_index, slice_range, ◌-◌, IfOk, IsTrue};
 ghost use Rattle.lit_base.specs.Literals.{literal_at};
-ghost use Rattle.list_index.specs.Marks.{AreMarksOf, IsMarked, IsMarkedFor};
+ghost use Rattle.list_index.specs.Marks.{AreMarksOf, IsMarkOf, IsMarked, IsMarkedFor};
 ghost use Rattle.list_index.specs.Suffixes.{hash_of, spelled, suffix_key};
 ghost use Rattle.std.specs.Int.{bit_at};
 ghost use Rattle.std.specs.Int.RustNames.{bit_and, bit_or};
@@ -102,6 +102,8 @@ pub fn mark_literal(
     ensures len { vec_len marks.new ≡ vec_len marks.old }
     ensures marked { IsMarkedFor marks.new.items fold literal.now width offset stride }
     ensures kept { (number back : ℕ) → IsMarked marks.old.items number back → IsMarked marks.new.items number back }
+    ensures only { (number back : ℕ) → IsMarked marks.new.items number back
+        → (IsMarked marks.old.items number back) ⊎ IsMarkOf fold literal.now width offset (offset + stride) number back }
 {
     for back in offset..offset + stride {
         let key = suffix_key(fold, literal, literal.len() - back, width);
@@ -116,6 +118,8 @@ pub fn mark(marks: &mut Vec<u8>, number: usize, back: usize)
     ensures len { vec_len marks.new ≡ vec_len marks.old }
     ensures marked { IsMarked marks.new.items number back }
     ensures kept { (other place : ℕ) → IsMarked marks.old.items other place → IsMarked marks.new.items other place }
+    ensures only { (other place : ℕ) → IsMarked marks.new.items other place
+        → (IsMarked marks.old.items other place) ⊎ ((other ≡ number) × (place ≡ back)) }
 {
     marks[number] |= 1 << back;
 }

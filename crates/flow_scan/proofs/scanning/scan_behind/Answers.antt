@@ -1,35 +1,28 @@
 -- All hits after the position were added to an empty list.
-use Rattle.std.proofs.Common.{◌≡◌, ◌<◌, length, ap, arith}
+use Rattle.std.proofs.Common.{◌<◌, length, arith}
 use Rattle.std.proofs.lemmas.Bool.{false≢true}
-use Rattle.text_ends.specs.Walks.{Walk}
 use Rattle.text_ends.specs.HitsBehind.{AreHitsBehind}
-use Rattle.text_ends.proofs.Stops.{all_searched}
-use Rattle.text_ends.proofs.Stops.{gained_all}
+use Rattle.text_ends.proofs.Stops.{all_searched, gained_all}
 use Rattle.lit_plan.proofs.WholeTexts.{hits_continued}
 use Rattle.flow_scan.proofs.scanning.scan_behind.Goals as goal
-use Rattle.flow_scan.proofs.scanning.scan_behind.Goals.{In_ok-add_hits_of}
+use Rattle.flow_scan.proofs.scanning.scan_behind.Goals.{In_ok-scan_until}
 
--- the walk is over the plan's literals
-same : (c : In_ok-add_hits_of) → c.ends_behind-ends.result.literals ≡ c.args.compiled.now.literals
-same c = ap (λ (w : Walk). w.literals) c.ends_behind-ends.ensures
-
-found : (c : In_ok-add_hits_of) → AreHitsBehind c.args.compiled.now.literals c.args.text.now c.args.from c.args.from c.add_hits_of.new.out.items
+found : (c : In_ok-scan_until) → AreHitsBehind c.args.compiled.now.literals c.args.text.now c.args.from c.args.from c.scan_until.new.out.items
 found c =
     let l = c.args.compiled.now.literals in
     let text = c.args.text.now in
     let from = c.args.from in
-    let new = c.add_hits_of.new.out in
+    let new = c.scan_until.new.out in
     let small : length new.items < 18446744073709551615 = omega (arith, new.ok.0, new.ok.1, new.small) in
     gained_all l text from from c.new-hits.result.items new.items c.new-hits.ensures.items
-    (all_searched l text from from _ c.in_ok-add_hits_of.field-0 c.new-hits.result.items new.items small (rw (same c) at c.in_ok-add_hits_of.ensures.ok))
+    (all_searched l text from from _ c.in_ok-scan_until.field-0 c.new-hits.result.items new.items small c.in_ok-scan_until.ensures.ok)
 
 pub returns-clause-ok : goal.returns-clause-ok
 returns-clause-ok c = found c
 
 pub returns-clause-continues : goal.returns-clause-continues
 returns-clause-continues c =
-    hits_continued c.args.compiled.now.literals c.args.text.now c.args.from c.add_hits_of.new.out.items c.carry-carry.ensures.bounds c.requires (found c)
+    hits_continued c.args.compiled.now.literals c.args.text.now c.args.from c.scan_until.new.out.items c.carry-carry.ensures.bounds c.requires (found c)
 
-pub returns-in_err-add_hits_of-clause-quiet : goal.returns-in_err-add_hits_of-clause-quiet
-returns-in_err-add_hits_of-clause-quiet c = λ none.
-    absurd (false≢true ((rw (ap (λ (w : Walk). w.literals) c.ends_behind-ends.ensures) at c.in_err-add_hits_of.ensures.quiet) none))
+pub returns-in_err-scan_until-clause-quiet : goal.returns-in_err-scan_until-clause-quiet
+returns-in_err-scan_until-clause-quiet c = λ none. absurd (false≢true (c.in_err-scan_until.ensures.quiet none))

@@ -7,7 +7,7 @@ use Rattle.text_ends.specs.HitsAt.{GainsHitsAt}
 use Rattle.text_ends.specs.HitsBehind.{GainsHitsBehind}
 use Rattle.text_ends.specs.Walks.{Walk}
 use Rattle.text_ends.proofs.HitLists.{gained_more}
-use Rattle.text_ends.proofs.Stops.{gained_ended, gained_here, gained_nothing}
+use Rattle.text_ends.proofs.Stops.{gained_ended, gained_here, gained_late, gained_nothing, none_late}
 use Rattle.text_ends.proofs.ends.add_hits_of.Goals as goal
 use Rattle.text_ends.proofs.ends.add_hits_of.Goals.{In_default-add_hits_at}
 use Rattle.text_ends.proofs.ends.add_hits_of.Given.{Over}
@@ -86,6 +86,9 @@ returns-then-len-before-clause-ok g c =
       within = next.within;
       gained = all;
       enough = λ _. omega (arith, more, c.len-before.ensures, c.args.out.now.ok.0, c.add_hits_at.new.out.ok.0);
+      least = λ hit inside.
+          let here = gained g at in
+          ((here.added.members hit.0 hit.1).0 (gained_late _ c.loop-end.out.items c.add_hits_at.new.out.items here.found hit c.loop-end.invariant.few here.grown inside)).0;
       few = omega (arith, c.loop-end.invariant.few, few, same);
     }
 
@@ -108,5 +111,6 @@ returns-clause-ok g c =
       within = omega arith;
       gained = rw (take-length text) (gained_ended l text c.args.from from c.args.at c.args.out.now.items c.loop-end.out.items all.ahead all.within none all.gained);
       enough = λ more. absurd (omega (arith, more));
+      least = λ hit inside. absurd (none_late _ c.loop-end.out.items hit all.few inside);
       few = omega (arith, all.few);
     }

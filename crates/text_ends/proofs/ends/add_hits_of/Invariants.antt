@@ -9,7 +9,7 @@ invariant-loop-end g l = record {
   text : (g.E.Ends.walk l.ends).text ≡ l.text;
   ahead : l.from ≤ (g.E.Ends.walk l.ends).from;
   within : (g.E.Ends.walk l.ends).from ≤ length l.text;
-  few : length l.out.items ≤ length l.fn.out.items + l.most;
+  few : length l.out.items ≤ length l.fn.out.items + (l.most - 1);
   gained : GainsHitsBehind (g.E.Ends.walk l.fn.ends).literals (take (g.E.Ends.walk l.ends).from l.text) l.from l.at l.fn.out.items l.out.items;
 }
 

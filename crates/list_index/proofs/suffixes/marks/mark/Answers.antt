@@ -1,7 +1,7 @@
 -- One bit is set, and the others stay.
 use Rattle.std.proofs.Common.{◌<◌, length, arith}
 use Rattle.std.proofs.lemmas.List.{get_or_read}
-use Rattle.list_index.proofs.MarkLemmas.{marked_now, marked_still}
+use Rattle.list_index.proofs.MarkLemmas.{marked_before, marked_now, marked_still}
 use Rattle.list_index.proofs.suffixes.marks.mark.Goals as goal
 
 pub returns-clause-marked : goal.returns-clause-marked
@@ -15,3 +15,9 @@ returns-clause-kept c =
     let room : c.args.number < length c.args.marks.now.items = omega (arith, c.requires.room) in
     let read = get_or_read c.args.marks.now.items c.args.number c.index_mut.result.now room c.index_mut.ensures.value 0 in
     marked_still c.args.marks.now.items c.args.number c.index_mut.result.now c.args.back room read c.requires.bit
+
+pub returns-clause-only : goal.returns-clause-only
+returns-clause-only c =
+    let room : c.args.number < length c.args.marks.now.items = omega (arith, c.requires.room) in
+    let read = get_or_read c.args.marks.now.items c.args.number c.index_mut.result.now room c.index_mut.ensures.value 0 in
+    marked_before c.args.marks.now.items c.args.number c.index_mut.result.now c.args.back room read c.requires.bit

@@ -1,5 +1,5 @@
 -- One place after the other is marked.
-use Rattle.std.proofs.Common.{◌≡◌, ◌-◌, length, inl, inr, ap, ◌∙◌, subst, arith}
+use Rattle.std.proofs.Common.{◌≡◌, ◌-◌, length, inl, inr, sym, ap, ◌∙◌, subst, arith}
 use Rattle.std.proofs.lemmas.Bool.{cases_lt}
 use Rattle.list_index.specs.Marks.{IsMarked}
 use Rattle.list_index.specs.Suffixes.{hash_of, suffix_key}
@@ -20,6 +20,17 @@ loop-back-preserved c =
             subst (λ b. IsMarked c.mark.new.marks.items (hash_of HASH_BITS (suffix_key c.args.fold c.args.literal.now (length c.args.literal.now - b) c.args.width)) b) same here
       ];
       kept = λ number back old. c.mark.ensures.kept number back (c.loop-back.invariant.kept number back old);
+      only = λ number back now. elim (c.mark.ensures.only number back now) [
+        | inl old ↦ elim (c.loop-back.invariant.only number back old) [
+          | inl first ↦ inl first
+          | inr is ↦ inr (record { far = is.far; near = omega (arith, is.near); hash = is.hash })
+        ]
+        | inr set ↦ inr (record {
+          far = omega (arith, set.1, c.loop-back.auto.back);
+          near = omega (arith, set.1);
+          hash = set.0 ∙ hash ∙ ap (λ b. hash_of HASH_BITS (suffix_key c.args.fold c.args.literal.now (length c.args.literal.now - b) c.args.width)) (sym set.1);
+        })
+      ];
     }
 
 pub mark-requires-clause-room : goal.mark-requires-clause-room

@@ -1,10 +1,20 @@
 -- There is a bit for each hash, and in the end the bit of every literal is set.
-use Rattle.std.proofs.Common.{◌≡◌, ◌<◌, [], length, min, ap, ◌∙◌, subst, arith, below_more}
+use Rattle.std.proofs.Common.{◌≡◌, ◌<◌, ◌^◌, [], length, min, inl, inr, ap, ◌∙◌, subst, arith, below_more}
 use Rattle.std.proofs.lemmas.List.{get_or_read}
 use Rattle.lit_base.specs.Literals.{literal_at}
-use Rattle.list_index.specs.Checks.{IsChecked}
+use Rattle.list_index.specs.Checks.{IsCheckOf, IsChecked}
 use Rattle.list_index.specs.Suffixes.{case_bits, suffix_key, told_width}
+use Rattle.list_index.specs.declared.suffixes.checks.TheConstants.{CHECK_BITS}
+use Rattle.list_index.proofs.MarkLemmas.{none_marked}
 use Rattle.list_index.proofs.suffixes.checks.SuffixChecks.new.Goals as goal
+
+pub loop-place-init : goal.loop-place-init
+loop-place-init c = record {
+  len = omega (arith, c.in_ok-widths.ensures.len);
+  short = λ place low. absurd (omega (arith, low));
+  long = λ place low. absurd (omega (arith, low));
+  only = λ number back marked. absurd (none_marked _ (2 ^ CHECK_BITS) number back (c.in_ok-widths.ensures.items_if_clones_equal (λ y same. same)) marked);
+}
 
 pub loop-place-preserved : goal.loop-place-preserved
 loop-place-preserved c =
@@ -18,6 +28,16 @@ loop-place-preserved c =
       long = below_more _ _
           (λ place low wide. c.check_literal.ensures.kept _ _ (c.loop-place.invariant.long place low wide))
           (subst (λ t. told_width (length t) ≡ 8 → IsChecked c.check_literal.new.widths.items (told_width (length t)) (suffix_key c.fold-fold.result t (length t) (min (told_width (length t)) 8))) here c.check_literal.ensures.long);
+      only = λ hash back now. elim (c.check_literal.ensures.only hash back now) [
+        | inl old ↦
+            let is = c.loop-place.invariant.only hash back old in
+            record { place = is.place; within = omega (arith, is.within); is = is.is }
+        | inr set ↦ record {
+          place = c.loop-place.place;
+          within = omega arith;
+          is = subst (λ t. IsCheckOf c.args.list.now.folding t c.max-most.result hash back) here (subst (λ f. IsCheckOf f c.get.result.now c.max-most.result hash back) c.fold-fold.ensures set);
+        }
+      ];
     }
 
 pub returns : goal.returns
@@ -34,4 +54,6 @@ returns c = record {
   long = λ place inside. let t = literal_at c.args.list.now place in
       subst (λ fold. told_width (length t) ≡ 8 → IsChecked c.loop-place.widths.items (told_width (length t)) (suffix_key fold t (length t) (min (told_width (length t)) 8))) c.fold-fold.ensures
       (c.loop-place.invariant.long place (omega (arith, inside, c.loop-place-test.false)));
+  only = λ hash back now. let is = c.loop-place.invariant.only hash back now in
+      record { place = is.place; within = omega (arith, is.within, c.loop-place.auto.place-end, c.len-place-end.ensures.value); is = is.is };
 }

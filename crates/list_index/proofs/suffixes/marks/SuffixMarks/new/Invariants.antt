@@ -1,12 +1,13 @@
 use Rattle.std.proofs.Common.{◌≡◌, ℕ, ◌^◌, ◌<◌, vec_len}
 use Rattle.lit_base.specs.Literals.{literal_at}
-use Rattle.list_index.specs.Marks.{IsMarkedFor}
+use Rattle.list_index.specs.Marks.{IsEndMark, IsMarked, IsMarkedFor}
 use Rattle.list_index.specs.declared.suffixes.marks.TheConstants.{HASH_BITS}
 use Rattle.list_index.proofs.suffixes.marks.SuffixMarks.new.Given as goal
 
--- the literals passed are marked
+-- the literals passed are marked, and nothing else is
 abbrev pub invariant-loop-place : goal.invariant-loop-place
 invariant-loop-place l = record {
   len : vec_len l.marks ≡ 2 ^ HASH_BITS;
   marked : (place : ℕ) → place < l.place → IsMarkedFor l.marks.items l.fold (literal_at l.list place) l.width 0 1;
+  only : (number back : ℕ) → IsMarked l.marks.items number back → IsEndMark l.list l.width l.place number back;
 }
