@@ -101,6 +101,17 @@ def lists(most=100):
         yield patterns, source.random() < 0.5
 
 
+def long_lists():
+    """Ten lists of 200 to 400 different patterns, of lengths up to 4, 8, 12 or 30, and whether case is ignored."""
+    source = random.Random(8)
+    for number in range(10):
+        count, longest, patterns = source.randrange(200, 401), [4, 8, 12, 30][number % 4], {}
+        while len(patterns) < count:
+            pattern = bytes(source.choices(b"abcdefgAB01", k=source.randrange(1, longest + 1)))
+            patterns[pattern.lower()] = pattern
+        yield list(patterns.values()), number % 2 == 1
+
+
 def changed_numbers(source, certificate):
     """A certificate with one number changed."""
     ends, price, rows = list(certificate[0]), certificate[1], [list(row) for row in certificate[2]]

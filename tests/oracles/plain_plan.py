@@ -30,24 +30,29 @@ def first_cuts(literals, buckets=BUCKETS):
     """For at most 1, 2 .. runs, up to the buckets, and for each position, the first cut of the literals from there on. A cut
     is its price, the number of its runs, and their ends; cuts are ordered by these three."""
     n = len(literals)
+    costs = [[cost(literals, start, end) for end in range(start + 1, n + 1)] for start in range(n)]
     rows = []
     for most in range(1, buckets + 1):
         row = [(0, 0, ())] * (n + 1)
         for start in range(n):
-            found = [(cost(literals, start, n), 1, (n,))]
+            found = [(costs[start][-1], 1, (n,))]
             for end in range(start + 1, n) if most > 1 else ():
                 price, runs, ends = rows[-1][end]
-                found.append((cost(literals, start, end) + price, runs + 1, (end, *ends)))
+                found.append((costs[start][end - start - 1] + price, runs + 1, (end, *ends)))
             row[start] = min(found)
         rows.append(row)
     return rows
 
 
-def plan_of(literals, buckets=BUCKETS):
-    """The certificate of some literals: its ends, its cost, and its rows of potentials, one for each bucket."""
-    rows = first_cuts(literals, buckets)
+def certificate_of(rows):
+    """The certificate by the rows of first cuts: its ends, its cost, and its rows of potentials, one for each bucket."""
     price, _, ends = rows[-1][0]
     return list(ends), price, [[price for price, _, _ in row[:-1]] for row in rows]
+
+
+def plan_of(literals, buckets=BUCKETS):
+    """The certificate of some literals."""
+    return certificate_of(first_cuts(literals, buckets))
 
 
 def even_price(count, length, most):

@@ -39,11 +39,11 @@ def endings(run, is_folded):
     return count
 
 
-def costs(literals, buckets):
-    """The cost of a list by its plan, in one bucket, and in as many even parts as there are buckets."""
+def other_costs(literals, buckets):
+    """The cost of a list in one bucket, and in as many even parts as there are buckets."""
     count, starts = len(literals), [k * len(literals) // buckets for k in range(buckets + 1)]
     even = sum(plain_plan.cost(literals, start, end) for start, end in zip(starts, starts[1:]) if start < end)
-    return plain_plan.plan_of(literals, buckets)[1], plain_plan.cost(literals, 0, count), even
+    return plain_plan.cost(literals, 0, count), even
 
 
 def repeats(patterns, is_folded):
@@ -57,9 +57,8 @@ def repeats(patterns, is_folded):
     return found
 
 
-def runs_of(literals, buckets):
-    """The runs of a list's plan, each by its start and its end."""
-    ends = plain_plan.plan_of(literals, buckets)[0]
+def runs_of(ends):
+    """The runs that end there, each by its start and its end."""
     return list(zip([0, *ends], ends))
 
 
@@ -67,12 +66,13 @@ def weight(shortest):
     return 4096 // min(shortest, 8) ** 3
 
 
-def text_of(patterns, is_folded, buckets=8):
-    """The text that `explain` prints for these patterns."""
+def text_of(patterns, is_folded, buckets=8, planned=plain_plan.plan_of):
+    """The text that `explain` prints for these patterns, by the plain planner or a faster one."""
     literals = plain_plan.literals_of(patterns, is_folded)
-    total, single, even = costs(literals, buckets)
+    ends, total, _ = planned(literals, buckets)
+    single, even = other_costs(literals, buckets)
     lines = [HEADING]
-    for number, (start, end) in enumerate(runs_of(literals, buckets), 1):
+    for number, (start, end) in enumerate(runs_of(ends), 1):
         run = literals[start:end]
         shortest, cost = len(run[0]), plain_plan.cost(literals, start, end)
         lines.append(f"{number:6}{end - start:10}{shortest:10}{min(3, shortest):7}{weight(shortest):8}{cost:12}")
@@ -113,11 +113,12 @@ def bar(literals, number, start, end, total, highest):
     return text + "</g>\n"
 
 
-def drawing_of(patterns, is_folded, buckets=8):
-    """The drawing that `explain --svg` prints for these patterns."""
+def drawing_of(patterns, is_folded, buckets=8, planned=plain_plan.plan_of):
+    """The drawing that `explain --svg` prints for these patterns, by the plain planner or a faster one."""
     literals = plain_plan.literals_of(patterns, is_folded)
-    total, single, even = costs(literals, buckets)
-    runs = runs_of(literals, buckets)
+    ends, total, _ = planned(literals, buckets)
+    single, even = other_costs(literals, buckets)
+    runs = runs_of(ends)
     highest = max(plain_plan.cost(literals, *run) for run in runs)
     text = HEAD % (316 + 18 * len(runs)) + f'<text x="40" y="24">cost {total}; one bucket for all {single}; {EVEN[buckets]} {even}</text>\n'
     text += "".join(bar(literals, number, *run, total, highest) for number, run in enumerate(runs, 1))

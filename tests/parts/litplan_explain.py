@@ -226,6 +226,10 @@ def rows():
         rows_of_it = [line.split()[:2] for line in lines[1 : buckets + 1]]
         wanted = [[b"%d" % number, b"%d" % (4096 // buckets)] for number in range(1, buckets + 1)]
         yield f"the longest list with {buckets} buckets", rows_of_it, wanted
+        for words, shown in ([], plain_view.text_of), (["--svg"], plain_view.drawing_of):
+            got = litplan_in_folder({}, ["explain", "-", "--buckets", str(buckets), *words], longest)
+            wanted = shown(longest.split(), False, buckets, plain_plan.even_plan_of)
+            yield f"the longest list with {buckets} buckets {words}", got, (0, wanted, b"")
     got = litplan_in_folder({}, ["explain", "--buckets", "7", "-"], ANIMALS)
     yield "litplan explain with seven buckets", (got[0], got[1], got[2][:45]), (2, b"", b"error: invalid value '7' for '--buckets <B>'\n")
     got = litplan_in_folder({}, ["explain"], b"")

@@ -160,15 +160,21 @@ def heads():
 
 
 def random_plans():
-    """A thousand random lists with both numbers of buckets, compared with a plain planner and a plain check."""
-    for patterns, is_folded in random_cases.lists(1000):
+    """A thousand random lists, and ten long ones, with both numbers of buckets, compared with a plain planner. The plans of
+    the thousand also pass a plain check. Of all plans with sixteen buckets enough use more than eight."""
+    beyond_eight = 0
+    for patterns, is_folded in [*random_cases.lists(1000), *random_cases.long_lists()]:
         literals, stdin, flags = plain_plan.literals_of(patterns, is_folded), b"\n".join(patterns), ["-i"] * is_folded
+        cuts = plain_plan.first_cuts(literals, 16)
         for buckets in 8, 16:
             got = litplan(["plan", "-", "--buckets", str(buckets), *flags], stdin)
-            wanted = plain_plan.spelled(plain_plan.plan_of(literals, buckets))
-            yield f"a plan with {buckets} buckets of {literals!r:.200}", got, (0, wanted, b"")
-            certificate = plain_plan.read_certificate(got[1])
-            yield f"a plain check of that plan of {literals!r:.200}", plain_plan.failure(literals, certificate), None
+            wanted = plain_plan.certificate_of(cuts[:buckets])
+            yield f"a plan with {buckets} buckets of {literals!r:.200}", got, (0, plain_plan.spelled(wanted), b"")
+            if len(literals) < 100:
+                certificate = plain_plan.read_certificate(got[1])
+                yield f"a plain check of that plan of {literals!r:.200}", plain_plan.failure(literals, certificate), None
+        beyond_eight += len(wanted[0]) > 8
+    yield f"{beyond_eight} plans with more than eight runs, a hundred at least", beyond_eight >= 100, True
 
 
 def random_checks():

@@ -6,10 +6,21 @@ import re
 from support.programs import TOP
 
 CRATES = os.path.join(TOP, "crates")
-# What else has a constant: contracts cite it, or it follows from a data structure.
+# What else has a constant: contracts cite it, it bounds memory, or it follows from a data structure.
 SHAPES = {
+    "byte_lanes": {"skipping.rt": {"BLOCK"}},
     "flow_scan": {"seam.rt": {"SHORT"}},
+    "grep_run": {
+        "names.rt": {"STANDARD_NAME"},
+        "searcher.rt": {"LEAST_READ_SIZE", "MOST_HELD", "NUMBER_SIZE", "READ_SIZE", "UNUSED"},
+    },
+    "line_pick": {
+        "counting.rt": {"LANES", "STEPS", "STRETCH", "WIDE"},
+        "whole_lines.rt": {"LENGTHS", "SIZE"},
+    },
     "lit_plan": {},
+    "par_scan": {"parts.rt": {"MAX_WORKERS"}},
+    "scan_core": {"few.rt": {"ROOM"}, "limits.rt": {"MAX_PLANS", "MAX_STREAMS"}},
     "shift_search": {
         "blocks.rt": {"GROUP", "GROUPS"},
         "confirming.rt": {"CONFIRM_BITS"},
@@ -22,14 +33,23 @@ SHAPES = {
     "text_search": {"strategy.rt": {"NO_ENGINE"}},
     "window_search": {
         "choosing.rt": {"HASHES"},
-        "claiming.rt": {"BLOCK", "FRONT", "PLACES", "STEP"},
-        "counts.rt": {"NEVER", "PLACES", "SIEVED"},
+        "claiming.rt": {"BLOCK", "BLOCK_BITS", "FRONT", "STEP"},
+        "counts.rt": {"NEVER", "OFFSETS", "SIEVED"},
         "grouping.rt": {"BUCKETS", "POSITIONS"},
         "shape.rt": {"MOST_STRIDE", "WIDTH"},
         "windowed.rt": {"REACH"},
     },
 }
-TUNED = "shift_search", "text_search", "window_search"
+# How many prices and thresholds a crate has at least.
+TUNED = {
+    "byte_lanes": 5,
+    "grep_run": 1,
+    "line_pick": 9,
+    "scan_core": 1,
+    "shift_search": 6,
+    "text_search": 6,
+    "window_search": 6,
+}
 CONSTANT = re.compile(r"((?:^///.*\n)*)^(?:pub(?:\(crate\))? )?const (\w+):", re.M)
 EVIDENCE = re.compile(r"[Mm]easured|[Nn]ot varied|[Cc]hosen")
 
@@ -50,9 +70,9 @@ def places():
 
 def evidence():
     """Each price and threshold says how it was chosen, or that this is not recorded."""
-    for crate in TUNED:
+    for crate, least in TUNED.items():
         found = constants_of(crate, "tuning.rt")
-        yield f"{crate}/tuning.rt has constants", len(found) > 5, True
+        yield f"{crate}/tuning.rt has constants", len(found) >= least, True
         for name, comment in found.items():
             yield f"{crate}: {name} says how it was chosen", bool(EVIDENCE.search(comment)), True
 
