@@ -215,8 +215,9 @@ class Search(Row):
         self.group, self.literals, self.reads = group, literals, reads
 
     def suits(self, program):
-        """ripgrep takes seconds a megabyte for whole lines of a thousand literals."""
-        return not (program == "ripgrep" and "-x" in self.options and self.literals > 100)
+        """ripgrep takes seconds for whole lines of a thousand literals, and for thousands of literals without case."""
+        most = 100 if "-x" in self.options else 1000 if "-i" in self.options else self.literals
+        return not (program == "ripgrep" and self.literals > most)
 
 
 class Searches:

@@ -75,8 +75,9 @@ def programs(ours):
     return found
 
 
-def scan(words, text, literals, mode, turns):
-    answer = subprocess.run(words + [text, literals, mode, str(turns)], capture_output=True, text=True).stdout.split()
+def scan(words, text, literals, mode, turns, *more):
+    """The seconds of a scan and its hits; `more` are words for bench_scan alone."""
+    answer = subprocess.run([*words, text, literals, mode, str(turns), *more], capture_output=True, text=True).stdout.split()
     if len(answer) != 2:
         return None
     return float(answer[0]), int(answer[1])
