@@ -30,13 +30,13 @@ SHAPES = {
     },
     "sieve_search": {},
     "text_ends": {},
-    "text_search": {"strategy.rt": {"NO_ENGINE"}},
+    "text_search": {},
     "window_search": {
-        "choosing.rt": {"HASHES"},
         "claiming.rt": {"BLOCK", "BLOCK_BITS", "FRONT", "STEP"},
         "counts.rt": {"NEVER", "OFFSETS", "SIEVED"},
         "grouping.rt": {"BUCKETS", "POSITIONS"},
-        "shape.rt": {"MOST_STRIDE", "WIDTH"},
+        "marking.rt": {"MOST_OFFSET"},
+        "widths.rt": {"WIDTH"},
         "windowed.rt": {"REACH"},
     },
 }

@@ -32,41 +32,41 @@ fn two_of_each() -> Tally {
     tally
 }
 
-/// The cost of a search by factors before it is tuned, of 1,024 bytes with these counters and the ends found.
+/// The cost of a search by factors of 1,024 bytes, with these counters and new starts.
 fn cost_by_factors(alloc: Global, tally: Tally, found: EndRate) -> Result<usize, AllocError> {
-    let index = index_of(alloc, Fold::No, &FOURS).ok_or(AllocError)?;
+    let index = index_of(alloc, Fold::No, &[b"abcdxyzt"]).ok_or(AllocError)?;
     Ok(Windows::new(alloc, index)?.cost_of(1024, tally, found))
 }
 
 #[test]
-fn counts_probes_and_ends_by_factors(rt: HostRuntime) -> Result<(), Fail> {
-    let (alloc, nothing) = (rt.alloc(), Tally::nothing());
-    // A probe at each position takes 8.
-    assert_eq!(rt; cost_by_factors(alloc, nothing, EndRate::nothing())?, 8192);
-    // A block of 56 positions with an end takes 4 more for each. 1,024 bytes have 18 blocks.
-    assert_eq!(rt; cost_by_factors(alloc, nothing, EndRate::of_scan(3))?, 8864);
-    assert_eq!(rt; cost_by_factors(alloc, nothing, EndRate::of_scan(100))?, 12224);
-    // A hash bit takes 250, and a new start 500.
-    let cost = cost_by_factors(alloc, two_of_each(), EndRate::of_searches(3))?;
-    assert_eq!(rt; cost, 10864);
+fn counts_positions_that_pass_the_masks(rt: HostRuntime) -> Result<(), Fail> {
+    let (alloc, nothing) = (rt.alloc(), EndRate::nothing());
+    // The masks take 1,536.
+    assert_eq!(rt; cost_by_factors(alloc, Tally::nothing(), nothing)?, 1536);
+    // A position takes 20, its probe 10, and its block 60. A hash bit takes 250.
+    assert_eq!(rt; cost_by_factors(alloc, two_of_each(), nothing)?, 2216);
+    // A new start takes 500.
+    let starts = EndRate::of_searches(3);
+    assert_eq!(rt; cost_by_factors(alloc, two_of_each(), starts)?, 3716);
     Ok(())
 }
 
-/// The same of a search that uses masks.
-fn cost_by_masks(alloc: Global, tally: Tally) -> Result<usize, AllocError> {
-    let index = index_of(alloc, Fold::No, &[b"abcdxyzt"]).ok_or(AllocError)?;
+/// The estimate of a search by factors for a literal of one byte. One of four bytes of the sample is this byte.
+fn estimate_by_factors(alloc: Global, found: EndRate) -> Result<usize, AllocError> {
+    let index = index_of(alloc, Fold::No, &[b"z"]).ok_or(AllocError)?;
     let mut windows = Windows::new(alloc, index)?;
     let sample = sample_of(alloc, *b"xyzt").ok_or(AllocError)?;
-    windows.learn(&sample, EndRate::nothing());
-    let _masks = windows.masks().ok_or(AllocError)?;
-    Ok(windows.cost_of(1024, tally, EndRate::nothing()))
+    Ok(windows.learn(&sample, found))
 }
 
 #[test]
-fn counts_positions_that_pass_the_masks(rt: HostRuntime) -> Result<(), Fail> {
-    // The masks take 1,536.
-    assert_eq!(rt; cost_by_masks(rt.alloc(), Tally::nothing())?, 1536);
-    // A position takes 20, its probe 10, and its block 60. A hash bit takes 250.
-    assert_eq!(rt; cost_by_masks(rt.alloc(), two_of_each())?, 2216);
+fn estimates_what_a_sample_lets_pass(rt: HostRuntime) -> Result<(), Fail> {
+    let alloc = rt.alloc();
+    // 256 of 1,024 positions pass: each takes 20, and its probes by four widths 40. Each of 18 blocks takes 60.
+    let cost = estimate_by_factors(alloc, EndRate::nothing())?;
+    assert_eq!(rt; cost, 1536 + 256 * 60 + 18 * 60);
+    // A new start takes 900.
+    let with_starts = estimate_by_factors(alloc, EndRate::of_searches(2))?;
+    assert_eq!(rt; with_starts, 1536 + 256 * 60 + 18 * 60 + 2 * 900);
     Ok(())
 }

@@ -1,6 +1,5 @@
 //! Factors of lists with short literals and with long ones, and of literals whose last bytes are frequent in a text.
-ghost use Rattle.std.specs.Prelude.{◌≤◌, length};
-
+//! Shift-or on the same literals.
 use list_index::ListIndex;
 use lit_base::{Fold, LitList, RawList};
 use shift_search::{ShiftOr, cut_runs};
@@ -21,8 +20,8 @@ const WITH_CAPITALS: &[u8] = b"Q xY FOX oVer Lazy DOGS";
 /// Where they end there.
 const ENDS: [usize; 5] = [1, 4, 8, 13, 23];
 
-/// Literals that leave room for strides of five places.
-pub(crate) const LONG_WORDS: [&[u8]; 3] = [b"jumps over", b"lazy dog", b"the quick"];
+/// Literals that are longer than their factors.
+const LONG_WORDS: [&[u8]; 3] = [b"jumps over", b"lazy dog", b"the quick"];
 
 /// Each of them in turn.
 const WITH_LONG_WORDS: &[u8] = b"the quick..jumps over the lazy dog";
@@ -59,16 +58,14 @@ fn byte_before(text: &[u8], at: usize, back: usize) -> u8 {
 
 /// Whether a place of a text passes the masks.
 fn passes(windows: &Windows, text: &[u8], at: usize) -> bool {
-    let Some(masks) = windows.masks() else {
-        return false;
-    };
     let third = byte_before(text, at, 3);
     let second = byte_before(text, at, 2);
-    masks.plain(third, second, byte_before(text, at, 1)) != 0
+    let last = byte_before(text, at, 1);
+    windows.masks().plain(third, second, last) != 0
 }
 
 /// Whether the position `back` before an end passes the masks, and its hash bits have the end.
-fn is_sieved_at(windows: &Windows, text: &[u8], end: usize, back: usize) -> bool {
+fn is_met_at(windows: &Windows, text: &[u8], end: usize, back: usize) -> bool {
     let Some(at) = end.checked_sub(back) else {
         return false;
     };
@@ -79,54 +76,13 @@ fn is_sieved_at(windows: &Windows, text: &[u8], end: usize, back: usize) -> bool
 }
 
 /// Whether a search of the places that pass meets an end.
-fn is_sieved(windows: &Windows, text: &[u8], end: usize) -> bool {
-    (0..8usize).any(|back| is_sieved_at(windows, text, end, back))
+fn is_met(windows: &Windows, text: &[u8], end: usize) -> bool {
+    (0..8usize).any(|back| is_met_at(windows, text, end, back))
 }
 
-/// Whether the hash bits of the position `back` before an end have it.
-fn is_told(windows: &Windows, text: &[u8], end: usize, back: usize) -> bool {
-    let Some(at) = end.checked_sub(back) else {
-        return false;
-    };
-    if back >= 8 || at > text.len() {
-        return false;
-    }
-    (windows.marks_at(text, at) >> back) & 1 == 1
-}
-
-/// Whether they do at one of the positions that are `phase` after a whole number of strides.
-fn is_met(windows: &Windows, text: &[u8], end: usize, phase: usize) -> bool {
-    let stride = windows.stride().max(1);
-    for back in 0..8usize {
-        if end.saturating_sub(back) % stride == phase && is_told(windows, text, end, back) {
-            return true;
-        }
-    }
-    false
-}
-
-/// Whether a search by strides meets an end, wherever it begins.
-fn is_always_met(windows: &Windows, text: &[u8], end: usize) -> bool {
-    for phase in 0..windows.stride() {
-        if !is_met(windows, text, end, phase) {
-            return false;
-        }
-    }
-    true
-}
-
-/// Whether it finds each of the ends.
+/// Whether it meets each of the ends.
 fn are_met(windows: &Windows, text: &[u8], ends: &[usize]) -> bool {
-    for end in ends {
-        let is_met = match windows.masks() {
-            Some(_) => is_sieved(windows, text, *end),
-            None => is_always_met(windows, text, *end),
-        };
-        if !is_met {
-            return false;
-        }
-    }
-    true
+    ends.iter().all(|end| is_met(windows, text, *end))
 }
 
 /// Whether it does before it has learned, and after a sample in which these four bytes come again and again.
@@ -182,97 +138,40 @@ fn meets_long_literals_of_common_bytes(rt: HostRuntime) {
     assert_eq!(rt; meets_long_words(rt.alloc(), *b"y do"), Some((true, true)));
 }
 
-/// Whether a search behind the front of a text sees the hash bits of a place.
-fn sees_marks(windows: &Windows, text: &[u8], at: usize) -> bool
-    requires { at ≤ length text.now }
-{
-    if at < 4 {
-        return true;
-    }
-    let marks = windows.marks_behind_front(text, at, windows.has_short());
-    marks == windows.marks_at(text, at)
-}
-
-/// At how many places of a text a search has to look closer: those with marks where literals are strided, or those that pass.
-/// `usize::MAX` if a search behind the front sees other marks.
-fn count_marked(windows: &Windows, text: &[u8]) -> usize {
-    let mut count = 0usize;
+/// How many positions of a text pass the masks, and how many of these have hash bits.
+fn count_passed(windows: &Windows, text: &[u8]) -> (usize, usize) {
+    let (mut passed, mut marked) = (0usize, 0usize);
     for at in 3..text.len() {
-        if !sees_marks(windows, text, at) {
-            return usize::MAX;
-        }
-        let has_marks = windows.masks().is_none() && windows.marks_at(text, at) != 0;
-        if has_marks || passes(windows, text, at) {
-            count = count.saturating_add(1);
+        if passes(windows, text, at) {
+            passed = passed.saturating_add(1);
+            marked = marked.saturating_add(usize::from(windows.marks_at(text, at) != 0));
         }
     }
-    count
+    (passed, marked)
 }
 
-/// Whether the literals of a list are sieved, how far apart a search for strided ones looks, and how many places of a sample
-/// cost more than a look: before it learns from it, and then.
-fn learned(
-    alloc: Global,
-    index: Arc<ListIndex>,
-    sample: &[u8],
-) -> Option<[(bool, usize, usize); 2]> {
-    let mut windows = Windows::new(alloc, index).ok()?;
-    let before = (
-        windows.masks().is_some(),
-        windows.stride(),
-        count_marked(&windows, sample),
-    );
-    windows.learn(sample, EndRate::nothing());
-    let behind = (
-        windows.masks().is_some(),
-        windows.stride(),
-        count_marked(&windows, sample),
-    );
-    Some([before, behind])
-}
-
-/// That for a literal whose last four bytes are all that the sample has.
-fn moves_off_common_bytes(alloc: Global) -> Option<[(bool, usize, usize); 2]> {
-    let index = index_of(alloc, Fold::No, &[b"abcdxyzt"])?;
-    let sample = sample_of(alloc, *b"xyzt")?;
-    learned(alloc, index, &sample)
+/// That for a sample of these four bytes: before it learns from it, and then.
+fn passed_in(alloc: Global, literals: &[&[u8]], bytes: [u8; 4]) -> Option<[(usize, usize); 2]> {
+    let sample = sample_of(alloc, bytes)?;
+    let mut windows = Windows::new(alloc, index_of(alloc, Fold::No, literals)?).ok()?;
+    let before = count_passed(&windows, &sample);
+    windows.learn(&sample, EndRate::nothing());
+    Some([before, count_passed(&windows, &sample)])
 }
 
 #[test]
-fn sieves_by_rare_bytes_once_it_has_learned(rt: HostRuntime) {
+fn moves_off_common_bytes(rt: HostRuntime) {
     assert_eq!(rt;
-        moves_off_common_bytes(rt.alloc()),
-        Some([(false, 1, 4999), (true, 1, 0)])
+        passed_in(rt.alloc(), &[b"abcdxyzt"], *b"xyzt"),
+        Some([(4999, 4999), (0, 0)])
     );
 }
 
-/// The same for a long literal, with a sample that has none of its bytes.
-fn strides_over_other_bytes(alloc: Global) -> Option<[(bool, usize, usize); 2]> {
-    let index = index_of(alloc, Fold::No, &[b"the quick fox"])?;
-    let sample = sample_of(alloc, *b"....")?;
-    learned(alloc, index, &sample)
-}
-
 #[test]
-fn strides_where_long_windows_are_rare(rt: HostRuntime) {
+fn stays_at_the_bytes_of_a_short_literal(rt: HostRuntime) {
     assert_eq!(rt;
-        strides_over_other_bytes(rt.alloc()),
-        Some([(false, 1, 0), (false, 8, 0)])
-    );
-}
-
-/// The same for a literal of two bytes together with a long one: to mask both takes no longer than to mask one.
-fn sieves_a_short_one(alloc: Global) -> Option<[(bool, usize, usize); 2]> {
-    let index = index_of(alloc, Fold::No, &[b"ox", b"the quick fox"])?;
-    let sample = sample_of(alloc, *b"....")?;
-    learned(alloc, index, &sample)
-}
-
-#[test]
-fn sieves_short_literals_and_long_ones(rt: HostRuntime) {
-    assert_eq!(rt;
-        sieves_a_short_one(rt.alloc()),
-        Some([(false, 1, 0), (true, 1, 0)])
+        passed_in(rt.alloc(), &[b"ox", b"the quick fox"], *b"ox.."),
+        Some([(4999, 4999), (4999, 4999)])
     );
 }
 

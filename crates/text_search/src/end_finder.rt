@@ -9,7 +9,7 @@ use crate::hit_search::HitSearch;
 use crate::prices::{cost_by_automaton, cost_by_plan, cost_of_dense_ends};
 use crate::sampling::Sample;
 use crate::strategy::{
-    Engine, Step, Strategy, Wanted, has_use, least_gathered, sample_len, span_behind,
+    Engine, Step, Strategy, Wanted, has_factors, has_use, least_gathered, sample_len, span_behind,
     wants_automaton, wants_automaton_first, wants_shift_or,
 };
 use crate::text_search::TextSearch;
@@ -27,7 +27,8 @@ use window_search::{WindowedEnds, Windows};
 /// depend on this. It takes all its memory when it is made.
 #[derive(Debug, Drop)]
 pub struct EndFinder {
-    windows: Windows,
+    /// Factors, unless the list is too long for them.
+    windows: Option<Windows>,
     shift_or: ShiftOr,
     automaton: Automaton,
     /// Bytes gathered from short pieces of a stream. The finder takes the sample out while it tunes.
@@ -36,14 +37,14 @@ pub struct EndFinder {
 }
 
 impl Model for EndFinder {
-    ghost use Rattle.std.specs.Prelude.{◌≡◌};
+    ghost use Rattle.std.specs.Prelude.{◌≡◌, IfSome};
     ghost use Rattle.lit_base.specs.Literals.{Literals};
 
     ghost Value = { Literals };
 
-    ghost view = { λ s. s.windows.literals };
+    ghost view = { λ s. s.shift_or.literals };
 
-    ghost invariant = { λ s. (s.shift_or.literals ≡ s.windows.literals) × (s.automaton.literals ≡ s.windows.literals) };
+    ghost invariant = { λ s. IfSome s.windows (λ windows. windows.literals ≡ s.shift_or.literals) × (s.automaton.literals ≡ s.shift_or.literals) };
 }
 
 impl EndFinder {
@@ -51,7 +52,7 @@ impl EndFinder {
     pub fn new(alloc: Global, compiled: &Compiled) -> Result<EndFinder, AllocError>
         ensures { IfOk result (λ finder. finder ≡ compiled.now.literals) }
     {
-        let windows = Windows::new(alloc, compiled.shared_index()?)?;
+        let windows = windows_of(alloc, compiled)?;
         let shift_or = ShiftOr::new(alloc, compiled.shared_index()?)?;
         let automaton = Automaton::new(alloc, compiled.shared_index()?)?;
         let sample = Sample::new(alloc)?;
@@ -132,7 +133,7 @@ impl EndFinder {
             (λ found. IsNextEnd search.old.plan.literals search.old.text from found.0) }
     {
         match self.engine() {
-            Engine::Windows => self.next_windowed(search.compiled(), search.text(), from),
+            Engine::Windows => self.next_windowed(search, from),
             Engine::ShiftOr => self.next_shifted(search.compiled(), search.text(), from),
             Engine::Automaton | Engine::Plan => self.next_by_plan(search, from),
         }
@@ -250,7 +251,7 @@ impl EndFinder {
         Ok(stop)
     }
 
-    /// Adds hits by factors, as `add_hits` does.
+    /// Adds hits by factors, as `add_hits` does, or by the plan if there are none.
     fn add_hits_windowed(
         &mut self,
         compiled: &Compiled,
@@ -268,34 +269,37 @@ impl EndFinder {
         ensures same_hits { OnErr result (out.new.items ≡ out.old.items) }
         ensures quiet { NoEndAfter compiled.now.literals text.now from → IsOk result }
     {
-        let mut ends = WindowedEnds::behind(&self.windows, text, from);
+        let Some(windows) = &self.windows else {
+            return self.add_hits_plainly(compiled, text, from, at, most, out);
+        };
+        let mut ends = WindowedEnds::behind(windows, text, from);
         let stop = add_hits_of(&mut ends, text, from, at, most, out)?;
         let tally = ends.tally();
         let found = EndRate::of_scan(tally.ends);
-        let spent = self.windows.cost_of(stop - from, tally, found);
+        let spent = windows.cost_of(stop - from, tally, found);
         self.strategy.note(stop - from, spent, found);
         Ok(stop)
     }
 
-    /// As `next_end`, by factors.
-    fn next_windowed(
-        &mut self,
-        compiled: &Compiled,
-        text: &[u8],
-        from: usize,
-    ) -> Option<(usize, usize)>
-        requires plan { self.old ≡ compiled.now.literals }
-        requires inside { from < length text.now }
+    /// As `next_end_of`, by factors, or by the plan if there are none.
+    fn next_windowed(&mut self, search: &mut TextSearch<'_>, from: usize) -> Option<(usize, usize)>
+        requires plan { self.old ≡ search.old.plan.literals }
+        requires inside { from ≤ length search.old.text }
         ensures same { self.new ≡ self.old }
+        ensures search { search.new ≡ search.old }
         ensures next { MatchOption result
-            (NoEndAfter compiled.now.literals text.now from)
-            (λ found. IsNextEnd compiled.now.literals text.now from found.0) }
+            (NoEndAfter search.old.plan.literals search.old.text from)
+            (λ found. IsNextEnd search.old.plan.literals search.old.text from found.0) }
     {
-        let mut ends = WindowedEnds::behind(&self.windows, text, from);
+        let Some(windows) = &self.windows else {
+            return self.next_by_plan(search, from);
+        };
+        let text = search.text();
+        let mut ends = WindowedEnds::behind(windows, text, from);
         let found = ends.next_end();
         let tally = ends.tally();
         let count = passed(text, from, found);
-        let spent = self.windows.cost_of(count, tally, rate_of(found));
+        let spent = windows.cost_of(count, tally, rate_of(found));
         self.strategy.note(count, spent, rate_of(found));
         found
     }
@@ -435,7 +439,7 @@ impl EndFinder {
         let (sample, _) = behind.split_at(behind.len().min(most));
         let rate = self.strategy.rate();
         let dense = cost_of_dense_ends(rate);
-        let by_windows = self.windows.learn(sample, rate).saturating_add(dense);
+        let by_windows = self.cost_of_windows(sample, rate).saturating_add(dense);
         let told = self.cost_if_told(compiled, wanted, rate);
         let is_told = self.makes_automaton(wants_automaton_first(told, by_windows));
         let by_shift_or = if !is_told && wants_shift_or(by_windows) {
@@ -450,6 +454,16 @@ impl EndFinder {
             usize::MAX
         };
         self.strategy.choose(by_windows, by_shift_or, by_automaton);
+    }
+
+    /// Chooses factors by a sample. Returns the estimate of a search by them; `usize::MAX` if there are none.
+    fn cost_of_windows(&mut self, sample: &[u8], rate: EndRate) -> usize
+        ensures { self.new ≡ self.old }
+    {
+        match &mut self.windows {
+            Some(windows) => windows.learn(sample, rate),
+            None => usize::MAX,
+        }
     }
 
     /// Builds the tables of the automaton if it is wanted. Returns whether they are built.
@@ -497,6 +511,16 @@ impl HitSearch for EndFinder {
             Engine::Plan => self.add_hits_plainly(compiled, text, from, at, most, out),
         }
     }
+}
+
+/// The factors of a plan's literals, or `None` if these are too many.
+fn windows_of(alloc: Global, compiled: &Compiled) -> Result<Option<Windows>, AllocError>
+    ensures { IfOk result (λ windows. IfSome windows (λ some. some.literals ≡ compiled.now.literals)) }
+{
+    if !has_factors(compiled.list().len()) {
+        return Ok(None);
+    }
+    Ok(Some(Windows::new(alloc, compiled.shared_index()?)?))
 }
 
 /// The rate that a search for one end adds.

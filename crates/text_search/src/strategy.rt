@@ -2,19 +2,18 @@
 //!
 //! | question | when | depends on | function |
 //! |---|---|---|---|
-//! | Does a list need a finder? | once | the number of literals | [`has_use`] |
+//! | Does the list need a finder, and has it factors? | once | the number of literals | [`has_use`], [`has_factors`] |
 //! | Which engine searches the next bytes? | before a span or a piece | the engine in use, the bytes available | [`Strategy::engine_for`] |
 //! | Tune now, or gather bytes first? | before each search | the loss, the bytes available | [`Strategy::step`], [`Strategy::tunes_before`] |
 //! | Which engines are worth preparing, and from how much text? | when it tunes | the number of literals, the estimates so far | [`sample_len`], [`wants_shift_or`], [`wants_automaton`] |
-//! | Which engine is best, and which is next? | after tuning | the estimates | [`Strategy::choose`] |
-//! | Change to the next best? | every 64 KiB | the measured cost, the estimate of the other | `Strategy::reconsider` |
+//! | Which engine is best? | after tuning | the estimates | [`Strategy::choose`] |
 
 ghost use Rattle.std.specs.Prelude.{◌<◌, ◌↔◌, IsTrue};
 
 use crate::tuning::{
     FEW, FEW_BY_MASKS, FIRST_SPANS, LEARNED_COST, LEAST_CHOSEN, LEAST_GATHERED,
-    LEAST_GATHERED_OF_FEW, LEAST_LOSS, LEAST_SAMPLE, LEAST_TOLD, MOST_WAIT, MOST_WITHOUT_FINDER,
-    PLAIN_COST, SAMPLE, SAMPLE_OF_FEW, SPAN, SURE, TRIAL,
+    LEAST_GATHERED_OF_FEW, LEAST_LOSS, LEAST_SAMPLE, LEAST_TOLD, MOST_BY_FACTORS, MOST_WAIT,
+    MOST_WITHOUT_FINDER, PLAIN_COST, SAMPLE, SAMPLE_OF_FEW, SPAN, SURE,
 };
 use shift_search::SHIFT_OR_COST;
 use text_ends::EndRate;
@@ -59,6 +58,11 @@ pub(crate) fn has_use(len: usize) -> bool
     ensures { IsTrue result ↔ (3 < len) }
 {
     len > MOST_WITHOUT_FINDER
+}
+
+/// Whether to search for a list of `len` literals by factors too.
+pub(crate) fn has_factors(len: usize) -> bool {
+    len <= MOST_BY_FACTORS
 }
 
 /// The longest sample, in bytes, for a list of `len` literals.
@@ -107,25 +111,15 @@ fn allowed_for(cost: usize) -> usize {
     cost.saturating_add(cost / 2).saturating_add(LEARNED_COST)
 }
 
-/// An engine, and its estimate for 1,024 bytes in tenths of a nanosecond.
-#[derive(Clone, Copy, Debug)]
-struct Estimate {
-    engine: Engine,
-    cost: usize,
-}
-
-/// The estimate of no engine: the highest.
-const NO_ENGINE: Estimate = Estimate {
-    engine: Engine::Plan,
-    cost: usize::MAX,
-};
-
-/// Two estimates, the better one first.
-fn in_order(one: Estimate, other: Estimate) -> (Estimate, Estimate) {
-    if other.cost < one.cost {
-        (other, one)
+/// The engine with the lowest of three estimates, and this estimate.
+fn best_of(by_windows: usize, by_shift_or: usize, by_automaton: usize) -> (Engine, usize) {
+    let least = by_windows.min(by_shift_or);
+    if by_automaton < least {
+        (Engine::Automaton, by_automaton)
+    } else if by_shift_or < by_windows {
+        (Engine::ShiftOr, by_shift_or)
     } else {
-        (one, other)
+        (Engine::Windows, by_windows)
     }
 }
 
@@ -134,14 +128,10 @@ fn in_order(one: Estimate, other: Estimate) -> (Estimate, Estimate) {
 #[derive(Clone, Copy, Debug)]
 pub(crate) struct Strategy {
     engine: Engine,
-    /// The next best engine.
-    other: Estimate,
     passed: usize,
     spent: usize,
     ends: usize,
     starts: usize,
-    /// The engine is reconsidered after this many bytes.
-    trial: usize,
     /// The allowance for 1,024 bytes.
     allowed: usize,
     lost: usize,
@@ -154,12 +144,10 @@ impl Strategy {
     pub fn new() -> Strategy {
         Strategy {
             engine: Engine::Plan,
-            other: NO_ENGINE,
             passed: 0,
             spent: 0,
             ends: 0,
             starts: 0,
-            trial: TRIAL,
             allowed: PLAIN_COST,
             lost: 0,
             most_lost: LEAST_LOSS,
@@ -220,7 +208,7 @@ impl Strategy {
         self.is_due() || !self.has_learned() && likely >= self.most_lost.saturating_mul(SURE)
     }
 
-    /// Adds `spent`, the cost of `passed` bytes, and the ends found in them. This may change the engine.
+    /// Adds `spent`, the cost of `passed` bytes, and the ends found in them.
     #[inline]
     pub fn note(&mut self, passed: usize, spent: usize, found: EndRate) {
         self.passed = self.passed.saturating_add(passed);
@@ -229,82 +217,29 @@ impl Strategy {
         self.starts = self.starts.saturating_add(found.starts);
         let allowed = passed.saturating_mul(self.allowed) / 1024;
         self.lost = self.lost.saturating_add(spent).saturating_sub(allowed);
-        if self.passed >= self.trial {
-            self.trial = self.passed.saturating_add(TRIAL);
-            self.reconsider();
-        }
-    }
-
-    /// Changes to the next best engine if its estimate is an eighth below the measured cost of this engine. Both
-    /// estimates come from a small sample; the measured cost then replaces this engine's estimate.
-    #[inline(never)]
-    fn reconsider(&mut self) {
-        let taken = self.taken();
-        if self.other.cost < taken - taken / 8 {
-            let left = Estimate {
-                engine: self.engine,
-                cost: taken,
-            };
-            self.go(self.other);
-            self.other = left;
-        }
-    }
-
-    /// Changes to an engine.
-    fn go(&mut self, estimate: Estimate) {
-        self.engine = estimate.engine;
-        self.allowed = allowed_for(estimate.cost);
-        self.begin();
-    }
-
-    /// Sets the counters to 0.
-    fn begin(&mut self) {
-        self.passed = 0;
-        self.spent = 0;
-        self.ends = 0;
-        self.starts = 0;
-        self.lost = 0;
-        self.trial = TRIAL;
     }
 
     /// Takes the three estimates for 1,024 bytes, and changes to the engine with the lowest, unless the plan is in use
-    /// and this is not clearly better. An engine that was not prepared has the estimate `usize::MAX`.
+    /// and this is not clearly better. An engine that was not prepared has the estimate `usize::MAX`. The counters begin
+    /// at 0 again.
     pub fn choose(&mut self, by_windows: usize, by_shift_or: usize, by_automaton: usize) {
-        let windows = Estimate {
-            engine: Engine::Windows,
-            cost: by_windows,
-        };
-        let shift_or = Estimate {
-            engine: Engine::ShiftOr,
-            cost: by_shift_or,
-        };
-        let automaton = Estimate {
-            engine: Engine::Automaton,
-            cost: by_automaton,
-        };
-        let (best, other) = in_order(windows, shift_or);
-        if automaton.cost < best.cost {
-            self.choose_first(automaton, best);
-        } else {
-            let (other, _) = in_order(other, automaton);
-            self.choose_first(best, other);
-        }
-    }
-
-    /// As `choose`, given the best and the next best estimate.
-    fn choose_first(&mut self, best: Estimate, other: Estimate) {
-        let is_better = self.is_better(best.cost, allowed_for(best.cost));
+        let (engine, cost) = best_of(by_windows, by_shift_or, by_automaton);
+        let allowed = allowed_for(cost);
+        let is_better = self.is_better(cost, allowed);
         self.most_lost = if is_better {
             (self.most_lost / 2).max(LEAST_LOSS)
         } else {
             self.most_lost.saturating_mul(2).min(LEAST_LOSS * MOST_WAIT)
         };
         if is_better || self.has_learned() {
-            self.go(best);
-            self.other = other;
-        } else {
-            self.begin();
+            self.engine = engine;
+            self.allowed = allowed;
         }
+        self.passed = 0;
+        self.spent = 0;
+        self.ends = 0;
+        self.starts = 0;
+        self.lost = 0;
     }
 
     /// Whether an estimate is clearly better. Under the plan it has to be an eighth below the measured cost. Under

@@ -3,7 +3,7 @@ use crate::prices::{cost_by_automaton, cost_by_plan, cost_of_dense_ends};
 use crate::strategy::{Engine, Strategy};
 use text_ends::EndRate;
 
-/// Bytes after which a search may change its engine.
+/// Bytes of a search between two choices.
 const BYTES: usize = 65536;
 
 /// A tuned search with these estimates for factors and shift-or, after the plan took far more.
@@ -19,20 +19,11 @@ fn promised_three(by_windows: usize, by_shift_or: usize, by_automaton: usize) ->
     strategy
 }
 
-/// The engines in use after `BYTES` bytes at the cost `first` for 1,024, and after as many more at the cost `second`.
-fn ways_behind(mut strategy: Strategy, first: usize, second: usize) -> [Engine; 2] {
-    strategy.note(
-        BYTES,
-        first.saturating_mul(BYTES / 1024),
-        EndRate::nothing(),
-    );
-    let before = strategy.engine();
-    strategy.note(
-        BYTES,
-        second.saturating_mul(BYTES / 1024),
-        EndRate::nothing(),
-    );
-    [before, strategy.engine()]
+/// A search after `BYTES` more bytes, which cost this much for 1,024.
+fn behind(mut strategy: Strategy, cost: usize) -> Strategy {
+    let taken = cost.saturating_mul(BYTES / 1024);
+    strategy.note(BYTES, taken, EndRate::nothing());
+    strategy
 }
 
 #[test]
@@ -40,6 +31,7 @@ fn goes_by_what_promises_less(rt: HostRuntime) {
     assert_eq!(rt; promised(8_000, 9_000).engine(), Engine::Windows);
     assert_eq!(rt; promised(9_000, 8_000).engine(), Engine::ShiftOr);
     assert_eq!(rt; promised(8_000, usize::MAX).engine(), Engine::Windows);
+    assert_eq!(rt; promised(usize::MAX, 8_000).engine(), Engine::ShiftOr);
     assert_eq!(rt;
         promised_three(8_000, 9_000, 7_000).engine(),
         Engine::Automaton
@@ -48,50 +40,18 @@ fn goes_by_what_promises_less(rt: HostRuntime) {
         promised_three(8_000, 9_000, 8_500).engine(),
         Engine::Windows
     );
-}
-
-#[test]
-fn goes_over_to_what_promises_next_to_least(rt: HostRuntime) {
     assert_eq!(rt;
-        ways_behind(promised_three(8_000, usize::MAX, 7_000), 20_000, 30_000),
-        [Engine::Windows, Engine::Automaton]
-    );
-    assert_eq!(rt;
-        ways_behind(promised_three(8_000, 12_000, 9_000), 20_000, 10_000),
-        [Engine::Automaton, Engine::Automaton]
+        promised_three(usize::MAX, usize::MAX, 8_500).engine(),
+        Engine::Automaton
     );
 }
 
 #[test]
-fn goes_on_while_the_promise_is_kept(rt: HostRuntime) {
-    assert_eq!(rt;
-        ways_behind(promised(8_000, 9_000), 10_000, 10_000),
-        [Engine::Windows, Engine::Windows]
-    );
-}
-
-#[test]
-fn goes_over_where_the_other_way_promises_less_than_was_taken(rt: HostRuntime) {
-    assert_eq!(rt;
-        ways_behind(promised(8_000, 9_000), 20_000, 10_000),
-        [Engine::ShiftOr, Engine::ShiftOr]
-    );
-}
-
-#[test]
-fn comes_back_where_the_other_way_takes_more(rt: HostRuntime) {
-    assert_eq!(rt;
-        ways_behind(promised(8_000, 9_000), 20_000, 30_000),
-        [Engine::ShiftOr, Engine::Windows]
-    );
-}
-
-#[test]
-fn takes_no_way_that_was_not_learned(rt: HostRuntime) {
-    assert_eq!(rt;
-        ways_behind(promised(8_000, usize::MAX), 1 << 30, 1 << 30),
-        [Engine::Windows, Engine::Windows]
-    );
+fn keeps_its_engine_until_it_tunes_again(rt: HostRuntime) {
+    let mut strategy = behind(promised(8_000, 9_000), 240_000);
+    assert_eq!(rt; strategy.engine(), Engine::Windows);
+    strategy.choose(100_000, 9_000, usize::MAX);
+    assert_eq!(rt; strategy.engine(), Engine::ShiftOr);
 }
 
 #[test]

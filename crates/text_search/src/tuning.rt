@@ -12,6 +12,10 @@ pub(crate) const MOST_WITHOUT_FINDER: usize = 3;
 /// Literals. A list of at most this length is tuned by the smaller sample, which shows its rare factors. Not varied.
 pub(crate) const FEW: usize = 32;
 
+/// Literals. A longer list is not searched for by factors: with more literals most positions pass the masks. Measured: of
+/// 1,000 literals, 100 of them short, a third.
+pub(crate) const MOST_BY_FACTORS: usize = 128;
+
 /// Literals. The plan's masks serve lists of at most this length well: two for each bucket. Not varied.
 pub(crate) const FEW_BY_MASKS: usize = 16;
 
@@ -47,10 +51,6 @@ pub(crate) const LEAST_GATHERED: usize = 192;
 
 /// Bytes. The same for at most `FEW_BY_MASKS` literals. Measured, not varied.
 pub(crate) const LEAST_GATHERED_OF_FEW: usize = 3072;
-
-/// Bytes. After this many the estimate of the next best engine is compared with the measured cost of this engine. Not
-/// varied.
-pub(crate) const TRIAL: usize = 65536;
 
 /// Bytes between two ends. At this distance an end costs factors and shift-or as much as the plan. Measured on four
 /// lists.

@@ -12,7 +12,7 @@ use Rattle.nib_mask.specs.Fronts.{CoversFronts}
 use Rattle.nib_mask.specs.declared.masks.Masks.{Masks}
 use Rattle.lane_filter.specs.Bits.{SplitsLowest}
 use Rattle.lane_filter.specs.Lanes.{TellsBits}
-use Rattle.window_search.specs.Windows.{AreMarks, AreMarksOf, AreWithin, Windowing, offset_at}
+use Rattle.window_search.specs.Windows.{AreMarks, AreWithin, Windowing, offset_at}
 use Rattle.window_search.proofs.WindowLemmas.{literal_is}
 use Rattle.lit_base.specs.NextEnds.{IsNextEnd, NoEndUpTo}
 use Rattle.window_search.specs.Windowed.{AreClaimed, AreClaims}
@@ -23,12 +23,12 @@ use Rattle.window_search.proofs.MarkSteps.{marked_above, marked_below}
 pub listed : (l : Literals) (text : List ℕ) (place end : ℕ) → Occurs l text place end → place < length l.texts
 listed l text place end occurs = slice_get_within l.texts place occurs.literal occurs.stands
 
--- its last factor ends at most seven bytes before its end, and after the text's start
+-- its factor ends at most seven bytes before its end, and after the text's start
 pub window_near : (w : Windowing) → AreWithin w → (text : List ℕ) (place end : ℕ) → Occurs w.literals text place end → (offset_at w place ≤ 7) × (offset_at w place < end)
 window_near w within text place end occurs =
-    let is = within.all place (listed w.literals text place end occurs) in
+    let is = within place (listed w.literals text place end occurs) in
     let len = ap (λ (t : List ℕ). length t) (literal_is w.literals text place end occurs) in
-    (omega (arith, is.near, within.some), omega (arith, is.within, within.some, len, occurs.begins))
+    (omega (arith, is.near), omega (arith, is.within, len, occurs.begins))
 
 -- what stands eight positions before a position, or further back, has no pending end after it
 pub none_claimed : (w : Windowing) (text : List ℕ) (from : ℕ) → AreWithin w → AreClaimed w text from (from - 7) (from - 7 + 1) 0
@@ -42,10 +42,6 @@ unclaimed w text from seen last sooner none end after within here =
     let set = none here.0 end here.1 (omega (arith, after, sooner)) after (omega (arith, within)) in
     absurd (omega (arith, set, bit_at-zero (end - (seen + 1))))
 
--- hash bits for all factors of a literal include its last factor
-pub marks_of_last : (w : Windowing) (text : List ℕ) (at marks : ℕ) → 0 < w.stride → AreMarks w text at marks → AreMarksOf 1 w text at marks
-marks_of_last w text at marks some are place back far near occurs = are place back far (omega (arith, near, some)) occurs
-
 module _ (w : Windowing) (text : List ℕ) where
   -- without a bit, nothing is pending after a later position either
   pub none_further : (from seen later next : ℕ) → seen ≤ later → AreClaimed w text from seen next 0 → AreClaimed w text from later next 0
@@ -53,39 +49,29 @@ module _ (w : Windowing) (text : List ℕ) where
       let set = none place end occurs after (omega (arith, behind, ahead)) before in
       absurd (omega (arith, set, bit_at-zero (end - (seen + 1))))
 
-  -- a probe without hash bits adds no pending end
-  pub none_marked : (from seen at stride marks : ℕ) → marks ≡ 0 → AreMarksOf stride w text at marks → AreClaimed w text from seen at 0 → AreClaimed w text from seen (at + stride) 0
-  none_marked from seen at stride marks none are claimed place end occurs after behind before = elim (cases_lt end (at + offset_at w place)) [
-    | inl sooner ↦ claimed place end occurs after behind sooner
-    | inr later ↦
-        let there : end ≡ at + (end - at) = omega (arith, later) in
-        let set = are place (end - at) (omega (arith, later)) (omega (arith, later, before)) (subst (Occurs w.literals text place) there occurs) in
-        absurd (omega (arith, ap (λ m. bit_at m (end - at)) none, set, bit_at-zero (end - at)))
-  ]
-
-  -- a probe adds the pending ends of as many factors as the stride has positions
-  pub claims_further : (from seen back stride marks look : ℕ) → back < 56 → ((place : ℕ) → place < length w.literals.texts → offset_at w place + stride ≤ 8) → AreMarksOf stride w text (seen + 1 + back) look
-      → AreClaimed w text from seen (seen + 1 + back) marks → AreClaimed w text from seen (seen + 1 + (back + stride)) (bit_or marks (look * 2 ^ back % 2 ^ 64))
-  claims_further from seen back stride marks look few near are claimed place end occurs after behind before =
-      let short : end - (seen + 1) < 64 = omega (arith, near place (listed w.literals text place end occurs), few, before, behind) in
-      elim (cases_lt end (seen + 1 + back + offset_at w place)) [
+  -- a probe adds the pending ends of the factors that end there
+  pub claims_further : (from seen back marks look : ℕ) → back < 56 → AreWithin w → AreMarks w text (seen + 1 + back) look
+      → AreClaimed w text from seen (seen + 1 + back) marks → AreClaimed w text from seen (seen + 1 + (back + 1)) (bit_or marks (look * 2 ^ back % 2 ^ 64))
+  claims_further from seen back marks look few within are claimed place end occurs after behind before =
+      let off : ℕ = offset_at w place in
+      let short : end - (seen + 1) < 64 = omega (arith, (within place (listed w.literals text place end occurs)).near, few, before, behind) in
+      elim (cases_lt end (seen + 1 + back + off)) [
         | inl sooner ↦ marked_below marks look back (end - (seen + 1)) short (claimed place end occurs after behind sooner)
         | inr later ↦
-            let ahead : ℕ = end - (seen + 1 + back) in
-            let there : end ≡ seen + 1 + back + ahead = omega (arith, later) in
-            let set = are place ahead (omega (arith, later)) (omega (arith, later, before)) (subst (Occurs w.literals text place) there occurs) in
-            let above : end - (seen + 1) - back ≡ ahead = omega (arith, later) in
+            let there : end ≡ seen + 1 + back + off = omega (arith, later, before) in
+            let set = are place (subst (Occurs w.literals text place) there occurs) in
+            let above : end - (seen + 1) - back ≡ off = omega (arith, there) in
             marked_above marks look back (end - (seen + 1)) short (omega (arith, later)) (ap (bit_at look) above ∙ set)
       ]
 
--- after a text's start, a position passes if the last factor of a literal ends there
+-- after a text's start, a position passes if the factor of a literal ends there
 module _ (w : Windowing) (masks : Masks) (text : List ℕ) (seen passing : ℕ) (covers : CoversFronts w.literals (length w.literals.texts) w.offsets masks) (within : AreWithin w) (bytes : All (λ b. b < 256) text) (tells : TellsBits (IsCandidate masks text) (seen + 1) 64 passing) where
   pub passes : (place end : ℕ) → Occurs w.literals text place end → seen < end - offset_at w place → end - offset_at w place ≤ seen + 64 → bit_at passing (end - offset_at w place - (seen + 1)) ≡ 1
   passes place end occurs behind inside =
       let before = listed w.literals text place end occurs in
-      let is = within.all place before in
+      let is = within place before in
       let there : end - offset_at w place ≡ seen + 1 + (end - offset_at w place - (seen + 1)) = omega (arith, behind) in
-      (tells (end - offset_at w place - (seen + 1))).1 (omega (arith, behind, inside), subst (IsCandidate masks text) there (covers text place end bytes before (omega (arith, is.within, within.some)) occurs))
+      (tells (end - offset_at w place - (seen + 1))).1 (omega (arith, behind, inside), subst (IsCandidate masks text) there (covers text place end bytes before is.within occurs))
 
   -- where no position passes, none has a pending end
   pub none_passes : (from base : ℕ) → passing ≡ 0 → AreClaimed w text from base (seen + 1) 0 → AreClaimed w text from base (seen + 64 + 1) 0
@@ -96,7 +82,7 @@ module _ (w : Windowing) (masks : Masks) (text : List ℕ) (seen passing : ℕ) 
         absurd (omega (arith, ap (λ m. bit_at m (end - offset_at w place - (seen + 1))) none, set, bit_at-zero (end - offset_at w place - (seen + 1))))
   ]
 
--- each literal whose last factor ends in a block is pending, or its position remains
+-- each literal whose factor ends in a block is pending, or its position remains
 abbrev pub AreLeft : Windowing → List ℕ → ℕ → ℕ → ℕ → Type 0
 AreLeft w text seen found rest = (place end : ℕ) → Occurs w.literals text place end → seen < end - offset_at w place → end - offset_at w place ≤ seen + 56
     → (bit_at found (end - (seen + 1)) ≡ 1) ⊎ (bit_at rest (end - offset_at w place - (seen + 1)) ≡ 1)
@@ -117,7 +103,7 @@ module _ (w : Windowing) (text : List ℕ) (seen : ℕ) (within : AreWithin w) w
             | inl sooner ↦ absurd (omega (arith, split.lowest at sooner, has))
             | inr same ↦
                 let there : end ≡ seen + 1 + back + off = omega (arith, here, same, behind) in
-                let set = are place off (omega arith) (omega (arith, within.some)) (subst (Occurs w.literals text place) there occurs) in
+                let set = are place (subst (Occurs w.literals text place) there occurs) in
                 let above : end - (seen + 1) - back ≡ off = omega (arith, there) in
                 inl (marked_above found look back (end - (seen + 1)) short (omega (arith, there)) (ap (bit_at look) above ∙ set))
           ]

@@ -17,9 +17,8 @@ use Rattle.list_index.specs.Marks.{IsMarked}
 use Rattle.lit_base.specs.Occurrences.{Occurs}
 use Rattle.list_index.specs.Suffixes.{case_bits, hash_of, last_bits, spelled, suffix_key}
 use Rattle.list_index.proofs.SuffixLemmas.{AreBytes, drop-range, key-occurs_inside, masked, range_bytes, spelled_fits, zeros_bytes}
-use Rattle.window_search.specs.declared.shape.Shape.{Shape}
-use Rattle.window_search.specs.declared.shape.TheConstants.{WIDTH}
-use Rattle.window_search.specs.Shapes.{IsShapeOf, width_at}
+use Rattle.window_search.specs.declared.widths.TheConstants.{WIDTH}
+use Rattle.window_search.specs.Widths.{IsLeastWidth, width_at}
 use Rattle.window_search.specs.Windows.{AreMarks, AreWindowed, IsWindowed, Windowing, offset_at}
 
 -- the literal that occurs is the one at its place
@@ -27,17 +26,17 @@ pub literal_is : (l : Literals) (text : List ℕ) (place end : ℕ) (occurs : Oc
 literal_is l text place end occurs = sym (ap (λ o. unwrap_or o []) occurs.stands) ∙ unwrap_or-slice_get l.texts place []
 
 -- where a literal ends, the bytes of the text at its offset have the hash bit of its factor there, and there are enough of them
-module _ (l : Literals) (marks text : List ℕ) (place at back width offset stride : ℕ) (is : IsWindowed l marks place width offset stride) (counted : offset ≤ back) (near : back < offset + stride) (occurs : Occurs l text place (at + back)) where
+module _ (l : Literals) (marks text : List ℕ) (place at width offset : ℕ) (is : IsWindowed l marks place width offset) (occurs : Occurs l text place (at + offset)) where
   pub window_begins : width ≤ at
-  window_begins = omega (arith, is.wide, near, occurs.begins, ap (λ (t : List ℕ). length t) (literal_is l text place (at + back) occurs))
+  window_begins = omega (arith, is.wide, occurs.begins, ap (λ (t : List ℕ). length t) (literal_is l text place (at + offset) occurs))
 
-  pub window_marked : AreBytes text → width ≤ 8 → IsMarked marks (hash_of HASH_BITS (suffix_key l.folding text at width)) back
+  pub window_marked : AreBytes text → width ≤ 8 → IsMarked marks (hash_of HASH_BITS (suffix_key l.folding text at width)) offset
   window_marked bytes narrow =
-      let before : at + back - back ≡ at = omega arith in
-      let key : suffix_key l.folding text at width ≡ suffix_key l.folding (literal_at l place) (length (literal_at l place) - back) width =
+      let before : at + offset - offset ≡ at = omega arith in
+      let key : suffix_key l.folding text at width ≡ suffix_key l.folding (literal_at l place) (length (literal_at l place) - offset) width =
       ap (λ n. suffix_key l.folding text n width) (sym before)
-      ∙ key-occurs_inside l text place (at + back) width back bytes narrow (omega (arith, is.wide, near)) occurs in
-      subst (λ k. IsMarked marks (hash_of HASH_BITS k) back) (sym key) (is.marked back counted near)
+      ∙ key-occurs_inside l text place (at + offset) width offset bytes narrow is.wide occurs in
+      subst (λ k. IsMarked marks (hash_of HASH_BITS k) offset) (sym key) (is.marked offset (omega arith) (omega arith))
 
 -- the key of the bytes before a position, four of which were read as a word after zeros
 pub word_key : (fold : Fold) (text : List ℕ) (at width word bits : ℕ) → AreBytes text → width ≤ 4 → 4 ≤ at → at ≤ length text → word ≡ spelled (replicate 4 0 ++ slice_range text (at - 4) at) → bits ≡ case_bits fold
@@ -70,17 +69,17 @@ pub marked_right : (a b back : ℕ) → bit_at b back ≡ 1 → bit_at (bit_or a
 marked_right a b back marked = omega (arith, bit_at_or a b back, marked, bit_at-lt a back)
 
 -- the hash bits of a position are complete if they include the bits for the bytes before it by all widths from the least on
-pub marks_are : (w : Windowing) (shape : Shape) (marks text : List ℕ) (at result : ℕ) → IsShapeOf w.literals shape → AreWindowed w.literals w.stride w.offsets marks (length w.literals.texts) → AreBytes text
-    → ((width back : ℕ) → shape.least_width ≤ width → width ≤ WIDTH → width ≤ at → IsMarked marks (hash_of HASH_BITS (suffix_key w.literals.folding text at width)) back → bit_at result back ≡ 1)
+pub marks_are : (w : Windowing) (least : ℕ) (marks text : List ℕ) (at result : ℕ) → IsLeastWidth w.literals least → AreWindowed w.literals w.offsets marks (length w.literals.texts) → AreBytes text
+    → ((width back : ℕ) → least ≤ width → width ≤ WIDTH → width ≤ at → IsMarked marks (hash_of HASH_BITS (suffix_key w.literals.folding text at width)) back → bit_at result back ≡ 1)
     → AreMarks w text at result
-marks_are w shape marks text at result fits are bytes told place back counted near occurs =
+marks_are w least marks text at result fits are bytes told place occurs =
     let l = w.literals in
     let there = slice_get_within l.texts place occurs.literal occurs.stands in
     let is = are.marked place there in
     let narrow : width_at l place ≤ WIDTH = omega arith in
-    told (width_at l place) back (fits.least place there) narrow
-    (window_begins l marks text place at back (width_at l place) (offset_at w place) w.stride is counted near occurs)
-    (window_marked l marks text place at back (width_at l place) (offset_at w place) w.stride is counted near occurs bytes (omega (arith, narrow)))
+    told (width_at l place) (offset_at w place) (fits.least place there) narrow
+    (window_begins l marks text place at (width_at l place) (offset_at w place) is occurs)
+    (window_marked l marks text place at (width_at l place) (offset_at w place) is occurs bytes (omega (arith, narrow)))
 
 -- a hash bit that was found by a key is set
 pub read_mark : (marks : List ℕ) (key other found back : ℕ) → found ≡ slice_index marks (hash_of HASH_BITS key) → key ≡ other → IsMarked marks (hash_of HASH_BITS other) back → bit_at found back ≡ 1

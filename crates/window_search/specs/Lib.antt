@@ -1,3 +1,3 @@
-pub mod Shapes
+pub mod Widths
 pub mod Windowed
 pub mod Windows

@@ -6,11 +6,11 @@ use Rattle.window_search.specs.declared.claiming.TheConstants.{BLOCK}
 use Rattle.window_search.specs.declared.windowed.Claims.{Claims}
 use Rattle.window_search.specs.Windows.{Windowing, offset_at}
 
--- the ends after `from` and `seen` whose last factor ends before `next` are pending: bit k stands for the end k + 1 positions after `seen`
+-- the ends after `from` and `seen` whose factor ends before `next` are pending: bit k stands for the end k + 1 positions after `seen`
 abbrev pub AreClaimed : Windowing → List ℕ → ℕ → ℕ → ℕ → ℕ → Type 0
 AreClaimed w text from seen next marks = (place end : ℕ) → Occurs w.literals text place end → from < end → seen < end → end < next + offset_at w place → bit_at marks (end - (seen + 1)) ≡ 1
 
--- the positions of a block that pass: each where the last factor of a literal ends. Bit k stands for the position k + 1 after `seen`
+-- the positions of a block that pass: each where the factor of a literal ends. Bit k stands for the position k + 1 after `seen`
 abbrev pub ArePassing : Windowing → List ℕ → ℕ → ℕ → Type 0
 ArePassing w text seen passing = (place end : ℕ) → Occurs w.literals text place end → seen < end - offset_at w place → end - offset_at w place ≤ seen + BLOCK → bit_at passing (end - offset_at w place - (seen + 1)) ≡ 1
 

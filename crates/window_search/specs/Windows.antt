@@ -5,51 +5,45 @@ use Rattle.lit_base.specs.Literals.{Literals, literal_at}
 use Rattle.list_index.specs.Marks.{IsMarkOf, IsMarked, IsMarkedFor}
 use Rattle.lit_base.specs.Occurrences.{Occurs}
 use Rattle.list_index.specs.declared.suffixes.marks.TheConstants.{HASH_BITS}
-use Rattle.window_search.specs.Shapes.{width_at}
+use Rattle.window_search.specs.Widths.{width_at}
 
--- the value of a `Windows` in contracts: the literals, how many factors each has, and how far before its end the last of them ends
+-- the value of a `Windows` in contracts: the literals, and how far before its end the factor of each ends
 pub record Windowing : Type 0 where
   pub literals : Literals
-  pub stride : ℕ
   pub offsets : List ℕ
 
 -- the offset of a literal
 abbrev pub offset_at : Windowing → ℕ → ℕ
 offset_at w place = slice_index w.offsets place
 
--- a literal's factors, as many as the stride has positions, lie within it, and within the reach of a byte of hash bits
+-- a literal's factor ends within it, and within the reach of a byte of hash bits
 pub record IsWithin (w : Windowing) (place : ℕ) : Type 0 where
-  pub near : offset_at w place + w.stride ≤ 8
-  pub within : offset_at w place + w.stride ≤ length (literal_at w.literals place)
+  pub near : offset_at w place < 8
+  pub within : offset_at w place < length (literal_at w.literals place)
 
 -- so do the factors of all literals
-pub record AreWithin (w : Windowing) : Type 0 where
-  pub some : 0 < w.stride
-  pub all : (place : ℕ) → place < length w.literals.texts → IsWithin w place
+abbrev pub AreWithin : Windowing → Type 0
+AreWithin w = (place : ℕ) → place < length w.literals.texts → IsWithin w place
 
--- the hash bits at a position include each end of a literal with one of `count` factors that ends there; the bit is the distance to the end
-abbrev pub AreMarksOf : ℕ → Windowing → List ℕ → ℕ → ℕ → Type 0
-AreMarksOf count w text at marks = (place back : ℕ) → offset_at w place ≤ back → back < offset_at w place + count → Occurs w.literals text place (at + back) → bit_at marks back ≡ 1
-
--- as above, for all its factors
+-- the hash bits at a position include the end of each literal whose factor ends there; the bit is the distance to the end
 abbrev pub AreMarks : Windowing → List ℕ → ℕ → ℕ → Type 0
-AreMarks w = AreMarksOf w.stride w
+AreMarks w text at marks = (place : ℕ) → Occurs w.literals text place (at + offset_at w place) → bit_at marks (offset_at w place) ≡ 1
 
--- a literal has the hash bits of its factors of `width` bytes at an offset
-pub record IsWindowed (l : Literals) (marks : List ℕ) (place width offset stride : ℕ) : Type 0 where
-  pub near : offset + stride ≤ 8
-  pub wide : width + offset + stride ≤ length (literal_at l place) + 1
-  pub marked : IsMarkedFor marks l.folding (literal_at l place) width offset stride
+-- a literal has the hash bit of its factor of `width` bytes at an offset
+pub record IsWindowed (l : Literals) (marks : List ℕ) (place width offset : ℕ) : Type 0 where
+  pub near : offset < 8
+  pub wide : width + offset ≤ length (literal_at l place)
+  pub marked : IsMarkedFor marks l.folding (literal_at l place) width offset 1
 
--- the hash bit is that of a factor of one of the first literals of a list
-pub record IsFactorMark (l : Literals) (stride : ℕ) (offsets : List ℕ) (count number back : ℕ) : Type 0 where
+-- the hash bit is that of the factor of one of the first literals of a list
+pub record IsFactorMark (l : Literals) (offsets : List ℕ) (count number back : ℕ) : Type 0 where
   pub place : ℕ
   pub within : place < count
-  pub is : IsMarkOf l.folding (literal_at l place) (width_at l place) (slice_index offsets place) (slice_index offsets place + stride) number back
+  pub is : IsMarkOf l.folding (literal_at l place) (width_at l place) (slice_index offsets place) (slice_index offsets place + 1) number back
 
--- each literal before a place has its hash bits, and no other bit is set
-pub record AreWindowed (l : Literals) (stride : ℕ) (offsets marks : List ℕ) (count : ℕ) : Type 0 where
+-- each literal before a place has its hash bit, and no other bit is set
+pub record AreWindowed (l : Literals) (offsets marks : List ℕ) (count : ℕ) : Type 0 where
   pub offsets_len : length offsets ≡ length l.texts
   pub marks_len : length marks ≡ 2 ^ HASH_BITS
-  pub marked : (place : ℕ) → place < count → IsWindowed l marks place (width_at l place) (slice_index offsets place) stride
-  pub only : (number back : ℕ) → IsMarked marks number back → IsFactorMark l stride offsets count number back
+  pub marked : (place : ℕ) → place < count → IsWindowed l marks place (width_at l place) (slice_index offsets place)
+  pub only : (number back : ℕ) → IsMarked marks number back → IsFactorMark l offsets count number back

@@ -2,7 +2,7 @@
 ghost use Rattle.std.specs.Prelude.{◌≡◌, ◌^◌, ◌<◌, ◌≤◌, IfOk, length, vec_capacity, vec_len};
 ghost use Rattle.list_index.specs.declared.suffixes.marks.TheConstants.{HASH_BITS};
 
-use crate::shape::WIDTH;
+use crate::widths::WIDTH;
 use list_index::{HASH_BITS, case_bits, hash_of, last_bits, last_word, suffix_key};
 use lit_base::LitList;
 use std::alloc::{AllocError, Global};
@@ -24,8 +24,6 @@ const SIEVED: usize = 3;
 pub(crate) struct Counts {
     pub fours: Vec<u16>,
     pub threes: Vec<u16>,
-    /// How many factors were counted.
-    pub all: usize,
 }
 
 impl Counts {
@@ -36,11 +34,7 @@ impl Counts {
     {
         let fours = Vec::with_capacity(alloc, 1 << HASH_BITS)?;
         let threes = Vec::with_capacity(alloc, 1 << HASH_BITS)?;
-        Ok(Counts {
-            fours,
-            threes,
-            all: 0,
-        })
+        Ok(Counts { fours, threes })
     }
 
     /// Halves the counts, and counts the factors of a sample.
@@ -55,40 +49,24 @@ impl Counts {
         count_windows(&mut self.fours, WIDTH, case_bits, sample);
         halve(&mut self.threes);
         count_windows(&mut self.threes, SIEVED, case_bits, sample);
-        self.all = (self.all / 2).saturating_add(sample.len());
     }
 
-    /// How often each of the last factors of a literal occurred.
-    pub fn of_literal(&self, list: &LitList, place: usize) -> [u32; 8]
-        requires room { vec_len self.now.fours ≡ 2 ^ HASH_BITS }
-        requires within { place < length list.now.texts }
-    {
-        let literal = list.get(place);
-        let mut found = [NEVER; 8];
-        for back in 0..OFFSETS {
-            if WIDTH + back <= literal.len() {
-                let key = suffix_key(list.fold(), literal, literal.len() - back, WIDTH);
-                found[back] = u32::from(self.fours[hash_of(HASH_BITS, key)]);
-            }
-        }
-        found
-    }
-
-    /// How often the last three bytes of each of the last factors occurred. The count of the whole factor decides
+    /// How often the last three bytes of each of a literal's last factors occurred. The count of the whole factor decides
     /// between equals.
-    pub fn of_sieved(&self, list: &LitList, place: usize) -> [u32; 8]
+    pub fn of_literal(&self, list: &LitList, place: usize) -> [u32; 8]
         requires fours { vec_len self.now.fours ≡ 2 ^ HASH_BITS }
         requires threes { vec_len self.now.threes ≡ 2 ^ HASH_BITS }
         requires within { place < length list.now.texts }
     {
         let literal = list.get(place);
-        let fours = self.of_literal(list, place);
         let mut found = [NEVER; 8];
         for back in 0..OFFSETS {
             if WIDTH + back <= literal.len() {
-                let key = suffix_key(list.fold(), literal, literal.len() - back, SIEVED);
-                let last_bytes = u32::from(self.threes[hash_of(HASH_BITS, key)]);
-                found[back] = last_bytes * 1024 + fours[back].min(1023);
+                let end = literal.len() - back;
+                let three = hash_of(HASH_BITS, suffix_key(list.fold(), literal, end, SIEVED));
+                let four = hash_of(HASH_BITS, suffix_key(list.fold(), literal, end, WIDTH));
+                let whole = u32::from(self.fours[four]).min(1023);
+                found[back] = u32::from(self.threes[three]) * 1024 + whole;
             }
         }
         found

@@ -1,4 +1,4 @@
-//! The search by factors: hash bits of literals by some of their bytes, which are rare in a given text.
+//! The search by factors: masks and hash bits of literals by some of their bytes, which are rare in a given text.
 #![tactic(auto)]
 
 mod choosing;
@@ -7,8 +7,8 @@ mod counts;
 mod grouping;
 mod marking;
 mod prices;
-mod shape;
 mod tuning;
+mod widths;
 mod windowed;
 mod windows;
 

@@ -3,9 +3,6 @@
 
 // Prices.
 
-/// A probe. How it was chosen is not recorded.
-pub(crate) const LOOK_COST: usize = 8;
-
 /// A hash bit at which nothing ends. How it was chosen is not recorded.
 pub(crate) const MARK_COST: usize = 250;
 
@@ -22,22 +19,15 @@ pub(crate) const PASS_COST: usize = 20;
 /// cost. With three times this value they are 1.1 to 1.8; others were not tried.
 pub(crate) const BLOCK_COST: usize = 60;
 
-/// A new start after an end: a block is probed from there on, and its last probes are mostly wasted. Shift-or starts
-/// with eight probes. Not varied.
+/// A new start after an end: a block is filtered and probed from there on, mostly in vain. Shift-or starts with eight
+/// probes. Not varied.
 pub(crate) const START_COST: usize = 500;
 
-/// A start with masks, in addition. Without masks probes begin at once. Measured: with masks for all lists, 100
-/// frequent literals took 1.3 times as long in English text and log lines.
-pub(crate) const SIEVE_START_COST: usize = 400;
+/// The same in an estimate, which then leaves frequent literals to other engines. Measured: with masks for all lists,
+/// 100 frequent literals took 1.3 times as long in English text and log lines.
+pub(crate) const ESTIMATED_START_COST: usize = 900;
 
 // Thresholds.
-
-/// An estimate counts each hash bit of a sample this many times. The chosen factors are rare in the sample by chance
-/// too, so a text has more of them. Not varied on record.
-pub(crate) const BIAS: usize = 2;
-
-/// The longest list for the masks: with more literals most positions pass. How it was chosen is not recorded.
-pub(crate) const MOST_SIEVED: usize = 128;
 
 /// One position of this many is counted in a sample. How it was chosen is not recorded.
 pub(crate) const SPARSE: usize = 31;

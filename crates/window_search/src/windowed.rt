@@ -34,7 +34,7 @@ impl Claims {
         ensures claims { AreClaims windows.now text.now result }
         ensures seen { result.seen ≡ from }
     {
-        let _stride = windows.stride();
+        windows.within_law();
         let start = from.saturating_sub(REACH);
         let marks = claims_behind(windows, text, start, 0, tally);
         let block = Claims {

@@ -5,8 +5,7 @@ use flow_scan::{Compiled, Hit};
 use lit_base::{Fold, LitList};
 use std::alloc::Global;
 
-/// Literals in order of length. The first stands for strides of one place, those from the fifth on for
-/// strides of five.
+/// Literals in order of length. Some end with others.
 const WORDS: [&[u8]; 8] = [
     b"tion",
     b"ation",

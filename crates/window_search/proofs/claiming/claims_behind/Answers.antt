@@ -8,4 +8,4 @@ returns-then-seen-lt-FRONT c = λ from first place end occurs after behind befor
 
 pub returns : goal.returns
 returns c = λ from first place end occurs after behind before.
-    c.look_at_block.ensures from first place end occurs after behind (omega (arith, before))
+    c.sieve_block.ensures from first place end occurs after behind (omega (arith, before))

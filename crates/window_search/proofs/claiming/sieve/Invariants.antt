@@ -3,7 +3,7 @@ use Rattle.std.specs.Int.{bit_at}
 use Rattle.window_search.proofs.ClaimSteps.{AreLeft}
 use Rattle.window_search.proofs.claiming.sieve.Given as goal
 
--- a literal whose last factor ends in the block is pending, or its position remains, and the remaining positions are in the block
+-- a literal whose factor ends in the block is pending, or its position remains, and the remaining positions are in the block
 abbrev pub invariant-places : goal.invariant-places
 invariant-places l = record {
   left : AreLeft l.windows l.text l.seen l.found l.rest;

@@ -7,5 +7,5 @@ use Rattle.window_search.proofs.claiming.sieve_block.Goals as goal
 
 pub sieve-requires-clause-passing : goal.sieve-requires-clause-passing
 sieve-requires-clause-passing c = λ place end occurs behind inside.
-    passes c.args.windows.now (widened c.args.masks.now) c.args.text.now c.args.seen c.passing-passing.result c.requires.covers c.stride-stride.ensures.within (all_bytes c.args.text.now c.type_inv.text)
+    passes c.args.windows.now (widened c.masks.result.now) c.args.text.now c.args.seen c.passing-passing.result c.masks.ensures c.within_law.ensures (all_bytes c.args.text.now c.type_inv.text)
     (rw c.new.ensures at c.passing-passing.ensures) place end occurs behind (omega (arith, inside))

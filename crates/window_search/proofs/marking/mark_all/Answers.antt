@@ -1,10 +1,10 @@
--- No bit is set at first, and each literal adds its factors alone.
+-- No bit is set at first, and each literal adds its factor alone.
 use Rattle.std.proofs.Common.{◌≡◌, ℕ, ◌+◌, ◌<◌, length, slice_index, inl, inr, sym, ap, ◌∙◌, subst, arith, below_more}
 use Rattle.std.specs.Int.{bit_at}
 use Rattle.std.proofs.lemmas.Nat.Bits.{bit_at-zero}
 use Rattle.lit_base.specs.Literals.{literal_at}
 use Rattle.list_index.specs.Marks.{IsMarkOf}
-use Rattle.window_search.specs.Shapes.{width_at}
+use Rattle.window_search.specs.Widths.{width_at}
 use Rattle.window_search.specs.Windows.{AreWindowed, IsWindowed}
 use Rattle.window_search.proofs.marking.mark_all.Goals as goal
 
@@ -19,7 +19,6 @@ loop-place-init c = record {
 pub loop-place-preserved : goal.loop-place-preserved
 loop-place-preserved c =
     let l = c.args.list.now in
-    let stride = c.args.stride in
     let before = c.loop-place.invariant in
     let one = c.mark_one.ensures in
     let stays : (other : ℕ) → other < c.loop-place.place → slice_index c.loop-place.offsets.items other ≡ slice_index c.mark_one.new.offsets.items other =
@@ -30,7 +29,7 @@ loop-place-preserved c =
       marked = below_more _ _
           (λ other sooner.
           let is = before.marked other sooner in
-          subst (λ offset. IsWindowed l c.mark_one.new.marks.items other (width_at l other) offset stride) (stays other sooner)
+          subst (λ offset. IsWindowed l c.mark_one.new.marks.items other (width_at l other) offset) (stays other sooner)
           (record { near = is.near; wide = is.wide; marked = λ back counted near. one.kept _ back (is.marked back counted near) }))
           one.windowed;
       only = λ number back now. elim (one.only number back now) [
@@ -39,7 +38,7 @@ loop-place-preserved c =
             record {
               place = is.place;
               within = omega (arith, is.within);
-              is = subst (λ offset. IsMarkOf l.folding (literal_at l is.place) (width_at l is.place) offset (offset + stride) number back) (stays is.place is.within) is.is;
+              is = subst (λ offset. IsMarkOf l.folding (literal_at l is.place) (width_at l is.place) offset (offset + 1) number back) (stays is.place is.within) is.is;
             }
         | inr set ↦ record { place = c.loop-place.place; within = omega arith; is = set }
       ];
@@ -48,4 +47,4 @@ loop-place-preserved c =
 pub returns : goal.returns
 returns c =
     let all : c.loop-place.place ≡ length c.args.list.now.texts = omega (arith, c.loop-place-test.false, c.loop-place.auto.place-end, c.len-place-end.ensures.value) in
-    subst (λ count. AreWindowed c.args.list.now c.args.stride c.loop-place.offsets.items c.loop-place.marks.items count) all c.loop-place.invariant
+    subst (λ count. AreWindowed c.args.list.now c.loop-place.offsets.items c.loop-place.marks.items count) all c.loop-place.invariant

@@ -1,4 +1,4 @@
--- The factors of the literal are the only ones that are marked.
+-- The factor of the literal is the only one that is marked.
 use Rattle.std.proofs.Common.{◌≡◌, ◌-◌, [], length, inl, inr, ◌∙◌, arith, get_or-set_same}
 use Rattle.std.proofs.lemmas.List.{get_or_read}
 use Rattle.lit_base.specs.Literals.{literal_at}

@@ -6,7 +6,7 @@ use Rattle.list_index.specs.Marks.{IsMarked}
 use Rattle.list_index.specs.Suffixes.{hash_of, last_bits, suffix_key}
 use Rattle.list_index.specs.declared.suffixes.marks.TheConstants.{HASH_BITS}
 use Rattle.list_index.proofs.SuffixLemmas.{are_bytes}
-use Rattle.window_search.specs.declared.shape.TheConstants.{WIDTH}
+use Rattle.window_search.specs.declared.widths.TheConstants.{WIDTH}
 use Rattle.window_search.proofs.WindowLemmas.{marked_left, marked_right, read_width, word_key}
 use Rattle.window_search.proofs.windows.marks_of_widths.Goals as goal
 use Rattle.window_search.proofs.windows.marks_of_widths.Goals.{After-marks_of-long}

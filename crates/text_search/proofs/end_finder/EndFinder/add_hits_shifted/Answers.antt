@@ -6,4 +6,4 @@ use Rattle.text_search.proofs.end_finder.EndFinder.add_hits_shifted.Goals as goa
 
 pub returns-in_err-stop-clause-quiet : goal.returns-in_err-stop-clause-quiet
 returns-in_err-stop-clause-quiet c = λ none.
-    absurd (false≢true ((rw (ap (λ (w : Walk). w.literals) c.behind-ends.ensures ∙ c.self.invariant.0 ∙ c.self.view_is ∙ c.requires.plan) at c.in_err-stop.ensures.quiet) none))
+    absurd (false≢true ((rw (ap (λ (w : Walk). w.literals) c.behind-ends.ensures ∙ c.self.view_is ∙ c.requires.plan) at c.in_err-stop.ensures.quiet) none))

@@ -3,8 +3,5 @@ use Rattle.std.proofs.Common.{ap}
 use Rattle.lit_plan.specs.Plans.{Plan}
 use Rattle.text_search.proofs.end_finder.EndFinder.next_behind.Goals as goal
 
-pub returns-in-Windows-clause-next : goal.returns-in-Windows-clause-next
-returns-in-Windows-clause-next c = rw (ap (λ (p : Plan). p.literals) c.compiled.ensures, c.text.ensures) at c.next_windowed.ensures.next
-
 pub returns-in-ShiftOr-clause-next : goal.returns-in-ShiftOr-clause-next
-returns-in-ShiftOr-clause-next c = rw (ap (λ (p : Plan). p.literals) c.compiled-in-ShiftOr.ensures, c.text-in-ShiftOr.ensures) at c.next_shifted.ensures.next
+returns-in-ShiftOr-clause-next c = rw (ap (λ (p : Plan). p.literals) c.compiled.ensures, c.text.ensures) at c.next_shifted.ensures.next

@@ -6,4 +6,4 @@ use Rattle.text_search.proofs.end_finder.EndFinder.next_shifted.Goals as goal
 
 pub returns-clause-next : goal.returns-clause-next
 returns-clause-next c =
-    rw (c.self.invariant.0 ∙ c.self.view_is ∙ c.requires.plan) at (subst (λ (w : Walk). MatchOption c.next_end-found.result (NoEndAfter w.literals w.text w.from) (λ found. IsNextEnd w.literals w.text w.from found.0)) c.behind-ends.ensures c.next_end-found.ensures.next)
+    rw (c.self.view_is ∙ c.requires.plan) at (subst (λ (w : Walk). MatchOption c.next_end-found.result (NoEndAfter w.literals w.text w.from) (λ found. IsNextEnd w.literals w.text w.from found.0)) c.behind-ends.ensures c.next_end-found.ensures.next)

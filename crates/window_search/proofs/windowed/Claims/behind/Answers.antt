@@ -11,7 +11,7 @@ returns-clause-claims c =
     let from : ℕ = c.args.from in
     let start : ℕ = c.saturating_sub-start.result in
     let count : ℕ = c.min.result in
-    let first : AreClaimed w text from start (start + 1) 0 = subst (λ (s : ℕ). AreClaimed w text from s (s + 1) 0) (sym c.saturating_sub-start.ensures) (none_claimed w text from c.stride-stride.ensures.within) in
+    let first : AreClaimed w text from start (start + 1) 0 = subst (λ (s : ℕ). AreClaimed w text from s (s + 1) 0) (sym c.saturating_sub-start.ensures) (none_claimed w text from c.within_law.ensures) in
     let block : AreClaimed w text from start (start + count + 1) c.claims_behind-marks.result = λ place end occurs after behind before.
     c.claims_behind-marks.ensures from first place end occurs after behind (omega (arith, before, c.min.ensures)) in
     claims_from w text from start count c.claims_behind-marks.result (from - start) c.but_first-rest.result block (omega arith) (omega (arith, c.min.ensures, c.requires, c.saturating_sub-start.ensures))

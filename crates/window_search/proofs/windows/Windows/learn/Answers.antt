@@ -1,5 +1,5 @@
 -- The chosen factors have their hash bits, and the masks fit them.
-use Rattle.std.proofs.Common.{length, ap, ◌∙◌, subst, arith, IfSome}
+use Rattle.std.proofs.Common.{length, ap, ◌∙◌, subst, arith}
 use Rattle.lit_base.specs.Literals.{Literals}
 use Rattle.nib_mask.specs.Fronts.{CoversFronts}
 use Rattle.nib_mask.specs.Halves.{widened}
@@ -11,11 +11,9 @@ invariant_of-self c =
     let same = c.list-list.ensures ∙ c.deref.ensures in
     let count = ap (λ (l : Literals). length l.texts) same in (
       c.self.invariant.0,
-      omega (arith, c.clamp-stride.ensures, c.self.invariant.0.some),
-      omega (arith, c.clamp-stride.ensures, c.self.invariant.0.some),
-      subst (λ (l : Literals). AreWindowed l c.clamp-stride.result c.mark_all.new.offsets.items c.mark_all.new.marks.items (length l.texts)) same c.mark_all.ensures,
-      subst (λ (l : Literals). IfSome c.masks_if-self-inside.result (λ masks. CoversFronts l (length l.texts) c.mark_all.new.offsets.items (widened masks))) same c.masks_if-self-inside.ensures.masks,
-      omega (arith, c.masks_if-self-inside.ensures.buckets, c.best_choice-choice.ensures.buckets, c.self.invariant.5),
+      subst (λ (l : Literals). AreWindowed l c.mark_all.new.offsets.items c.mark_all.new.marks.items (length l.texts)) same c.mark_all.ensures,
+      subst (λ (l : Literals). CoversFronts l (length l.texts) c.mark_all.new.offsets.items (widened c.masks_of-self-inside.result)) same c.masks_of-self-inside.ensures.masks,
+      omega (arith, c.masks_of-self-inside.ensures.buckets, c.self.invariant.3),
       omega (arith, c.count.ensures.fours),
       omega (arith, c.count.ensures.threes),
     )

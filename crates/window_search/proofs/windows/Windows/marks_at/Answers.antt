@@ -12,9 +12,9 @@ use Rattle.window_search.proofs.windows.Windows.marks_at.Goals as goal
 
 pub returns-then-at-lt-WIDTH : goal.returns-then-at-lt-WIDTH
 returns-then-at-lt-WIDTH c =
-    let w : Windowing = record { literals = c.self.inside.index.value; stride = c.self.inside.stride; offsets = c.self.inside.offsets.items } in
+    let w : Windowing = record { literals = c.self.inside.index.value; offsets = c.self.inside.offsets.items } in
     let marks = c.self.inside.marks.items in
     subst (λ (v : Windowing). AreMarks v c.args.text.now c.args.at c.marks_near_front.result) c.self.view_is
-    (marks_are w c.self.inside.shape marks c.args.text.now c.args.at c.marks_near_front.result c.self.invariant.0 c.self.invariant.3 (are_bytes c.args.text.now c.type_inv.text)
+    (marks_are w c.self.inside.least marks c.args.text.now c.args.at c.marks_near_front.result c.self.invariant.0 c.self.invariant.1 (are_bytes c.args.text.now c.type_inv.text)
     (λ width back enough most begins marked. c.marks_near_front.ensures width back enough begins
     (subst (λ (f : Fold). IsMarked marks (hash_of HASH_BITS (suffix_key f c.args.text.now c.args.at width)) back) (sym (c.fold.ensures ∙ ap (λ (l : Literals). l.folding) c.deref.ensures)) marked)))

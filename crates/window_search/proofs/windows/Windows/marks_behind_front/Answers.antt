@@ -8,13 +8,13 @@ use Rattle.list_index.specs.declared.suffixes.marks.TheConstants.{HASH_BITS}
 use Rattle.list_index.proofs.SuffixLemmas.{are_bytes}
 use Rattle.window_search.specs.Windows.{AreMarks, Windowing}
 use Rattle.window_search.proofs.WindowLemmas.{marks_are}
-use Rattle.window_search.proofs.windows.Windows.marks_by_widths.Goals as goal
+use Rattle.window_search.proofs.windows.Windows.marks_behind_front.Goals as goal
 
 pub returns : goal.returns
 returns c =
-    let w : Windowing = record { literals = c.self.inside.index.value; stride = c.self.inside.stride; offsets = c.self.inside.offsets.items } in
+    let w : Windowing = record { literals = c.self.inside.index.value; offsets = c.self.inside.offsets.items } in
     let marks = c.self.inside.marks.items in
     subst (λ (v : Windowing). AreMarks v c.args.text.now c.args.at c.marks_of_widths.result) c.self.view_is
-    (marks_are w c.self.inside.shape marks c.args.text.now c.args.at c.marks_of_widths.result c.self.invariant.0 c.self.invariant.3 (are_bytes c.args.text.now c.type_inv.text)
+    (marks_are w c.self.inside.least marks c.args.text.now c.args.at c.marks_of_widths.result c.self.invariant.0 c.self.invariant.1 (are_bytes c.args.text.now c.type_inv.text)
     (λ width back enough most begins marked. c.marks_of_widths.ensures width back enough most
     (subst (λ (f : Fold). IsMarked marks (hash_of HASH_BITS (suffix_key f c.args.text.now c.args.at width)) back) (sym (c.fold.ensures ∙ ap (λ (l : Literals). l.folding) c.deref.ensures)) marked)))

@@ -2,7 +2,7 @@
 use Rattle.std.proofs.Common.{ℕ, List, subst}
 use Rattle.nib_mask.specs.Fronts.{CoversFronts}
 use Rattle.nib_mask.specs.Halves.{widened}
-use Rattle.window_search.proofs.windows.masks_if.Goals as goal
+use Rattle.window_search.proofs.windows.masks_of.Goals as goal
 
 pub returns-clause-masks : goal.returns-clause-masks
 returns-clause-masks c =

@@ -1,7 +1,7 @@
 use Rattle.std.proofs.Common.{◌+◌, ◌-◌, ◌≤◌, length}
 use Rattle.lit_base.specs.NextEnds.{NoEndUpTo}
 use Rattle.window_search.specs.Windowed.{AreClaimed}
-use Rattle.window_search.proofs.claiming.sieve_ahead.Given as goal
+use Rattle.window_search.proofs.claiming.next_claims.Given as goal
 
 -- nothing ends in the blocks passed
 abbrev pub invariant-blocks-2 : goal.invariant-blocks-2
