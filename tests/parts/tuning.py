@@ -14,10 +14,7 @@ SHAPES = {
         "names.rt": {"STANDARD_NAME"},
         "searcher.rt": {"LEAST_READ_SIZE", "MOST_HELD", "NUMBER_SIZE", "READ_SIZE", "UNUSED"},
     },
-    "line_pick": {
-        "counting.rt": {"LANES", "STEPS", "STRETCH", "WIDE"},
-        "whole_lines.rt": {"LENGTHS", "SIZE"},
-    },
+    "line_pick": {"whole_lines.rt": {"LENGTHS", "SIZE"}},
     "lit_plan": {},
     "par_scan": {"parts.rt": {"MAX_WORKERS"}},
     "scan_core": {"few.rt": {"ROOM"}, "limits.rt": {"MAX_PLANS", "MAX_STREAMS"}},
@@ -30,6 +27,7 @@ SHAPES = {
     },
     "sieve_search": {},
     "text_ends": {},
+    "text_lines": {"counting.rt": {"LANES", "STEPS", "STRETCH", "WIDE"}},
     "text_search": {},
     "window_search": {
         "claiming.rt": {"BLOCK", "BLOCK_BITS", "FRONT", "STEP"},
@@ -44,9 +42,10 @@ SHAPES = {
 TUNED = {
     "byte_lanes": 5,
     "grep_run": 1,
-    "line_pick": 9,
+    "line_pick": 4,
     "scan_core": 1,
     "shift_search": 6,
+    "text_lines": 5,
     "text_search": 6,
     "window_search": 6,
 }

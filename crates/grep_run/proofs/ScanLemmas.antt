@@ -13,8 +13,8 @@ use Rattle.byte_io.specs.Devices as Devices
 use Rattle.byte_io.specs.declared.device.Failed.{Failed}
 use Rattle.lit_base.specs.Lines.{ended_lines, last_line, lines, open_rest}
 use Rattle.lit_base.proofs.EndedLemmas.{ended_lines-append, ended_lines-none, lines-ended_open, open_rest-apart, open_rest-append}
-use Rattle.line_pick.proofs.Crossing.{length-ended_lines}
-use Rattle.line_pick.proofs.Newlines.{open_rest-nil}
+use Rattle.line_pick.proofs.CutLemmas.{length-ended_lines}
+use Rattle.text_lines.proofs.Newlines.{open_rest-nil}
 use Rattle.std.proofs.lemmas.List.Elements.{All-nil}
 use Rattle.line_pick.specs.declared.state.State.TheVariants.{Running}
 use Rattle.line_pick.proofs.LentLemmas.{Lent-from_Lends, numbered-append}

@@ -2,19 +2,19 @@
 use Rattle.std.proofs.Common.{◌≡◌, ℕ, suc, ◌+◌, Bool, true, false, not, cond, List, [], ◌∷◌, ◌++◌, length, Some, None, get_or, refl, sym, ap, ◌∙◌, append-nil}
 use Rattle.std.specs.Option.{option_copied}
 use Rattle.std.proofs.lemmas.List.{length-append}
-use Rattle.lit_base.specs.Lines.{ended_lines, open_rest}
+use Rattle.lit_base.specs.Lines.{ended_lines}
 use Rattle.lit_base.specs.Literals.{Literals}
 use Rattle.lit_base.specs.Selected.{is_selected, matches}
 use Rattle.lit_base.specs.Folding.{folded_text}
 use Rattle.lit_base.proofs.MatchLemmas.{matching}
-use Rattle.lit_base.proofs.EndedLemmas.{ended_lines-append, ended_lines-newline, open_rest-append, open_rest-newline}
+use Rattle.lit_base.proofs.EndedLemmas.{ended_lines-append, ended_lines-newline}
 use Rattle.lit_plan.specs.Plans.{Plan}
 use Rattle.line_pick.specs.declared.matcher.Matcher.{Matcher}
-use Rattle.line_pick.specs.HitLines.{AllMiss, IsFirstHitLine}
+use Rattle.text_lines.specs.HitLines.{AllMiss, IsFirstHitLine}
 use Rattle.line_pick.specs.Lending.{numbered}
 use Rattle.line_pick.specs.Matching.{fold_of, literals_of, literals_and_null, picks}
 use Rattle.line_pick.proofs.LentLemmas.{numbered-append, numbered-cons, numbered-one, numbered-same}
-use Rattle.line_pick.proofs.Literals.{not_passed}
+use Rattle.text_lines.proofs.LiteralParts.{not_passed}
 use Rattle.line_pick.proofs.Patterns.{by_plan, no_plan, null-matches, null-misses, null-occurs}
 
 -- a test that fails, under invert or not
@@ -42,11 +42,6 @@ module _ {l : Literals} {rest missed line behind : List ℕ} (hit : IsFirstHitLi
   hit-lines =
       ap ended_lines hit.whole ∙ ended_lines-append missed (line ++ 10 ∷ behind) ∙ ap (λ r. ended_lines missed ++ ended_lines (r ++ (line ++ 10 ∷ behind))) hit.closed
       ∙ ap (λ ls. ended_lines missed ++ ls) (ended_lines-newline line behind hit.one)
-
-  -- what stands after is a text of ended lines too
-  pub hit-closed : open_rest rest ≡ [] → open_rest behind ≡ []
-  hit-closed closed =
-      sym (ap open_rest hit.whole ∙ open_rest-append missed (line ++ 10 ∷ behind) ∙ ap (λ r. open_rest (r ++ (line ++ 10 ∷ behind))) hit.closed ∙ open_rest-newline line behind hit.one) ∙ closed
 
   pub hit-length : length rest ≡ length missed + (length line + suc (length behind))
   hit-length = ap length hit.whole ∙ length-append missed (line ++ 10 ∷ behind) ∙ ap (λ n. length missed + n) (length-append line (10 ∷ behind))

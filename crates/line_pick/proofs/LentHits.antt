@@ -6,7 +6,7 @@ use Rattle.lit_plan.specs.Plans.{Plan}
 use Rattle.line_pick.specs.declared.fault.Fault.{Fault}
 use Rattle.line_pick.specs.declared.sink.Next.{Next}
 use Rattle.line_pick.specs.declared.sink.Next.TheVariants.{More}
-use Rattle.line_pick.specs.HitLines.{IsFirstHitLine}
+use Rattle.text_lines.specs.HitLines.{IsFirstHitLine}
 use Rattle.line_pick.specs.Lending.{Lent, as_numbered, numbered}
 use Rattle.line_pick.proofs.AroundHitLines.{hit-numbered}
 use Rattle.line_pick.proofs.LentLemmas.{LentOn, LentOn-front, LentOn-last}

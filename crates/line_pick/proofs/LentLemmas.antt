@@ -5,7 +5,7 @@ use Rattle.std.proofs.lemmas.List.{length-append}
 use Rattle.std.proofs.lemmas.List.Elements.{All-head, All-tail}
 use Rattle.lit_base.specs.Lines.{IsOnePiece, ended_lines}
 use Rattle.lit_base.proofs.EndedLemmas.{ended_lines-newline, ended_lines-none}
-use Rattle.line_pick.specs.Cutting.{IsFirstLine}
+use Rattle.text_lines.specs.Cutting.{IsFirstLine}
 use Rattle.line_pick.specs.declared.fault.Fault.{Fault}
 use Rattle.line_pick.specs.declared.fault.Fault.TheVariants.{OutOfMemory, StreamTooLong}
 use Rattle.line_pick.specs.declared.halt.Halt.{Halt}

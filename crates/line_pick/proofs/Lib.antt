@@ -1,14 +1,8 @@
 pub mod AroundHitLines
-pub mod BehindLines
-pub mod Counts
-pub mod Crossing
-pub mod HitLineLemmas
-pub mod LastNewline
+pub mod CutLemmas
 pub mod LentHits
 pub mod LentLemmas
 pub mod Literals
-pub mod NewlineMasks
-pub mod Newlines
 pub mod NumberLemmas
 pub mod OpenLemmas
 pub mod Patterns

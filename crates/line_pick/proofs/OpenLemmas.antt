@@ -21,8 +21,9 @@ use Rattle.text_ends.proofs.Occurring.{occurs_behind, occurs_in_front, occurs_in
 use Rattle.line_pick.specs.Lending.{numbered}
 use Rattle.line_pick.specs.Matching.{fold_of, literals_of, literals_and_null}
 use Rattle.line_pick.specs.OpenLines.{Decides, IsDecided, IsDecidingPart}
-use Rattle.line_pick.proofs.Literals.{end-from_match, match-from_end, not_passed, own_length, own_some}
-use Rattle.line_pick.proofs.Newlines.{one-append}
+use Rattle.line_pick.proofs.Literals.{end-from_match, match-from_end, own_length}
+use Rattle.text_lines.proofs.LiteralParts.{not_passed, own_some}
+use Rattle.text_lines.proofs.Newlines.{one-append}
 use Rattle.line_pick.proofs.Patterns.{null-matches, null-misses, null-occurs, no_plan}
 
 -- a line decides itself, and what decides a text that decides a line decides the line

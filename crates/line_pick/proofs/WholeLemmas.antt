@@ -5,9 +5,9 @@ use Rattle.lit_base.specs.Folding.{folded, folded_text}
 use Rattle.lit_base.specs.Literals.{Literals, IsNormal, literal_at}
 use Rattle.lit_base.specs.Selected.{matches}
 use Rattle.lit_base.proofs.MatchLemmas.{matching}
-use Rattle.line_pick.specs.Cutting.{StartsWith}
+use Rattle.text_lines.specs.Cutting.{StartsWith}
 use Rattle.line_pick.specs.WholeLines.{AreStartsOf, HasStart, start_of}
-use Rattle.line_pick.proofs.Literals.{not_passed, own_folded, own_some}
+use Rattle.text_lines.proofs.LiteralParts.{not_passed, own_folded, own_some}
 
 -- the first byte of a text that starts with a line of some bytes
 first-byte : (f : ℕ → ℕ) (text line : List ℕ) → StartsWith text line → 0 < length line → get_or (map f line) 0 0 ≡ f (get_or text 0 0)

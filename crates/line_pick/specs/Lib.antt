@@ -1,7 +1,5 @@
-pub mod Cutting
 pub mod Faults
 pub mod Feeding
-pub mod HitLines
 pub mod Lending
 pub mod Matching
 pub mod OpenLines

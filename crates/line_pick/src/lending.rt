@@ -3,15 +3,15 @@ ghost use Rattle.std.specs.Prelude.{◌≡◌, ◌≢◌, ◌≤◌, ◌<◌, �
 ghost use Rattle.std.specs.Option.{option_copied};
 ghost use Rattle.lit_base.specs.Lines.{ended_lines};
 ghost use Rattle.line_pick.specs.Lending.{Lent, answer_of, numbered};
-ghost use Rattle.line_pick.specs.Cutting.{StartsWith};
+ghost use Rattle.text_lines.specs.Cutting.{StartsWith};
 ghost use Rattle.line_pick.specs.Matching.{StandsForWhole, picks};
 
-use crate::cutting::{split_next_line, suits_masks};
 use crate::fault::Fault;
 use crate::halt::Halt;
 use crate::matcher::Matcher;
 use crate::sink::{Next, Sink};
 use crate::whole_lines::WholeLines;
+use text_lines::{split_next_line, suits_masks};
 
 /// Emits the selected lines among those that newlines end in the text. `before` lines stand before the text; returns
 /// how many lines there are by its end. Under -x the literals, where they are given, rule out most lines by their first

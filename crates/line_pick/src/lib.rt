@@ -1,12 +1,8 @@
 //! The selected lines of a text that comes in pieces, emitted one by one with their numbers.
 #![tactic(auto)]
 
-mod column;
-mod counting;
-mod cutting;
 mod fault;
 mod halt;
-mod hit_line;
 mod lending;
 mod line_rule;
 mod line_search;

@@ -6,11 +6,11 @@ ghost use Rattle.lit_base.specs.Selected.{matches};
 ghost use Rattle.line_pick.specs.Matching.{IsByPlan, literals_of, picks};
 ghost use Rattle.line_pick.specs.OpenLines.{IsDecided, IsDecidingPart, longest_in, longest_of, most_kept};
 
-use crate::hit_line::next_end;
 use crate::line_search::LineSearch;
 use crate::matcher::Matcher;
 use flow_scan::{Compiled, EndFinder, TextSearch};
 use lit_base::LitList;
+use text_lines::next_end;
 
 /// A part of a text, between two positions.
 #[derive(Drop)]

@@ -7,7 +7,6 @@ ghost use Rattle.line_pick.specs.Matching.{IsByPlan, picks};
 ghost use Rattle.line_pick.specs.OpenLines.{Decides, IsKept, Keeps, most_kept};
 ghost use Rattle.line_pick.specs.Progresses.{IsSound};
 
-use crate::cutting::{split_ended, split_line};
 use crate::fault::Fault;
 use crate::halt::Halt;
 use crate::lending::lend_selected;
@@ -17,6 +16,7 @@ use crate::open_line::{Part, deciding_part, is_decided, is_short};
 use crate::sink::Sink;
 use crate::text_lending::lend_text;
 use std::alloc::Global;
+use text_lines::{split_ended, split_line};
 
 /// The line that no newline has ended yet, and how far a text has come.
 #[derive(Debug, Drop)]

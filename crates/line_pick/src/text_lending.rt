@@ -5,11 +5,8 @@ ghost use Rattle.lit_base.specs.Selected.{is_selected, matches};
 ghost use Rattle.line_pick.specs.Lending.{Lent, answer_of, as_numbered, numbered};
 ghost use Rattle.line_pick.specs.Matching.{IsByPlan, picks};
 
-use crate::counting::count_newlines;
-use crate::cutting::has_short_lines;
 use crate::fault::Fault;
 use crate::halt::Halt;
-use crate::hit_line::HitLines;
 use crate::lending::{lend_if, lend_lines};
 use crate::line_rule::LineRule;
 use crate::line_search::LineSearch;
@@ -18,6 +15,7 @@ use crate::sink::Sink;
 use crate::tuning::{FEW_LITERALS, HIT_BYTES, MOST_HITS_IN_A_ROW, SHORT_LINE_HIT_BYTES};
 use crate::whole_lines::WholeLines;
 use flow_scan::Compiled;
+use text_lines::{HitLines, count_newlines, has_short_lines};
 
 /// Emits the selected lines among those that a newline ends in the text, by the method that should take less time.
 /// Returns how many lines there are by its end, if they are numbered; `before` lines stand before it. Without numbers,

@@ -9,15 +9,6 @@ pub(crate) const HIT_BYTES: usize = 256;
 /// Bytes. The same where lines are short: measured, a byte of them takes four times as long to split.
 pub(crate) const SHORT_LINE_HIT_BYTES: usize = 64;
 
-/// Bytes. Lines of fewer bytes are short: some of them end in the same 64 bytes. Not varied.
-pub(crate) const SHORT_LINE: usize = 16;
-
-/// Bytes at the start of a text that show how long its lines are. Not varied.
-pub(crate) const SAMPLE: usize = 1024;
-
-/// Newlines. If more of the sample's bytes are newlines, most lines are empty. How it was chosen is not recorded.
-pub(crate) const MOSTLY_EMPTY: usize = SAMPLE / 4 * 3;
-
 // Literals.
 
 /// Literals. A list of at most this length is searched for by two or three bytes of each, which is faster in any text
@@ -30,10 +21,3 @@ pub(crate) const FEW_LITERALS: usize = 3;
 /// Hits. After this many, with nothing passed over between them, the rest of a text is split line by line. Measured with
 /// 1,000 words, one in most lines: that is 16 times as fast. Not varied.
 pub(crate) const MOST_HITS_IN_A_ROW: usize = 16;
-
-/// Hits. A column is tried once this many more hits in a row had it. Not varied.
-pub(crate) const LEAST_TRUST: u8 = 2;
-
-/// Hits. The bound of trust: a column survives two lines in a row that are made otherwise, and is given up at the third.
-/// Not varied.
-pub(crate) const MOST_TRUST: u8 = 4;

@@ -1,7 +1,7 @@
 //! Which lines are literals as a whole.
 ghost use Rattle.std.specs.Prelude.{◌≡◌, ◌<◌, ℕ, false, length, slice_index_or, true};
 ghost use Rattle.lit_base.specs.Selected.{matches};
-ghost use Rattle.line_pick.specs.Cutting.{StartsWith};
+ghost use Rattle.text_lines.specs.Cutting.{StartsWith};
 ghost use Rattle.line_pick.specs.WholeLines.{HasStart, start_of};
 ghost use Rattle.line_pick.specs.declared.whole_lines.TheConstants.{LENGTHS};
 

@@ -3,7 +3,7 @@ use Rattle.std.proofs.Common.{refl, arith}
 use Rattle.std.proofs.lemmas.Result.{err_from_is_err_and}
 use Rattle.line_pick.specs.Matching.{picks}
 use Rattle.line_pick.proofs.LentLemmas.{Lent-lines, LentOn-more, LentOn-halted, LentOn-end, LentOn-none, count-none, count-first, length-first, answer_to-More, numbered-one}
-use Rattle.line_pick.proofs.NewlineMasks.{no-newlines}
+use Rattle.line_pick.proofs.CutLemmas.{no-newlines}
 use Rattle.line_pick.proofs.lending.lend_lines.Goals as goal
 
 pub loop-cut-init : goal.loop-cut-init

@@ -1,7 +1,7 @@
 -- Lines emitted of the rest are emitted of the text, and the lines of the rest are still to be counted.
 use Rattle.std.proofs.Common.{◌≡◌, ◌≤◌, ◌+◌, length}
 use Rattle.lit_base.specs.Lines.{ended_lines}
-use Rattle.line_pick.specs.Cutting.{AreNewlines}
+use Rattle.text_lines.specs.Cutting.{AreNewlines}
 use Rattle.line_pick.specs.Lending.{numbered}
 use Rattle.line_pick.specs.Matching.{picks}
 use Rattle.line_pick.proofs.LentLemmas.{LentOn}

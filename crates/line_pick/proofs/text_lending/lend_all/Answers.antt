@@ -6,7 +6,7 @@ use Rattle.line_pick.specs.declared.fault.Fault.{Fault}
 use Rattle.line_pick.specs.declared.sink.Next.{Next}
 use Rattle.line_pick.specs.declared.sink.Next.TheVariants.{More}
 use Rattle.line_pick.specs.Matching.{picks}
-use Rattle.line_pick.proofs.Crossing.{length-ended_lines}
+use Rattle.line_pick.proofs.CutLemmas.{length-ended_lines}
 use Rattle.line_pick.proofs.LentLemmas.{Lent-lines, numbered-none, numbered-same}
 use Rattle.line_pick.proofs.NumberLemmas.{Lent-taken}
 use Rattle.line_pick.proofs.text_lending.lend_all.Goals as goal

@@ -4,7 +4,7 @@ use Rattle.std.proofs.lemmas.Result.{IfOk-weaker, err_from_is_err_and}
 use Rattle.lit_base.specs.Lines.{ended_lines}
 use Rattle.lit_base.specs.Selected.{matches}
 use Rattle.lit_plan.specs.Plans.{Plan}
-use Rattle.line_pick.specs.HitLines.{AllMiss, HitSearch}
+use Rattle.text_lines.specs.HitLines.{AllMiss, HitSearch}
 use Rattle.line_pick.specs.Lending.{answer_of, as_numbered}
 use Rattle.line_pick.proofs.AroundHitLines.{hit-count, hit-length, missed-numbered}
 use Rattle.line_pick.proofs.LentHits.{LentOn-hit, hit-last, missed-last}

@@ -10,7 +10,8 @@ use Rattle.line_pick.specs.Matching.{picks}
 use Rattle.line_pick.specs.OpenLines.{Keeps, most_kept}
 use Rattle.line_pick.proofs.LentLemmas.{Lends-halted, Lends-held, Lends-join, Lends-lines, Lends-refused, Lent-from_Lends, Lent-lines, OnOk-any, answer_of-StreamTooLong, answer_to-More, count-first, count-none, numbered-first}
 use Rattle.line_pick.proofs.NumberLemmas.{Lends-same, Lends-taken, Lent-taken}
-use Rattle.line_pick.proofs.Newlines.{first-held, one-append, open_rest-first}
+use Rattle.line_pick.proofs.CutLemmas.{first-held, open_rest-first}
+use Rattle.text_lines.proofs.Newlines.{one-append}
 use Rattle.line_pick.proofs.progress.Progress.take.Goals as goal
 
 -- two answers have the same fault

@@ -8,7 +8,7 @@ use Rattle.line_pick.specs.Matching.{picks}
 use Rattle.line_pick.specs.OpenLines.{Keeps, most_kept}
 use Rattle.line_pick.specs.declared.line_search.LineSearch.{LineSearch}
 use Rattle.line_pick.proofs.LentLemmas.{Lent-lines, Lent-nothing, Lends-held, OnOk-any, answer_to-More}
-use Rattle.line_pick.proofs.Newlines.{ended_lines-cut, open_rest-cut, length-cut}
+use Rattle.line_pick.proofs.CutLemmas.{ended_lines-cut, open_rest-cut, length-cut}
 use Rattle.line_pick.proofs.progress.Progress.take_lines.Goals as goal
 
 pub lend_text-requires-clause-fits : goal.lend_text-requires-clause-fits

@@ -1,0 +1,114 @@
+-- Slices of a text of lines: one without a newline crosses none.
+use Rattle.std.proofs.Common.{◌≡◌, ◌≢◌, ℕ, ◌+◌, ◌<◌, ◌≤◌, Bool, true, false, cond, eqb, List, [], ◌∷◌, ◌++◌, length, All, ◌⊎◌, inl, inr, refl, sym, ap, ◌∙◌, subst, arith}
+use Rattle.std.specs.List.{onto_first}
+use Rattle.std.specs.Str.Iter.{HasSubslice}
+use Rattle.std.proofs.lemmas.Bool.{eqb-true}
+use Rattle.std.proofs.lemmas.List.Elements.{All-nil, All-cons, All-head, All-tail, All-weaker}
+use Rattle.lit_base.specs.Lines.{IsOnePiece, ended_lines, last_piece, open_rest, pieces}
+use Rattle.lit_base.proofs.EndedLemmas.{All-without_last}
+use Rattle.lit_base.proofs.PieceLemmas.{some_piece}
+
+-- a slice without a newline stands before a newline or after it
+pub crossing : (u v a t b : List ℕ) → IsOnePiece t → u ++ 10 ∷ v ≡ a ++ (t ++ b) → (length a + length t ≤ length u) ⊎ (length u < length a)
+crossing [] v [] [] b one e = inl (omega arith)
+crossing [] v [] (c ∷ t) b one e = let newline : c ≡ 10 = (cc) in absurd (All-head (λ x. x ≢ 10) c t one newline)
+crossing [] v (x ∷ a) t b one e = inr (omega arith)
+crossing (y ∷ u) v [] [] b one e = inl (omega arith)
+crossing (y ∷ u) v [] (c ∷ t) b one e =
+    let rest : u ++ 10 ∷ v ≡ [] ++ (t ++ b) = (cc) in
+    elim (crossing u v [] t b (All-tail (λ x. x ≢ 10) c t one) rest) [ inl before ↦ inl (omega (arith, before)) | inr behind ↦ absurd (omega (arith, behind)) ]
+crossing (y ∷ u) v (x ∷ a) t b one e =
+    let rest : u ++ 10 ∷ v ≡ a ++ (t ++ b) = (cc) in
+    elim (crossing u v a t b one rest) [ inl before ↦ inl (omega (arith, before)) | inr behind ↦ inr (omega (arith, behind)) ]
+
+-- the front of a text
+front_slice : (ys zs t b : List ℕ) → ys ++ zs ≡ t ++ b → length t ≤ length ys → (rest : List ℕ) × (ys ≡ t ++ rest)
+front_slice ys zs [] b e le = (ys, refl)
+front_slice [] zs (c ∷ t) b e le = absurd (omega (arith, le))
+front_slice (y ∷ ys) zs (c ∷ t) b e le =
+    let w = front_slice ys zs t b (cc) (omega (arith, le)) in
+    let same : y ≡ c = (cc) in
+    (w.0, ap (λ l. y ∷ l) w.1 ∙ ap (λ x. x ∷ (t ++ w.0)) same)
+
+-- a slice that lies in a front is a slice of it
+inner_slice : (ys zs a t b : List ℕ) → ys ++ zs ≡ a ++ (t ++ b) → length a + length t ≤ length ys → HasSubslice ys t
+inner_slice ys zs [] t b e le = let w = front_slice ys zs t b e (omega (arith, le)) in ([], w.0, w.1)
+inner_slice [] zs (x ∷ a) t b e le = absurd (omega (arith, le))
+inner_slice (y ∷ ys) zs (x ∷ a) t b e le = let w = inner_slice ys zs a t b (cc) (omega (arith, le)) in (y ∷ w.0, w.1, ap (λ l. y ∷ l) w.2)
+
+-- and a slice that lies in a middle part is a slice of that part
+pub middle_slice : (xs ys zs a t b : List ℕ) → xs ++ (ys ++ zs) ≡ a ++ (t ++ b) → length xs ≤ length a → length a + length t ≤ length xs + length ys → HasSubslice ys t
+middle_slice [] ys zs a t b e low high = inner_slice ys zs a t b e (omega (arith, high))
+middle_slice (x ∷ xs) ys zs [] t b e low high = absurd (omega (arith, low))
+middle_slice (x ∷ xs) ys zs (y ∷ a) t b e low high = middle_slice xs ys zs a t b (cc) (omega (arith, low)) (omega (arith, high))
+
+-- a text of ended lines is empty or ends in a newline: a byte in front
+closed_byte : (b : ℕ) (bs : List ℕ) (ps : List (List ℕ)) → pieces bs ≡ ps → last_piece (onto_first b ps) ≡ [] → last_piece ps ≡ []
+closed_byte b bs [] e closed = (cc)
+closed_byte b bs (p ∷ []) e closed = absurd (cc)
+closed_byte b bs (p ∷ q ∷ more) e closed = closed
+
+closed_behind : (b : ℕ) (bs : List ℕ) (here : Bool) → eqb b 10 ≡ here → 0 < length bs → last_piece (cond here ([] ∷ pieces bs) (onto_first b (pieces bs))) ≡ [] → last_piece (pieces bs) ≡ []
+closed_behind b bs true e some closed = by (pieces bs) (some_piece bs) closed
+  where
+    by : (ps : List (List ℕ)) → 0 < length ps → last_piece ([] ∷ ps) ≡ [] → last_piece ps ≡ []
+    by [] none h = absurd (omega arith)
+    by (p ∷ ps) none h = h
+closed_behind b bs false e some closed = closed_byte b bs (pieces bs) refl closed
+
+closed_one : (b : ℕ) (here : Bool) → eqb b 10 ≡ here → last_piece (cond here ([] ∷ [] ∷ []) ((b ∷ []) ∷ [])) ≡ [] → b ≡ 10
+closed_one b true e closed = eqb-true b 10 e
+closed_one b false e closed = absurd (cc)
+
+pub ends_in_newline : (text : List ℕ) → open_rest text ≡ [] → (text ≡ []) ⊎ ((front : List ℕ) × (text ≡ front ++ 10 ∷ []))
+unfolding open_rest
+ends_in_newline [] closed = inl refl
+ends_in_newline (b ∷ []) closed = inr ([], ap (λ x. x ∷ []) (closed_one b (eqb b 10) refl closed))
+ends_in_newline (b ∷ c ∷ cs) closed =
+    elim (ends_in_newline (c ∷ cs) (closed_behind b (c ∷ cs) (eqb b 10) refl (omega arith) closed)) [
+      | inl none ↦ absurd (cc)
+      | inr w ↦ inr (b ∷ w.0, ap (λ l. b ∷ l) w.1)
+    ]
+
+-- a slice of a text is one of a longer text
+further : (b : ℕ) (bs x : List ℕ) → HasSubslice bs x → HasSubslice (b ∷ bs) x
+further b bs x w = (b ∷ w.0, w.1, ap (λ l. b ∷ l) w.2)
+
+-- the first piece stands in front, and each piece is a slice
+record Sliced (text : List ℕ) (ps : List (List ℕ)) : Type 0 where
+  first : List ℕ
+  others : List (List ℕ)
+  rest : List ℕ
+  parts : ps ≡ first ∷ others
+  front : text ≡ first ++ rest
+  each : All (HasSubslice text) others
+
+sliced_more : (b : ℕ) (bs : List ℕ) (ps : List (List ℕ)) (here : Bool) → Sliced bs ps → Sliced (b ∷ bs) (cond here ([] ∷ ps) (onto_first b ps))
+sliced_more b bs ps true s = record {
+  first = [];
+  others = ps;
+  rest = b ∷ bs;
+  parts = refl;
+  front = refl;
+  each = subst (All (HasSubslice (b ∷ bs))) (sym s.parts) (All-cons (HasSubslice (b ∷ bs)) s.first s.others (b ∷ [], s.rest, ap (λ l. b ∷ l) s.front)
+      (All-weaker (HasSubslice bs) (HasSubslice (b ∷ bs)) (further b bs) s.others s.each));
+}
+sliced_more b bs ps false s = record {
+  first = b ∷ s.first;
+  others = s.others;
+  rest = s.rest;
+  parts = ap (onto_first b) s.parts;
+  front = ap (λ l. b ∷ l) s.front;
+  each = All-weaker (HasSubslice bs) (HasSubslice (b ∷ bs)) (further b bs) s.others s.each;
+}
+
+pieces-sliced : (text : List ℕ) → Sliced text (pieces text)
+pieces-sliced [] = record { first = []; others = []; rest = []; parts = refl; front = refl; each = All-nil (HasSubslice []) }
+pieces-sliced (b ∷ bs) = sliced_more b bs (pieces bs) (eqb b 10) (pieces-sliced bs)
+
+-- each ended line is a slice of the text
+pub ended_lines-slices : (text : List ℕ) → All (HasSubslice text) (ended_lines text)
+unfolding ended_lines
+ended_lines-slices text =
+    let s = pieces-sliced text in
+    All-without_last (HasSubslice text) (pieces text) (subst (All (HasSubslice text)) (sym s.parts) (All-cons (HasSubslice text) s.first s.others ([], s.rest, s.front) s.each))

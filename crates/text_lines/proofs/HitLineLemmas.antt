@@ -1,0 +1,177 @@
+-- The first line of a text that holds a literal, by the first place at which a literal ends.
+use Rattle.std.proofs.Common.{◌≡◌, ◌≢◌, ℕ, ◌+◌, ◌-◌, ◌<◌, ◌≤◌, true, false, List, [], ◌∷◌, ◌++◌, length, take, drop, map, All, inl, inr, refl, sym, ap, ◌∙◌, subst, append_assoc, append-nil, take-append-drop, arith}
+use Rattle.std.specs.Str.Iter.{HasSubslice}
+use Rattle.std.proofs.Math.Seq.{drop-append_seam, take-append_seam}
+use Rattle.std.proofs.lemmas.List.{append_cancel_left, map-append, length-map, length-append, length-take, length-drop}
+use Rattle.std.proofs.lemmas.List.Elements.{All-append, All-weaker}
+use Rattle.std.proofs.lemmas.Option.{get_or_from_slice_get, slice_get_within}
+use Rattle.lit_base.specs.declared.fold.Fold.{Fold}
+use Rattle.lit_base.specs.declared.fold.Fold.TheVariants.{No, Ascii}
+use Rattle.lit_base.specs.Folding.{folded, folded_text}
+use Rattle.lit_base.specs.Lines.{IsOnePiece, ended_lines, open_rest}
+use Rattle.lit_base.specs.Literals.{Literals, IsNormal}
+use Rattle.lit_base.specs.Selected.{Matches, matches}
+use Rattle.lit_base.proofs.MatchLemmas.{matching}
+use Rattle.lit_base.specs.Occurrences.{HasEnd}
+use Rattle.lit_base.specs.NextEnds.{IsNextEnd, NoEndAfter}
+use Rattle.text_lines.specs.Cutting.{IsFirstLine, IsLastCut}
+use Rattle.text_lines.specs.HitLines.{AllMiss, IsFirstHitLine}
+use Rattle.text_lines.proofs.Crossing.{crossing, ended_lines-slices, ends_in_newline, middle_slice}
+use Rattle.text_lines.proofs.LiteralParts.{not_passed, occurs-parts, own_folded, own_some, own, slice-occurs}
+use Rattle.text_lines.proofs.Newlines.{one-shorter, open_rest-ended, open_rest-nil}
+
+-- a newline stays one
+folded-10 : (fold : Fold) → folded fold 10 ≡ 10
+folded-10 No = refl
+folded-10 Ascii = refl
+
+-- a folded text round a newline
+pub map-newline : (fold : Fold) (front rest : List ℕ) → folded_text fold (front ++ 10 ∷ rest) ≡ folded_text fold front ++ 10 ∷ folded_text fold rest
+map-newline fold front rest = map-append (folded fold) front (10 ∷ rest) ∙ ap (λ b. folded_text fold front ++ b ∷ folded_text fold rest) (folded-10 fold)
+
+-- a text before the end of its first literal
+split_front : (text front tail missed head : List ℕ) (end : ℕ) → front ≡ take (end - 1) text → tail ≡ drop (end - 1) text → IsLastCut front missed head → text ≡ missed ++ (head ++ tail)
+split_front text front tail missed head end is_front is_tail cut =
+    sym (take-append-drop (end - 1) text) ∙ ap (λ u. u ++ drop (end - 1) text) (sym is_front ∙ cut.whole) ∙ ap (λ u. (missed ++ head) ++ u) (sym is_tail) ∙ append_assoc missed head tail
+
+-- the two parts of the line, before the end of a literal and from there on, lie in the text
+pub line-room : (text front tail missed head ending behind : List ℕ) (at : ℕ) → front ≡ take at text → tail ≡ drop at text → IsLastCut front missed head → IsFirstLine tail ending behind
+    → length missed + (length head + length ending) ≤ length text
+line-room text front tail missed head ending behind at is_front is_tail cut last =
+    omega (arith, ap length is_front, length-take at text, ap length is_tail, length-drop at text, ap length cut.whole, length-append missed head, ap length last.whole, length-append ending (10 ∷ behind))
+
+-- a line of two parts, where the newline stands after the second
+joined_line : (head tail ending behind rest line : List ℕ) → IsOnePiece head → IsFirstLine tail ending behind → rest ≡ head ++ tail → line ≡ take (length head + length ending) rest → IsFirstLine rest line behind
+joined_line head tail ending behind rest line one last is_rest is_line =
+    let whole : rest ≡ (head ++ ending) ++ 10 ∷ behind = is_rest ∙ ap (λ t. head ++ t) last.whole ∙ sym (append_assoc head ending (10 ∷ behind)) in
+    let same : line ≡ head ++ ending =
+    is_line ∙ ap (λ n. take n rest) (sym (length-append head ending)) ∙ ap (take (length (head ++ ending))) whole ∙ take-append_seam (head ++ ending) (10 ∷ behind) in
+    record {
+      one = subst IsOnePiece (sym same) (All-append (λ b. b ≢ 10) head ending one last.one);
+      whole = whole ∙ ap (λ t. t ++ 10 ∷ behind) (sym same);
+    }
+
+module _ (l : Literals) (normal : IsNormal l) where
+  -- a line that holds a literal has it where it stands in a text
+  end-in : (text line p q : List ℕ) → text ≡ p ++ (line ++ q) → Matches l.folding false l.texts line → (end : ℕ) × (0 < end) × (end ≤ length p + length line) × HasEnd l text end
+  end-in text line p q whole w =
+      let f = folded l.folding in
+      let t = w.1 in
+      let same = own_folded l normal line w.0 t w.2 w.3 in
+      let a = w.4.0 in
+      let b = w.4.1 in
+      let inner : map f line ≡ a ++ (t ++ b) = w.4.2 ∙ ap (λ u. a ++ (u ++ b)) same in
+      let parts : map f text ≡ (map f p ++ a) ++ (t ++ (b ++ map f q)) =
+      ap (map f) whole ∙ map-append f p (line ++ q) ∙ ap (λ u. map f p ++ u) (map-append f line q ∙ ap (λ u. u ++ map f q) inner)
+      ∙ ap (λ u. map f p ++ u) (append_assoc a (t ++ b) (map f q) ∙ ap (λ u. a ++ u) (append_assoc t b (map f q)))
+      ∙ sym (append_assoc (map f p) a (t ++ (b ++ map f q))) in
+      let long : length (map f p ++ a) ≡ length p + length a = length-append (map f p) a ∙ ap (λ n. n + length a) (length-map p f) in
+      let size : length line ≡ length a + (length t + length b) = sym (length-map line f) ∙ ap length inner ∙ length-append a (t ++ b) ∙ ap (λ n. length a + n) (length-append t b) in (
+        length (map f p ++ a) + length t,
+        omega (arith, own_some l normal line w.0 t w.2 w.3),
+        omega (arith, long, size),
+        (w.0, slice-occurs l text w.0 t (map f p ++ a) (b ++ map f q) (own l normal line w.0 t w.2 w.3) parts),
+      )
+
+  -- where no literal ends in a front of a text, no line that ends in it holds one
+  pub misses-front : (text front rest : List ℕ) → text ≡ front ++ rest → ((end : ℕ) → 0 < end → end ≤ length front → ¬ HasEnd l text end) → AllMiss l front
+  misses-front text front rest whole none =
+      All-weaker (HasSubslice front) (λ line. matches l.folding false l.texts line ≡ false) (λ line s. sym (not_passed (matches l.folding false l.texts line) (λ e.
+      let parts : text ≡ s.0 ++ (line ++ (s.1 ++ rest)) = whole ∙ ap (λ u. u ++ rest) s.2 ∙ append_assoc s.0 (line ++ s.1) rest ∙ ap (λ u. s.0 ++ u) (append_assoc line s.1 rest) in
+      let size : length front ≡ length s.0 + (length line + length s.1) = ap length s.2 ∙ length-append s.0 (line ++ s.1) ∙ ap (λ n. length s.0 + n) (length-append line s.1) in
+      let w = end-in text line s.0 (s.1 ++ rest) parts ((matching.matches l.folding false l.texts line).0 e) in
+      none w.0 w.1 (omega (arith, w.2, size)) w.3))) (ended_lines front) (ended_lines-slices front)
+
+  -- where none ends in the text, no line of it holds one
+  pub misses-all : (text : List ℕ) → NoEndAfter l text 0 → AllMiss l text
+  misses-all text none = misses-front text text [] (sym (append-nil text)) (λ end some within. none end some)
+
+  module _ (apart : All IsOnePiece l.texts) (text missed line rest head tail : List ℕ) (end : ℕ) (whole : text ≡ missed ++ (line ++ 10 ∷ rest)) (closed : open_rest missed ≡ [])
+      (front : text ≡ missed ++ (head ++ tail)) (one : IsOnePiece head) (size : length missed + length head + 1 ≡ end) where
+    -- the newline of the line stands after the end of a literal
+    line_end : length head ≤ length line
+    line_end = elim (crossing line rest [] head tail one (sym (append_cancel_left missed (head ++ tail) (line ++ 10 ∷ rest) (sym front ∙ whole)))) [
+      | inl before ↦ omega (arith, before)
+      | inr behind ↦ absurd (omega (arith, behind))
+    ]
+
+    -- and the line before begins before the literal
+    low_end : (a t b : List ℕ) → IsOnePiece t → length a + length t ≡ end → folded_text l.folding text ≡ a ++ (t ++ b) → length missed ≤ length a
+    low_end a t b single at parts = elim (ends_in_newline missed closed) [
+      | inl none ↦ let zero : length missed ≡ 0 = ap length none in omega (arith, zero)
+      | inr w ↦
+          let f = folded l.folding in
+          let cut : text ≡ w.0 ++ 10 ∷ (line ++ 10 ∷ rest) = whole ∙ ap (λ m. m ++ (line ++ 10 ∷ rest)) w.1 ∙ append_assoc w.0 (10 ∷ []) (line ++ 10 ∷ rest) in
+          let same : map f w.0 ++ 10 ∷ map f (line ++ 10 ∷ rest) ≡ a ++ (t ++ b) = sym (map-newline l.folding w.0 (line ++ 10 ∷ rest)) ∙ sym (ap (map f) cut) ∙ parts in
+          let long : length missed ≡ length w.0 + 1 = ap length w.1 ∙ length-append w.0 (10 ∷ []) in
+          let short : length (map f w.0) ≡ length w.0 = length-map w.0 f in
+          elim (crossing (map f w.0) (map f (line ++ 10 ∷ rest)) a t b single same) [
+            | inl before ↦ absurd (omega (arith, before, long, short, at, size))
+            | inr behind ↦ omega (arith, behind, long, short)
+          ]
+    ]
+
+    -- so it is a slice of the line
+    pub hit-line : HasEnd l text end → matches l.folding false l.texts line ≡ true
+    hit-line h =
+        let f = folded l.folding in
+        let o = h.1 in
+        let t = o.literal in
+        let p = occurs-parts l text h.0 end o in
+        let inside = slice_get_within l.texts h.0 t o.stands in
+        let here = get_or_from_slice_get l.texts h.0 t t o.stands in
+        let single : IsOnePiece t = subst IsOnePiece here (apart h.0 t inside) in
+        let low : length missed ≤ length p.before = low_end p.before t p.behind single p.at p.whole in
+        let cut : map f missed ++ (map f line ++ (10 ∷ map f rest)) ≡ p.before ++ (t ++ p.behind) =
+        ap (λ u. map f missed ++ u) (sym (map-newline l.folding line rest)) ∙ sym (map-append f missed (line ++ 10 ∷ rest)) ∙ sym (ap (map f) whole) ∙ p.whole in
+        let high : length p.before + length t ≤ length missed + length line =
+        elim (crossing (map f missed ++ map f line) (map f rest) p.before t p.behind single (append_assoc (map f missed) (map f line) (10 ∷ map f rest) ∙ cut)) [
+          | inl before ↦ omega (arith, before, length-append (map f missed) (map f line), length-map missed f, length-map line f)
+          | inr behind ↦ absurd (omega (arith, behind, length-append (map f missed) (map f line), length-map missed f, length-map line f, p.at, size, line_end, own_some l normal line h.0 t inside here))
+        ] in
+        let slice : HasSubslice (map f line) t = middle_slice (map f missed) (map f line) (10 ∷ map f rest) p.before t p.behind cut
+        (omega (arith, low, length-map missed f)) (omega (arith, high, length-map missed f, length-map line f)) in
+        let same = own_folded l normal line h.0 t inside here in
+        (matching.matches l.folding false l.texts line).1 (h.0, t, inside, here, (slice.0, slice.1, slice.2 ∙ ap (λ u. slice.0 ++ (u ++ slice.1)) (sym same)))
+
+  -- the line that holds the first end is the first that holds a literal: the bytes before that end, and up to the next
+  -- newline
+  pub first-hit : (apart : All IsOnePiece l.texts) (text front tail missed head ending rest line behind : List ℕ) (end : ℕ) → IsNextEnd l text 0 end → front ≡ take (end - 1) text → tail ≡ drop (end - 1) text
+      → IsLastCut front missed head → IsFirstLine tail ending behind → rest ≡ drop (length missed) text → line ≡ take (length head + length ending) rest → IsFirstHitLine l text missed line behind
+  first-hit apart text front tail missed head ending rest line behind end n is_front is_tail cut last is_rest is_line =
+      let parts = split_front text front tail missed head end is_front is_tail cut in
+      let later : rest ≡ head ++ tail = is_rest ∙ ap (drop (length missed)) parts ∙ drop-append_seam missed (head ++ tail) in
+      let first = joined_line head tail ending behind rest line cut.one last later is_line in
+      let whole : text ≡ missed ++ (line ++ 10 ∷ behind) = parts ∙ ap (λ u. missed ++ u) (sym later ∙ first.whole) in
+      let size : length missed + length head + 1 ≡ end = omega (arith, n.after, n.within, length-append missed head, ap length cut.whole, ap length is_front, length-take (end - 1) text) in
+      record {
+        whole = whole;
+        closed = cut.closed;
+        one = first.one;
+        misses = misses-front text missed (head ++ tail) parts (λ e some within. n.first e some (omega (arith, within, size)));
+        hit = hit-line apart text missed line behind head tail end whole cut.closed parts cut.one size n.here;
+      }
+
+  -- the first line is that line, where some literal ends in it
+  pub first-line-hit : (apart : All IsOnePiece l.texts) (text missed line behind : List ℕ) (end : ℕ) → 0 < end → HasEnd l text end → missed ≡ [] → IsFirstLine text line behind → end ≤ length line → IsFirstHitLine l text missed line behind
+  first-line-hit apart text missed line behind end some here none cut low =
+      let same : line ≡ take (length line) text = sym (ap (take (length line)) cut.whole ∙ take-append_seam line (10 ∷ behind)) in
+      let one : IsOnePiece (take (end - 1) text) = one-shorter text (end - 1) (length line) (omega arith) (subst IsOnePiece same cut.one) in
+      let long : length text ≡ length line + length (10 ∷ behind) = ap length cut.whole ∙ length-append line (10 ∷ behind) in
+      let size : 0 + length (take (end - 1) text) + 1 ≡ end = omega (arith, some, low, long, length-take (end - 1) text) in
+      subst (λ m. IsFirstHitLine l text m line behind) (sym none) (record {
+        whole = cut.whole;
+        closed = open_rest-nil;
+        one = cut.one;
+        misses = misses-front text [] text refl (λ e more within. absurd (omega (arith, more, within)));
+        hit = hit-line apart text [] line behind (take (end - 1) text) (drop (end - 1) text) end cut.whole open_rest-nil (sym (take-append-drop (end - 1) text)) one size here;
+      })
+
+  -- in a text of ended lines it has a newline
+  pub no-hit-open : (text front tail missed head : List ℕ) (end : ℕ) → IsNextEnd l text 0 end → front ≡ take (end - 1) text → tail ≡ drop (end - 1) text
+      → IsLastCut front missed head → IsOnePiece tail → open_rest text ≡ [] → ⊥
+  no-hit-open text front tail missed head end n is_front is_tail cut one closed =
+      let parts = split_front text front tail missed head end is_front is_tail cut in
+      let joined = All-append (λ b. b ≢ 10) head tail cut.one one in
+      let none : head ++ tail ≡ [] = sym (open_rest-ended missed (head ++ tail) cut.closed joined) ∙ sym (ap open_rest parts) ∙ closed in
+      omega (arith, ap length none, length-append head tail, ap length is_tail, length-drop (end - 1) text, n.after, n.within)
