@@ -6,7 +6,9 @@ use std::test::Fail;
 
 /// Whether the list of these literals has output links. Only memory can be wanting.
 fn has_links(alloc: Global, raw: &RawList) -> Result<bool, AllocError> {
-    let (list, _) = LitList::normal(alloc, raw, Fold::No).ok().ok_or(AllocError)?;
+    let (list, _) = LitList::normal(alloc, raw, Fold::No)
+        .ok()
+        .ok_or(AllocError)?;
     let index = ListIndex::new(alloc, list)?;
     Ok(index.extensions().is_some())
 }
