@@ -13,7 +13,6 @@ mod lent_files;
 #[cfg(test)]
 mod limits;
 #[cfg(test)]
-mod linking;
 #[cfg(test)]
 mod lit_lists;
 #[cfg(test)]

@@ -62,17 +62,15 @@ none_marked marks count number back zeros marked =
     omega (arith, ap (λ b. bit_at b back) byte, bit_at-zero back, marked)
 
 -- where a literal ends, the text's hash before it is marked
-pub marked-occurs : (l : Literals) (marks : SuffixMarks) (text : List ℕ) (place at back end : ℕ) → AreMarksOf l marks → AreBytes text → at + back ≡ end → back < 1 → 8 ≤ at → Occurs l text place end
-    → IsMarked marks.marks.items (hash_of HASH_BITS (bit_or (bit_and (spelled (slice_range text (at - 8) at)) marks.mask) marks.case_bits)) back
+pub marked-occurs : (l : Literals) (marks : SuffixMarks) (text : List ℕ) (place end : ℕ) → AreMarksOf l marks → AreBytes text → 8 ≤ end → Occurs l text place end
+    → IsMarked marks.marks.items (hash_of HASH_BITS (bit_or (bit_and (spelled (slice_range text (end - 8) end)) marks.mask) marks.case_bits)) 0
 unfolding suffix_key
-marked-occurs l marks text place at back end is bytes sum near room occurs =
+marked-occurs l marks text place end is bytes room occurs =
     let there = slice_get_within l.texts place occurs.literal occurs.stands in
-    let inside : at ≤ length text = omega (arith, occurs.ends) in
-    let before : end - back ≡ at = omega arith in
-    let word : ℕ = spelled (slice_range text (at - 8) at) in
-    let masks : bit_and word marks.mask ≡ spelled (replicate (8 - marks.width) 0 ++ slice_range text (at - marks.width) at) =
-    ap (bit_and word) is.mask ∙ masked text at marks.width word bytes is.narrow room inside (spelled_fits text at bytes room inside) refl in
-    let key : bit_or (bit_and word marks.mask) marks.case_bits ≡ suffix_key l.folding text at marks.width = λ i. bit_or (masks i) (is.case i) in
-    let literal = ap (λ n. suffix_key l.folding text n marks.width) (sym before)
-    ∙ key-occurs_inside l text place end marks.width back bytes is.narrow (omega (arith, is.wide place there)) occurs in
-    subst (λ k. IsMarked marks.marks.items (hash_of HASH_BITS k) back) (sym (key ∙ literal)) (is.marked place there back (omega arith) (omega (arith, near)))
+    let word : ℕ = spelled (slice_range text (end - 8) end) in
+    let masks : bit_and word marks.mask ≡ spelled (replicate (8 - marks.width) 0 ++ slice_range text (end - marks.width) end) =
+    ap (bit_and word) is.mask ∙ masked text end marks.width word bytes is.narrow room occurs.ends (spelled_fits text end bytes room occurs.ends) refl in
+    let key : bit_or (bit_and word marks.mask) marks.case_bits ≡ suffix_key l.folding text end marks.width = λ i. bit_or (masks i) (is.case i) in
+    let whole : end ≡ end - 0 = omega arith in
+    let literal = ap (λ n. suffix_key l.folding text n marks.width) whole ∙ key-occurs_inside l text place end marks.width 0 bytes is.narrow (omega (arith, is.wide place there)) occurs in
+    subst (λ k. IsMarked marks.marks.items (hash_of HASH_BITS k) 0) (sym (key ∙ literal)) (is.marked place there)

@@ -1,7 +1,7 @@
+pub mod Alone
 pub mod Chains
 pub mod Checks
 pub mod EndingCursors
 pub mod EndingViews
-pub mod Extensions
 pub mod Marks
 pub mod Suffixes

@@ -1,5 +1,5 @@
 -- Hash bits for the bytes shortly before literals' ends, which rule out positions where no literal ends.
-use Rattle.std.specs.Prelude.{◌≡◌, ℕ, ◌+◌, ◌-◌, ◌^◌, ◌<◌, ◌≤◌, List, length, slice_index}
+use Rattle.std.specs.Prelude.{◌≡◌, ℕ, ◌-◌, ◌^◌, ◌<◌, ◌≤◌, List, length, slice_index}
 use Rattle.std.specs.Int.{bit_at}
 use Rattle.lit_base.specs.declared.fold.Fold.{Fold}
 use Rattle.list_index.specs.declared.suffixes.marks.SuffixMarks.{SuffixMarks}
@@ -11,22 +11,20 @@ use Rattle.list_index.specs.declared.suffixes.marks.TheConstants.{HASH_BITS}
 abbrev pub IsMarked : List ℕ → ℕ → ℕ → Type 0
 IsMarked marks number back = bit_at (slice_index marks number) back ≡ 1
 
--- each of `stride` positions of a literal, the last one `offset` before its end, has the hash bit of the bytes before
--- it
-abbrev pub IsMarkedFor : List ℕ → Fold → List ℕ → ℕ → ℕ → ℕ → Type 0
-IsMarkedFor marks fold literal width offset stride = (back : ℕ) → offset ≤ back → back < offset + stride → IsMarked marks (hash_of HASH_BITS (suffix_key fold literal (length literal - back) width)) back
+-- a literal has the hash bit of the `width` bytes that stand `offset` before its end
+abbrev pub IsMarkedFor : List ℕ → Fold → List ℕ → ℕ → ℕ → Type 0
+IsMarkedFor marks fold literal width offset = IsMarked marks (hash_of HASH_BITS (suffix_key fold literal (length literal - offset) width)) offset
 
--- the number is the hash of the bytes of a literal before a position, of those this far before its end
-pub record IsMarkOf (fold : Fold) (literal : List ℕ) (width least below number back : ℕ) : Type 0 where
-  pub far : least ≤ back
-  pub near : back < below
-  pub hash : number ≡ hash_of HASH_BITS (suffix_key fold literal (length literal - back) width)
+-- the number and the bit are those of the `width` bytes that stand `offset` before a literal's end
+pub record IsMarkOf (fold : Fold) (literal : List ℕ) (width offset number back : ℕ) : Type 0 where
+  pub hash : number ≡ hash_of HASH_BITS (suffix_key fold literal (length literal - offset) width)
+  pub at : back ≡ offset
 
 -- the mark is that of the end of one of the first literals of a list
 pub record IsEndMark (l : Literals) (width count number back : ℕ) : Type 0 where
   pub place : ℕ
   pub within : place < count
-  pub is : IsMarkOf l.folding (literal_at l place) width 0 1 number back
+  pub is : IsMarkOf l.folding (literal_at l place) width 0 number back
 
 -- the end of each literal is marked, nothing else is, and there is room for every hash
 pub record AreMarksOf (l : Literals) (marks : SuffixMarks) : Type 0 where
@@ -36,5 +34,5 @@ pub record AreMarksOf (l : Literals) (marks : SuffixMarks) : Type 0 where
   pub case : marks.case_bits ≡ case_bits l.folding
   pub room : length marks.marks.items ≡ 2 ^ HASH_BITS
   pub wide : (place : ℕ) → place < length l.texts → marks.width ≤ length (literal_at l place)
-  pub marked : (place : ℕ) → place < length l.texts → IsMarkedFor marks.marks.items l.folding (literal_at l place) marks.width 0 1
+  pub marked : (place : ℕ) → place < length l.texts → IsMarkedFor marks.marks.items l.folding (literal_at l place) marks.width 0
   pub only : (number back : ℕ) → IsMarked marks.marks.items number back → IsEndMark l marks.width (length l.texts) number back

@@ -4,11 +4,11 @@ ghost use Rattle.std.specs.List.Sorted.{IsNonDecreasing};
 ghost use Rattle.lit_base.specs.Literals.{lengths, IsNormal};
 ghost use Rattle.lit_base.specs.NextEnds.{NoEndUpTo};
 ghost use Rattle.lit_base.specs.Occurrences.{IsFirstEnding, NoneEnds, Occurs};
-ghost use Rattle.list_index.specs.Extensions.{AreExtensions};
+ghost use Rattle.list_index.specs.Alone.{IsAlone};
 ghost use Rattle.lit_base.specs.declared.limits.TheConstants.{MAX_LITERALS};
 
+use crate::alone::ends_alone;
 use crate::endings::Endings;
-use crate::extensions::Extensions;
 use crate::suffixes::Suffixes;
 use lit_base::{Fold, LitList};
 use std::alloc::{AllocError, Global};
@@ -21,25 +21,25 @@ use std::sync::Arc;
 pub struct ListIndex {
     pub(crate) list: LitList,
     pub(crate) suffixes: Suffixes,
-    extensions: Option<Extensions>,
+    /// For each literal, whether it ends alone.
+    alone: Vec<bool>,
 }
 
 impl Model for ListIndex {
     ghost use Rattle.lit_base.specs.Literals.{Literals, IsNormal};
     ghost use Rattle.list_index.specs.Checks.{AreSuffixesOf};
-    ghost use Rattle.list_index.specs.Extensions.{AreExtensions};
-    ghost use Rattle.std.specs.Prelude.{IfSome};
+    ghost use Rattle.list_index.specs.Alone.{SayAlone};
 
     ghost Value = { Literals };
 
     ghost view = { λ x. x.list };
 
     ghost invariant = { λ x. IsNormal x.list × AreSuffixesOf x.list x.suffixes
-        × IfSome x.extensions (λ found. AreExtensions x.list found.heads found.links) };
+        × SayAlone x.list x.alone.items };
 }
 
 impl ListIndex {
-    /// The index of a list, which a plan and its engines share. It takes 76 KiB, and memory for each literal. `Err` if
+    /// The index of a list, which a plan and its engines share. It takes 72 KiB, and memory for each literal. `Err` if
     /// memory is short.
     pub fn new(alloc: Global, list: LitList) -> Result<Arc<ListIndex>, AllocError>
         ensures { IfOk result (λ index. index.value ≡ list) }
@@ -53,13 +53,12 @@ impl ListIndex {
     {
         list.normal_law();
         let suffixes = Suffixes::new(alloc, &list)?;
-        let mut index = ListIndex {
+        let alone = ends_alone(alloc, &list, &suffixes)?;
+        Ok(ListIndex {
             list,
             suffixes,
-            extensions: None,
-        };
-        index.extensions = Extensions::of(&index);
-        Ok(index)
+            alone,
+        })
     }
 
     /// The list.
@@ -195,12 +194,13 @@ impl ListIndex {
         }
     }
 
-    /// The output links of the list, if it has them.
+    /// Whether no other literal ends where the one at a place is the first to end, in any text.
     #[inline]
-    pub fn extensions(&self) -> Option<&Extensions>
-        ensures { IfSome result (λ found. AreExtensions self.now found.now.heads found.now.links) }
+    pub fn ends_alone(&self, place: usize) -> bool
+        requires { place < length self.now.texts }
+        ensures { IsTrue result ↔ IsAlone self.now place }
     {
-        self.extensions.as_ref()
+        self.alone[place]
     }
 
     /// A position from `from` on up to which no literal can end, since each is longer. A search that begins there skips

@@ -1,11 +1,10 @@
 //! The hits at a position of a text at which some literal ends.
 ghost use Rattle.std.specs.Prelude.{◌≡◌, ◌+◌, ◌<◌, ◌≤◌, OnOk, length};
-ghost use Rattle.list_index.specs.Extensions.{AreExtensions};
 ghost use Rattle.lit_base.specs.Occurrences.{IsFirstEnding};
 ghost use Rattle.text_ends.specs.HitsAt.{Extends, GainsHitsAt};
 
 use crate::hit::Hit;
-use list_index::{Extensions, ListIndex};
+use list_index::ListIndex;
 use std::alloc::AllocError;
 
 /// Adds the hits at `end`, counted as `at`. The first literal that ends there is `first`. When memory is refused,
@@ -25,40 +24,14 @@ pub fn add_hits_at(
     ensures few { OnOk result (length out.new.items ≤ length out.old.items + length list.now.texts) }
     ensures kept { Extends out.old.items out.new.items }
 {
-    match list.extensions() {
-        Some(extensions) => add_extending(list, extensions, text, end, first, at, out),
-        None => add_all_at(list, text, end, first, at, out),
+    if list.ends_alone(first) {
+        out.push(hit_of(list, first, at))?;
+        return Ok(());
     }
+    add_all_at(list, text, end, first, at, out)
 }
 
-/// As `add_hits_at`, by the output links.
-#[inline]
-fn add_extending(
-    list: &ListIndex,
-    extensions: &Extensions,
-    text: &[u8],
-    end: usize,
-    first: usize,
-    at: u64,
-    out: &mut Vec<Hit>,
-) -> Result<(), AllocError>
-    requires of { AreExtensions list.now extensions.now.heads extensions.now.links }
-    requires inside { end ≤ length text.now }
-    requires first { IsFirstEnding list.now text.now 0 end first }
-    ensures ok { OnOk result (GainsHitsAt list.now text.now end at out.old.items out.new.items) }
-    ensures few { OnOk result (length out.new.items ≤ length out.old.items + length list.now.texts) }
-    ensures kept { Extends out.old.items out.new.items }
-{
-    out.push(hit_of(list, first, at))?;
-    let mut last = first;
-    while let Some(place) = extensions.next_ending(list, text, end, last) {
-        out.push(hit_of(list, place, at))?;
-        last = place;
-    }
-    Ok(())
-}
-
-/// As `add_hits_at`, without output links.
+/// As `add_hits_at`, where other literals may end too.
 #[inline(never)]
 fn add_all_at(
     list: &ListIndex,

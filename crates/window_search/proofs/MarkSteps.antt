@@ -14,41 +14,29 @@ shifted_bit n by i =
     let sum : by + suc i ≡ by + 1 + i = omega arith in
     sym (bit_at-suc (n / 2 ^ by) i) ∙ ap (λ x. x % 2) (shr-shr n by (suc i)) ∙ ap (bit_at n) sum
 
--- a search has reached a bit: each remaining position of interest has one
-module _ (P : ℕ → Type 0) (back rest : ℕ) (left : (other : ℕ) → P other → (back ≤ other) × (bit_at rest (other - back) ≡ 1))
+-- a search has reached a bit: each remaining end has one
+module _ (l : Literals) (text : List ℕ) (seen count back rest : ℕ) (marked : (other : ℕ) → other < count → HasEnd l text (seen + 1 + other) → (back ≤ other) × (bit_at rest (other - back) ≡ 1))
     (low : ℕ) (quiet : (i : ℕ) → i < low → bit_at rest i ≡ 0) where
   -- before the lowest bit there is none
-  pub first_left : (other : ℕ) → P other → back + low ≤ other
-  first_left other here =
-      let at = left other here in
+  pub marked_first : (other : ℕ) → other < count → HasEnd l text (seen + 1 + other) → back + low ≤ other
+  marked_first other near here =
+      let at = marked other near here in
       elim (cases_lt other (back + low)) [
         | inl sooner ↦ absurd (omega (arith, at.1, quiet (other - back) (omega (arith, at.0, sooner))))
         | inr later ↦ later
       ]
 
   -- if there is none there either, the bits above remain
-  pub left_behind : ¬ P (back + low) → (other : ℕ) → P other → (back + low + 1 ≤ other) × (bit_at (rest / 2 ^ low / 2) (other - (back + low + 1)) ≡ 1)
-  left_behind none other here =
-      let ahead = first_left other here in
-      let behind : back + low < other = elim (cases_lt (back + low) other) [
-        | inl later ↦ later
-        | inr same ↦ let there : other ≡ back + low = omega (arith, same, ahead) in absurd (none (subst P there here))
-      ] in
-      let place : low + 1 + (other - (back + low + 1)) ≡ other - back = omega (arith, behind) in
-      (omega (arith, behind), shifted_bit rest low (other - (back + low + 1)) ∙ ap (bit_at rest) place ∙ (left other here).1)
-
--- likewise where the positions of interest are the ends
-module _ (l : Literals) (text : List ℕ) (seen count back rest : ℕ) (marked : (other : ℕ) → other < count → HasEnd l text (seen + 1 + other) → (back ≤ other) × (bit_at rest (other - back) ≡ 1))
-    (low : ℕ) (quiet : (i : ℕ) → i < low → bit_at rest i ≡ 0) where
-  abbrev ends_within : ℕ → Type 0
-  ends_within other = (other < count) × HasEnd l text (seen + 1 + other)
-
-  pub marked_first : (other : ℕ) → other < count → HasEnd l text (seen + 1 + other) → back + low ≤ other
-  marked_first other near here = first_left ends_within back rest (λ o is. marked o is.0 is.1) low quiet other (near, here)
-
   pub marked_behind : ¬ HasEnd l text (seen + 1 + (back + low)) → (other : ℕ) → other < count → HasEnd l text (seen + 1 + other)
       → (back + low + 1 ≤ other) × (bit_at (rest / 2 ^ low / 2) (other - (back + low + 1)) ≡ 1)
-  marked_behind none other near here = left_behind ends_within back rest (λ o is. marked o is.0 is.1) low quiet (λ is. none is.1) other (near, here)
+  marked_behind none other near here =
+      let ahead = marked_first other near here in
+      let behind : back + low < other = elim (cases_lt (back + low) other) [
+        | inl later ↦ later
+        | inr same ↦ let there : other ≡ back + low = omega (arith, same, ahead) in absurd (none (subst (λ o. HasEnd l text (seen + 1 + o)) there here))
+      ] in
+      let place : low + 1 + (other - (back + low + 1)) ≡ other - back = omega (arith, behind) in
+      (omega (arith, behind), shifted_bit rest low (other - (back + low + 1)) ∙ ap (bit_at rest) place ∙ (marked other near here).1)
 
 -- bits are combined with others that are shifted above them, in a word
 module _ (marks more at back : ℕ) (short : back < 64) where

@@ -36,7 +36,7 @@ module _ (l : Literals) (marks text : List ℕ) (place at width offset : ℕ) (i
       let key : suffix_key l.folding text at width ≡ suffix_key l.folding (literal_at l place) (length (literal_at l place) - offset) width =
       ap (λ n. suffix_key l.folding text n width) (sym before)
       ∙ key-occurs_inside l text place (at + offset) width offset bytes narrow is.wide occurs in
-      subst (λ k. IsMarked marks (hash_of HASH_BITS k) offset) (sym key) (is.marked offset (omega arith) (omega arith))
+      subst (λ k. IsMarked marks (hash_of HASH_BITS k) offset) (sym key) is.marked
 
 -- the key of the bytes before a position, four of which were read as a word after zeros
 pub word_key : (fold : Fold) (text : List ℕ) (at width word bits : ℕ) → AreBytes text → width ≤ 4 → 4 ≤ at → at ≤ length text → word ≡ spelled (replicate 4 0 ++ slice_range text (at - 4) at) → bits ≡ case_bits fold

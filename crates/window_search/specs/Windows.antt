@@ -33,13 +33,13 @@ AreMarks w text at marks = (place : ℕ) → Occurs w.literals text place (at + 
 pub record IsWindowed (l : Literals) (marks : List ℕ) (place width offset : ℕ) : Type 0 where
   pub near : offset < 8
   pub wide : width + offset ≤ length (literal_at l place)
-  pub marked : IsMarkedFor marks l.folding (literal_at l place) width offset 1
+  pub marked : IsMarkedFor marks l.folding (literal_at l place) width offset
 
 -- the hash bit is that of the factor of one of the first literals of a list
 pub record IsFactorMark (l : Literals) (offsets : List ℕ) (count number back : ℕ) : Type 0 where
   pub place : ℕ
   pub within : place < count
-  pub is : IsMarkOf l.folding (literal_at l place) (width_at l place) (slice_index offsets place) (slice_index offsets place + 1) number back
+  pub is : IsMarkOf l.folding (literal_at l place) (width_at l place) (slice_index offsets place) number back
 
 -- each literal before a place has its hash bit, and no other bit is set
 pub record AreWindowed (l : Literals) (offsets marks : List ℕ) (count : ℕ) : Type 0 where

@@ -13,8 +13,7 @@ use text_ends::EndRate;
 /// Chooses for each literal the factor with the rarest last three bytes. Measured: lists of ten words of a text have up
 /// to sixty times fewer candidates than with the rarest whole factors.
 pub(crate) fn choose_offsets(list: &LitList, counts: &Counts, offsets: &mut Vec<u8>)
-    requires fours { vec_len counts.now.fours ≡ 2 ^ HASH_BITS }
-    requires threes { vec_len counts.now.threes ≡ 2 ^ HASH_BITS }
+    requires counts { vec_len counts.now.threes ≡ 2 ^ HASH_BITS }
     requires offsets { vec_len offsets.old ≡ length list.now.texts }
     ensures { vec_len offsets.new ≡ vec_len offsets.old }
 {

@@ -1,4 +1,4 @@
-//! Counts how often factors occur in texts, by their hashes.
+//! Counts how often the last three bytes of factors occur in texts, by their hashes.
 ghost use Rattle.std.specs.Prelude.{◌≡◌, ◌^◌, ◌<◌, ◌≤◌, IfOk, length, vec_capacity, vec_len};
 ghost use Rattle.list_index.specs.declared.suffixes.marks.TheConstants.{HASH_BITS};
 
@@ -17,44 +17,33 @@ pub(crate) const NEVER: u32 = 1 << 28;
 /// The masks see this many bytes of a factor.
 const SIEVED: usize = 3;
 
-/// How often factors of four bytes, and the last three bytes of factors, occurred in samples of texts. Each new sample
-/// halves the older counts. There is room for all counts from the start, but they are written only with the first
-/// sample.
+/// How often three bytes in a row occurred in samples of texts. Each new sample halves the older counts. There is room for
+/// all counts from the start, but they are written only with the first sample.
 #[derive(Debug, Drop)]
 pub(crate) struct Counts {
-    pub fours: Vec<u16>,
     pub threes: Vec<u16>,
 }
 
 impl Counts {
     /// The counts of no text.
     pub fn new(alloc: Global) -> Result<Counts, AllocError>
-        ensures fours { IfOk result (λ counts. 2 ^ HASH_BITS ≤ vec_capacity counts.fours) }
-        ensures threes { IfOk result (λ counts. 2 ^ HASH_BITS ≤ vec_capacity counts.threes) }
+        ensures { IfOk result (λ counts. 2 ^ HASH_BITS ≤ vec_capacity counts.threes) }
     {
-        let fours = Vec::with_capacity(alloc, 1 << HASH_BITS)?;
         let threes = Vec::with_capacity(alloc, 1 << HASH_BITS)?;
-        Ok(Counts { fours, threes })
+        Ok(Counts { threes })
     }
 
-    /// Halves the counts, and counts the factors of a sample.
+    /// Halves the counts, and counts a sample.
     pub fn count(&mut self, list: &LitList, sample: &[u8])
-        requires fours { 2 ^ HASH_BITS ≤ vec_capacity self.old.fours }
-        requires threes { 2 ^ HASH_BITS ≤ vec_capacity self.old.threes }
-        ensures fours { vec_len self.new.fours ≡ 2 ^ HASH_BITS }
-        ensures threes { vec_len self.new.threes ≡ 2 ^ HASH_BITS }
+        requires { 2 ^ HASH_BITS ≤ vec_capacity self.old.threes }
+        ensures { vec_len self.new.threes ≡ 2 ^ HASH_BITS }
     {
-        let case_bits = case_bits(list.fold());
-        halve(&mut self.fours);
-        count_windows(&mut self.fours, WIDTH, case_bits, sample);
         halve(&mut self.threes);
-        count_windows(&mut self.threes, SIEVED, case_bits, sample);
+        count_sample(&mut self.threes, case_bits(list.fold()), sample);
     }
 
-    /// How often the last three bytes of each of a literal's last factors occurred. The count of the whole factor decides
-    /// between equals.
+    /// How often the last three bytes of each of a literal's last factors occurred.
     pub fn of_literal(&self, list: &LitList, place: usize) -> [u32; 8]
-        requires fours { vec_len self.now.fours ≡ 2 ^ HASH_BITS }
         requires threes { vec_len self.now.threes ≡ 2 ^ HASH_BITS }
         requires within { place < length list.now.texts }
     {
@@ -63,10 +52,8 @@ impl Counts {
         for back in 0..OFFSETS {
             if WIDTH + back <= literal.len() {
                 let end = literal.len() - back;
-                let three = hash_of(HASH_BITS, suffix_key(list.fold(), literal, end, SIEVED));
-                let four = hash_of(HASH_BITS, suffix_key(list.fold(), literal, end, WIDTH));
-                let whole = u32::from(self.fours[four]).min(1023);
-                found[back] = u32::from(self.threes[three]) * 1024 + whole;
+                let number = hash_of(HASH_BITS, suffix_key(list.fold(), literal, end, SIEVED));
+                found[back] = u32::from(self.threes[number]);
             }
         }
         found
@@ -85,15 +72,13 @@ fn halve(counts: &mut Vec<u16>)
     }
 }
 
-/// Counts each factor of `width` bytes in a sample that has at least eight bytes up to its end.
-fn count_windows(counts: &mut Vec<u16>, width: usize, case_bits: u64, sample: &[u8])
-    requires room { vec_len counts.old ≡ 2 ^ HASH_BITS }
-    requires some { 0 < width }
-    requires narrow { width ≤ 8 }
+/// Counts each three bytes of a sample that have at least eight bytes up to their end.
+fn count_sample(counts: &mut Vec<u16>, case_bits: u64, sample: &[u8])
+    requires { vec_len counts.old ≡ 2 ^ HASH_BITS }
     ensures { vec_len counts.new ≡ vec_len counts.old }
 {
     for end in 8..sample.len() {
-        let key = (last_word(sample, end) & last_bits(width)) | case_bits;
+        let key = (last_word(sample, end) & last_bits(SIEVED)) | case_bits;
         let number = hash_of(HASH_BITS, key);
         counts[number] = counts[number].saturating_add(1);
     }

@@ -37,14 +37,14 @@ fn mark_one(list: &LitList, place: usize, offsets: &mut Vec<u8>, marks: &mut Vec
     ensures kept { (number back : ℕ) → IsMarked marks.old.items number back → IsMarked marks.new.items number back }
     ensures windowed { IsWindowed list.now marks.new.items place (width_at list.now place) (slice_index offsets.new.items place) }
     ensures only { (number back : ℕ) → IsMarked marks.new.items number back
-        → (IsMarked marks.old.items number back) ⊎ IsMarkOf list.now.folding (literal_at list.now place) (width_at list.now place) (slice_index offsets.new.items place) (slice_index offsets.new.items place + 1) number back }
+        → (IsMarked marks.old.items number back) ⊎ IsMarkOf list.now.folding (literal_at list.now place) (width_at list.now place) (slice_index offsets.new.items place) number back }
 {
     let literal = list.get(place);
     let width = width_of(list, place);
     let room = (literal.len() - width).min(MOST_OFFSET);
     let offset = usize::from(offsets[place]).min(room);
     offsets[place] = offset as u8;
-    mark_literal(marks, list.fold(), literal, width, offset, 1);
+    mark_literal(marks, list.fold(), literal, width, offset);
 }
 
 /// Clears all hash bits.

@@ -60,7 +60,7 @@ impl Model for Windows {
         × AreWindowed w.index.value w.offsets.items w.marks.items (length w.index.value.texts)
         × CoversFronts w.index.value (length w.index.value.texts) w.offsets.items (widened w.masks)
         × (vec_len w.buckets ≡ length w.index.value.texts)
-        × (2 ^ HASH_BITS ≤ vec_capacity w.counts.fours) × (2 ^ HASH_BITS ≤ vec_capacity w.counts.threes) };
+        × (2 ^ HASH_BITS ≤ vec_capacity w.counts.threes) };
 }
 
 impl Windows {

@@ -277,13 +277,13 @@ fn finds_them_in_texts_of_few_bytes(rt: HostRuntime) {
     );
 }
 
-/// Whether a finder that finds nothing in a text, twice, has left the plan then.
-pub(super) fn leaves_the_plan(compiled: &Compiled, finder: &mut EndFinder, text: &[u8]) -> bool
+/// Whether a finder that finds nothing in a text, twice, searches by factors then.
+pub(super) fn goes_over_to_factors(compiled: &Compiled, finder: &mut EndFinder, text: &[u8]) -> bool
     requires { finder.old ≡ compiled.now.literals }
 {
     let first = finder.next_end(compiled, text, 0);
     let second = finder.next_end(compiled, text, 0);
-    first.is_none() && second.is_none() && finder.engine() != Engine::Plan
+    first.is_none() && second.is_none() && finder.engine() == Engine::Windows
 }
 
 /// Literals whose last bytes do not show which of them a text has.
@@ -299,13 +299,13 @@ fn near_misses(alloc: Global) -> Option<Vec<u8>> {
 }
 
 /// Whether it does for these literals.
-fn leaves_near_misses(alloc: Global) -> Option<bool> {
+fn goes_over_at_near_misses(alloc: Global) -> Option<bool> {
     let text = near_misses(alloc)?;
     let compiled = plan_of(alloc, &LONG_WORDS)?;
     agrees(alloc, &compiled, &text, How::NearMisses)
 }
 
 #[test]
-fn leaves_the_plan_where_false_positives_are_many(rt: HostRuntime) {
-    assert_eq!(rt; leaves_near_misses(rt.alloc()), Some(true));
+fn searches_by_factors_where_false_positives_are_many(rt: HostRuntime) {
+    assert_eq!(rt; goes_over_at_near_misses(rt.alloc()), Some(true));
 }

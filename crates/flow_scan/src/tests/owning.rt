@@ -3,7 +3,7 @@
 ghost use Rattle.std.specs.Prelude.{◌≡◌};
 
 use crate::tests::choosing::changes_the_same;
-use crate::tests::finding::{find_the_same, leaves_the_plan};
+use crate::tests::finding::{find_the_same, goes_over_to_factors};
 use crate::tests::going_on::go_on_the_same;
 use crate::tests::scanned::scans_the_same;
 use crate::tests::streamed::{feed_the_same, learns_in_pieces};
@@ -53,6 +53,6 @@ fn agrees_by(
         How::Stream => feed_the_same(alloc, compiled, finder, text),
         How::StreamTuned(size) => learns_in_pieces(alloc, compiled, finder, text, size),
         How::Changing(seed) => changes_the_same(alloc, compiled, finder, text, seed),
-        How::NearMisses => Some(leaves_the_plan(compiled, finder, text)),
+        How::NearMisses => Some(goes_over_to_factors(compiled, finder, text)),
     }
 }

@@ -35,7 +35,7 @@ impl SuffixMarks {
         let fold = list.fold();
         let mut marks = Vec::from_elem(alloc, 0, 1 << HASH_BITS)?;
         for place in 0..list.len() {
-            mark_literal(&mut marks, fold, list.get(place), width, 0, 1);
+            mark_literal(&mut marks, fold, list.get(place), width, 0);
         }
         Ok(SuffixMarks {
             width,
@@ -84,31 +84,27 @@ pub(crate) fn marked_len(list: &LitList) -> usize
     list.shortest().min(8)
 }
 
-/// Sets the hash bits of `stride` positions of a literal, from `offset` before its end backwards, each by the hash of
-/// the `width` bytes before the position.
+/// Sets the hash bit of a literal by the `width` bytes that stand `offset` before its end.
 pub fn mark_literal(
     marks: &mut Vec<u8>,
     fold: Fold,
     literal: &[u8],
     width: usize,
     offset: usize,
-    stride: usize,
 )
     requires some { 0 < width }
     requires narrow { width ≤ 8 }
-    requires short { offset + stride ≤ 8 }
-    requires long { width + offset + stride ≤ length literal.now + 1 }
+    requires near { offset < 8 }
+    requires long { width + offset ≤ length literal.now }
     requires room { vec_len marks.old ≡ 2 ^ HASH_BITS }
     ensures len { vec_len marks.new ≡ vec_len marks.old }
-    ensures marked { IsMarkedFor marks.new.items fold literal.now width offset stride }
+    ensures marked { IsMarkedFor marks.new.items fold literal.now width offset }
     ensures kept { (number back : ℕ) → IsMarked marks.old.items number back → IsMarked marks.new.items number back }
     ensures only { (number back : ℕ) → IsMarked marks.new.items number back
-        → (IsMarked marks.old.items number back) ⊎ IsMarkOf fold literal.now width offset (offset + stride) number back }
+        → (IsMarked marks.old.items number back) ⊎ IsMarkOf fold literal.now width offset number back }
 {
-    for back in offset..offset + stride {
-        let key = suffix_key(fold, literal, literal.len() - back, width);
-        mark(marks, hash_of(HASH_BITS, key), back);
-    }
+    let key = suffix_key(fold, literal, literal.len() - offset, width);
+    mark(marks, hash_of(HASH_BITS, key), offset);
 }
 
 /// Sets bit `back` in the byte of a number: a literal may end `back` positions later.

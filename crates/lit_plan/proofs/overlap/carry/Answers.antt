@@ -4,7 +4,7 @@ use Rattle.std.specs.List.{slice_get}
 use Rattle.std.proofs.lemmas.List.{get_or-map, length-map}
 use Rattle.std.proofs.lemmas.Option.{slice_get_within, get_or_from_slice_get}
 use Rattle.lit_base.specs.Literals.{Literals, lengths}
-use Rattle.list_index.proofs.ExtensionLemmas.{of_literal}
+use Rattle.list_index.proofs.AloneLemmas.{of_literal}
 use Rattle.lit_plan.proofs.overlap.carry.Goals as goal
 
 -- what holds of all lengths holds of a literal's

@@ -30,7 +30,7 @@ loop-place-preserved c =
           (λ other sooner.
           let is = before.marked other sooner in
           subst (λ offset. IsWindowed l c.mark_one.new.marks.items other (width_at l other) offset) (stays other sooner)
-          (record { near = is.near; wide = is.wide; marked = λ back counted near. one.kept _ back (is.marked back counted near) }))
+          (record { near = is.near; wide = is.wide; marked = one.kept _ _ is.marked }))
           one.windowed;
       only = λ number back now. elim (one.only number back now) [
         | inl old ↦
@@ -38,7 +38,7 @@ loop-place-preserved c =
             record {
               place = is.place;
               within = omega (arith, is.within);
-              is = subst (λ offset. IsMarkOf l.folding (literal_at l is.place) (width_at l is.place) offset (offset + 1) number back) (stays is.place is.within) is.is;
+              is = subst (λ offset. IsMarkOf l.folding (literal_at l is.place) (width_at l is.place) offset number back) (stays is.place is.within) is.is;
             }
         | inr set ↦ record { place = c.loop-place.place; within = omega arith; is = set }
       ];

@@ -14,6 +14,5 @@ invariant_of-self c =
       subst (λ (l : Literals). AreWindowed l c.mark_all.new.offsets.items c.mark_all.new.marks.items (length l.texts)) same c.mark_all.ensures,
       subst (λ (l : Literals). CoversFronts l (length l.texts) c.mark_all.new.offsets.items (widened c.masks_of-self-inside.result)) same c.masks_of-self-inside.ensures.masks,
       omega (arith, c.masks_of-self-inside.ensures.buckets, c.self.invariant.3),
-      omega (arith, c.count.ensures.fours),
-      omega (arith, c.count.ensures.threes),
+      omega (arith, c.count.ensures),
     )

@@ -15,6 +15,5 @@ invariant_of-result c =
       subst (λ (l : Literals). AreWindowed l c.mark_all.new.offsets.items c.mark_all.new.marks.items (length l.texts)) same c.mark_all.ensures,
       subst (λ (l : Literals). CoversFronts l (length l.texts) c.mark_all.new.offsets.items (widened c.masks_of-masks.result)) same c.masks_of-masks.ensures.masks,
       omega (arith, c.masks_of-masks.ensures.buckets, c.in_ok-buckets.ensures.len, c.len-2.ensures.value, count),
-      omega (arith, c.in_ok-counts.ensures.fours),
-      omega (arith, c.in_ok-counts.ensures.threes),
+      omega (arith, c.in_ok-counts.ensures),
     )

@@ -29,8 +29,8 @@ loop-place-preserved c =
     record {
       len = c.mark_literal.ensures.len ∙ c.loop-place.invariant.len;
       marked = below_more _ _
-          (λ place low back counted near. c.mark_literal.ensures.kept _ back (c.loop-place.invariant.marked place low back counted near))
-          (subst (λ t. IsMarkedFor c.mark_literal.new.marks.items c.fold-fold.result t width 0 1) here c.mark_literal.ensures.marked);
+          (λ place low. c.mark_literal.ensures.kept _ 0 (c.loop-place.invariant.marked place low))
+          (subst (λ t. IsMarkedFor c.mark_literal.new.marks.items c.fold-fold.result t width 0) here c.mark_literal.ensures.marked);
       only = λ number back now. elim (c.mark_literal.ensures.only number back now) [
         | inl old ↦
             let is = c.loop-place.invariant.only number back old in
@@ -38,7 +38,7 @@ loop-place-preserved c =
         | inr set ↦ record {
           place = c.loop-place.place;
           within = omega arith;
-          is = subst (λ t. IsMarkOf c.args.list.now.folding t width 0 1 number back) here (subst (λ f. IsMarkOf f c.get.result.now width 0 1 number back) c.fold-fold.ensures set);
+          is = subst (λ t. IsMarkOf c.args.list.now.folding t width 0 number back) here (subst (λ f. IsMarkOf f c.get.result.now width 0 number back) c.fold-fold.ensures set);
         }
       ];
     }
@@ -51,7 +51,7 @@ returns c = record {
   case = c.case_bits.ensures ∙ ap case_bits c.fold-fold.ensures;
   room = omega (arith, c.loop-place.invariant.len);
   wide = λ place inside. omega (arith, c.marked_len-width.ensures.shared place inside);
-  marked = λ place inside. subst (λ fold. IsMarkedFor c.loop-place.marks.items fold (literal_at c.args.list.now place) c.marked_len-width.result 0 1) c.fold-fold.ensures
+  marked = λ place inside. subst (λ fold. IsMarkedFor c.loop-place.marks.items fold (literal_at c.args.list.now place) c.marked_len-width.result 0) c.fold-fold.ensures
       (c.loop-place.invariant.marked place (omega (arith, inside, c.loop-place-test.false)));
   only = λ number back now. let is = c.loop-place.invariant.only number back now in
       record { place = is.place; within = omega (arith, is.within, c.loop-place.auto.place-end, c.len-place-end.ensures.value); is = is.is };

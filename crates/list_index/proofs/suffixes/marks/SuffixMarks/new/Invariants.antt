@@ -8,6 +8,6 @@ use Rattle.list_index.proofs.suffixes.marks.SuffixMarks.new.Given as goal
 abbrev pub invariant-loop-place : goal.invariant-loop-place
 invariant-loop-place l = record {
   len : vec_len l.marks ≡ 2 ^ HASH_BITS;
-  marked : (place : ℕ) → place < l.place → IsMarkedFor l.marks.items l.fold (literal_at l.list place) l.width 0 1;
+  marked : (place : ℕ) → place < l.place → IsMarkedFor l.marks.items l.fold (literal_at l.list place) l.width 0;
   only : (number back : ℕ) → IsMarked l.marks.items number back → IsEndMark l.list l.width l.place number back;
 }

@@ -1,0 +1,183 @@
+-- Where two literals end together the shorter is a suffix of the longer. So the first of several is the shortest suffix
+-- of each other.
+use Rattle.std.proofs.Common.{◌≡◌, ℕ, Bool, true, false, ◌+◌, ◌-◌, ◌<◌, ◌≤◌, ◌↔◌, List, [], Some, All, Option, None, MatchOption, inl, inr, length, drop, get_or, replicate, set, slice_range, refl, sym, ap, ◌∙◌, subst, arith}
+use Rattle.std.specs.List.{slice_get}
+use Rattle.std.specs.List.Sorted.{IsNonDecreasing}
+use Rattle.std.proofs.lemmas.Bool.{cases_eq, cases_lt, true_from_ne_false}
+use Rattle.std.proofs.lemmas.List.{drop-map, get_or-replicate, get_or-set_other, get_or-set_same, length-drop, length-map, length-replicate, length-set, take_all}
+use Rattle.std.proofs.lemmas.Option.{get_or_from_slice_get, slice_get-get_or, slice_get_within}
+use Rattle.lit_base.specs.Folding.{folded, folded_text}
+use Rattle.lit_base.specs.Literals.{IsNormal, Literals, lengths, literal_at}
+use Rattle.lit_base.specs.Occurrences.{IsFirstEnding, NoneEnds, Occurs}
+use Rattle.lit_base.proofs.LengthLemmas.{length_at, lengths_rise}
+use Rattle.list_index.proofs.SuffixLemmas.{drop-range}
+use Rattle.list_index.specs.Alone.{IsAlone, SayAlone}
+
+-- what holds of all literals holds of one
+pub of_literal : (P : List ℕ → Type 0) (texts : List (List ℕ)) (place : ℕ) (literal : List ℕ) → All P texts → slice_get texts place ≡ Some literal → P literal
+of_literal P texts place literal all stands =
+    subst P (get_or_from_slice_get texts place literal literal stands) (all place literal (slice_get_within texts place literal stands))
+
+-- what a literal ends with, from what the text does where it ends
+tail_of : (l : Literals) (text : List ℕ) (long end short_len : ℕ) (p : Occurs l text long end) → short_len ≤ length p.literal
+    → drop (length p.literal - short_len) p.literal ≡ folded_text l.folding (slice_range text (end - short_len) end)
+tail_of l text long end short_len p fits =
+    let long_len = length p.literal in
+    let at = long_len - short_len in
+    ap (drop at) (sym p.bytes)
+    ∙ drop-map (folded l.folding) at (slice_range text (end - long_len) end)
+    ∙ ap (folded_text l.folding) (drop-range text (end - long_len) (end - short_len) at end (omega (arith, p.begins, fits)))
+
+-- the last bytes of a literal are folded
+folded_tail : (l : Literals) (literal : List ℕ) (short_len : ℕ) → folded_text l.folding literal ≡ literal → short_len ≤ length literal
+    → folded_text l.folding (slice_range literal (length literal - short_len) (length literal)) ≡ drop (length literal - short_len) literal
+folded_tail l literal short_len normal fits =
+    let at = length literal - short_len in
+    let whole : slice_range literal at (length literal) ≡ drop at literal = take_all (length literal - at) (drop at literal) (omega (arith, length-drop at literal)) in
+    ap (folded_text l.folding) whole ∙ sym (drop-map (folded l.folding) at literal) ∙ ap (drop at) normal
+
+module _ (l : Literals) (normal : IsNormal l) where
+  -- a shorter literal that ends where a longer one does ends where this does, taken as a text
+  ends_in_literal : (text : List ℕ) (short long end : ℕ) → (o : Occurs l text short end) → (p : Occurs l text long end) → length o.literal ≤ length p.literal → Occurs l p.literal short (length p.literal)
+  ends_in_literal text short long end o p fits = record {
+    literal = o.literal;
+    stands = o.stands;
+    begins = fits;
+    ends = omega arith;
+    bytes = folded_tail l p.literal (length o.literal) (of_literal (λ t. folded_text l.folding t ≡ t) l.texts long p.literal normal.folded p.stands) fits
+        ∙ tail_of l text long end (length o.literal) p fits ∙ o.bytes;
+  }
+
+  -- and the other way round
+  ends_with_literal : (text : List ℕ) (short long end : ℕ) → (p : Occurs l text long end) → Occurs l p.literal short (length p.literal) → Occurs l text short end
+  ends_with_literal text short long end p o = record {
+    literal = o.literal;
+    stands = o.stands;
+    begins = omega (arith, o.begins, p.begins);
+    ends = p.ends;
+    bytes = sym (tail_of l text long end (length o.literal) p o.begins)
+        ∙ sym (folded_tail l p.literal (length o.literal) (of_literal (λ t. folded_text l.folding t ≡ t) l.texts long p.literal normal.folded p.stands) o.begins)
+        ∙ o.bytes;
+  }
+
+  -- a later literal is no shorter
+  no_shorter : (text : List ℕ) (place other end : ℕ) → place ≤ other → (o : Occurs l text place end) → (p : Occurs l text other end) → length o.literal ≤ length p.literal
+  no_shorter text place other end low o p =
+      let within : other < length l.texts = slice_get_within l.texts other p.literal p.stands in
+      let below = lengths_rise l normal place other 0 low (omega (arith, within, length-map l.texts (length {A = ℕ}))) in
+      omega (
+        arith,
+        below,
+        length_at l.texts place 0 (omega (arith, low, within)),
+        length_at l.texts other 0 within,
+        ap (length {A = ℕ}) (get_or_from_slice_get l.texts place o.literal [] o.stands),
+        ap (length {A = ℕ}) (get_or_from_slice_get l.texts other p.literal [] p.stands),
+      )
+
+  -- the first of the literals that end together is the first that ends with each later one, taken as a text
+  first_in_literal : (text : List ℕ) (place other end : ℕ) → place < other → IsFirstEnding l text 0 end place → (p : Occurs l text other end) → IsFirstEnding l p.literal 0 (length p.literal) place
+  first_in_literal text place other end low first p = record {
+    counted = omega arith;
+    occurs = ends_in_literal text place other end first.occurs p (no_shorter text place other end (omega (arith, low)) first.occurs p);
+    first = λ sooner _ before there. first.first sooner (omega arith) before (ends_with_literal text sooner other end p there);
+  }
+
+  -- a literal ends with itself
+  ends_itself : (place : ℕ) → place < length l.texts → Occurs l (literal_at l place) place (length (literal_at l place))
+  ends_itself place within =
+      let literal = literal_at l place in
+      let stands : slice_get l.texts place ≡ Some literal = slice_get-get_or l.texts place [] within in
+      let none : length literal - length literal ≡ 0 = omega arith in
+      record {
+        literal = literal;
+        stands = stands;
+        begins = omega arith;
+        ends = omega arith;
+        bytes = folded_tail l literal (length literal) (of_literal (λ t. folded_text l.folding t ≡ t) l.texts place literal normal.folded stands) (omega arith) ∙ ap (λ n. drop n literal) none;
+      }
+
+-- the literal at a place is the first to end where a later one does, taken as a text
+abbrev pub IsShortestSuffix : Literals → ℕ → ℕ → Type 0
+IsShortestSuffix l place longer = (place < longer) × IsFirstEnding l (literal_at l longer) 0 (length (literal_at l longer)) place
+
+-- it is that of some literal of the list
+pub record IsSuffixOfSome (l : Literals) (place : ℕ) : Type 0 where
+  pub longer : ℕ
+  pub within : longer < length l.texts
+  pub suffix : IsShortestSuffix l place longer
+
+-- the first that ends at a position is one
+pub first_is_one : (l : Literals) (text : List ℕ) (end place other : ℕ) → IsFirstEnding l text 0 end place → IsFirstEnding l text 0 end other → place ≡ other
+first_is_one l text end place other first second = elim (cases_lt place other) [
+  | inl sooner ↦ absurd (second.first place (omega arith) sooner first.occurs)
+  | inr not ↦ elim (cases_lt other place) [
+    | inl later ↦ absurd (first.first other (omega arith) later second.occurs)
+    | inr same ↦ omega (arith, not, same)
+  ]
+]
+
+-- the shortest suffixes of the literals before a place have lost their flags, and no others
+pub record AreCleared (l : Literals) (count : ℕ) (flags : List Bool) : Type 0 where
+  pub all : length flags ≡ length l.texts
+  pub cleared : (place longer : ℕ) → longer < count → IsShortestSuffix l place longer → get_or flags place false ≡ false
+  pub only : (place : ℕ) → place < length l.texts → get_or flags place false ≡ false → IsSuffixOfSome l place
+
+-- at first none has
+pub none_cleared : (l : Literals) → AreCleared l 0 (replicate (length l.texts) true)
+none_cleared l = record {
+  all = length-replicate (length l.texts) true;
+  cleared = λ place longer low. absurd (omega (arith, low));
+  only = λ place within flag. let set : true ≡ false = sym (get_or-replicate (length l.texts) place true false within) ∙ flag in (cc);
+}
+
+-- a literal that has no shortest suffix clears no flag
+pub same_cleared : (l : Literals) (count : ℕ) (flags : List Bool) → ((place : ℕ) → ¬ IsShortestSuffix l place count) → AreCleared l count flags → AreCleared l (count + 1) flags
+same_cleared l count flags none old = record {
+  all = old.all;
+  cleared = λ place longer low is. elim (cases_lt longer count) [
+    | inl sooner ↦ old.cleared place longer sooner is
+    | inr there ↦ absurd (none place (subst (IsShortestSuffix l place) (omega (arith, low, there)) is))
+  ];
+  only = old.only;
+}
+
+-- and otherwise that of its shortest suffix
+pub one_cleared : (l : Literals) (count first : ℕ) (flags : List Bool) → count < length l.texts → IsShortestSuffix l first count → AreCleared l count flags → AreCleared l (count + 1) (set flags first false)
+one_cleared l count first flags within is old =
+    let room : first < length flags = omega (arith, is.0, within, old.all) in
+    record {
+      all = length-set flags first false ∙ old.all;
+      cleared = λ place longer low suffix. elim (cases_eq place first) [
+        | inl same ↦ ap (λ p. get_or (set flags first false) p false) same ∙ get_or-set_same flags first false false room
+        | inr other ↦ get_or-set_other flags first place false false other ∙ elim (cases_lt longer count) [
+          | inl sooner ↦ old.cleared place longer sooner suffix
+          | inr there ↦
+              let here : IsShortestSuffix l place count = subst (IsShortestSuffix l place) (omega (arith, low, there)) suffix in
+              absurd (other (first_is_one l (literal_at l count) (length (literal_at l count)) place first here.1 is.1))
+        ]
+      ];
+      only = λ place inside flag. elim (cases_eq place first) [
+        | inl same ↦ record { longer = count; within = within; suffix = subst (λ p. IsShortestSuffix l p count) (sym same) is }
+        | inr other ↦ old.only place inside (sym (get_or-set_other flags first place false false other) ∙ flag)
+      ];
+    }
+
+-- so in the end the flags say which literals end alone
+pub alone_said : (l : Literals) (flags : List Bool) → IsNormal l → AreCleared l (length l.texts) flags → SayAlone l flags
+alone_said l flags normal are = record {
+  all = are.all;
+  said = λ place within. (
+    λ flag text end first other low there.
+        let suffix = first_in_literal l normal text place other end (omega (arith, low)) first there in
+        let inside = slice_get_within l.texts other there.literal there.stands in
+        let is : literal_at l other ≡ there.literal = get_or_from_slice_get l.texts other there.literal [] there.stands in
+        let lost : get_or flags place false ≡ false =
+        are.cleared place other inside (omega (arith, low), subst (λ t. IsFirstEnding l t 0 (length t) place) (sym is) suffix) in
+        let no : true ≡ false = sym flag ∙ lost in
+        (cc),
+    λ alone. true_from_ne_false (get_or flags place false)
+        (λ lost.
+        let some = are.only place within lost in
+        alone (literal_at l some.longer) (length (literal_at l some.longer)) some.suffix.1 some.longer (omega (arith, some.suffix.0)) (ends_itself l normal some.longer some.within)),
+  );
+}
