@@ -35,7 +35,7 @@ ALSO_STARVED = {
 ANSWER_NONE = re.compile(
     "flow_scan::tests::.*"
     "|base_tests::(costs|lit_lists|raw_lists)::.*"
-    "|filter_tests::(automata|windows)::.*"
+    "|filter_tests::(automata|factors)::.*"
     "|search_tests::scanning::.*"
     "|search_tests::picking::(finding::.*|names_its_faults|numbers::.*|whole_lines::selects_.*)"
     "|serve_tests::sessions::opens_.*_published"

@@ -9,7 +9,7 @@ CRATES = os.path.join(TOP, "crates")
 # What else has a constant: contracts cite it, it bounds memory, or it follows from a data structure.
 SHAPES = {
     "byte_lanes": {"skipping.rt": {"BLOCK"}},
-    "flow_scan": {"seam.rt": {"SHORT"}},
+    "flow_scan": {"boundary.rt": {"SHORT"}},
     "grep_run": {
         "names.rt": {"STANDARD_NAME"},
         "searcher.rt": {"LEAST_READ_SIZE", "MOST_HELD", "NUMBER_SIZE", "READ_SIZE", "UNUSED"},
@@ -25,17 +25,17 @@ SHAPES = {
         "runs.rt": {"BUCKETS", "WEIGHTS"},
         "shift_or.rt": {"FRONT"},
     },
-    "sieve_search": {},
+    "prefilter_search": {},
     "text_ends": {},
     "text_lines": {"counting.rt": {"LANES", "STEPS", "STRETCH", "WIDE"}},
     "text_search": {},
-    "window_search": {
-        "claiming.rt": {"BLOCK", "BLOCK_BITS", "FRONT", "STEP"},
-        "counts.rt": {"NEVER", "OFFSETS", "SIEVED"},
+    "factor_search": {
+        "probing.rt": {"BLOCK", "BLOCK_BITS", "FRONT", "STEP"},
+        "counts.rt": {"MASKED", "NEVER", "OFFSETS"},
         "grouping.rt": {"BUCKETS", "POSITIONS"},
         "marking.rt": {"MOST_OFFSET"},
         "widths.rt": {"WIDTH"},
-        "windowed.rt": {"REACH"},
+        "factor_ends.rt": {"REACH"},
     },
 }
 # How many prices and thresholds a crate has at least.
@@ -47,7 +47,7 @@ TUNED = {
     "shift_search": 6,
     "text_lines": 5,
     "text_search": 6,
-    "window_search": 6,
+    "factor_search": 6,
 }
 CONSTANT = re.compile(r"((?:^///.*\n)*)^(?:pub(?:\(crate\))? )?const (\w+):", re.M)
 EVIDENCE = re.compile(r"[Mm]easured|[Nn]ot varied|[Cc]hosen")

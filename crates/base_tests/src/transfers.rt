@@ -18,12 +18,12 @@ fn len_in_text(bytes: &[u8]) -> Option<usize> {
 }
 
 /// How many bytes there are after the old bytes, if `TEXT` begins with them.
-fn len_behind(old: &[u8], bytes: &[u8]) -> Option<usize> {
+fn len_after(old: &[u8], bytes: &[u8]) -> Option<usize> {
     len_in_text(bytes.strip_prefix(old)?)
 }
 
 /// Reads to the end of the input, after old bytes.
-fn read_behind(
+fn read_after(
     alloc: Global,
     old: &[u8],
     mut input: CutIn<'_>,
@@ -32,7 +32,7 @@ fn read_behind(
     let mut text = old.to_vec(alloc)?;
     match read_to_end(&mut input, limit, &mut text) {
         Err(ReadError::OutOfMemory) => Err(ReadError::OutOfMemory),
-        answer => Ok((answer, len_behind(old, &text))),
+        answer => Ok((answer, len_after(old, &text))),
     }
 }
 
@@ -49,7 +49,7 @@ fn first_wrong_limit(alloc: Global) -> Result<Option<(usize, usize)>, ReadError>
     for limit in 0..9 {
         for step in 1..9 {
             let input = CutIn::whole(TEXT).with_step(step);
-            if read_behind(alloc, b"old", input, limit)? != wanted_within(limit) {
+            if read_after(alloc, b"old", input, limit)? != wanted_within(limit) {
                 return Ok(Some((limit, step)));
             }
         }
@@ -75,7 +75,7 @@ fn first_wrong_fault(alloc: Global) -> Result<Option<(usize, usize)>, ReadError>
     for count in 0..8 {
         for limit in 0..9 {
             let input = CutIn::failing_after(TEXT, count).with_step(2);
-            if read_behind(alloc, b"", input, limit)? != wanted_before(count, limit) {
+            if read_after(alloc, b"", input, limit)? != wanted_before(count, limit) {
                 return Ok(Some((count, limit)));
             }
         }
@@ -101,7 +101,7 @@ fn wanted_of_reads(call: u8) -> Moved<ReadError> {
 fn first_wrong_read(alloc: Global) -> Result<Option<u8>, ReadError> {
     for call in 0..7 {
         let input = CutIn::failing_at(TEXT, call as u64).with_step(2);
-        if read_behind(alloc, b"", input, 100)? != wanted_of_reads(call) {
+        if read_after(alloc, b"", input, 100)? != wanted_of_reads(call) {
             return Ok(Some(call));
         }
     }

@@ -15,9 +15,9 @@ fn run_cost(list: &LitList, start: usize, end: usize) -> u64 {
 /// The potential of a place by the row before, or by one run where there is none.
 fn potential(list: &LitList, before: &[u64], start: usize) -> u64 {
     let mut least = run_cost(list, start, list.len());
-    for (end, behind) in before.iter().enumerate() {
+    for (end, after) in before.iter().enumerate() {
         if end > start {
-            least = least.min(run_cost(list, start, end).saturating_add(*behind));
+            least = least.min(run_cost(list, start, end).saturating_add(*after));
         }
     }
     least
@@ -40,8 +40,8 @@ fn potentials(alloc: Global, list: &LitList, profile: Profile) -> Result<Vec<u64
 
 /// The first end at which a run and what stands after it reach the potential.
 fn reached(list: &LitList, before: &[u64], start: usize, potential: u64) -> usize {
-    for (end, behind) in before.iter().enumerate() {
-        if end > start && run_cost(list, start, end).saturating_add(*behind) == potential {
+    for (end, after) in before.iter().enumerate() {
+        if end > start && run_cost(list, start, end).saturating_add(*after) == potential {
             return end;
         }
     }

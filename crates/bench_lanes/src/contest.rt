@@ -3,7 +3,7 @@ ghost use Rattle.std.specs.Prelude.{◌≤◌, ◌^◌};
 
 use crate::texts::{literals, quiet_text, rare_text};
 use anyhow::{Result, ensure};
-use lane_filter::{Candidates, Sieve, filter, filter_wide};
+use lane_filter::{Candidates, Prefilter, filter, filter_wide};
 use lit_base::{Ends, LitList, Profile, is_cut};
 use memchr::memchr;
 use nib_mask::Masks;
@@ -180,8 +180,8 @@ fn filter_scalar(masks: &Masks, x0: &[u8], x1: &[u8], x2: &[u8], out: &mut [u16]
 /// How many candidates a text has, by the tables of at most eight runs.
 #[inline(never)]
 fn candidates(masks: &Masks, text: &[u8]) -> u64 {
-    let sieve = Sieve::Nibbles(masks.first_eight());
-    let mut cursor = Candidates::new(&sieve, text, 0);
+    let prefilter = Prefilter::Nibbles(masks.first_eight());
+    let mut cursor = Candidates::new(&prefilter, text, 0);
     let mut count = 0u64;
     for _ in 0..=text.len() {
         if cursor.next().is_none() {

@@ -134,7 +134,7 @@ fn scan<R: Threads + Sync>(
 /// How many hits a text has, by what learns from it if the list has literals enough.
 fn scan_learning(alloc: Global, compiled: &Compiled, text: &[u8]) -> Result<usize> {
     match EndFinder::new_unless_few(alloc, compiled)? {
-        Some(mut finder) => Ok(finder.scan_behind(alloc, compiled, text, 0)?.len()),
+        Some(mut finder) => Ok(finder.scan_after(alloc, compiled, text, 0)?.len()),
         None => Ok(scan_all(alloc, compiled, text)?.len()),
     }
 }

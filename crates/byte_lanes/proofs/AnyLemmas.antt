@@ -31,8 +31,8 @@ module _ (lanes : List ℕ) (f : ℕ → ℕ) (mask : ℕ) (p : HasLanes lanes f
       (cases_eq (f k) 0)
 
 -- zeros in front do not matter
-pub any_behind : (xs : List ℕ) (at : ℕ) → at ≤ length xs → HoldsBelow (λ _. 0) at xs → Any (λ byte. byte ≢ 0) (drop at xs) ↔ Any (λ byte. byte ≢ 0) xs
-any_behind xs at le zeros = (
+pub any_after : (xs : List ℕ) (at : ℕ) → at ≤ length xs → HoldsBelow (λ _. 0) at xs → Any (λ byte. byte ≢ 0) (drop at xs) ↔ Any (λ byte. byte ≢ 0) xs
+any_after xs at le zeros = (
   λ (k, x, l, is, set).
       let within : at + k < length xs = omega (arith, length-drop at xs) in
       (at + k, x, within, sym (get_or-drop at xs k x) ∙ is, set),

@@ -28,7 +28,7 @@ fn is_made(alloc: Global, fold: Fold, literals: &[&[u8]]) -> Option<bool> {
     let index = index_of(alloc, fold, literals)?;
     let mut automaton = Automaton::new(alloc, index).ok()?;
     let is_made = automaton.learn();
-    let is_read = automaton.reading_behind(b"", 0).is_some();
+    let is_read = automaton.reading_after(b"", 0).is_some();
     if is_made == is_read && automaton.learn() == is_made {
         Some(is_made)
     } else {
@@ -55,11 +55,11 @@ fn ends_in(alloc: Global, fold: Fold, literals: &[&[u8]], text: &[u8]) -> Option
         if from > text.len() {
             return None;
         }
-        let mut reading = automaton.reading_behind(text, from)?;
+        let mut reading = automaton.reading_after(text, from)?;
         let Some((end, state)) = automaton.next_end(text, &mut reading) else {
             return Some((count, sum));
         };
-        count = count.saturating_add(automaton.told_by(state).len());
+        count = count.saturating_add(automaton.output_of(state).len());
         sum = sum.saturating_add(end);
         from = end;
     }
@@ -97,7 +97,7 @@ fn text_with(alloc: Global, dots: usize, word: &[u8], len: usize) -> Option<Vec<
 }
 
 /// The ends of a word after `dots` dots.
-fn ends_behind(alloc: Global, dots: usize) -> Option<(usize, usize)> {
+fn ends_after(alloc: Global, dots: usize) -> Option<(usize, usize)> {
     let text = text_with(alloc, dots, b"bababa", 9_000)?;
     ends_in(alloc, Fold::No, &[b"ababa", b"x"], text.as_slice())
 }
@@ -107,7 +107,7 @@ fn reads_each_lane_from_before_its_first_place(rt: HostRuntime) {
     for dots in [
         0, 1_015, 1_020, 1_024, 2_043, 3_069, 4_090, 4_093, 4_096, 8_190,
     ] {
-        assert_eq!(rt; ends_behind(rt.alloc(), dots), Some((1, dots + 6)));
+        assert_eq!(rt; ends_after(rt.alloc(), dots), Some((1, dots + 6)));
     }
 }
 

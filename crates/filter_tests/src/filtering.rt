@@ -1,7 +1,7 @@
 //! The kernels and the cursor compared with the filter position by position, over lengths round each boundary.
 ghost use Rattle.std.specs.Prelude.{◌<◌, ◌≤◌, length};
 
-use lane_filter::{Candidates, Sieve, any_set, filter, filter_wide};
+use lane_filter::{Candidates, Prefilter, any_set, filter, filter_wide};
 use lit_base::{Ends, Fault, Fold, LitList, Profile, RawList, is_cut};
 use nib_mask::{Masks, plain_byte};
 use std::alloc::{AllocError, Global};
@@ -84,12 +84,12 @@ fn all_masks(alloc: Global) -> Result<Vec<Masks>, Fault> {
 }
 
 /// The prefilter of a list, cut into runs of nearly equal numbers.
-fn sieve_of(list: &LitList) -> Sieve {
+fn prefilter_of(list: &LitList) -> Prefilter {
     let ends = runs_of(list, 8);
     if is_cut(list, Profile::Sixteen, &ends) {
-        Sieve::of(list, &ends)
+        Prefilter::of(list, &ends)
     } else {
-        Sieve::Nibbles(EMPTY.first_eight())
+        Prefilter::Nibbles(EMPTY.first_eight())
     }
 }
 
@@ -122,7 +122,7 @@ impl PlainTest {
 /// A prefilter, and the test of the ends that it passes.
 #[derive(Clone, Copy)]
 struct Case {
-    sieve: Sieve,
+    prefilter: Prefilter,
     plain: PlainTest,
 }
 
@@ -131,7 +131,7 @@ fn all_cases(alloc: Global) -> Result<Vec<Case>, Fault> {
     let mut all = Vec::new(alloc);
     for masks in &all_masks(alloc)? {
         all.push(Case {
-            sieve: Sieve::TwoNibbles(masks.first_eight(), masks.last_eight()),
+            prefilter: Prefilter::TwoNibbles(masks.first_eight(), masks.last_eight()),
             plain: PlainTest::Filter(*masks),
         })?;
     }
@@ -146,7 +146,7 @@ fn all_cases(alloc: Global) -> Result<Vec<Case>, Fault> {
         raw.push(&bytes[..1])?;
         let (list, _) = LitList::normal(alloc, &raw, fold)?;
         all.push(Case {
-            sieve: sieve_of(&list),
+            prefilter: prefilter_of(&list),
             plain: PlainTest::LastOf(bytes),
         })?;
     }
@@ -164,7 +164,7 @@ fn word_cases(alloc: Global) -> Result<Vec<Case>, Fault> {
         raw.push(b"cat")?;
         let (list, _) = LitList::normal(alloc, &raw, fold)?;
         all.push(Case {
-            sieve: sieve_of(&list),
+            prefilter: prefilter_of(&list),
             plain: PlainTest::WordOf(word),
         })?;
     }
@@ -216,7 +216,7 @@ fn kernels_agree(masks: &Masks, bytes: &[u8], offset: usize, len: usize) -> bool
 fn cursor_agrees(case: &Case, text: &[u8], from: usize) -> bool
     requires { from ≤ length text.now }
 {
-    let mut cursor = Candidates::new(&case.sieve, text, from);
+    let mut cursor = Candidates::new(&case.prefilter, text, from);
     let mut last = from;
     for _ in 0..=text.len() {
         let wanted = plain_next(&case.plain, text, last);
@@ -236,7 +236,7 @@ fn skip_agrees(case: &Case, text: &[u8], from: usize, place: usize) -> bool
     requires from { from ≤ length text.now }
     requires place { place ≤ length text.now }
 {
-    let mut cursor = Candidates::new(&case.sieve, text, from);
+    let mut cursor = Candidates::new(&case.prefilter, text, from);
     let _first = cursor.next();
     cursor.skip_to(place);
     cursor.next() == plain_next(&case.plain, text, place)
@@ -310,7 +310,7 @@ fn cursor_gives_each_candidate_once(rt: HostRuntime) -> Result<(), Fail> {
 }
 
 #[test]
-fn cursor_goes_on_behind_any_place(rt: HostRuntime) -> Result<(), Fail> {
+fn cursor_goes_on_after_any_place(rt: HostRuntime) -> Result<(), Fail> {
     let bytes = bytes(rt.alloc(), 270)?;
     for case in &all_cases(rt.alloc())? {
         for from in [0, 1, 62, 63, 64, 65, 130, 205] {
@@ -318,7 +318,7 @@ fn cursor_goes_on_behind_any_place(rt: HostRuntime) -> Result<(), Fail> {
                 let agree = place > bytes.len()
                     || from > bytes.len()
                     || skip_agrees(case, &bytes, from, place);
-                assert!(rt; agree, "behind {place}, from {from}");
+                assert!(rt; agree, "after {place}, from {from}");
             }
         }
     }
@@ -369,7 +369,7 @@ fn text_with_word_at(
     let mut text = Vec::new(alloc);
     for at in 0..len {
         let byte = match at.checked_sub(place) {
-            Some(behind) => letters.get(behind).copied().unwrap_or(b'-'),
+            Some(after) => letters.get(after).copied().unwrap_or(b'-'),
             None if at % apart.max(1) == 0 => letters.get(at % 3).copied().unwrap_or(b'-'),
             None => b'-',
         };
@@ -379,7 +379,7 @@ fn text_with_word_at(
 }
 
 /// By three bytes of one word, and by two bytes of each of two or three words; of them only `cat` stands in the text.
-fn far_sieves(alloc: Global) -> Result<Vec<Sieve>, Fault> {
+fn far_prefilters(alloc: Global) -> Result<Vec<Prefilter>, Fault> {
     let mut all = Vec::new(alloc);
     for fold in [Fold::No, Fold::Ascii] {
         for count in 1..=3 {
@@ -388,7 +388,7 @@ fn far_sieves(alloc: Global) -> Result<Vec<Sieve>, Fault> {
                 raw.push(word.as_slice())?;
             }
             let (list, _) = LitList::normal(alloc, &raw, fold)?;
-            all.push(sieve_of(&list))?;
+            all.push(prefilter_of(&list))?;
         }
     }
     Ok(all)
@@ -401,11 +401,11 @@ fn cursor_finds_a_word_far_on(rt: HostRuntime) -> Result<(), Fail> {
     for apart in [100, 250, 1300, 30_000] {
         for place in [8100, 8300, 9000, 20_001, 50_000, 90_000, 131_000] {
             let text = text_with_word_at(rt.alloc(), 131_100, place, apart)?;
-            for sieve in &far_sieves(rt.alloc())? {
-                let mut cursor = Candidates::new(sieve, &text, 0);
+            for prefilter in &far_prefilters(rt.alloc())? {
+                let mut cursor = Candidates::new(prefilter, &text, 0);
                 let found = cursor.next();
                 assert_eq!(rt; found, Some(place + 3), "letters each {apart}");
-                assert!(rt; cursor.next().is_none(), "a second one behind {place}");
+                assert!(rt; cursor.next().is_none(), "a second one after {place}");
             }
         }
     }

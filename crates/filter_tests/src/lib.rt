@@ -5,8 +5,8 @@
 #[cfg(test)]
 mod automata;
 #[cfg(test)]
+mod factors;
+#[cfg(test)]
 mod filtering;
 #[cfg(test)]
 mod prices;
-#[cfg(test)]
-mod windows;

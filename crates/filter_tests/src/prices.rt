@@ -1,11 +1,11 @@
 //! What searches by factors and by shift-or count for their work, in tenths of a nanosecond.
-use crate::windows::{FOURS, index_of, sample_of};
+use crate::factors::{FOURS, index_of, sample_of};
+use factor_search::Factors;
 use lit_base::Fold;
 use shift_search::ShiftOr;
 use std::alloc::{AllocError, Global};
 use std::test::Fail;
 use text_ends::{EndRate, Tally};
-use window_search::Windows;
 
 /// The cost of a search by shift-or before it is tuned, of 1,024 bytes with three false positives and the ends found.
 fn cost_by_shift_or(alloc: Global, found: EndRate) -> Result<usize, AllocError> {
@@ -28,14 +28,14 @@ fn counts_false_positives_and_ends_by_shift_or(rt: HostRuntime) -> Result<(), Fa
 fn two_of_each() -> Tally {
     let mut tally = Tally::nothing();
     tally.pass(0b11);
-    tally.claim(0b11);
+    tally.pending(0b11);
     tally
 }
 
 /// The cost of a search by factors of 1,024 bytes, with these counters and new starts.
 fn cost_by_factors(alloc: Global, tally: Tally, found: EndRate) -> Result<usize, AllocError> {
     let index = index_of(alloc, Fold::No, &[b"abcdxyzt"]).ok_or(AllocError)?;
-    Ok(Windows::new(alloc, index)?.cost_of(1024, tally, found))
+    Ok(Factors::new(alloc, index)?.cost_of(1024, tally, found))
 }
 
 #[test]
@@ -54,9 +54,9 @@ fn counts_positions_that_pass_the_masks(rt: HostRuntime) -> Result<(), Fail> {
 /// The estimate of a search by factors for a literal of one byte. One of four bytes of the sample is this byte.
 fn estimate_by_factors(alloc: Global, found: EndRate) -> Result<usize, AllocError> {
     let index = index_of(alloc, Fold::No, &[b"z"]).ok_or(AllocError)?;
-    let mut windows = Windows::new(alloc, index)?;
+    let mut factors = Factors::new(alloc, index)?;
     let sample = sample_of(alloc, *b"xyzt").ok_or(AllocError)?;
-    Ok(windows.learn(&sample, found))
+    Ok(factors.learn(&sample, found))
 }
 
 #[test]

@@ -90,7 +90,7 @@ pub extern "C" fn fiolargu_plan_save(
     ensures file { result ≡ OK → IfSome (plan_of plan.old.held) (λ p. IsFile (take len.new buffer.new) (p ∷ [])) }
     ensures room { result ≡ SMALL_BUFFER → IfSome (plan_of plan.old.held) (λ p. (len.new ≡ length (spelling Two (p ∷ []))) × (length buffer.old < len.new)) }
     ensures null { result ≡ NULL_HANDLE ↔ plan.old.held ≡ None }
-    ensures behind { result ≡ OK → drop len.new buffer.new ≡ drop len.new buffer.old }
+    ensures after { result ≡ OK → drop len.new buffer.new ≡ drop len.new buffer.old }
     ensures same { (result ≡ OK → ⊥) → buffer.new ≡ buffer.old }
     ensures none { (result ≡ OK → ⊥) → (result ≡ SMALL_BUFFER → ⊥) → len.new ≡ 0 }
     ensures refused { (result ≡ OK) ⊎ ((result ≡ NULL_HANDLE) ⊎ ((result ≡ SMALL_BUFFER) ⊎ (result ≡ OUT_OF_MEMORY))) }
@@ -109,7 +109,7 @@ fn save(alloc: Global, plan: &Compiled, buffer: &mut [u8], len: &mut usize) -> i
     ensures file { result ≡ OK → IsFile (take len.new buffer.new) (plan.now ∷ []) }
     ensures room { result ≡ SMALL_BUFFER → (len.new ≡ length (spelling Two (plan.now ∷ []))) × (length buffer.old < len.new) }
     ensures not_null { result ≡ NULL_HANDLE → ⊥ }
-    ensures behind { result ≡ OK → drop len.new buffer.new ≡ drop len.new buffer.old }
+    ensures after { result ≡ OK → drop len.new buffer.new ≡ drop len.new buffer.old }
     ensures same { (result ≡ OK → ⊥) → buffer.new ≡ buffer.old }
     ensures none { result ≡ OUT_OF_MEMORY → len.new ≡ len.old }
     ensures refused { (result ≡ OK) ⊎ ((result ≡ SMALL_BUFFER) ⊎ (result ≡ OUT_OF_MEMORY)) }

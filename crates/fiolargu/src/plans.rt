@@ -36,7 +36,7 @@ pub extern "C" fn fiolargu_plan_new(
     ensures accepted { result ≡ OK → first_refusal 0 0 (bytes_of patterns.now) ≡ None }
     ensures numbers { result ≡ OK → length patterns.now ≤ length literal_of.old
         → AreNumbersOf flags (bytes_of patterns.now) (take (length patterns.now) literal_of.new) }
-    ensures behind { result ≡ OK → drop (length patterns.now) literal_of.new ≡ drop (length patterns.now) literal_of.old }
+    ensures after { result ≡ OK → drop (length patterns.now) literal_of.new ≡ drop (length patterns.now) literal_of.old }
     ensures same { (result ≡ OK → ⊥) → plan.new.held ≡ plan.old.held }
     ensures fault { result ≡ LITERAL_TOO_LONG → first_refusal 0 0 (bytes_of patterns.now) ≡ Some (LiteralTooLong fault_at.new) }
     ensures no_fault { (result ≡ LITERAL_TOO_LONG → ⊥) → fault_at.new ≡ 0 }
@@ -195,7 +195,7 @@ pub extern "C" fn fiolargu_plan_literal(
     ensures null { result ≡ NULL_HANDLE ↔ plan.old.held ≡ None }
     ensures range { IfSome (plan_of plan.old.held) (λ p. result ≡ OUT_OF_RANGE ↔ (length p.literals.texts ≤ literal)) }
     ensures room { result ≡ SMALL_BUFFER → IfSome (plan_of plan.old.held) (λ p. IsSomeAnd (slice_get p.literals.texts literal) (λ text. (len.new ≡ length text) × (length buffer.old < len.new))) }
-    ensures behind { result ≡ OK → drop len.new buffer.new ≡ drop len.new buffer.old }
+    ensures after { result ≡ OK → drop len.new buffer.new ≡ drop len.new buffer.old }
     ensures same { (result ≡ OK → ⊥) → buffer.new ≡ buffer.old }
     ensures none { (result ≡ OK → ⊥) → (result ≡ SMALL_BUFFER → ⊥) → len.new ≡ 0 }
     ensures refused { (result ≡ OK) ⊎ ((result ≡ NULL_HANDLE) ⊎ ((result ≡ OUT_OF_RANGE) ⊎ (result ≡ SMALL_BUFFER))) }
@@ -214,7 +214,7 @@ fn write_literal(plan: &Compiled, literal: usize, buffer: &mut [u8], len: &mut u
     ensures not_null { result ≡ NULL_HANDLE → ⊥ }
     ensures range { result ≡ OUT_OF_RANGE ↔ (length plan.now.literals.texts ≤ literal) }
     ensures room { result ≡ SMALL_BUFFER → IsSomeAnd (slice_get plan.now.literals.texts literal) (λ text. (len.new ≡ length text) × (length buffer.old < len.new)) }
-    ensures behind { result ≡ OK → drop len.new buffer.new ≡ drop len.new buffer.old }
+    ensures after { result ≡ OK → drop len.new buffer.new ≡ drop len.new buffer.old }
     ensures same { (result ≡ OK → ⊥) → buffer.new ≡ buffer.old }
     ensures none { result ≡ OUT_OF_RANGE → len.new ≡ len.old }
     ensures refused { (result ≡ OK) ⊎ ((result ≡ OUT_OF_RANGE) ⊎ (result ≡ SMALL_BUFFER)) }
@@ -233,7 +233,7 @@ pub(crate) fn write_bytes(bytes: &[u8], buffer: &mut [u8], len: &mut usize) -> i
     ensures small { (result ≡ OK) ⊎ (result ≡ SMALL_BUFFER) }
     ensures not_null { result ≡ NULL_HANDLE → ⊥ }
     ensures not_range { result ≡ OUT_OF_RANGE → ⊥ }
-    ensures behind { result ≡ OK → drop len.new buffer.new ≡ drop len.new buffer.old }
+    ensures after { result ≡ OK → drop len.new buffer.new ≡ drop len.new buffer.old }
     ensures same { (result ≡ OK → ⊥) → buffer.new ≡ buffer.old }
 {
     *len = bytes.len();

@@ -1,7 +1,7 @@
 //! Exports that search texts in memory, and what writes hits for C.
 ghost use Rattle.std.specs.Prelude.{◌≡◌, ◌-◌, ◌≤◌, ◌<◌, ◌⊎◌, ◌↔◌, ℕ, [], IfSome, None, Some, drop, length, map, take};
 ghost use Rattle.std.specs.List.{slice_get};
-ghost use Rattle.text_ends.specs.HitsBehind.{StopsAt};
+ghost use Rattle.text_ends.specs.HitsAfter.{StopsAt};
 ghost use Rattle.fiolargu.specs.Found.{HaveLengths, IsNextOrNone, hit_of, length_of, plan_of};
 ghost use Rattle.fiolargu.specs.declared.statuses.TheConstants.{NULL_HANDLE, OK, OUT_OF_MEMORY, OUT_OF_RANGE, SMALL_BUFFER};
 
@@ -29,7 +29,7 @@ pub(crate) fn write_hits(plan: &Compiled, hits: &[Hit], buffer: &mut [FoundHit])
     ensures count { result ≡ length hits.now }
     ensures hits { map hit_of (take result buffer.new) ≡ hits.now }
     ensures lengths { HaveLengths plan.now.literals (take result buffer.new) }
-    ensures behind { drop result buffer.new ≡ drop result buffer.old }
+    ensures after { drop result buffer.new ≡ drop result buffer.old }
 {
     let mut count = 0;
     for hit in hits {
@@ -64,7 +64,7 @@ pub extern "C" fn fiolargu_scan(
     ensures found { result ≡ OK → IfSome (plan_of plan.old.held) (λ p.
         StopsAt p.literals text.now place.old place.old (length buffer.old - length p.literals.texts) place.new [] (map hit_of (take count.new buffer.new))) }
     ensures lengths { result ≡ OK → IfSome (plan_of plan.old.held) (λ p. HaveLengths p.literals (take count.new buffer.new)) }
-    ensures behind { result ≡ OK → drop count.new buffer.new ≡ drop count.new buffer.old }
+    ensures after { result ≡ OK → drop count.new buffer.new ≡ drop count.new buffer.old }
     ensures unwritten { (result ≡ OK → ⊥) → buffer.new ≡ buffer.old }
     ensures null { result ≡ NULL_HANDLE ↔ plan_of plan.old.held ≡ None }
     ensures room { IfSome (plan_of plan.old.held) (λ p. result ≡ SMALL_BUFFER ↔ (length buffer.old ≤ length p.literals.texts)) }
@@ -96,7 +96,7 @@ fn scan_held(
         StopsAt held.old.plan.literals text.now place.old place.old (length buffer.old - length held.old.plan.literals.texts) place.new []
         (map hit_of (take count.new buffer.new)) }
     ensures lengths { result ≡ OK → HaveLengths held.old.plan.literals (take count.new buffer.new) }
-    ensures behind { result ≡ OK → drop count.new buffer.new ≡ drop count.new buffer.old }
+    ensures after { result ≡ OK → drop count.new buffer.new ≡ drop count.new buffer.old }
     ensures unwritten { (result ≡ OK → ⊥) → buffer.new ≡ buffer.old }
     ensures not_null { result ≡ NULL_HANDLE → ⊥ }
     ensures room { result ≡ SMALL_BUFFER ↔ (length buffer.old ≤ length held.old.plan.literals.texts) }

@@ -83,9 +83,9 @@ pub extern "C" fn fiolargu_stream_feed(
     ensures found { result ≡ OK → IfSome (stream_of stream.old.held) (λ s.
         StopsIn s.plan.literals s.tail piece.now s.place (length buffer.old - length s.plan.literals.texts) fed.new [] (map hit_of (take count.new buffer.new))) }
     ensures lengths { result ≡ OK → IfSome (stream_of stream.old.held) (λ s. HaveLengths s.plan.literals (take count.new buffer.new)) }
-    ensures behind { result ≡ OK → drop count.new buffer.new ≡ drop count.new buffer.old }
+    ensures after { result ≡ OK → drop count.new buffer.new ≡ drop count.new buffer.old }
     ensures unwritten { (result ≡ OK → ⊥) → buffer.new ≡ buffer.old }
-    ensures after { result ≡ OK → IfSome (stream_of stream.old.held) (λ s. stream_of stream.new.held ≡ Some (fed_by s (take fed.new piece.now))) }
+    ensures stream { result ≡ OK → IfSome (stream_of stream.old.held) (λ s. stream_of stream.new.held ≡ Some (fed_by s (take fed.new piece.now))) }
     ensures same { (result ≡ OK → ⊥) → stream_of stream.new.held ≡ stream_of stream.old.held }
     ensures none { (result ≡ OK → ⊥) → (fed.new ≡ 0) × (count.new ≡ 0) }
     ensures null { result ≡ NULL_HANDLE ↔ stream_of stream.old.held ≡ None }
@@ -115,9 +115,9 @@ fn feed_held(
         StopsIn held.old.stream.plan.literals held.old.stream.tail piece.now held.old.stream.place (length buffer.old - length held.old.stream.plan.literals.texts) fed.new []
         (map hit_of (take count.new buffer.new)) }
     ensures lengths { result ≡ OK → HaveLengths held.old.stream.plan.literals (take count.new buffer.new) }
-    ensures behind { result ≡ OK → drop count.new buffer.new ≡ drop count.new buffer.old }
+    ensures after { result ≡ OK → drop count.new buffer.new ≡ drop count.new buffer.old }
     ensures unwritten { (result ≡ OK → ⊥) → buffer.new ≡ buffer.old }
-    ensures after { result ≡ OK → held.new.stream ≡ fed_by held.old.stream (take fed.new piece.now) }
+    ensures stream { result ≡ OK → held.new.stream ≡ fed_by held.old.stream (take fed.new piece.now) }
     ensures same { (result ≡ OK → ⊥) → held.new.stream ≡ held.old.stream }
     ensures none { (result ≡ OK → ⊥) → (fed.new ≡ fed.old) × (count.new ≡ count.old) }
     ensures not_null { result ≡ NULL_HANDLE → ⊥ }

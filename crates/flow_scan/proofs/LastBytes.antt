@@ -4,7 +4,7 @@ use Rattle.std.proofs.lemmas.List.{length-drop, length-take, append_assoc, take-
 use Rattle.lit_base.specs.Literals.{Literals}
 use Rattle.lit_base.specs.Occurrences.{Occurs}
 use Rattle.lit_plan.specs.Bounds.{HasBounds, carry_of}
-use Rattle.text_ends.proofs.Occurring.{occurs_behind, occurs_in_rest}
+use Rattle.text_ends.proofs.Occurring.{occurs_after, occurs_in_rest}
 use Rattle.flow_scan.specs.Tails.{last_bytes}
 
 -- a text without its last bytes
@@ -25,8 +25,8 @@ pub last_len : (carry : ℕ) (text : List ℕ) → length (last_bytes carry text
 last_len carry text = length-drop (length text - carry) text
 
 -- a literal that ends in a piece after a text ends there after the text's last bytes
-pub occurs_behind_last : (l : Literals) (text piece : List ℕ) (place d : ℕ) → HasBounds l → 0 < d → Occurs l (text ++ piece) place (length text + d) → Occurs l (last_bytes (carry_of l) text ++ piece) place (length (last_bytes (carry_of l) text) + d)
-occurs_behind_last l text piece place d f some o =
+pub occurs_after_last : (l : Literals) (text piece : List ℕ) (place d : ℕ) → HasBounds l → 0 < d → Occurs l (text ++ piece) place (length text + d) → Occurs l (last_bytes (carry_of l) text ++ piece) place (length (last_bytes (carry_of l) text) + d)
+occurs_after_last l text piece place d f some o =
     let carry = carry_of l in
     let front = before_last carry text in
     let last = last_bytes carry text in
@@ -37,10 +37,10 @@ occurs_behind_last l text piece place d f some o =
     (omega (arith, f.fits place moved.literal moved.stands, moved.begins, before_len carry text, last_len carry text))
 
 -- and the other way round
-pub occurs_behind_all : (l : Literals) (carry : ℕ) (text piece : List ℕ) (place d : ℕ) → Occurs l (last_bytes carry text ++ piece) place (length (last_bytes carry text) + d) → Occurs l (text ++ piece) place (length text + d)
-occurs_behind_all l carry text piece place d o =
+pub occurs_after_all : (l : Literals) (carry : ℕ) (text piece : List ℕ) (place d : ℕ) → Occurs l (last_bytes carry text ++ piece) place (length (last_bytes carry text) + d) → Occurs l (text ++ piece) place (length text + d)
+occurs_after_all l carry text piece place d o =
     let front = before_last carry text in
     let last = last_bytes carry text in
     let at : length front + (length last + d) ≡ length text + d = omega (arith, before_len carry text, last_len carry text) in
-    let moved : Occurs l (front ++ (last ++ piece)) place (length front + (length last + d)) = occurs_behind l front (last ++ piece) place (length last + d) o in
+    let moved : Occurs l (front ++ (last ++ piece)) place (length front + (length last + d)) = occurs_after l front (last ++ piece) place (length last + d) o in
     subst (λ e. Occurs l (text ++ piece) place e) at (subst (λ t. Occurs l t place (length front + (length last + d))) (sym (regrouped carry text piece)) moved)

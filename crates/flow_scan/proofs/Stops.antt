@@ -4,11 +4,11 @@ use Rattle.std.proofs.lemmas.Bool.{cases_lt}
 use Rattle.std.proofs.lemmas.List.{length-append, length-take, take-take, take_all}
 use Rattle.lit_base.specs.Literals.{Literals}
 use Rattle.lit_plan.specs.Bounds.{HasBounds, carry_of}
-use Rattle.text_ends.specs.HitsBehind.{AreHitsBehind, GainsHitsBehind, StopsAt}
+use Rattle.text_ends.specs.HitsAfter.{AreHitsAfter, GainsHitsAfter, StopsAt}
 use Rattle.flow_scan.specs.Tails.{AreAdded, StopsIn}
 use Rattle.text_ends.proofs.HitLists.{gained_both, gained_more}
 use Rattle.text_ends.proofs.Stops.{same_number, to_end}
-use Rattle.flow_scan.proofs.SeamLemmas.{front_behind}
+use Rattle.flow_scan.proofs.BoundaryLemmas.{front_after}
 use Rattle.flow_scan.proofs.TailSteps.{added_in_place}
 
 -- a search that stopped in the first bytes of a piece, after a tail
@@ -16,7 +16,7 @@ pub stopped_in_front : (l : Literals) (tail piece : List ℕ) (carry at most sto
     → (stop - length tail < length piece → length old + most ≤ length new) → StopsIn l tail piece at most (stop - length tail) old new
 stopped_in_front l tail piece carry at most stop old new search enough = record {
   within = omega (arith, search.after, search.within, length-append tail (take carry piece), length-take carry piece);
-  gained = subst (λ t. GainsHitsBehind l t (length tail) at old new) (front_behind tail piece carry stop search.after search.within) search.gained;
+  gained = subst (λ t. GainsHitsAfter l t (length tail) at old new) (front_after tail piece carry stop search.after search.within) search.gained;
   enough = enough;
   least = search.least;
   few = search.few;
@@ -34,7 +34,7 @@ stopped_in_place l tail piece at most stop count old middle new bounds first few
     let front : take carry piece ≡ take carry (take count piece) = sym (take-take carry count piece second.after) in
     let early : AreAdded l tail (take carry (take count piece)) at first.gained.found =
     subst (λ p. AreAdded l tail p at first.gained.found) front
-    (subst (λ t. AreHitsBehind l t (length tail) at first.gained.found) (take_all stop text (omega (arith, there))) first.gained.added) in
+    (subst (λ t. AreHitsAfter l t (length tail) at first.gained.found) (take_all stop text (omega (arith, there))) first.gained.added) in
     let long : carry ≤ length (take count piece) = omega (arith, second.after, second.within, length-take count piece) in
     record {
       within = second.within;

@@ -7,29 +7,29 @@ use Rattle.lit_base.specs.Literals.{Literals}
 use Rattle.lit_base.specs.Occurrences.{Occurs}
 use Rattle.lit_base.specs.NextEnds.{NoEndAfter}
 use Rattle.flow_scan.specs.Tails.{AreAdded, AreSteps, GainsHits, last_bytes}
-use Rattle.text_ends.specs.HitsBehind.{AreHitsBehind}
+use Rattle.text_ends.specs.HitsAfter.{AreHitsAfter}
 use Rattle.lit_plan.specs.Bounds.{HasBounds, carry_of}
-use Rattle.flow_scan.proofs.LastBytes.{last_len, occurs_behind_all, occurs_behind_last}
-use Rattle.text_ends.proofs.Occurring.{occurs_behind, occurs_of_front}
+use Rattle.flow_scan.proofs.LastBytes.{last_len, occurs_after_all, occurs_after_last}
+use Rattle.text_ends.proofs.Occurring.{occurs_after, occurs_of_front}
 use Rattle.text_ends.proofs.HitLists.{hits_joined, hits_none, none_past}
 
 -- the hits that a piece adds after the last bytes of a text are those that it adds after the text
-pub added_behind_all : (l : Literals) (text piece : List ℕ) (at : ℕ) (found : List (ℕ × ℕ)) → HasBounds l → AreAdded l (last_bytes (carry_of l) text) piece at found → AreAdded l text piece at found
-added_behind_all l text piece at found b added = record {
+pub added_after_all : (l : Literals) (text piece : List ℕ) (at : ℕ) (found : List (ℕ × ℕ)) → HasBounds l → AreAdded l (last_bytes (carry_of l) text) piece at found → AreAdded l text piece at found
+added_after_all l text piece at found b added = record {
   rising = added.rising;
   members = λ place end. (
-    λ inside. let w = (added.members place end).0 inside in (w.0, occurs_behind_all l (carry_of l) text piece place (end - at) w.1),
-    λ w. (added.members place end).1 (w.0, occurs_behind_last l text piece place (end - at) b (omega (arith, w.0)) w.1),
+    λ inside. let w = (added.members place end).0 inside in (w.0, occurs_after_all l (carry_of l) text piece place (end - at) w.1),
+    λ w. (added.members place end).1 (w.0, occurs_after_last l text piece place (end - at) b (omega (arith, w.0)) w.1),
   );
 }
 
 -- and the other way round
-pub added_behind_last : (l : Literals) (text piece : List ℕ) (at : ℕ) (found : List (ℕ × ℕ)) → HasBounds l → AreAdded l text piece at found → AreAdded l (last_bytes (carry_of l) text) piece at found
-added_behind_last l text piece at found b added = record {
+pub added_after_last : (l : Literals) (text piece : List ℕ) (at : ℕ) (found : List (ℕ × ℕ)) → HasBounds l → AreAdded l text piece at found → AreAdded l (last_bytes (carry_of l) text) piece at found
+added_after_last l text piece at found b added = record {
   rising = added.rising;
   members = λ place end. (
-    λ inside. let w = (added.members place end).0 inside in (w.0, occurs_behind_last l text piece place (end - at) b (omega (arith, w.0)) w.1),
-    λ w. (added.members place end).1 (w.0, occurs_behind_all l (carry_of l) text piece place (end - at) w.1),
+    λ inside. let w = (added.members place end).0 inside in (w.0, occurs_after_last l text piece place (end - at) b (omega (arith, w.0)) w.1),
+    λ w. (added.members place end).1 (w.0, occurs_after_all l (carry_of l) text piece place (end - at) w.1),
   );
 }
 
@@ -40,11 +40,11 @@ added_joined l text first second at found rest early late =
     let m = length (text ++ first) in
     let front : take m whole ≡ text ++ first = take_at (text ++ first) second m refl in
     let told : at + length first ≡ at + (m - length text) = omega (arith, length-append text first) in
-    let all : AreHitsBehind l whole (length text) at (found ++ rest) =
+    let all : AreHitsAfter l whole (length text) at (found ++ rest) =
     hits_joined l whole (length text) m at found rest (omega (arith, length-append text first)) (omega (arith, length-append (text ++ first) second))
-    (subst (λ t. AreHitsBehind l t (length text) at found) (sym front) early)
-    (subst (λ x. AreHitsBehind l whole m x rest) told late) in
-    subst (λ t. AreHitsBehind l t (length text) at (found ++ rest)) (append_assoc text first second) all
+    (subst (λ t. AreHitsAfter l t (length text) at found) (sym front) early)
+    (subst (λ x. AreHitsAfter l whole m x rest) told late) in
+    subst (λ t. AreHitsAfter l t (length text) at (found ++ rest)) (append_assoc text first second) all
 
 -- the last bytes of a text and a piece depend on the text's last bytes and the piece alone
 pub last_of_last : (most : ℕ) (text piece : List ℕ) → last_bytes most (last_bytes most text ++ piece) ≡ last_bytes most (text ++ piece)
@@ -65,20 +65,20 @@ pub added_nothing : (l : Literals) (text : List ℕ) (at : ℕ) → AreAdded l t
 added_nothing l text at = hits_none l (text ++ []) (length text) at (none_past l (text ++ []) (length text) (omega (arith, length-append text [])))
 
 -- steps from the last bytes of a text on give the hits that the joined pieces add after the text
-pub steps_behind : (l : Literals) (text : List ℕ) (at : ℕ) (pieces : List (List ℕ)) (hits : List (ℕ × ℕ)) → HasBounds l → AreSteps l (last_bytes (carry_of l) text) at pieces hits → AreAdded l text (concat pieces) at hits
-steps_behind l text at [] hits b none = subst (AreAdded l text [] at) (sym none) (added_nothing l text at)
-steps_behind l text at (piece ∷ pieces) hits b s =
+pub steps_after : (l : Literals) (text : List ℕ) (at : ℕ) (pieces : List (List ℕ)) (hits : List (ℕ × ℕ)) → HasBounds l → AreSteps l (last_bytes (carry_of l) text) at pieces hits → AreAdded l text (concat pieces) at hits
+steps_after l text at [] hits b none = subst (AreAdded l text [] at) (sym none) (added_nothing l text at)
+steps_after l text at (piece ∷ pieces) hits b s =
     let next : AreSteps l (last_bytes (carry_of l) (text ++ piece)) (at + length piece) pieces s.1 =
     subst (λ t. AreSteps l t (at + length piece) pieces s.1) (last_of_last (carry_of l) text piece) s.4 in
     subst (AreAdded l text (piece ++ concat pieces) at) (sym s.2)
-    (added_joined l text piece (concat pieces) at s.0 s.1 (added_behind_all l text piece at s.0 b s.3) (steps_behind l (text ++ piece) (at + length piece) pieces s.1 b next))
+    (added_joined l text piece (concat pieces) at s.0 s.1 (added_after_all l text piece at s.0 b s.3) (steps_after l (text ++ piece) (at + length piece) pieces s.1 b next))
 
 -- steps from no bytes on give the hits of the pieces joined, counted from where the steps begin
-pub steps_are_hits : (l : Literals) (base : ℕ) (pieces : List (List ℕ)) (hits : List (ℕ × ℕ)) → HasBounds l → AreSteps l [] base pieces hits → AreHitsBehind l (concat pieces) 0 base hits
-steps_are_hits l base pieces hits b s = steps_behind l [] base pieces hits b (subst (λ t. AreSteps l t base pieces hits) (sym (last_of_short (carry_of l) [] (omega arith))) s)
+pub steps_are_hits : (l : Literals) (base : ℕ) (pieces : List (List ℕ)) (hits : List (ℕ × ℕ)) → HasBounds l → AreSteps l [] base pieces hits → AreHitsAfter l (concat pieces) 0 base hits
+steps_are_hits l base pieces hits b s = steps_after l [] base pieces hits b (subst (λ t. AreSteps l t base pieces hits) (sym (last_of_short (carry_of l) [] (omega arith))) s)
 
 -- of a longer piece: the hits that its first bytes add after a tail, and then the hits of the piece alone after them
-pub added_in_place : (l : Literals) (tail piece : List ℕ) (at : ℕ) (found rest : List (ℕ × ℕ)) → HasBounds l → carry_of l ≤ length piece → AreAdded l tail (take (carry_of l) piece) at found → AreHitsBehind l piece (carry_of l) (at + carry_of l) rest → AreAdded l tail piece at (found ++ rest)
+pub added_in_place : (l : Literals) (tail piece : List ℕ) (at : ℕ) (found rest : List (ℕ × ℕ)) → HasBounds l → carry_of l ≤ length piece → AreAdded l tail (take (carry_of l) piece) at found → AreHitsAfter l piece (carry_of l) (at + carry_of l) rest → AreAdded l tail piece at (found ++ rest)
 added_in_place l tail piece at found rest b long early late =
     let carry = carry_of l in
     let front = take carry piece in
@@ -87,33 +87,33 @@ added_in_place l tail piece at found rest b long early late =
     let len : length front ≡ carry = omega (arith, length-take carry piece) in
     let skip : length (tail ++ front) - carry ≡ length tail = omega (arith, length-append tail front, len) in
     let last : last_bytes carry (tail ++ front) ≡ front = ap (λ n. drop n (tail ++ front)) skip ∙ drop_at tail front (length tail) refl in
-    let here : AreHitsBehind l (front ++ back) (length front) (at + length front) rest =
-    subst (λ n. AreHitsBehind l (front ++ back) n (at + n) rest) (sym len) (subst (λ t. AreHitsBehind l t carry (at + carry) rest) (sym whole) late) in
-    let behind : AreAdded l (tail ++ front) back (at + length front) rest =
-    added_behind_all l (tail ++ front) back (at + length front) rest b (subst (λ t. AreAdded l t back (at + length front) rest) (sym last) here) in
-    subst (λ t. AreAdded l tail t at (found ++ rest)) whole (added_joined l tail front back at found rest early behind)
+    let here : AreHitsAfter l (front ++ back) (length front) (at + length front) rest =
+    subst (λ n. AreHitsAfter l (front ++ back) n (at + n) rest) (sym len) (subst (λ t. AreHitsAfter l t carry (at + carry) rest) (sym whole) late) in
+    let after : AreAdded l (tail ++ front) back (at + length front) rest =
+    added_after_all l (tail ++ front) back (at + length front) rest b (subst (λ t. AreAdded l t back (at + length front) rest) (sym last) here) in
+    subst (λ t. AreAdded l tail t at (found ++ rest)) whole (added_joined l tail front back at found rest early after)
 
 -- where nothing ends in a piece, nothing ends in its first bytes
 pub quiet_front : (l : Literals) (tail piece : List ℕ) (n : ℕ) → NoEndAfter l (tail ++ piece) (length tail) → NoEndAfter l (tail ++ take n piece) (length tail)
-quiet_front l tail piece n none end after here =
+quiet_front l tail piece n none end later here =
     let whole : (tail ++ take n piece) ++ drop n piece ≡ tail ++ piece = append_assoc tail (take n piece) (drop n piece) ∙ ap (λ t. tail ++ t) (take-append-drop n piece) in
-    none end after (here.0, subst (λ t. Occurs l t here.0 end) whole (occurs_of_front l (tail ++ take n piece) (drop n piece) here.0 end here.1))
+    none end later (here.0, subst (λ t. Occurs l t here.0 end) whole (occurs_of_front l (tail ++ take n piece) (drop n piece) here.0 end here.1))
 
 -- nor in the piece alone
 pub quiet_rest : (l : Literals) (tail piece : List ℕ) (n : ℕ) → NoEndAfter l (tail ++ piece) (length tail) → NoEndAfter l piece n
-quiet_rest l tail piece n none end after here =
-    none (length tail + end) (omega (arith, after)) (here.0, occurs_behind l tail piece here.0 end here.1)
+quiet_rest l tail piece n none end later here =
+    none (length tail + end) (omega (arith, later)) (here.0, occurs_after l tail piece here.0 end here.1)
 
 -- the hits of a text, and those that a piece adds after its last bytes, are the hits of both
-pub hits_fed : (l : Literals) (text piece : List ℕ) (place : ℕ) (old new : List (ℕ × ℕ)) → HasBounds l → place ≡ length text → AreHitsBehind l text 0 0 old → GainsHits l (last_bytes (carry_of l) text) piece place old new → AreHitsBehind l (text ++ piece) 0 0 new
+pub hits_fed : (l : Literals) (text piece : List ℕ) (place : ℕ) (old new : List (ℕ × ℕ)) → HasBounds l → place ≡ length text → AreHitsAfter l text 0 0 old → GainsHits l (last_bytes (carry_of l) text) piece place old new → AreHitsAfter l (text ++ piece) 0 0 new
 hits_fed l text piece place old new b reached before gains =
     let whole : List ℕ = text ++ piece in
-    let more : AreAdded l text piece place gains.found = added_behind_all l text piece place gains.found b gains.added in
+    let more : AreAdded l text piece place gains.found = added_after_all l text piece place gains.found b gains.added in
     let told : place ≡ 0 + (length text - 0) = omega (arith, reached) in
-    subst (AreHitsBehind l whole 0 0) (sym gains.grown)
+    subst (AreHitsAfter l whole 0 0) (sym gains.grown)
     (hits_joined l whole 0 (length text) 0 old gains.found (omega arith) (omega (arith, length-append text piece))
-    (subst (λ t. AreHitsBehind l t 0 0 old) (sym (take_at text piece (length text) refl)) before)
-    (subst (λ x. AreHitsBehind l whole (length text) x gains.found) told more))
+    (subst (λ t. AreHitsAfter l t 0 0 old) (sym (take_at text piece (length text) refl)) before)
+    (subst (λ x. AreHitsAfter l whole (length text) x gains.found) told more))
 
 -- one more piece, joined
 pub concat_push : (pieces : List (List ℕ)) (piece : List ℕ) → concat (pieces ++ piece ∷ []) ≡ concat pieces ++ piece

@@ -1,3 +1,3 @@
 pub mod Scanners
-pub mod Seams
+pub mod Boundaries
 pub mod Tails

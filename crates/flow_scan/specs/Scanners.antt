@@ -1,7 +1,7 @@
 -- What a contract sees of a `Scanner` or a `Stream`, and what a piece makes of it.
 use Rattle.std.specs.Prelude.{◌≡◌, ℕ, ◌+◌, ◌^◌, ◌<◌, List, [], ◌++◌, length, min}
 use Rattle.lit_plan.specs.Plans.{Plan}
-use Rattle.flow_scan.specs.Seams.{Seaming}
+use Rattle.flow_scan.specs.Boundaries.{Joining}
 use Rattle.flow_scan.specs.Tails.{last_bytes, tail_after}
 
 -- a plan, the base, the position reached, and the last bytes fed, as many as a hit in the next piece may need
@@ -41,6 +41,6 @@ abbrev pub scanning : Plan → Reached → Scanning
 scanning plan r = record { plan = plan; base = r.base; place = r.place; tail = r.tail }
 
 -- the invariant of the fields: the tail has as many bytes as were fed, up to the overlap, and the position is a u64
-pub record IsProgress (base count : ℕ) (seam : Seaming) : Type 0 where
-  pub tail : length seam.tail ≡ min count seam.carry
+pub record IsProgress (base count : ℕ) (boundary : Joining) : Type 0 where
+  pub tail : length boundary.tail ≡ min count boundary.carry
   pub place : base + count < 2 ^ 64

@@ -5,7 +5,7 @@ use Rattle.std.specs.Global.{Vec}
 use Rattle.lit_base.specs.Literals.{Literals}
 use Rattle.lit_base.specs.Occurrences.{IsHits}
 use Rattle.lit_plan.specs.Bounds.{carry_of}
-use Rattle.text_ends.specs.HitsBehind.{AreHitsBehind, GainsHitsBehind}
+use Rattle.text_ends.specs.HitsAfter.{AreHitsAfter, GainsHitsAfter}
 
 -- the last bytes of a text, at most `most`
 abbrev pub last_bytes : ℕ → List ℕ → List ℕ
@@ -17,7 +17,7 @@ tail_after l tail piece = last_bytes (carry_of l) (tail ++ piece)
 
 -- the hits that a piece adds after a tail, where the piece begins at position `at` of the stream
 abbrev pub AreAdded : Literals → List ℕ → List ℕ → ℕ → List (ℕ × ℕ) → Type 0
-AreAdded l tail piece at found = AreHitsBehind l (tail ++ piece) (length tail) at found
+AreAdded l tail piece at found = AreHitsAfter l (tail ++ piece) (length tail) at found
 
 -- the hits that pieces add one after the other, the first of them after a tail
 abbrev pub AreSteps : Literals → List ℕ → ℕ → List (List ℕ) → List (ℕ × ℕ) → Type 0
@@ -28,7 +28,7 @@ AreSteps l tail at (piece ∷ pieces) hits =
 
 -- a list of hits has gained, at its end, those that a piece adds
 abbrev pub GainsHits : Literals → List ℕ → List ℕ → ℕ → List (ℕ × ℕ) → List (ℕ × ℕ) → Type 0
-GainsHits l tail piece at = GainsHitsBehind l (tail ++ piece) (length tail) at
+GainsHits l tail piece at = GainsHitsAfter l (tail ++ piece) (length tail) at
 
 -- a search through the first `count` bytes of a piece after a tail: a list of hits has gained those up to there. It stopped before the piece's end only after it had gained `most`. It stopped at the first such position: the hits from the `most`th on end there
 pub record StopsIn (l : Literals) (tail piece : List ℕ) (at most count : ℕ) (old new : List (ℕ × ℕ)) : Type 0 where
@@ -40,7 +40,7 @@ pub record StopsIn (l : Literals) (tail piece : List ℕ) (at most count : ℕ) 
 
 -- steps from no bytes on give the hits of the joined pieces, counted from the base; from 0 on, they are the text's hits
 pub record PiecesLaw (l : Literals) (pieces : List (List ℕ)) : Type 0 where
-  pub counted : (base : ℕ) (hits : List (ℕ × ℕ)) → AreSteps l [] base pieces hits → AreHitsBehind l (concat pieces) 0 base hits
+  pub counted : (base : ℕ) (hits : List (ℕ × ℕ)) → AreSteps l [] base pieces hits → AreHitsAfter l (concat pieces) 0 base hits
   pub hits : (hits : List (ℕ × ℕ)) → AreSteps l [] 0 pieces hits → IsHits l (concat pieces) hits
 
 -- the bytes of each piece

@@ -2,17 +2,17 @@
 //! stream is cut.
 #![tactic(auto)]
 
+mod boundary;
 mod progress;
 mod scanner;
 mod scanning;
-mod seam;
 mod stream;
 mod tuned_plan;
 mod until;
 
 pub use lit_plan::{Compiled, Fault, least_law};
 pub use scanner::Scanner;
-pub use scanning::{pieces_law, scan_all, scan_behind, scan_pieces};
+pub use scanning::{pieces_law, scan_after, scan_all, scan_pieces};
 pub use stream::Stream;
 pub use text_ends::Hit;
 pub use text_search::{EndFinder, LEAST_LEARNED, LEAST_SAMPLE, TextSearch, make_if_long, next_end};

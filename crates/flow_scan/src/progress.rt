@@ -3,11 +3,11 @@ ghost use Rattle.std.specs.Prelude.{◌≡◌, ◌↔◌, ◌+◌, ◌-◌, ◌^
 ghost use Rattle.lit_plan.specs.declared.fault.Fault.TheVariants.{OutOfMemory, StreamTooLong};
 ghost use Rattle.lit_base.specs.NextEnds.{NoEndAfter};
 ghost use Rattle.flow_scan.specs.Scanners.{Reached, advanced, started_at};
-ghost use Rattle.flow_scan.specs.Seams.{AreOffered};
+ghost use Rattle.flow_scan.specs.Boundaries.{AreOffered};
 ghost use Rattle.flow_scan.specs.Tails.{StopsIn};
 ghost use Rattle.lit_plan.specs.Bounds.{carry_of};
 
-use crate::seam::Seam;
+use crate::boundary::Boundary;
 use lit_plan::{Compiled, Fault};
 use std::alloc::{AllocError, Global};
 use std::marker::Model;
@@ -20,7 +20,7 @@ pub(crate) struct Progress {
     base: u64,
     /// How many bytes were fed.
     count: u64,
-    seam: Seam,
+    boundary: Boundary,
 }
 
 impl Model for Progress {
@@ -32,11 +32,11 @@ impl Model for Progress {
     ghost view = { λ p. record {
       base = p.base;
       place = p.base + p.count;
-      carry = p.seam.carry;
-      tail = p.seam.tail;
+      carry = p.boundary.carry;
+      tail = p.boundary.tail;
     } };
 
-    ghost invariant = { λ p. IsProgress p.base p.count p.seam };
+    ghost invariant = { λ p. IsProgress p.base p.count p.boundary };
 }
 
 impl Progress {
@@ -45,11 +45,11 @@ impl Progress {
         requires { carry < 2 ^ 32 }
         ensures { IfOk result (λ p. p ≡ started_at carry base) }
     {
-        let seam = Seam::new(alloc, carry)?;
+        let boundary = Boundary::new(alloc, carry)?;
         Ok(Progress {
             base,
             count: 0,
-            seam,
+            boundary,
         })
     }
 
@@ -96,10 +96,10 @@ impl Progress {
         if piece.len() as u64 > u64::MAX - self.place() {
             return Err(Fault::StreamTooLong);
         }
-        self.seam.offer(piece);
+        self.boundary.offer(piece);
         let at = self.place();
-        let count = add_piece(search, compiled, &self.seam, piece, at, most, out)?;
-        self.seam.commit(piece, count);
+        let count = add_piece(search, compiled, &self.boundary, piece, at, most, out)?;
+        self.boundary.commit(piece, count);
         self.count += count as u64;
         Ok(count)
     }
@@ -108,11 +108,11 @@ impl Progress {
     pub(crate) fn copy(&self) -> Result<Progress, AllocError>
         ensures { IfOk result (λ p. p ≡ self.now) }
     {
-        let seam = self.seam.copy()?;
+        let boundary = self.boundary.copy()?;
         Ok(Progress {
             base: self.base,
             count: self.count,
-            seam,
+            boundary,
         })
     }
 
@@ -122,7 +122,7 @@ impl Progress {
     {
         self.base = base;
         self.count = 0;
-        self.seam.restart();
+        self.boundary.restart();
     }
 }
 
@@ -132,29 +132,36 @@ impl Progress {
 fn add_piece<S: HitSearch>(
     search: &mut S,
     compiled: &Compiled,
-    seam: &Seam,
+    boundary: &Boundary,
     piece: &[u8],
     at: u64,
     most: usize,
     out: &mut Vec<Hit>,
 ) -> Result<usize, AllocError>
     requires plan { S.serves search.old compiled.now.literals }
-    requires carry { seam.now.carry ≡ carry_of compiled.now.literals }
-    requires front { AreOffered seam.now.carry piece.now seam.now.front }
+    requires carry { boundary.now.carry ≡ carry_of compiled.now.literals }
+    requires front { AreOffered boundary.now.carry piece.now boundary.now.front }
     requires room { at + length piece.now < 2 ^ 64 }
     ensures plan { S.serves search.new compiled.now.literals }
-    ensures ok { IfOk result (λ count. StopsIn compiled.now.literals seam.now.tail piece.now at most count out.old.items out.new.items) }
+    ensures ok { IfOk result (λ count. StopsIn compiled.now.literals boundary.now.tail piece.now at most count out.old.items out.new.items) }
     ensures same_hits { OnErr result (out.new.items ≡ out.old.items) }
-    ensures quiet { NoEndAfter compiled.now.literals (seam.now.tail ++ piece.now) (length seam.now.tail) → IsOk result }
+    ensures quiet { NoEndAfter compiled.now.literals (boundary.now.tail ++ piece.now) (length boundary.now.tail) → IsOk result }
 {
     let before = out.len();
-    let stop = search.add_hits(compiled, seam.text(), seam.tail_len(), at, most, out)?;
+    let stop = search.add_hits(
+        compiled,
+        boundary.text(),
+        boundary.tail_len(),
+        at,
+        most,
+        out,
+    )?;
     let gained = out.len() - before;
     if gained >= most {
-        return Ok(stop - seam.tail_len());
+        return Ok(stop - boundary.tail_len());
     }
-    if piece.len() <= seam.ahead() {
-        return Ok(stop - seam.tail_len());
+    if piece.len() <= boundary.ahead() {
+        return Ok(stop - boundary.tail_len());
     }
     let carry = compiled.carry();
     let rest = most - gained;

@@ -6,7 +6,7 @@ ghost use Rattle.lit_base.specs.Profiles.{buckets};
 ghost use Rattle.lit_base.specs.Occurrences.{IsHits};
 ghost use Rattle.lit_plan.specs.declared.fault.Fault.TheVariants.{OutOfMemory, StreamTooLong};
 ghost use Rattle.lit_base.specs.NextEnds.{NoEndAfter};
-ghost use Rattle.text_ends.specs.HitsBehind.{AreHitsBehind, Continues};
+ghost use Rattle.text_ends.specs.HitsAfter.{AreHitsAfter, Continues};
 ghost use Rattle.flow_scan.specs.Tails.{PiecesLaw, bytes_of};
 
 use crate::scanner::Scanner;
@@ -25,20 +25,20 @@ pub fn scan_all(alloc: Global, compiled: &Compiled, text: &[u8]) -> Result<Vec<H
     ensures quiet { NoEndAfter compiled.now.literals text.now 0 → IsOk result }
 {
     let _carry = compiled.carry();
-    let hits = scan_behind(alloc, compiled, text, 0)?;
+    let hits = scan_after(alloc, compiled, text, 0)?;
     Ok(hits)
 }
 
 /// The hits of a text that end after `from`, in order. Together with the hits of the first `from` bytes they are the
 /// hits of the text. The only refusal is `OutOfMemory`.
-pub fn scan_behind(
+pub fn scan_after(
     alloc: Global,
     compiled: &Compiled,
     text: &[u8],
     from: usize,
 ) -> Result<Vec<Hit>, Fault>
     requires { from ≤ length text.now }
-    ensures ok { IfOk result (λ hits. AreHitsBehind compiled.now.literals text.now from from hits.items) }
+    ensures ok { IfOk result (λ hits. AreHitsAfter compiled.now.literals text.now from from hits.items) }
     ensures continues { IfOk result (λ hits. Continues compiled.now.literals text.now from hits.items) }
     ensures refused { IsOkUnless result OutOfMemory }
 

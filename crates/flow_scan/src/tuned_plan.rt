@@ -3,7 +3,7 @@ ghost use Rattle.std.specs.Prelude.{◌≡◌, ◌≤◌, IfOk, IfSome, IsOk, Is
 ghost use Rattle.std.specs.Arc.{arc_value};
 ghost use Rattle.lit_plan.specs.declared.fault.Fault.TheVariants.{OutOfMemory};
 ghost use Rattle.lit_base.specs.NextEnds.{NoEndAfter};
-ghost use Rattle.text_ends.specs.HitsBehind.{StopsAt};
+ghost use Rattle.text_ends.specs.HitsAfter.{StopsAt};
 
 use crate::until::scan_until;
 use lit_plan::{Compiled, Fault};

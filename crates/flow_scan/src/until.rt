@@ -2,7 +2,7 @@
 ghost use Rattle.std.specs.Prelude.{◌≡◌, ◌≤◌, IfOk, IsOk, IsOkUnless, OnErr, length};
 ghost use Rattle.lit_plan.specs.declared.fault.Fault.TheVariants.{OutOfMemory};
 ghost use Rattle.lit_base.specs.NextEnds.{NoEndAfter};
-ghost use Rattle.text_ends.specs.HitsBehind.{StopsAt};
+ghost use Rattle.text_ends.specs.HitsAfter.{StopsAt};
 
 use lit_plan::{Compiled, Fault};
 use text_ends::{Hit, add_hits_of};
@@ -27,7 +27,7 @@ pub fn scan_until(
     // Where nothing ends after the position, it takes no memory.
     ensures quiet { NoEndAfter compiled.now.literals text.now from → IsOk result }
 {
-    let mut ends = compiled.ends_behind(text, from);
+    let mut ends = compiled.ends_after(text, from);
     let stop = add_hits_of(&mut ends, text, from, from as u64, most, out)?;
     Ok(stop)
 }

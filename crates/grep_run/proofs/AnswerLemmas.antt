@@ -17,7 +17,7 @@ use Rattle.grep_run.specs.declared.status.Stop.{Stop}
 use Rattle.grep_run.specs.declared.status.Stop.TheVariants as stop
 use Rattle.grep_run.specs.Blocks.{selects}
 use Rattle.grep_run.specs.Gathering.{Explains, HasPatterns, IsRefusal, IsRefusalCut, LacksPatterns, Refuses, text_of}
-use Rattle.grep_run.specs.Grep.{answer_to, answer_where, asks, asks_of, asks_where, behind_files, grep, inputs_of, refused_with, searched, status_where}
+use Rattle.grep_run.specs.Grep.{answer_to, answer_where, asks, asks_of, asks_where, after_files, grep, inputs_of, refused_with, searched, status_where}
 use Rattle.grep_run.specs.Messages.{out_of_memory}
 use Rattle.grep_run.specs.Options.{searched_of}
 use Rattle.grep_run.specs.Patterns.{files_asked, patterns_message, all_patterns}
@@ -41,7 +41,7 @@ same-test o s mid compiled had = same-function _ _ (λ line. standing.selected o
 module _ (o : GrepOptions) (s mid left : Sources) (compiled : CompiledPatterns) (had : HasPatterns o s mid compiled) (out_old out_new err_old err_new : Writer) where
   -- so the search is the run's search
   same-search : (r : Result Found Stop) → SearchesAll o (tested_by o compiled) (searched o (tested_by o compiled) (found (searched_of o) mid)) mid left r out_old out_new err_old err_new
-      → SearchesAll o (selects o (all_patterns o s)) (inputs_of o s) (behind_files o s) left r out_old out_new err_old err_new
+      → SearchesAll o (selects o (all_patterns o s)) (inputs_of o s) (after_files o s) left r out_old out_new err_old err_new
   same-search r p =
       subst (λ m. SearchesAll o (selects o (all_patterns o s)) (searched o (selects o (all_patterns o s)) (found (searched_of o) m)) m left r out_old out_new err_old err_new) had.after
       (subst (λ test. SearchesAll o test (searched o test (found (searched_of o) mid)) mid left r out_old out_new err_old err_new) (same-test o s mid compiled had) p)
@@ -50,7 +50,7 @@ module _ (o : GrepOptions) (s mid left : Sources) (compiled : CompiledPatterns) 
   same-answer = ap (λ m. answer_where m o s) (sym had.message)
 
   searched-whole : (what : Found) (status : Status) → status ≡ status_where o.quiet what.is_selected what.is_error
-      → SearchesAll o (selects o (all_patterns o s)) (inputs_of o s) (behind_files o s) left (Ok what) out_old out_new err_old err_new → RunsTo o s left (Ok status) out_old out_new err_old err_new
+      → SearchesAll o (selects o (all_patterns o s)) (inputs_of o s) (after_files o s) left (Ok what) out_old out_new err_old err_new → RunsTo o s left (Ok status) out_old out_new err_old err_new
   searched-whole what status e p = (
     p.0 ∙ sym (after_all-append (asks (files_asked o s)) (asks (inputs_of o s)) s) ∙ ap (λ m. after_all (asks_where m o s) s) (sym had.message),
     record {

@@ -2,7 +2,7 @@
 use Rattle.std.proofs.Common.{◌≡◌, ℕ, ◌+◌, ◌-◌, ◌^◌, ◌<◌, Bool, true, false, ◌||◌, not, cond, List, [], ◌∷◌, ◌++◌, flat_map, length, min, Result, Ok, Err, refl, sym, ap, ◌∙◌, append_assoc, append-nil, length-append, arith, codes}
 use Rattle.std.proofs.lemmas.Bool.{lt-ltb}
 use Rattle.std.specs.Prelude.{decimal, nat_lt}
-use Rattle.line_pick.specs.Lending.{Lent, NoneLeft, OneMore, LastOne, as_numbered}
+use Rattle.line_pick.specs.Emitting.{Emitted, NoneLeft, OneMore, LastOne, as_numbered}
 use Rattle.line_pick.specs.declared.fault.Fault.{Fault}
 use Rattle.line_pick.specs.declared.sink.Next.{Next}
 use Rattle.line_pick.specs.declared.sink.Next.TheVariants.{More, Stop}
@@ -21,17 +21,17 @@ flat_map-none [] = refl
 flat_map-none (x ∷ xs) = flat_map-none xs
 
 -- what all selected lines add, and the end, are the block
-pub block-parts : (o : GrepOptions) (name : List ℕ) (lent : List (ℕ × List ℕ)) → flat_map (added_line o name) lent ++ ending_of o name (length lent) ≡ block_of o name lent
-block-parts o name lent =
-    elim o.quiet as (λ q. flat_map (λ n. cond (q || (o.list || o.count)) [] (written_line o name n)) lent ++ (cond q [] (cond o.list (cond (nat_lt 0 (length lent)) (name ++ codes "\n") []) (cond o.count (prefix_of o name ++ (decimal (length lent) ++ codes "\n")) [])))
-    ≡ cond q [] (cond o.list (cond (has_any lent) (name ++ codes "\n") []) (cond o.count (prefix_of o name ++ (decimal (length lent) ++ codes "\n")) (flat_map (written_line o name) lent)))) [
-      | true ↦ append-nil _ ∙ flat_map-none lent
-      | false ↦ elim o.list as (λ l. flat_map (λ n. cond (l || o.count) [] (written_line o name n)) lent ++ (cond l (cond (nat_lt 0 (length lent)) (name ++ codes "\n") []) (cond o.count (prefix_of o name ++ (decimal (length lent) ++ codes "\n")) []))
-          ≡ cond l (cond (has_any lent) (name ++ codes "\n") []) (cond o.count (prefix_of o name ++ (decimal (length lent) ++ codes "\n")) (flat_map (written_line o name) lent))) [
-            | true ↦ ap (λ t. t ++ cond (nat_lt 0 (length lent)) (name ++ codes "\n") []) (flat_map-none lent)
-            | false ↦ elim o.count as (λ k. flat_map (λ n. cond k [] (written_line o name n)) lent ++ cond k (prefix_of o name ++ (decimal (length lent) ++ codes "\n")) []
-                ≡ cond k (prefix_of o name ++ (decimal (length lent) ++ codes "\n")) (flat_map (written_line o name) lent)) [
-                  | true ↦ ap (λ t. t ++ (prefix_of o name ++ (decimal (length lent) ++ codes "\n"))) (flat_map-none lent)
+pub block-parts : (o : GrepOptions) (name : List ℕ) (emitted : List (ℕ × List ℕ)) → flat_map (added_line o name) emitted ++ ending_of o name (length emitted) ≡ block_of o name emitted
+block-parts o name emitted =
+    elim o.quiet as (λ q. flat_map (λ n. cond (q || (o.list || o.count)) [] (written_line o name n)) emitted ++ (cond q [] (cond o.list (cond (nat_lt 0 (length emitted)) (name ++ codes "\n") []) (cond o.count (prefix_of o name ++ (decimal (length emitted) ++ codes "\n")) [])))
+    ≡ cond q [] (cond o.list (cond (has_any emitted) (name ++ codes "\n") []) (cond o.count (prefix_of o name ++ (decimal (length emitted) ++ codes "\n")) (flat_map (written_line o name) emitted)))) [
+      | true ↦ append-nil _ ∙ flat_map-none emitted
+      | false ↦ elim o.list as (λ l. flat_map (λ n. cond (l || o.count) [] (written_line o name n)) emitted ++ (cond l (cond (nat_lt 0 (length emitted)) (name ++ codes "\n") []) (cond o.count (prefix_of o name ++ (decimal (length emitted) ++ codes "\n")) []))
+          ≡ cond l (cond (has_any emitted) (name ++ codes "\n") []) (cond o.count (prefix_of o name ++ (decimal (length emitted) ++ codes "\n")) (flat_map (written_line o name) emitted))) [
+            | true ↦ ap (λ t. t ++ cond (nat_lt 0 (length emitted)) (name ++ codes "\n") []) (flat_map-none emitted)
+            | false ↦ elim o.count as (λ k. flat_map (λ n. cond k [] (written_line o name n)) emitted ++ cond k (prefix_of o name ++ (decimal (length emitted) ++ codes "\n")) []
+                ≡ cond k (prefix_of o name ++ (decimal (length emitted) ++ codes "\n")) (flat_map (written_line o name) emitted)) [
+                  | true ↦ ap (λ t. t ++ (prefix_of o name ++ (decimal (length emitted) ++ codes "\n"))) (flat_map-none emitted)
                   | false ↦ append-nil _
                 ]
           ]
@@ -44,26 +44,26 @@ none-wanted false true count text e = refl
 none-wanted false false count text e = (cc)
 
 -- and the end says only that there is one
-pub ending-any : (o : GrepOptions) (name : List ℕ) (count : ℕ) (lent : List (ℕ × List ℕ)) → (o.quiet || o.list) ≡ true → nat_lt 0 count ≡ has_any lent → ending_of o name count ≡ block_of o name lent
-ending-any o name count lent e any =
+pub ending-any : (o : GrepOptions) (name : List ℕ) (count : ℕ) (emitted : List (ℕ × List ℕ)) → (o.quiet || o.list) ≡ true → nat_lt 0 count ≡ has_any emitted → ending_of o name count ≡ block_of o name emitted
+ending-any o name count emitted e any =
     elim o.quiet as (λ q. (q || o.list) ≡ true → cond q [] (cond o.list (cond (nat_lt 0 count) (name ++ codes "\n") []) (cond o.count (prefix_of o name ++ (decimal count ++ codes "\n")) []))
-    ≡ cond q [] (cond o.list (cond (has_any lent) (name ++ codes "\n") []) (cond o.count (prefix_of o name ++ (decimal (length lent) ++ codes "\n")) (flat_map (written_line o name) lent)))) [
+    ≡ cond q [] (cond o.list (cond (has_any emitted) (name ++ codes "\n") []) (cond o.count (prefix_of o name ++ (decimal (length emitted) ++ codes "\n")) (flat_map (written_line o name) emitted)))) [
       | true ↦ λ _. refl
       | false ↦ elim o.list as (λ l. (false || l) ≡ true → cond l (cond (nat_lt 0 count) (name ++ codes "\n") []) (cond o.count (prefix_of o name ++ (decimal count ++ codes "\n")) [])
-          ≡ cond l (cond (has_any lent) (name ++ codes "\n") []) (cond o.count (prefix_of o name ++ (decimal (length lent) ++ codes "\n")) (flat_map (written_line o name) lent))) [
+          ≡ cond l (cond (has_any emitted) (name ++ codes "\n") []) (cond o.count (prefix_of o name ++ (decimal (length emitted) ++ codes "\n")) (flat_map (written_line o name) emitted))) [
             | true ↦ λ _. ap (λ b. cond b (name ++ codes "\n") []) any
             | false ↦ λ wrong. cc
           ]
     ] e
 
 -- lines that add nothing each add nothing together
-pub adds-none : (o : GrepOptions) (name : List ℕ) (lent : List (ℕ × List ℕ)) → (o.quiet || o.list) ≡ true → flat_map (added_line o name) lent ≡ []
+pub adds-none : (o : GrepOptions) (name : List ℕ) (emitted : List (ℕ × List ℕ)) → (o.quiet || o.list) ≡ true → flat_map (added_line o name) emitted ≡ []
 adds-none o name [] e = refl
-adds-none o name (x ∷ lent) e = ap (λ t. t ++ flat_map (added_line o name) lent) (none-wanted o.quiet o.list o.count (written_line o name x) e) ∙ adds-none o name lent e
+adds-none o name (x ∷ emitted) e = ap (λ t. t ++ flat_map (added_line o name) emitted) (none-wanted o.quiet o.list o.count (written_line o name x) e) ∙ adds-none o name emitted e
 
 -- one of the earlier lines is one of all
-pub any-behind : (lent more : List (ℕ × List ℕ)) → 0 < length lent → has_any (lent ++ more) ≡ true
-any-behind lent more some = lt-ltb 0 (length (lent ++ more)) (omega (arith, length-append lent more))
+pub any-after : (emitted more : List (ℕ × List ℕ)) → 0 < length emitted → has_any (emitted ++ more) ≡ true
+any-after emitted more some = lt-ltb 0 (length (emitted ++ more)) (omega (arith, length-append emitted more))
 
 -- a block that wants no line more is one of -q or -l
 pub wants-none : (quiet list : Bool) → cond (quiet || list) Stop More ≡ Stop → (quiet || list) ≡ true
@@ -99,15 +99,15 @@ takes-unseen old new n m line other (Ok next) none h =
 takes-unseen old new n m line other (Err fault) none h = (h, ap are_shown h.1.0 ∙ none)
 
 -- so as many other lines are
-pub lent-unseen : {old new : Block} {lines : List (ℕ × List ℕ)} {answer : Result Next Fault} (others : List (ℕ × List ℕ)) → length lines ≡ length others → are_shown old.options.now ≡ false → Lent TakesLine old lines answer new → Lent TakesLine old others answer new
-lent-unseen [] same none NoneLeft = NoneLeft
-lent-unseen (x ∷ others) same none NoneLeft = absurd (omega (arith, same))
-lent-unseen [] same none (OneMore h rest) = absurd (omega (arith, same))
-lent-unseen ((m, other) ∷ others) same none (OneMore {s = s} {t = mid} {number = number} {line = line} h rest) =
+pub emitted-unseen : {old new : Block} {lines : List (ℕ × List ℕ)} {answer : Result Next Fault} (others : List (ℕ × List ℕ)) → length lines ≡ length others → are_shown old.options.now ≡ false → Emitted TakesLine old lines answer new → Emitted TakesLine old others answer new
+emitted-unseen [] same none NoneLeft = NoneLeft
+emitted-unseen (x ∷ others) same none NoneLeft = absurd (omega (arith, same))
+emitted-unseen [] same none (OneMore h rest) = absurd (omega (arith, same))
+emitted-unseen ((m, other) ∷ others) same none (OneMore {s = s} {t = mid} {number = number} {line = line} h rest) =
     let next = takes-unseen s mid number m line other (Ok More) none h in
-    OneMore next.0 (lent-unseen others (omega (arith, same)) next.1 rest)
-lent-unseen [] same none (LastOne h last) = absurd (omega (arith, same))
-lent-unseen ((m, other) ∷ others) same none (LastOne {s = s} {t = t} {number = number} {line = line} {answer = answer} h last) = LastOne (takes-unseen s t number m line other answer none h).0 last
+    OneMore next.0 (emitted-unseen others (omega (arith, same)) next.1 rest)
+emitted-unseen [] same none (LastOne h last) = absurd (omega (arith, same))
+emitted-unseen ((m, other) ∷ others) same none (LastOne {s = s} {t = t} {number = number} {line = line} {answer = answer} h last) = LastOne (takes-unseen s t number m line other answer none h).0 last
 
 -- a block that has taken lines and wants more
 pub record HasMore (o : GrepOptions) (name : List ℕ) (lines : List (ℕ × List ℕ)) (old new : Block) : Type 0 where
@@ -127,16 +127,16 @@ adds-same : (o : GrepOptions) (name : List ℕ) {old new : Block} (number : ℕ)
 adds-same o name {old} {new} number line answer h same named =
     h.text ∙ ap (λ p. old.text.items ++ added_line p old.name.now (number, line)) same ∙ ap (λ n. old.text.items ++ added_line o n (number, line)) named
 
-pub lent-more : (o : GrepOptions) (name : List ℕ) {old new : Block} {lines : List (ℕ × List ℕ)} → Lent TakesLine old lines (Ok More) new → old.options.now ≡ o → old.name.now ≡ name → HasMore o name lines old new
-lent-more o name {old} NoneLeft same named = record {
+pub emitted-more : (o : GrepOptions) (name : List ℕ) {old new : Block} {lines : List (ℕ × List ℕ)} → Emitted TakesLine old lines (Ok More) new → old.options.now ≡ o → old.name.now ≡ name → HasMore o name lines old new
+emitted-more o name {old} NoneLeft same named = record {
   options = same;
   called = named;
   text = sym (append-nil old.text.items);
   count = λ n is. is ∙ ap (λ k. min k (2 ^ 64 - 1)) (omega arith);
   unwanted = λ stop. refl;
 }
-lent-more o name {old} {new} (OneMore {t = mid} {number = number} {line = line} {rest = rest} first others) same named =
-    let then = lent-more o name others (first.options ∙ same) (first.name ∙ named) in
+emitted-more o name {old} {new} (OneMore {t = mid} {number = number} {line = line} {rest = rest} first others) same named =
+    let then = emitted-more o name others (first.options ∙ same) (first.name ∙ named) in
     record {
       options = then.options;
       called = then.called;
@@ -144,7 +144,7 @@ lent-more o name {old} {new} (OneMore {t = mid} {number = number} {line = line} 
       count = λ n is. then.count (n + 1) (first.count ∙ ap (λ k. min (k + 1) (2 ^ 64 - 1)) is ∙ one-more n) ∙ ap (λ k. min k (2 ^ 64 - 1)) (omega arith);
       unwanted = λ stop. let wrong : More ≡ Stop = first.next ∙ ap next_of same ∙ stop in (cc);
     }
-lent-more o name (LastOne last other) same named = absurd (other refl)
+emitted-more o name (LastOne last other) same named = absurd (other refl)
 
 -- a block that wants no line any more has taken one
 pub record HasStopped (o : GrepOptions) (name : List ℕ) (lines : List (ℕ × List ℕ)) (new : Block) : Type 0 where
@@ -154,11 +154,11 @@ pub record HasStopped (o : GrepOptions) (name : List ℕ) (lines : List (ℕ × 
   pub some : 0 < length lines
   pub count : 0 < new.count
 
-pub lent-stop : (o : GrepOptions) (name : List ℕ) {old new : Block} {lines : List (ℕ × List ℕ)} → Lent TakesLine old lines (Ok Stop) new → old.options.now ≡ o → old.name.now ≡ name → HasStopped o name lines new
-lent-stop o name (OneMore first others) same named =
-    let then = lent-stop o name others (first.options ∙ same) (first.name ∙ named) in
+pub emitted-stop : (o : GrepOptions) (name : List ℕ) {old new : Block} {lines : List (ℕ × List ℕ)} → Emitted TakesLine old lines (Ok Stop) new → old.options.now ≡ o → old.name.now ≡ name → HasStopped o name lines new
+emitted-stop o name (OneMore first others) same named =
+    let then = emitted-stop o name others (first.options ∙ same) (first.name ∙ named) in
     let wrong : More ≡ Stop = first.next ∙ ap next_of same ∙ then.stop in (cc)
-lent-stop o name (LastOne last other) same named = record {
+emitted-stop o name (LastOne last other) same named = record {
   options = last.options ∙ same;
   called = last.name ∙ named;
   stop = sym (last.next ∙ ap next_of same);
@@ -167,10 +167,10 @@ lent-stop o name (LastOne last other) same named = record {
 }
 
 -- and it holds the same text
-pub lent-stop-text : (o : GrepOptions) (name : List ℕ) {old new : Block} {lines : List (ℕ × List ℕ)} → Lent TakesLine old lines (Ok Stop) new → old.options.now ≡ o → old.name.now ≡ name → new.text.items ≡ old.text.items ++ nothing
-lent-stop-text o name (OneMore first others) same named =
-    let then = lent-stop o name others (first.options ∙ same) (first.name ∙ named) in
+pub emitted-stop-text : (o : GrepOptions) (name : List ℕ) {old new : Block} {lines : List (ℕ × List ℕ)} → Emitted TakesLine old lines (Ok Stop) new → old.options.now ≡ o → old.name.now ≡ name → new.text.items ≡ old.text.items ++ nothing
+emitted-stop-text o name (OneMore first others) same named =
+    let then = emitted-stop o name others (first.options ∙ same) (first.name ∙ named) in
     let wrong : More ≡ Stop = first.next ∙ ap next_of same ∙ then.stop in (cc)
-lent-stop-text o name {old} (LastOne {number = number} {line = line} last other) same named =
+emitted-stop-text o name {old} (LastOne {number = number} {line = line} last other) same named =
     adds-same o name number line Stop last same named
     ∙ ap (λ t. old.text.items ++ t) (none-wanted o.quiet o.list o.count (written_line o name (number, line)) (wants-none o.quiet o.list (sym (last.next ∙ ap next_of same))))

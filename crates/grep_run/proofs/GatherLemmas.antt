@@ -34,9 +34,9 @@ pub record FilesSoFar (old now : List (List ℕ)) (all rest : List Ask) (s left 
   pub short : AreShort left
 
 -- a message that there is not: what stands after it counts
-behind-none : (message second : Option (List ℕ)) → message ≡ None → first_of message second ≡ second
-behind-none None second e = refl
-behind-none (Some text) second e = (cc)
+following-none : (message second : Option (List ℕ)) → message ≡ None → first_of message second ≡ second
+following-none None second e = refl
+following-none (Some text) second e = (cc)
 
 -- a test that fails: the other files count
 rest-read : (message : Option (List ℕ)) (files : List Input) → message ≡ None → cond (is_some message) [] files ≡ files
@@ -53,14 +53,14 @@ pub FilesSoFar-more : {old now : List (List ℕ)} {all : List Ask} {s mid : Sour
     → new ≡ now ++ patterns_from (source_of name mid.named) → FilesSoFar old new all rest s left
 FilesSoFar-more {old} {now} {all} {s} {mid} new name rest left p e none grown =
     let file : Input = record { ask = Named name; source = source_of name mid.named } in
-    let behind : List Input = found rest (after (Named name) mid) in
+    let following : List Input = found rest (after (Named name) mid) in
     let same : found rest (after (Named name) mid) ≡ found rest left = ap (found rest) (sym e) in
     let more : List (List ℕ) = now ++ patterns_from (source_of name mid.named) in
     record {
-      message = p.message ∙ behind-none _ _ none ∙ ap (λ ps. files_message ps behind) (sym grown) ∙ ap (files_message new) same;
-      patterns = p.patterns ∙ sym (append_assoc now (patterns_from (source_of name mid.named)) (all_from behind)) ∙ ap (λ ps. ps ++ all_from behind) (sym grown) ∙ ap (λ fs. new ++ all_from fs) same;
+      message = p.message ∙ following-none _ _ none ∙ ap (λ ps. files_message ps following) (sym grown) ∙ ap (files_message new) same;
+      patterns = p.patterns ∙ sym (append_assoc now (patterns_from (source_of name mid.named)) (all_from following)) ∙ ap (λ ps. ps ++ all_from following) (sym grown) ∙ ap (λ fs. new ++ all_from fs) same;
       made = p.made ++ Named name ∷ [];
-      front = p.front ∙ ap (λ fs. p.made ++ (Named name ∷ asks fs)) (rest-read _ (files_read more behind) none ∙ ap (λ ps. files_read ps behind) (sym grown) ∙ ap (files_read new) same)
+      front = p.front ∙ ap (λ fs. p.made ++ (Named name ∷ asks fs)) (rest-read _ (files_read more following) none ∙ ap (λ ps. files_read ps following) (sym grown) ∙ ap (files_read new) same)
           ∙ made-more p.made (Named name) (asks (files_read new (found rest left)));
       after = e ∙ ap (after (Named name)) p.after ∙ sym (after_all-one p.made (Named name) s);
       short = subst AreShort (sym e) (short-after (Named name) mid p.short);
@@ -82,19 +82,19 @@ pub FilesSoFar-stop : {old now : List (List ℕ)} {all : List Ask} {s mid : Sour
     → StopsAtFile old s left (found all s) why
 FilesSoFar-stop {old} {now} {all} {s} {mid} name rest left why p e explains =
     let message : Option (List ℕ) = content_message now name (source_of name mid.named) in
-    let behind : List Input = files_read (now ++ patterns_from (source_of name mid.named)) (found rest (after (Named name) mid)) in
+    let following : List Input = files_read (now ++ patterns_from (source_of name mid.named)) (found rest (after (Named name) mid)) in
     let here : left ≡ after_all (p.made ++ Named name ∷ []) s = e ∙ ap (after (Named name)) p.after ∙ sym (after_all-one p.made (Named name) s) in
     record {
       message = subst (Explains why) (sym p.message) (Explains-first why message _ explains);
       front = record {
         made = p.made ++ Named name ∷ [];
-        rest = asks (cond (is_some message) [] behind);
-        parts = p.front ∙ made-more p.made (Named name) (asks (cond (is_some message) [] behind));
+        rest = asks (cond (is_some message) [] following);
+        parts = p.front ∙ made-more p.made (Named name) (asks (cond (is_some message) [] following));
         after = here;
       };
       after = λ other.
           let last : asks (files_read old (found all s)) ≡ p.made ++ Named name ∷ [] =
-          p.front ∙ ap (λ b. p.made ++ (Named name ∷ asks (cond b [] behind))) (has-message why message other explains) in
+          p.front ∙ ap (λ b. p.made ++ (Named name ∷ asks (cond b [] following))) (has-message why message other explains) in
           here ∙ ap (λ made. after_all made s) (sym last);
     }
 

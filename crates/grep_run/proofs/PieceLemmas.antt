@@ -16,9 +16,9 @@ unfolding lines
 lines-apart text = kept-apart (pieces text) (pieces-apart text)
 
 -- the pieces of a list after others
-pub pieces-behind : (old new : List (List ℕ)) (text : List ℕ) → All IsOnePiece old → new ≡ old ++ pieces text → All IsOnePiece new
-pieces-behind old new text all e = subst (All IsOnePiece) (sym e) (All-append IsOnePiece old (pieces text) all (pieces-apart text))
+pub pieces-after : (old new : List (List ℕ)) (text : List ℕ) → All IsOnePiece old → new ≡ old ++ pieces text → All IsOnePiece new
+pieces-after old new text all e = subst (All IsOnePiece) (sym e) (All-append IsOnePiece old (pieces text) all (pieces-apart text))
 
 -- the lines of a file after others
-pub lines-behind : (old new : List (List ℕ)) (text : List ℕ) → All IsOnePiece old → new ≡ old ++ lines text → All IsOnePiece new
-lines-behind old new text all e = subst (All IsOnePiece) (sym e) (All-append IsOnePiece old (lines text) all (lines-apart text))
+pub lines-after : (old new : List (List ℕ)) (text : List ℕ) → All IsOnePiece old → new ≡ old ++ lines text → All IsOnePiece new
+lines-after old new text all e = subst (All IsOnePiece) (sym e) (All-append IsOnePiece old (lines text) all (lines-apart text))

@@ -17,11 +17,11 @@ use Rattle.line_pick.proofs.CutLemmas.{length-ended_lines}
 use Rattle.text_lines.proofs.Newlines.{open_rest-nil}
 use Rattle.std.proofs.lemmas.List.Elements.{All-nil}
 use Rattle.line_pick.specs.declared.state.State.TheVariants.{Running}
-use Rattle.line_pick.proofs.LentLemmas.{Lent-from_Lends, numbered-append}
-use Rattle.line_pick.proofs.NumberLemmas.{Lent-renumbered, bare, bare-numbered}
+use Rattle.line_pick.proofs.EmittedLemmas.{Emitted-from_Emits, numbered-append}
+use Rattle.line_pick.proofs.NumberLemmas.{Emitted-renumbered, bare, bare-numbered}
 use Rattle.line_pick.proofs.OpenLemmas.{alike, decides-itself, decides-on, last-picked}
 use Rattle.line_pick.specs.Feeding.{Feeds, Finishes, IsFed, picked}
-use Rattle.line_pick.specs.Lending.{Lends, Lent, Whole, as_numbered, numbered}
+use Rattle.line_pick.specs.Emitting.{Emits, Emitted, Whole, as_numbered, numbered}
 use Rattle.line_pick.specs.OpenLines.{Decides, IsKept, Keeps, most_kept}
 use Rattle.line_pick.specs.Picking.{Picking}
 use Rattle.line_pick.specs.declared.fault.Fault.{Fault as Failure}
@@ -34,25 +34,25 @@ use Rattle.grep_run.specs.declared.request.End.TheVariants.{Clean, Fault}
 use Rattle.grep_run.specs.Blocks.{block_in, block_of, has_any, is_trouble, lines_of, message_in}
 use Rattle.grep_run.specs.Messages.{unreadable}
 use Rattle.grep_run.specs.Growing.{IsSameBlock, TakesLine, added_line, are_shown, ending_of}
-use Rattle.grep_run.specs.Scanning.{FeedsPiece, picked_by, HasFed, HasRead, HasTaken, IsHalted, StandsBehind, ended_in, is_fault}
+use Rattle.grep_run.specs.Scanning.{FeedsPiece, picked_by, HasFed, HasRead, HasTaken, IsHalted, StandsAfter, ended_in, is_fault}
 use Rattle.grep_run.specs.declared.request.End.{End}
 use Rattle.grep_run.specs.Searching.{IsCut, IsSearched}
 use Rattle.grep_run.specs.Writers.{Writer, Writes, WritesFront}
-use Rattle.grep_run.proofs.BlockLemmas.{HasMore, any-behind, block-parts, ending-any, lent-more, lent-stop, lent-stop-text, lent-unseen, takes-bare, wants-none}
-use Rattle.grep_run.proofs.WriterLemmas.{Writes-nil, Writes-trans, WritesFront-all, WritesFront-behind, WritesFront-more, WritesFront-none, apart}
+use Rattle.grep_run.proofs.BlockLemmas.{HasMore, any-after, block-parts, ending-any, emitted-more, emitted-stop, emitted-stop-text, emitted-unseen, takes-bare, wants-none}
+use Rattle.grep_run.proofs.WriterLemmas.{Writes-nil, Writes-trans, WritesFront-all, WritesFront-after, WritesFront-more, WritesFront-none, apart}
 
 -- the selected lines among lines that follow a text
-abbrev pub picked_behind : (List ℕ → Bool) → List ℕ → List (List ℕ) → List (ℕ × List ℕ)
-picked_behind test text lines = numbered test (length (ended_lines text)) lines
+abbrev pub picked_after : (List ℕ → Bool) → List ℕ → List (List ℕ) → List (ℕ × List ℕ)
+picked_after test text lines = numbered test (length (ended_lines text)) lines
 
 -- the selected lines of a text and of what follows it
 module _ (test : List ℕ → Bool) (text more : List ℕ) where
-  pub ended-more : ended_in test (text ++ more) ≡ ended_in test text ++ picked_behind test text (ended_lines (open_rest text ++ more))
+  pub ended-more : ended_in test (text ++ more) ≡ ended_in test text ++ picked_after test text (ended_lines (open_rest text ++ more))
   ended-more =
       ap (numbered test 0) (ended_lines-append text more) ∙ numbered-append test 0 (ended_lines text) (ended_lines (open_rest text ++ more))
       ∙ ap (λ n. ended_in test text ++ numbered test n (ended_lines (open_rest text ++ more))) (omega arith)
 
-  pub all-lines : numbered test 0 (lines text) ≡ ended_in test text ++ picked_behind test text (last_line (open_rest text))
+  pub all-lines : numbered test 0 (lines text) ≡ ended_in test text ++ picked_after test text (last_line (open_rest text))
   all-lines =
       ap (numbered test 0) (lines-ended_open text) ∙ numbered-append test 0 (ended_lines text) (last_line (open_rest text))
       ∙ ap (λ n. ended_in test text ++ numbered test n (last_line (open_rest text))) (omega arith)
@@ -66,38 +66,38 @@ kept-short : (test : List ℕ → Bool) (most : ℕ) {kept line : List ℕ} (has
 kept-short test most true e k = absurd (cc)
 kept-short test most false e k = k
 
--- lines that follow a text are lent to a block under their numbers and with their bytes, or it writes none
-module _ {o : GrepOptions} {test : List ℕ → Bool} {name text : List ℕ} {p : Picking} {b : Block} {before now : Writer} (s : StandsBehind o test name text p b before now) (lines others : List (List ℕ)) where
-  lent-by : (is_numbered : Bool) → p.is_numbered ≡ is_numbered → {t : Block} {answer : Result Next Failure} → Lent (as_numbered is_numbered TakesLine) b (picked p lines) answer t → Lent TakesLine b (picked_behind test text lines) answer t
-  lent-by true e {t} {answer} h =
-      subst (λ ls. Lent TakesLine b ls answer t) (ap (λ pass. numbered pass p.lines lines) s.fed.tests ∙ ap (λ n. numbered test n lines) (s.fed.lines e)) h
-  lent-by false e h =
-      Lent-renumbered (λ block. block.options.now.number ≡ false) takes-bare (picked_behind test text lines)
+-- lines that follow a text are emitted to a block under their numbers and with their bytes, or it writes none
+module _ {o : GrepOptions} {test : List ℕ → Bool} {name text : List ℕ} {p : Picking} {b : Block} {before now : Writer} (s : StandsAfter o test name text p b before now) (lines others : List (List ℕ)) where
+  emitted-by : (is_numbered : Bool) → p.is_numbered ≡ is_numbered → {t : Block} {answer : Result Next Failure} → Emitted (as_numbered is_numbered TakesLine) b (picked p lines) answer t → Emitted TakesLine b (picked_after test text lines) answer t
+  emitted-by true e {t} {answer} h =
+      subst (λ ls. Emitted TakesLine b ls answer t) (ap (λ pass. numbered pass p.lines lines) s.fed.tests ∙ ap (λ n. numbered test n lines) (s.fed.lines e)) h
+  emitted-by false e h =
+      Emitted-renumbered (λ block. block.options.now.number ≡ false) takes-bare (picked_after test text lines)
       (ap (λ pass. bare (numbered pass p.lines lines)) s.fed.tests ∙ bare-numbered test p.lines (length (ended_lines text)) lines)
       (ap (λ options. options.number) s.taken.options ∙ sym s.numbers ∙ e) h
 
   -- the lines themselves, or others of which as many are selected
-  lent-as : (has_bytes : Bool) → p.has_bytes ≡ has_bytes → (has_bytes ≡ true → lines ≡ others) → (has_bytes ≡ false → (n : ℕ) → length (numbered test n lines) ≡ length (numbered test n others))
-      → {t : Block} {answer : Result Next Failure} → Lent TakesLine b (picked_behind test text lines) answer t → Lent TakesLine b (picked_behind test text others) answer t
-  lent-as true e same count {t} {answer} h = subst (λ ls. Lent TakesLine b (picked_behind test text ls) answer t) (same refl) h
-  lent-as false e same count h = lent-unseen (picked_behind test text others) (count refl (length (ended_lines text))) (ap are_shown s.taken.options ∙ sym s.seen ∙ e) h
+  emitted-as : (has_bytes : Bool) → p.has_bytes ≡ has_bytes → (has_bytes ≡ true → lines ≡ others) → (has_bytes ≡ false → (n : ℕ) → length (numbered test n lines) ≡ length (numbered test n others))
+      → {t : Block} {answer : Result Next Failure} → Emitted TakesLine b (picked_after test text lines) answer t → Emitted TakesLine b (picked_after test text others) answer t
+  emitted-as true e same count {t} {answer} h = subst (λ ls. Emitted TakesLine b (picked_after test text ls) answer t) (same refl) h
+  emitted-as false e same count h = emitted-unseen (picked_after test text others) (count refl (length (ended_lines text))) (ap are_shown s.taken.options ∙ sym s.seen ∙ e) h
 
-  lent-behind : (p.has_bytes ≡ true → lines ≡ others) → (p.has_bytes ≡ false → (n : ℕ) → length (numbered test n lines) ≡ length (numbered test n others))
-      → {t : Block} {answer : Result Next Failure} → Lent (as_numbered p.is_numbered TakesLine) b (picked p lines) answer t → Lent TakesLine b (picked_behind test text others) answer t
-  lent-behind same count h = lent-as p.has_bytes refl same count (lent-by p.is_numbered refl h)
+  emitted-after : (p.has_bytes ≡ true → lines ≡ others) → (p.has_bytes ≡ false → (n : ℕ) → length (numbered test n lines) ≡ length (numbered test n others))
+      → {t : Block} {answer : Result Next Failure} → Emitted (as_numbered p.is_numbered TakesLine) b (picked p lines) answer t → Emitted TakesLine b (picked_after test text others) answer t
+  emitted-after same count h = emitted-as p.has_bytes refl same count (emitted-by p.is_numbered refl h)
 
-module _ {o : GrepOptions} {test : List ℕ → Bool} {name text : List ℕ} {p : Picking} {b : Block} {before now : Writer} (s : StandsBehind o test name text p b before now) where
+module _ {o : GrepOptions} {test : List ℕ → Bool} {name text : List ℕ} {p : Picking} {b : Block} {before now : Writer} (s : StandsAfter o test name text p b before now) where
   -- the lines that a piece ends
-  lent-piece : (piece : List ℕ) → {t : Block} {answer : Result Next Failure} → Lent (as_numbered p.is_numbered TakesLine) b (picked p (ended_lines (p.held ++ piece))) answer t
-      → Lent TakesLine b (picked_behind test text (ended_lines (open_rest text ++ piece))) answer t
-  lent-piece piece h =
-      lent-behind s (ended_lines (p.held ++ piece)) (ended_lines (open_rest text ++ piece)) (λ e. ap (λ held. ended_lines (held ++ piece)) (kept-whole test (most_kept p.plan) p.has_bytes e s.fed.held))
+  emitted-piece : (piece : List ℕ) → {t : Block} {answer : Result Next Failure} → Emitted (as_numbered p.is_numbered TakesLine) b (picked p (ended_lines (p.held ++ piece))) answer t
+      → Emitted TakesLine b (picked_after test text (ended_lines (open_rest text ++ piece))) answer t
+  emitted-piece piece h =
+      emitted-after s (ended_lines (p.held ++ piece)) (ended_lines (open_rest text ++ piece)) (λ e. ap (λ held. ended_lines (held ++ piece)) (kept-whole test (most_kept p.plan) p.has_bytes e s.fed.held))
       (λ e n. (alike test p.held (open_rest text) piece (open_rest-apart text) (kept-short test (most_kept p.plan) p.has_bytes e s.fed.held).decides).picked n) h
 
   -- and the last line
-  lent-last : {t : Block} {answer : Result Next Failure} → Lent (as_numbered p.is_numbered TakesLine) b (picked p (last_line p.held)) answer t → Lent TakesLine b (picked_behind test text (last_line (open_rest text))) answer t
-  lent-last h =
-      lent-behind s (last_line p.held) (last_line (open_rest text)) (λ e. ap last_line (kept-whole test (most_kept p.plan) p.has_bytes e s.fed.held))
+  emitted-last : {t : Block} {answer : Result Next Failure} → Emitted (as_numbered p.is_numbered TakesLine) b (picked p (last_line p.held)) answer t → Emitted TakesLine b (picked_after test text (last_line (open_rest text))) answer t
+  emitted-last h =
+      emitted-after s (last_line p.held) (last_line (open_rest text)) (λ e. ap last_line (kept-whole test (most_kept p.plan) p.has_bytes e s.fed.held))
       (λ e n. last-picked test n p.held (open_rest text) (kept-short test (most_kept p.plan) p.has_bytes e s.fed.held).decides) h
 
 module _ (test : List ℕ → Bool) (most : ℕ) (text piece held : List ℕ) where
@@ -137,77 +137,77 @@ added-all : (o : GrepOptions) (name : List ℕ) (before_lines more all : List (�
 added-all o name before_lines more all e = ap (flat_map (added_line o name)) e ∙ flat_map-append (added_line o name) before_lines more
 
 -- more lines were taken, and written
-taken-more : (o : GrepOptions) (name : List ℕ) (before_lines more all : List (ℕ × List ℕ)) (old mid new : Block) (before now after : Writer) → HasTaken o name before_lines old before now
-    → HasMore o name more old mid → all ≡ before_lines ++ more → Writes now after mid.text.items → new.text.items ≡ [] → IsSameBlock mid new → HasTaken o name all new before after
-taken-more o name before_lines more all old mid new before now after t m e passed none same = record {
+taken-more : (o : GrepOptions) (name : List ℕ) (before_lines more all : List (ℕ × List ℕ)) (old mid new : Block) (before now further : Writer) → HasTaken o name before_lines old before now
+    → HasMore o name more old mid → all ≡ before_lines ++ more → Writes now further mid.text.items → new.text.items ≡ [] → IsSameBlock mid new → HasTaken o name all new before further
+taken-more o name before_lines more all old mid new before now further t m e passed none same = record {
   options = same.options ∙ m.options;
   called = same.name ∙ m.called;
   count = same.count ∙ m.count (length before_lines) t.count ∙ ap (λ n. min n (2 ^ 64 - 1)) (sym (length-append before_lines more)) ∙ ap (λ ls. min (length ls) (2 ^ 64 - 1)) (sym e);
-  written = subst (Writes before after) (sym (added-all o name before_lines more all e))
-      (Writes-trans before now after _ _ t.written (subst (Writes now after) (held-lines o name before_lines more old mid before now t m) passed));
+  written = subst (Writes before further) (sym (added-all o name before_lines more all e))
+      (Writes-trans before now further _ _ t.written (subst (Writes now further) (held-lines o name before_lines more old mid before now t m) passed));
   empty = none;
   unwanted = λ stop. e ∙ ap (λ ls. ls ++ more) (t.unwanted stop) ∙ m.unwanted stop;
 }
 
--- a lending that stopped lent its lines
-lent-stopped : {takes : Block → ℕ → List ℕ → Result Next Failure → Block → Type 0} {s t : Block} {lines : List (ℕ × List ℕ)} → Lends takes s lines (Ok Stop) t → Lent takes s lines (Ok Stop) t
-lent-stopped (Whole h) = h
+-- an emission that stopped emitted its lines
+emitted-stopped : {takes : Block → ℕ → List ℕ → Result Next Failure → Block → Type 0} {s t : Block} {lines : List (ℕ × List ℕ)} → Emits takes s lines (Ok Stop) t → Emitted takes s lines (Ok Stop) t
+emitted-stopped (Whole h) = h
 
 module _ {o : GrepOptions} {test : List ℕ → Bool} {name text : List ℕ} (piece : List ℕ) {p : Picking} (new_p : Picking) {b : Block} (mid : Block) {before : Writer} (now : Writer)
-    (s : StandsBehind o test name text p b before now) where
+    (s : StandsAfter o test name text p b before now) where
   -- the lines of a piece stand after the earlier lines
-  piece-lines : ended_in test (text ++ piece) ≡ ended_in test text ++ picked_behind test text (ended_lines (open_rest text ++ piece))
+  piece-lines : ended_in test (text ++ piece) ≡ ended_in test text ++ picked_after test text (ended_lines (open_rest text ++ piece))
   piece-lines = ended-more test text piece
 
   -- they are taken
-  more-lines : Feeds TakesLine p piece b (Ok More) new_p mid → Lent TakesLine b (picked_behind test text (ended_lines (open_rest text ++ piece))) (Ok More) mid
-  more-lines f = lent-piece s piece (Lent-from_Lends f.lent)
+  more-lines : Feeds TakesLine p piece b (Ok More) new_p mid → Emitted TakesLine b (picked_after test text (ended_lines (open_rest text ++ piece))) (Ok More) mid
+  more-lines f = emitted-piece s piece (Emitted-from_Emits f.emitted)
 
   -- a piece whose lines are all taken and written
-  pub fed-on : (new : Block) (after : Writer) → Feeds TakesLine p piece b (Ok More) new_p mid → Writes now after mid.text.items → new.text.items ≡ [] → IsSameBlock mid new
-      → StandsBehind o test name (text ++ piece) new_p new before after
-  fed-on new after f passed none same = record {
+  pub fed-on : (new : Block) (further : Writer) → Feeds TakesLine p piece b (Ok More) new_p mid → Writes now further mid.text.items → new.text.items ≡ [] → IsSameBlock mid new
+      → StandsAfter o test name (text ++ piece) new_p new before further
+  fed-on new further f passed none same = record {
     fed = fed-more test text piece p new_p s.fed (f.more refl);
     numbers = ap (λ q. q.is_numbered) (f.more refl).rest ∙ s.numbers;
     seen = ap (λ q. q.has_bytes) (f.more refl).rest ∙ s.seen;
-    taken = taken-more o name (ended_in test text) (picked_behind test text (ended_lines (open_rest text ++ piece))) (ended_in test (text ++ piece)) b mid new before now after s.taken
-        (lent-more o name (more-lines f) s.taken.options s.taken.called) piece-lines passed none same;
+    taken = taken-more o name (ended_in test text) (picked_after test text (ended_lines (open_rest text ++ piece))) (ended_in test (text ++ piece)) b mid new before now further s.taken
+        (emitted-more o name (more-lines f) s.taken.options s.taken.called) piece-lines passed none same;
   }
 
   -- all that lines of both add
-  all-added : flat_map (added_line o name) (ended_in test (text ++ piece)) ≡ flat_map (added_line o name) (ended_in test text) ++ flat_map (added_line o name) (picked_behind test text (ended_lines (open_rest text ++ piece)))
-  all-added = added-all o name (ended_in test text) (picked_behind test text (ended_lines (open_rest text ++ piece))) (ended_in test (text ++ piece)) piece-lines
+  all-added : flat_map (added_line o name) (ended_in test (text ++ piece)) ≡ flat_map (added_line o name) (ended_in test text) ++ flat_map (added_line o name) (picked_after test text (ended_lines (open_rest text ++ piece)))
+  all-added = added-all o name (ended_in test text) (picked_after test text (ended_lines (open_rest text ++ piece))) (ended_in test (text ++ piece)) piece-lines
 
   -- where their writing is cut, a front of all is written
-  pub fed-cut : (after : Writer) → Feeds TakesLine p piece b (Ok More) new_p mid → WritesFront now after mid.text.items
-      → WritesFront before after (flat_map (added_line o name) (ended_in test (text ++ piece)))
-  fed-cut after f cut =
-      let m = lent-more o name (more-lines f) s.taken.options s.taken.called in
-      subst (WritesFront before after) (sym all-added)
-      (WritesFront-behind before now after _ _ s.taken.written (subst (WritesFront now after) (held-lines o name (ended_in test text) (picked_behind test text (ended_lines (open_rest text ++ piece))) b mid before now s.taken m) cut))
+  pub fed-cut : (further : Writer) → Feeds TakesLine p piece b (Ok More) new_p mid → WritesFront now further mid.text.items
+      → WritesFront before further (flat_map (added_line o name) (ended_in test (text ++ piece)))
+  fed-cut further f cut =
+      let m = emitted-more o name (more-lines f) s.taken.options s.taken.called in
+      subst (WritesFront before further) (sym all-added)
+      (WritesFront-after before now further _ _ s.taken.written (subst (WritesFront now further) (held-lines o name (ended_in test text) (picked_after test text (ended_lines (open_rest text ++ piece))) b mid before now s.taken m) cut))
 
   -- where memory runs out, the text written is a front of all
   pub fed-starved : WritesFront before now (flat_map (added_line o name) (ended_in test (text ++ piece)))
   fed-starved = subst (WritesFront before now) (sym all-added)
-      (WritesFront-more before now (flat_map (added_line o name) (ended_in test text)) (flat_map (added_line o name) (picked_behind test text (ended_lines (open_rest text ++ piece)))) (WritesFront-all before now _ s.taken.written))
+      (WritesFront-more before now (flat_map (added_line o name) (ended_in test text)) (flat_map (added_line o name) (picked_after test text (ended_lines (open_rest text ++ piece)))) (WritesFront-all before now _ s.taken.written))
 
   -- where no line is wanted any more, one was taken
-  stopped-lines : Feeds TakesLine p piece b (Ok Stop) new_p mid → Lent TakesLine b (picked_behind test text (ended_lines (open_rest text ++ piece))) (Ok Stop) mid
-  stopped-lines f = lent-piece s piece (lent-stopped f.lent)
+  stopped-lines : Feeds TakesLine p piece b (Ok Stop) new_p mid → Emitted TakesLine b (picked_after test text (ended_lines (open_rest text ++ piece))) (Ok Stop) mid
+  stopped-lines f = emitted-piece s piece (emitted-stopped f.emitted)
 
   -- which adds nothing
   pub fed-halted : Feeds TakesLine p piece b (Ok Stop) new_p mid → IsHalted o name (ended_in test (text ++ piece)) mid before now
   fed-halted f =
-      let h = lent-stop o name (stopped-lines f) s.taken.options s.taken.called in
+      let h = emitted-stop o name (stopped-lines f) s.taken.options s.taken.called in
       let none : ended_in test text ≡ [] = s.taken.unwanted h.stop in
       record {
         options = h.options;
         called = h.called;
         stop = h.stop;
-        some = subst (λ ls. 0 < length ls) (sym piece-lines) (omega (arith, h.some, length-append (ended_in test text) (picked_behind test text (ended_lines (open_rest text ++ piece)))));
+        some = subst (λ ls. 0 < length ls) (sym piece-lines) (omega (arith, h.some, length-append (ended_in test text) (picked_after test text (ended_lines (open_rest text ++ piece)))));
         count = h.count;
         written = subst (Writes before now) (ap (flat_map (added_line o name)) none) s.taken.written;
-        empty = lent-stop-text o name (stopped-lines f) s.taken.options s.taken.called ∙ ap (λ (held : List ℕ). held ++ []) s.taken.empty;
+        empty = emitted-stop-text o name (stopped-lines f) s.taken.options s.taken.called ∙ ap (λ (held : List ℕ). held ++ []) s.taken.empty;
       }
 
   -- too many bytes
@@ -254,7 +254,7 @@ pub read-halted : (o : GrepOptions) (test : List ℕ → Bool) (name : List ℕ)
     → IsHalted o name came b before out → HasRead o test name c Clean b before out
 read-halted o test name c b before out came more e h =
     let wanted : (o.quiet || o.list) ≡ true = wants-none o.quiet o.list h.stop in
-    let any : has_any (numbered test 0 (lines_of c)) ≡ true = ap has_any e ∙ any-behind came more h.some in
+    let any : has_any (numbered test 0 (lines_of c)) ≡ true = ap has_any e ∙ any-after came more h.some in
     let both : nat_lt 0 b.count ≡ has_any (numbered test 0 (lines_of c)) = lt-ltb 0 b.count h.count ∙ sym any in
     record {
       options = h.options;
@@ -283,12 +283,12 @@ feeds-as {p} {new_p} {b} {new_b} {piece} e f = subst (λ n. Feeds TakesLine p pi
 
 -- the last line of a content was taken, or none stands there
 module _ {o : GrepOptions} {test : List ℕ → Bool} {name : List ℕ} (c : Content) {p : Picking} (new_p : Picking) {b : Block} (new : Block) {before now : Writer}
-    (clean : c.is_faulty ≡ false) (short : IsShort c) (s : StandsBehind o test name c.text p b before now) where
+    (clean : c.is_faulty ≡ false) (short : IsShort c) (s : StandsAfter o test name c.text p b before now) where
   -- its lines
   clean-lines : lines_of c ≡ lines c.text
   clean-lines = ap (λ f. cond f (ended_lines c.text) (lines c.text)) clean
 
-  clean-numbered : numbered test 0 (lines_of c) ≡ ended_in test c.text ++ picked_behind test c.text (last_line (open_rest c.text))
+  clean-numbered : numbered test 0 (lines_of c) ≡ ended_in test c.text ++ picked_after test c.text (last_line (open_rest c.text))
   clean-numbered = ap (numbered test 0) clean-lines ∙ all-lines test c.text []
 
   -- it is no error
@@ -297,32 +297,32 @@ module _ {o : GrepOptions} {test : List ℕ → Bool} {name : List ℕ} (c : Con
 
   pub ended-whole : Finishes TakesLine p b (Ok More) new_p new → HasRead o test name c Clean new before now
   ended-whole f =
-      let m = lent-more o name (lent-last s f.lent) s.taken.options s.taken.called in
-      let all : numbered test 0 (lines c.text) ≡ ended_in test c.text ++ picked_behind test c.text (last_line (open_rest c.text)) = all-lines test c.text [] in
-      read-whole o test name c new before now (lines c.text) (ended_in test c.text) (picked_behind test c.text (last_line (open_rest c.text))) clean-lines (omega (arith, few-lines c.text)) all m.options m.called
-      (m.count (length (ended_in test c.text)) s.taken.count ∙ ap (λ n. min n (2 ^ 64 - 1)) (sym (length-append (ended_in test c.text) (picked_behind test c.text (last_line (open_rest c.text))))) ∙ ap (λ ls. min (length ls) (2 ^ 64 - 1)) (sym all))
-      s.taken.written (held-lines o name (ended_in test c.text) (picked_behind test c.text (last_line (open_rest c.text))) b new before now s.taken m) Clean clean-error
+      let m = emitted-more o name (emitted-last s f.emitted) s.taken.options s.taken.called in
+      let all : numbered test 0 (lines c.text) ≡ ended_in test c.text ++ picked_after test c.text (last_line (open_rest c.text)) = all-lines test c.text [] in
+      read-whole o test name c new before now (lines c.text) (ended_in test c.text) (picked_after test c.text (last_line (open_rest c.text))) clean-lines (omega (arith, few-lines c.text)) all m.options m.called
+      (m.count (length (ended_in test c.text)) s.taken.count ∙ ap (λ n. min n (2 ^ 64 - 1)) (sym (length-append (ended_in test c.text) (picked_after test c.text (last_line (open_rest c.text))))) ∙ ap (λ ls. min (length ls) (2 ^ 64 - 1)) (sym all))
+      s.taken.written (held-lines o name (ended_in test c.text) (picked_after test c.text (last_line (open_rest c.text))) b new before now s.taken m) Clean clean-error
 
   pub ended-halted : Finishes TakesLine p b (Ok Stop) new_p new → HasRead o test name c Clean new before now
   ended-halted f =
-      let h = lent-stop o name (lent-last s f.lent) s.taken.options s.taken.called in
+      let h = emitted-stop o name (emitted-last s f.emitted) s.taken.options s.taken.called in
       let none : ended_in test c.text ≡ [] = s.taken.unwanted h.stop in
-      read-halted o test name c new before now (ended_in test c.text ++ picked_behind test c.text (last_line (open_rest c.text))) [] (clean-numbered ∙ sym (append-nil (ended_in test c.text ++ picked_behind test c.text (last_line (open_rest c.text))))) (record {
+      read-halted o test name c new before now (ended_in test c.text ++ picked_after test c.text (last_line (open_rest c.text))) [] (clean-numbered ∙ sym (append-nil (ended_in test c.text ++ picked_after test c.text (last_line (open_rest c.text))))) (record {
         options = h.options;
         called = h.called;
         stop = h.stop;
-        some = omega (arith, h.some, length-append (ended_in test c.text) (picked_behind test c.text (last_line (open_rest c.text))));
+        some = omega (arith, h.some, length-append (ended_in test c.text) (picked_after test c.text (last_line (open_rest c.text))));
         count = h.count;
         written = subst (Writes before now) (ap (flat_map (added_line o name)) none) s.taken.written;
-        empty = lent-stop-text o name (lent-last s f.lent) s.taken.options s.taken.called ∙ ap (λ (held : List ℕ). held ++ []) s.taken.empty;
+        empty = emitted-stop-text o name (emitted-last s f.emitted) s.taken.options s.taken.called ∙ ap (λ (held : List ℕ). held ++ []) s.taken.empty;
       })
 
   pub ended-starved : WritesFront before now (block_in o test name (Some c))
-  ended-starved = read-front o test name c before now (ended_in test c.text) (picked_behind test c.text (last_line (open_rest c.text))) clean-numbered (WritesFront-all before now _ s.taken.written)
+  ended-starved = read-front o test name c before now (ended_in test c.text) (picked_after test c.text (last_line (open_rest c.text))) clean-numbered (WritesFront-all before now _ s.taken.written)
 
 -- whether lines come to an end at the last one
 pub ended-any : {o : GrepOptions} {test : List ℕ → Bool} {name : List ℕ} (c : Content) {p : Picking} (new_p : Picking) {b : Block} (new : Block) {before now : Writer} (answer : Next)
-    → c.is_faulty ≡ false → IsShort c → StandsBehind o test name c.text p b before now → Finishes TakesLine p b (Ok answer) new_p new → HasRead o test name c Clean new before now
+    → c.is_faulty ≡ false → IsShort c → StandsAfter o test name c.text p b before now → Finishes TakesLine p b (Ok answer) new_p new → HasRead o test name c Clean new before now
 ended-any c new_p new More clean short s f = ended-whole c new_p new clean short s f
 ended-any c new_p new Stop clean short s f = ended-halted c new_p new clean short s f
 
@@ -334,7 +334,7 @@ not-ended false false came none = refl
 
 -- a content whose reading ended in a fault after all its bytes
 pub read-fault : {o : GrepOptions} {test : List ℕ → Bool} {name : List ℕ} (c : Content) {p : Picking} {b : Block} {before now : Writer} → c.is_faulty ≡ true → IsShort c
-    → StandsBehind o test name c.text p b before now → HasRead o test name c Fault b before now
+    → StandsAfter o test name c.text p b before now → HasRead o test name c Fault b before now
 read-fault {o} {test} {name} c {p} {b} {before} {now} faulty short s =
     let lines-are : lines_of c ≡ ended_lines c.text = ap (λ f. cond f (ended_lines c.text) (lines c.text)) faulty in
     read-whole o test name c b before now (ended_lines c.text) (ended_in test c.text) [] lines-are (omega (arith, few-ended c.text)) (sym (append-nil (ended_in test c.text))) s.taken.options s.taken.called s.taken.count
@@ -356,7 +356,7 @@ pub record ReadSoFar (o : GrepOptions) (test : List ℕ → Bool) (name : List �
   pub rest : List ℕ
   pub parts : c.text ≡ done ++ rest
   pub left : coming ≡ Some (coming_of (record { text = rest; is_faulty = c.is_faulty }))
-  pub stands : StandsBehind o test name done p b before now
+  pub stands : StandsAfter o test name done p b before now
   pub turns : turn ≤ length done
 
 -- the rest comes as it came
@@ -366,14 +366,14 @@ same-coming y is_faulty e = ap (λ (ending : Ending). let same : Coming = record
 -- the lines of a content that a front of its text ends come first
 lines-front : (test : List ℕ → Bool) (c : Content) (front rest : List ℕ) → c.text ≡ front ++ rest → (more : List (ℕ × List ℕ)) × (numbered test 0 (lines_of c) ≡ ended_in test front ++ more)
 lines-front test c front rest e =
-    let behind : List (List ℕ) = ended_lines (open_rest front ++ rest) in
-    let ended : ended_lines c.text ≡ ended_lines front ++ behind = ap ended_lines e ∙ ended_lines-append front rest in
+    let after : List (List ℕ) = ended_lines (open_rest front ++ rest) in
+    let ended : ended_lines c.text ≡ ended_lines front ++ after = ap ended_lines e ∙ ended_lines-append front rest in
     elim c.is_faulty as (λ f. (more : List (ℕ × List ℕ)) × (numbered test 0 (cond f (ended_lines c.text) (lines c.text)) ≡ ended_in test front ++ more)) [
-      | true ↦ (numbered test (0 + length (ended_lines front)) behind, ap (numbered test 0) ended ∙ numbered-append test 0 (ended_lines front) behind)
+      | true ↦ (numbered test (0 + length (ended_lines front)) after, ap (numbered test 0) ended ∙ numbered-append test 0 (ended_lines front) after)
       | false ↦ (
-        numbered test (0 + length (ended_lines front)) (behind ++ last_line (open_rest c.text)),
-        ap (numbered test 0) (lines-ended_open c.text ∙ ap (λ ls. ls ++ last_line (open_rest c.text)) ended ∙ append_assoc (ended_lines front) behind (last_line (open_rest c.text)))
-            ∙ numbered-append test 0 (ended_lines front) (behind ++ last_line (open_rest c.text)),
+        numbered test (0 + length (ended_lines front)) (after ++ last_line (open_rest c.text)),
+        ap (numbered test 0) (lines-ended_open c.text ∙ ap (λ ls. ls ++ last_line (open_rest c.text)) ended ∙ append_assoc (ended_lines front) after (last_line (open_rest c.text)))
+            ∙ numbered-append test 0 (ended_lines front) (after ++ last_line (open_rest c.text)),
       )
     ]
 
@@ -389,8 +389,8 @@ clean-ending false text h = (refl, h.text)
 module _ {o : GrepOptions} {test : List ℕ → Bool} {name : List ℕ} {c : Content} {coming : Option Coming} {p : Picking} {b : Block} {turn : ℕ} {before now : Writer}
     (later : Option Coming) (buf : List ℕ) (r : ReadSoFar o test name c coming p b turn before now) where
   -- where nothing remains, all bytes are after
-  all-done : r.rest ≡ [] → StandsBehind o test name c.text p b before now
-  all-done none = subst (λ t. StandsBehind o test name t p b before now) (sym (r.parts ∙ ap (λ t. r.done ++ t) none ∙ append-nil r.done)) r.stands
+  all-done : r.rest ≡ [] → StandsAfter o test name c.text p b before now
+  all-done none = subst (λ t. StandsAfter o test name t p b before now) (sym (r.parts ∙ ap (λ t. r.done ++ t) none ∙ append-nil r.done)) r.stands
 
   -- a read that fails
   pub so_far-fault : (error : Failed) → Told coming later (λ x y. ReadGives x y (Err error) buf) → IsShort c → HasRead o test name c Fault b before now
@@ -400,7 +400,7 @@ module _ {o : GrepOptions} {test : List ℕ → Bool} {name : List ℕ} {c : Con
       read-fault c ends.0 short (all-done ends.1)
 
   -- a read that finds the end
-  pub so_far-end : (count : ℕ) → count ≡ 0 → 0 < length buf → Told coming later (λ x y. ReadGives x y (Ok count) buf) → (c.is_faulty ≡ false) × StandsBehind o test name c.text p b before now
+  pub so_far-end : (count : ℕ) → count ≡ 0 → 0 < length buf → Told coming later (λ x y. ReadGives x y (Ok count) buf) → (c.is_faulty ≡ false) × StandsAfter o test name c.text p b before now
   so_far-end count none room t =
       let step = told-at coming later _ _ t r.left in
       let ends = clean-ending c.is_faulty r.rest (step.1.1.1 none room) in
@@ -413,9 +413,9 @@ module _ {o : GrepOptions} {test : List ℕ → Bool} {name : List ℕ} {c : Con
       (step.0.text, (step.1.1.0.text, step.1.0 ∙ ap Some (same-coming step.0 c.is_faulty step.1.1.0.ending)))
 
   -- one piece more
-  pub so_far-more : (count : ℕ) (new_p : Picking) (new : Block) (after : Writer) → Told coming later (λ x y. ReadGives x y (Ok count) buf) → 0 < count → count ≤ length buf
-      → StandsBehind o test name (r.done ++ take count buf) new_p new before after → ReadSoFar o test name c later new_p new (turn + 1) before after
-  so_far-more count new_p new after t some within s =
+  pub so_far-more : (count : ℕ) (new_p : Picking) (new : Block) (further : Writer) → Told coming later (λ x y. ReadGives x y (Ok count) buf) → 0 < count → count ≤ length buf
+      → StandsAfter o test name (r.done ++ take count buf) new_p new before further → ReadSoFar o test name c later new_p new (turn + 1) before further
+  so_far-more count new_p new further t some within s =
       let found = so_far-rest count t in
       record {
         done = r.done ++ take count buf;
@@ -431,20 +431,20 @@ module _ {o : GrepOptions} {test : List ℕ → Bool} {name : List ℕ} {c : Con
   front-of-all piece rest e = lines-front test c (r.done ++ piece) rest (r.parts ∙ ap (λ x. r.done ++ x) e ∙ sym (append_assoc r.done piece rest))
 
   -- a piece after which no line is wanted
-  pub so_far-halted : (count : ℕ) (new : Block) (after : Writer) → Told coming later (λ x y. ReadGives x y (Ok count) buf)
-      → IsHalted o name (ended_in test (r.done ++ take count buf)) new before after → HasRead o test name c Clean new before after
-  so_far-halted count new after t h =
+  pub so_far-halted : (count : ℕ) (new : Block) (further : Writer) → Told coming later (λ x y. ReadGives x y (Ok count) buf)
+      → IsHalted o name (ended_in test (r.done ++ take count buf)) new before further → HasRead o test name c Clean new before further
+  so_far-halted count new further t h =
       let found = so_far-rest count t in
       let front = front-of-all (take count buf) found.0 found.1.0 in
-      read-halted o test name c new before after (ended_in test (r.done ++ take count buf)) front.0 front.1 h
+      read-halted o test name c new before further (ended_in test (r.done ++ take count buf)) front.0 front.1 h
 
   -- a piece that was cut
-  pub so_far-cut : (count : ℕ) (after : Writer) → Told coming later (λ x y. ReadGives x y (Ok count) buf)
-      → WritesFront before after (flat_map (added_line o name) (ended_in test (r.done ++ take count buf))) → WritesFront before after (block_in o test name (Some c))
-  so_far-cut count after t cut =
+  pub so_far-cut : (count : ℕ) (further : Writer) → Told coming later (λ x y. ReadGives x y (Ok count) buf)
+      → WritesFront before further (flat_map (added_line o name) (ended_in test (r.done ++ take count buf))) → WritesFront before further (block_in o test name (Some c))
+  so_far-cut count further t cut =
       let found = so_far-rest count t in
       let front = front-of-all (take count buf) found.0 found.1.0 in
-      read-front o test name c before after (ended_in test (r.done ++ take count buf)) front.0 front.1 cut
+      read-front o test name c before further (ended_in test (r.done ++ take count buf)) front.0 front.1 cut
 
   -- there are never too many bytes
   pub so_far-long : {A : Type 0} (count : ℕ) → Told coming later (λ x y. ReadGives x y (Ok count) buf) → IsShort c → 2 ^ 64 ≤ length r.done + length (take count buf) → A
@@ -453,10 +453,10 @@ module _ {o : GrepOptions} {test : List ℕ → Bool} {name : List ℕ} {c : Con
       absurd (omega (arith, ap length r.parts, length-append r.done r.rest, ap length found.1.0, length-append (take count buf) found.0))
 
   -- a piece that is the last one
-  pub so_far-ended : (count : ℕ) (end : End) (piece : List ℕ) (new_p : Picking) (new : Block) (after : Writer) → Told coming later (λ x y. ReadGives x y (Ok count) buf) → IsShort c → piece ≡ take count buf
-      → FeedsPiece o test name r.done piece (Ok (Some end)) new_p new before after → HasRead o test name c end new before after
-  so_far-ended count Clean piece new_p new after t short e f = so_far-halted count new after t (subst (λ x. IsHalted o name (ended_in test (r.done ++ x)) new before after) e f)
-  so_far-ended count Fault piece new_p new after t short e f = so_far-long count t short (subst (λ x. 2 ^ 64 ≤ length r.done + length x) e f)
+  pub so_far-ended : (count : ℕ) (end : End) (piece : List ℕ) (new_p : Picking) (new : Block) (further : Writer) → Told coming later (λ x y. ReadGives x y (Ok count) buf) → IsShort c → piece ≡ take count buf
+      → FeedsPiece o test name r.done piece (Ok (Some end)) new_p new before further → HasRead o test name c end new before further
+  so_far-ended count Clean piece new_p new further t short e f = so_far-halted count new further t (subst (λ x. IsHalted o name (ended_in test (r.done ++ x)) new before further) e f)
+  so_far-ended count Fault piece new_p new further t short e f = so_far-long count t short (subst (λ x. 2 ^ 64 ≤ length r.done + length x) e f)
 
   -- nor too many turns
   pub so_far-turns : {A : Type 0} → IsShort c → 2 ^ 40 ≤ turn → A
@@ -490,9 +490,9 @@ fed-unseen test p seen f =
     }
 
 -- whether the search of a picker learns does not change where it stands
-pub stands-learned : {o : GrepOptions} {test : List ℕ → Bool} {name text : List ℕ} {p q : Picking} {b : Block} {before now : Writer} → q ≡ record p { learns = q.learns } → StandsBehind o test name text p b before now → StandsBehind o test name text q b before now
+pub stands-learned : {o : GrepOptions} {test : List ℕ → Bool} {name text : List ℕ} {p q : Picking} {b : Block} {before now : Writer} → q ≡ record p { learns = q.learns } → StandsAfter o test name text p b before now → StandsAfter o test name text q b before now
 stands-learned {o} {test} {name} {text} {p} {q} {b} {before} {now} same s =
-    subst (λ (x : Picking). StandsBehind o test name text x b before now) (sym same) record {
+    subst (λ (x : Picking). StandsAfter o test name text x b before now) (sym same) record {
       fed = record { tests = s.fed.tests; held = s.fed.held; lines = s.fed.lines; bytes = s.fed.bytes; state = s.fed.state };
       numbers = s.numbers;
       seen = s.seen;
@@ -501,7 +501,7 @@ stands-learned {o} {test} {name} {text} {p} {q} {b} {before} {now} same s =
 
 -- at first picker and block stand before the content
 pub begin-stands : {o : GrepOptions} {test : List ℕ → Bool} {name : List ℕ} {p : Picking} {b : Block} (out : Writer) → HasFed test [] p → p.is_numbered ≡ o.number → p.has_bytes ≡ are_shown o
-    → b.options.now ≡ o → b.name.now ≡ name → b.count ≡ 0 → b.text.items ≡ [] → StandsBehind o test name [] p b out out
+    → b.options.now ≡ o → b.name.now ≡ name → b.count ≡ 0 → b.text.items ≡ [] → StandsAfter o test name [] p b out out
 begin-stands {o} {test} {name} {p} {b} out f numbers seen options called count empty =
     let none : ended_in test [] ≡ [] = ap (numbered test 0) (ended_lines-none [] (All-nil (λ b. b ≢ 10))) in
     record {
@@ -523,7 +523,7 @@ pub search-cut : (o : GrepOptions) (test : List ℕ → Bool) (name : List ℕ) 
     → WritesFront out_old out_new (block_in o test name source) → IsCut o test name source out_old out_new err err
 search-cut o test name source out_old out_new err p = record { output = p; messages = WritesFront-none err (message_in o test name source); quiet = λ clear set. Writes-nil err }
 
-module _ {o : GrepOptions} {test : List ℕ → Bool} {name : List ℕ} {c : Content} {end : End} {b : Block} {before now : Writer} (h : HasRead o test name c end b before now) (after : Writer) where
+module _ {o : GrepOptions} {test : List ℕ → Bool} {name : List ℕ} {c : Content} {end : End} {b : Block} {before now : Writer} (h : HasRead o test name c end b before now) (further : Writer) where
   -- the text at the end, by the options and the name of all
   abbrev ended : List ℕ
   ended = b.text.items ++ ending_of b.options.now b.name.now b.count
@@ -532,24 +532,24 @@ module _ {o : GrepOptions} {test : List ℕ → Bool} {name : List ℕ} {c : Con
   end-same = ap (λ p. h.lines ++ (b.text.items ++ ending_of p b.name.now b.count)) h.options ∙ ap (λ n. h.lines ++ (b.text.items ++ ending_of o n b.count)) h.called ∙ h.whole
 
   -- the block that was read, with its end
-  pub finished-cut : (err : Writer) → WritesFront now after ended → IsCut o test name (Some c) before after err err
-  finished-cut err cut = search-cut o test name (Some c) before after err (subst (WritesFront before after) end-same (WritesFront-behind before now after h.lines ended h.written cut))
+  pub finished-cut : (err : Writer) → WritesFront now further ended → IsCut o test name (Some c) before further err err
+  finished-cut err cut = search-cut o test name (Some c) before further err (subst (WritesFront before further) end-same (WritesFront-after before now further h.lines ended h.written cut))
 
-  finished : Writes now after ended → Writes before after (block_in o test name (Some c))
-  finished all = subst (Writes before after) end-same (Writes-trans before now after h.lines ended h.written all)
+  finished : Writes now further ended → Writes before further (block_in o test name (Some c))
+  finished all = subst (Writes before further) end-same (Writes-trans before now further h.lines ended h.written all)
 
-  module _ (is_selected is_error : Bool) (err_old err_new : Writer) (all : Writes now after ended) (selected : is_selected ≡ nat_lt 0 b.count) (error : is_error ≡ is_fault end) where
+  module _ (is_selected is_error : Bool) (err_old err_new : Writer) (all : Writes now further ended) (selected : is_selected ≡ nat_lt 0 b.count) (error : is_error ≡ is_fault end) where
     same-message : cond (is_error && not o.silent) (unreadable name) [] ≡ message_in o test name (Some c)
     same-message = ap (λ f. cond (f && not o.silent) (unreadable name) []) (error ∙ h.error)
 
     -- a front of the message was written
-    pub message-cut : WritesFront err_old err_new (cond (is_error && not o.silent) (unreadable name) []) → IsCut o test name (Some c) before after err_old err_new
+    pub message-cut : WritesFront err_old err_new (cond (is_error && not o.silent) (unreadable name) []) → IsCut o test name (Some c) before further err_old err_new
     message-cut q = record {
-      output = WritesFront-all before after _ (finished all);
+      output = WritesFront-all before further _ (finished all);
       messages = subst (WritesFront err_old err_new) same-message q;
-      quiet = λ clear set. apart after.has_failed set ((finished all).flag ∙ clear);
+      quiet = λ clear set. apart further.has_failed set ((finished all).flag ∙ clear);
     }
 
     -- the message was written, if there is one
-    pub message-whole : Writes err_old err_new (cond (is_error && not o.silent) (unreadable name) []) → IsSearched o test name (Some c) (record { is_selected = is_selected; is_error = is_error }) before after err_old err_new
+    pub message-whole : Writes err_old err_new (cond (is_error && not o.silent) (unreadable name) []) → IsSearched o test name (Some c) (record { is_selected = is_selected; is_error = is_error }) before further err_old err_new
     message-whole q = record { output = finished all; messages = subst (Writes err_old err_new) same-message q; selected = selected ∙ h.any; error = error ∙ h.error }

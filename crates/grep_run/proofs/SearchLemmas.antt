@@ -53,8 +53,8 @@ module _ {o : GrepOptions} {test : List ℕ → Bool} {all : List Ask} {s mid : 
   next = record { ask = ask; source = taken_by ask mid }
 
   -- what those after it find, if they are made
-  abbrev behind : List Input
-  behind = searched o test (found rest (after ask mid))
+  abbrev following : List Input
+  following = searched o test (found rest (after ask mid))
 
   -- and with it all asks so far
   asked-one : left ≡ after_all (asks (p.done ++ next ∷ [])) s
@@ -76,11 +76,11 @@ module _ {o : GrepOptions} {test : List ℕ → Bool} {all : List Ask} {s mid : 
     pub InputsSoFar-more : (o.quiet && one.is_selected) ≡ false → InputsSoFar o test all rest s left more out_old out_new err_old err_new
     InputsSoFar-more goes =
         let ends : (o.quiet && has_selected test next) ≡ false = ap (λ b. o.quiet && b) (sym q.selected) ∙ goes in
-        let here : searched o test (found (ask ∷ rest) mid) ≡ next ∷ behind = ap (λ b. next ∷ cond b [] behind) ends in
-        let there : behind ≡ searched o test (found rest left) = ap (λ m. searched o test (found rest m)) (sym e) in
+        let here : searched o test (found (ask ∷ rest) mid) ≡ next ∷ following = ap (λ b. next ∷ cond b [] following) ends in
+        let there : following ≡ searched o test (found rest left) = ap (λ m. searched o test (found rest m)) (sym e) in
         record {
           done = p.done ++ next ∷ [];
-          front = p.front ∙ ap (λ is. p.done ++ is) here ∙ sym (append_assoc p.done (next ∷ []) behind) ∙ ap (λ is. (p.done ++ next ∷ []) ++ is) there;
+          front = p.front ∙ ap (λ is. p.done ++ is) here ∙ sym (append_assoc p.done (next ∷ []) following) ∙ ap (λ is. (p.done ++ next ∷ []) ++ is) there;
           asked = asked-one;
           short = subst AreShort (sym e) (short-after ask mid p.short);
           so_far = so_far-one;
@@ -91,7 +91,7 @@ module _ {o : GrepOptions} {test : List ℕ → Bool} {all : List Ask} {s mid : 
         → (left ≡ after_all (asks (searched o test (found all s))) s) × AreSearched (answer_to o test (searched o test (found all s))) more out_old out_new err_old err_new
     InputsSoFar-last ends =
         let stops : (o.quiet && has_selected test next) ≡ true = ap (λ b. o.quiet && b) (sym q.selected) ∙ ends in
-        let here : searched o test (found all s) ≡ p.done ++ next ∷ [] = p.front ∙ ap (λ b. p.done ++ (next ∷ cond b [] behind)) stops in (
+        let here : searched o test (found all s) ≡ p.done ++ next ∷ [] = p.front ∙ ap (λ b. p.done ++ (next ∷ cond b [] following)) stops in (
           asked-one ∙ ap (λ is. after_all (asks is) s) (sym here),
           subst (λ is. AreSearched (answer_to o test is) more out_old out_new err_old err_new) (sym here) so_far-one,
         )
@@ -101,7 +101,7 @@ module _ {o : GrepOptions} {test : List ℕ → Bool} {all : List Ask} {s mid : 
   InputsSoFar-cut out_new err_new q = record {
     done = p.done;
     last = next ∷ [];
-    rest = cond (o.quiet && has_selected test next) [] behind;
+    rest = cond (o.quiet && has_selected test next) [] following;
     parts = p.front;
     one = omega arith;
     asked = asked-one;

@@ -47,8 +47,8 @@ WritesFront-part a b piece p = record {
 }
 
 -- a front after a text is one of both
-pub WritesFront-behind : (a b c : Writer) (s t : List ℕ) → Writes a b s → WritesFront b c t → WritesFront a c (s ++ t)
-WritesFront-behind a b c s t p q = record {
+pub WritesFront-after : (a b c : Writer) (s t : List ℕ) → Writes a b s → WritesFront b c t → WritesFront a c (s ++ t)
+WritesFront-after a b c s t p q = record {
   front = s ++ q.front;
   rest = q.rest;
   parts = ap (λ x. s ++ x) q.parts ∙ sym (append_assoc s q.front q.rest);

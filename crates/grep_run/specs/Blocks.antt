@@ -3,7 +3,7 @@ use Rattle.std.specs.Prelude.{ℕ, ◌&&◌, ◌||◌, not, Bool, true, List, []
 use Rattle.byte_io.specs.Sources.{Content}
 use Rattle.lit_base.specs.Lines.{ended_lines, lines}
 use Rattle.lit_base.specs.Selected.{is_selected}
-use Rattle.line_pick.specs.Lending.{numbered}
+use Rattle.line_pick.specs.Emitting.{numbered}
 use Rattle.grep_run.specs.declared.options.GrepOptions.{GrepOptions}
 use Rattle.grep_run.specs.Messages.{unreadable}
 use Rattle.grep_run.specs.Sources.{Input, name_of}

@@ -8,7 +8,7 @@ use Rattle.grep_run.specs.declared.options.GrepOptions.{GrepOptions}
 use Rattle.grep_run.specs.declared.patterns.NoPatterns.{NoPatterns}
 use Rattle.grep_run.specs.declared.patterns.NoPatterns.TheVariants.{Unreadable, Refused}
 use Rattle.grep_run.specs.declared.status.Stop.{Stop}
-use Rattle.grep_run.specs.Grep.{asks, behind_files}
+use Rattle.grep_run.specs.Grep.{asks, after_files}
 use Rattle.grep_run.specs.Messages.{patterns_refused, unreadable}
 use Rattle.grep_run.specs.Patterns.{content_message, files_asked, files_message, files_read, patterns_from, patterns_message, all_patterns}
 use Rattle.grep_run.specs.Sources.{Input}
@@ -43,12 +43,12 @@ TakesFiles old new s left files (Err why) = StopsAtFile old s left files why
 pub record HasPatterns (o : GrepOptions) (s left : Sources) (compiled : CompiledPatterns) : Type 0 where
   pub message : patterns_message o s ≡ None
   pub stands : StandsFor o.fold (all_patterns o s) compiled.plan compiled.has_empty
-  pub after : left ≡ behind_files o s
+  pub after : left ≡ after_files o s
 
 pub record LacksPatterns (o : GrepOptions) (s left : Sources) (why : NoPatterns) : Type 0 where
   pub message : Explains why (patterns_message o s)
   pub front : AsksFront (asks (files_asked o s)) s left
-  pub after : why ≢ Refused OutOfMemory → left ≡ behind_files o s
+  pub after : why ≢ Refused OutOfMemory → left ≡ after_files o s
 
 abbrev pub TakesPatterns : GrepOptions → Sources → Sources → Result CompiledPatterns NoPatterns → Type 0
 TakesPatterns o s left (Ok compiled) = HasPatterns o s left compiled

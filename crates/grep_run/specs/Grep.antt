@@ -55,12 +55,12 @@ abbrev pub asks : List Input → List Ask
 asks inputs = map (λ input. input.ask) inputs
 
 -- the sources after the pattern files
-abbrev pub behind_files : GrepOptions → Sources → Sources
-behind_files o s = after_all (asks (files_asked o s)) s
+abbrev pub after_files : GrepOptions → Sources → Sources
+after_files o s = after_all (asks (files_asked o s)) s
 
 -- the inputs of a run whose patterns are had
 abbrev pub inputs_of : GrepOptions → Sources → List Input
-inputs_of o s = searched o (selects o (all_patterns o s)) (found (searched_of o) (behind_files o s))
+inputs_of o s = searched o (selects o (all_patterns o s)) (found (searched_of o) (after_files o s))
 
 abbrev pub answer_where : Option (List ℕ) → GrepOptions → Sources → Answer
 answer_where (Some text) o s = refused_with text

@@ -6,7 +6,7 @@ use Rattle.grep_run.specs.declared.status.Status.{Status}
 use Rattle.grep_run.specs.declared.status.Status.TheVariants.{Trouble}
 use Rattle.grep_run.specs.declared.status.Stop.{Stop}
 use Rattle.grep_run.specs.Blocks.{selects}
-use Rattle.grep_run.specs.Grep.{Answer, asks, behind_files, grep, inputs_of, left_of, status_of}
+use Rattle.grep_run.specs.Grep.{Answer, asks, after_files, grep, inputs_of, left_of, status_of}
 use Rattle.grep_run.specs.Messages.{out_of_memory}
 use Rattle.grep_run.specs.Patterns.{files_asked, patterns_message, all_patterns}
 use Rattle.grep_run.specs.Searching.{StopsAt}
@@ -27,7 +27,7 @@ pub record StopsEarly (o : GrepOptions) (s left : Sources) (out_old out_new err_
 -- a run that stopped did so over its patterns, or over its inputs
 pub data Stops (o : GrepOptions) (s left : Sources) (out_old out_new err_old err_new : Writer) : Type 0 where
   OverPatterns : StopsEarly o s left out_old out_new err_old err_new → Stops o s left out_old out_new err_old err_new
-  OverInputs : patterns_message o s ≡ None → StopsAt o (selects o (all_patterns o s)) (inputs_of o s) (behind_files o s) left out_old out_new err_old err_new
+  OverInputs : patterns_message o s ≡ None → StopsAt o (selects o (all_patterns o s)) (inputs_of o s) (after_files o s) left out_old out_new err_old err_new
       → Stops o s left out_old out_new err_old err_new
 
 -- a run that went to its end, and a run that stopped

@@ -2,7 +2,7 @@
 use Rattle.std.specs.Prelude.{◌≡◌, ℕ, ◌+◌, ◌-◌, ◌^◌, ◌<◌, ◌≤◌, Bool, true, false, List, [], ◌++◌, flat_map, length, min, nat_lt, Option, None, Some, Result, Ok, Err}
 use Rattle.byte_io.specs.Sources.{Content}
 use Rattle.lit_base.specs.Lines.{ended_lines, open_rest}
-use Rattle.line_pick.specs.Lending.{numbered}
+use Rattle.line_pick.specs.Emitting.{numbered}
 use Rattle.line_pick.specs.Matching.{selects as picks_of}
 use Rattle.line_pick.specs.OpenLines.{Keeps, most_kept}
 use Rattle.line_pick.specs.Picking.{Picking}
@@ -53,7 +53,7 @@ pub record IsHalted (o : GrepOptions) (name : List ℕ) (selected : List (ℕ ×
   pub empty : b.text.items ≡ []
 
 -- picker and block stand after the text; lines are numbered if numbers are written, and their bytes are seen if lines are
-pub record StandsBehind (o : GrepOptions) (test : List ℕ → Bool) (name text : List ℕ) (p : Picking) (b : Block) (before out : Writer) : Type 0 where
+pub record StandsAfter (o : GrepOptions) (test : List ℕ → Bool) (name text : List ℕ) (p : Picking) (b : Block) (before out : Writer) : Type 0 where
   pub fed : HasFed test text p
   pub numbers : p.is_numbered ≡ o.number
   pub seen : p.has_bytes ≡ are_shown o
@@ -61,7 +61,7 @@ pub record StandsBehind (o : GrepOptions) (test : List ℕ → Bool) (name text 
 
 -- a piece was fed after a text: picker and block stand after both; no line is wanted any more; there are too many bytes; or it was cut
 abbrev pub FeedsPiece : GrepOptions → (List ℕ → Bool) → List ℕ → List ℕ → List ℕ → Result (Option End) Halt → Picking → Block → Writer → Writer → Type 0
-FeedsPiece o test name text piece (Ok None) p b before out = StandsBehind o test name (text ++ piece) p b before out
+FeedsPiece o test name text piece (Ok None) p b before out = StandsAfter o test name (text ++ piece) p b before out
 FeedsPiece o test name text piece (Ok (Some Clean)) p b before out = IsHalted o name (ended_in test (text ++ piece)) b before out
 FeedsPiece o test name text piece (Ok (Some Fault)) p b before out = 2 ^ 64 ≤ length text + length piece
 FeedsPiece o test name text piece (Err stop) p b before out = WritesFront before out (flat_map (added_line o name) (ended_in test (text ++ piece)))

@@ -4,7 +4,7 @@ ghost use Rattle.byte_io.specs.Sources.{Content, IsShort, coming_of};
 ghost use Rattle.grep_run.specs.Growing.{are_shown};
 ghost use Rattle.grep_run.specs.Requests.{test_of};
 ghost use Rattle.line_pick.specs.Matching.{list_of};
-ghost use Rattle.grep_run.specs.Scanning.{FeedsPiece, HasFed, ReadsLines, StandsBehind};
+ghost use Rattle.grep_run.specs.Scanning.{FeedsPiece, HasFed, ReadsLines, StandsAfter};
 ghost use Rattle.grep_run.specs.declared.options.GrepOptions.{GrepOptions};
 ghost use Rattle.grep_run.specs.Writers.{Writer, is_write_fault, writer};
 
@@ -117,7 +117,7 @@ pub fn read_lines<'a, I: ByteIn, W: ByteOut>(
     requires some { 0 < length piece.old }
     requires plan { picker.old.plan ≡ request.now.patterns.now.plan }
     ensures answer { (o : GrepOptions) (test : List ℕ → Bool) (name : List ℕ) (c : Content) (before : Writer)
-        → StandsBehind o test name [] picker.old block.old before (writer W.written W.has_failed out.old)
+        → StandsAfter o test name [] picker.old block.old before (writer W.written W.has_failed out.old)
         → I.coming input.old ≡ Some (coming_of c) → IsShort c
         → ReadsLines o test name c result block.new before (writer W.written W.has_failed out.new) }
     ensures plan { picker.new.plan ≡ picker.old.plan }
@@ -151,7 +151,7 @@ fn feed<'a, W: ByteOut>(
 ) -> Result<Option<End>, Stop>
     requires { picker.old.plan ≡ request.now.patterns.now.plan }
     ensures answer { (o : GrepOptions) (test : List ℕ → Bool) (name text : List ℕ) (before : Writer)
-        → StandsBehind o test name text picker.old block.old before (writer W.written W.has_failed out.old)
+        → StandsAfter o test name text picker.old block.old before (writer W.written W.has_failed out.old)
         → FeedsPiece o test name text piece.now result picker.new block.new before (writer W.written W.has_failed out.new) }
     ensures plan { picker.new.plan ≡ picker.old.plan }
     ensures flag { W.has_failed out.new ≡ (W.has_failed out.old || is_write_fault result) }
@@ -190,7 +190,7 @@ fn learn_if<'a>(
 /// Takes the last line of an input, if no newline ends it.
 fn end_lines<'a>(picker: &mut Picker<'a>, block: &mut Block<'a>) -> Result<End, Stop>
     ensures answer { (o : GrepOptions) (test : List ℕ → Bool) (name : List ℕ) (c : Content) (before out : Writer)
-        → c.is_faulty ≡ false → IsShort c → StandsBehind o test name c.text picker.old block.old before out
+        → c.is_faulty ≡ false → IsShort c → StandsAfter o test name c.text picker.old block.old before out
         → ReadsLines o test name c result block.new before out }
     ensures plan { picker.new.plan ≡ picker.old.plan }
     ensures flag { is_write_fault result ≡ false }

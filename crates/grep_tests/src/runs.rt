@@ -107,7 +107,7 @@ fn counts_the_lines_before_a_fault(rt: HostRuntime) {
 }
 
 #[test]
-fn names_an_input_that_fails_behind_a_line(rt: HostRuntime) {
+fn names_an_input_that_fails_after_a_line(rt: HostRuntime) {
     let got = ran(&rt, "l", &[], &["-"], b"(standard input)\n", b"");
     assert_eq!(rt; got, as_wanted(Status::Selected));
 }
@@ -122,7 +122,7 @@ fn asks_for_operands_in_order(rt: HostRuntime) {
 }
 
 #[test]
-fn asks_for_nothing_behind_a_line_if_quiet(rt: HostRuntime) {
+fn asks_for_nothing_after_a_line_if_quiet(rt: HostRuntime) {
     let got = ran(&rt, "q", &["f", "g", "-"], &["f"], b"", b"");
     assert_eq!(rt; got, as_wanted(Status::Selected));
 }
@@ -221,12 +221,12 @@ fn ran_once<R: Abort + AllocGlobal>(
 }
 
 #[test]
-fn reads_no_more_behind_a_line_if_quiet(rt: HostRuntime) {
+fn reads_no_more_after_a_line_if_quiet(rt: HostRuntime) {
     assert_eq!(rt; ran_once(&rt, "q", b""), Ok((Status::Selected, true)));
 }
 
 #[test]
-fn reads_no_more_behind_a_line_for_its_name(rt: HostRuntime) {
+fn reads_no_more_after_a_line_for_its_name(rt: HostRuntime) {
     let wanted = Ok((Status::Selected, true));
     assert_eq!(rt; ran_once(&rt, "l", b"(standard input)\n"), wanted);
 }

@@ -10,7 +10,7 @@ use Rattle.nib_mask.specs.FilterSet.{filter_set, passes}
 use Rattle.nib_mask.specs.Halves.{GivesPart, widened}
 use Rattle.nib_mask.proofs.Buckets.{runs_mask-lt}
 use Rattle.nib_mask.proofs.TableLemmas.{padded-lt}
-use Rattle.lane_filter.specs.Sieves.{GiveFilterSets, IsCandidateOfTwo}
+use Rattle.lane_filter.specs.Prefilters.{GiveFilterSets, IsCandidateOfTwo}
 
 -- of at most eight buckets the filter sets are bytes
 filter_set-lt : (l : Literals) (ends : List ℕ) (a b c : ℕ) → length ends ≤ 8 → filter_set l ends a b c < 256

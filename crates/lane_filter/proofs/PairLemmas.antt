@@ -22,7 +22,7 @@ use Rattle.lane_filter.specs.declared.pair.RareByte.{RareByte}
 use Rattle.lane_filter.specs.declared.pair.BytePair.{BytePair}
 
 -- the bits that both masks have stand for the ends before which both bytes stand
-pub both_told : (pair : BytePair) (text : List ℕ) (first one other : ℕ) → pair.first.behind < first → pair.second.behind < first → first + 63 ≤ length text
+pub both_told : (pair : BytePair) (text : List ℕ) (first one other : ℕ) → pair.first.after < first → pair.second.after < first → first + 63 ≤ length text
     → TellsBits (StandsBefore pair.first text) first 64 one → TellsBits (StandsBefore pair.second text) first 64 other → TellsBits (IsPairEnd pair text) first 64 (bit_and one other)
 both_told pair text first one other after_one after_other within of_one of_other k =
     let meet = bit_at_and one other k in
@@ -92,21 +92,21 @@ case_told Ascii byte other is =
 
 -- where a literal ends, each of its bytes stands before the end
 pub rare_stands : (l : Literals) (text : List ℕ) (place end at : ℕ) (rare : RareByte) (occurs : Occurs l text place end) → IsRareByteOf l.folding occurs.literal at rare
-    → (rare.behind < end) × StandsBefore rare text end
+    → (rare.after < end) × StandsBefore rare text end
 rare_stands l text place end at rare occurs is =
     let literal = occurs.literal in
     let len = length literal in
     let begins = occurs.begins in
     let ends = occurs.ends in
     let within = is.within in
-    let behind = is.behind in
+    let after = is.after in
     let slice = slice_range text (end - len) end in
     let size = length-between text (end - len) end ends in
     let later : end - len + at - (end - len) ≡ at = omega arith in
-    let where_is : end - 1 - rare.behind ≡ end - len + at = omega arith in
+    let where_is : end - 1 - rare.after ≡ end - len + at = omega arith in
     let in_slice : get_or slice at 0 ≡ get_or text (end - len + at) 0 =
     ap (λ k. get_or slice k 0) (sym later) ∙ get_or-range text (end - len) end (end - len + at) 0 (omega arith) (omega arith) in
-    let here : get_or text (end - 1 - rare.behind) 0 ≡ get_or slice at 0 = ap (λ k. get_or text k 0) where_is ∙ sym in_slice in
+    let here : get_or text (end - 1 - rare.after) 0 ≡ get_or slice at 0 = ap (λ k. get_or text k 0) where_is ∙ sym in_slice in
     let folds : folded l.folding (get_or slice at 0) ≡ get_or literal at 0 =
     sym (get_or-map (folded l.folding) slice at 0 0 (omega (arith, size))) ∙ ap (λ t. get_or t at 0) occurs.bytes in
     (omega arith, (λ i. bit_or (here i) (is.case_bit i)) ∙ case_told l.folding _ _ folds ∙ sym is.byte)
@@ -116,16 +116,16 @@ pub byte_stands : (l : Literals) (place byte bit : ℕ) → IsByteOf l place byt
 byte_stands l place byte bit of text end occurs =
     let same : of.literal ≡ occurs.literal =
     sym (get_or_from_slice_get l.texts place of.literal [] of.stands) ∙ get_or_from_slice_get l.texts place occurs.literal [] occurs.stands in
-    let rare : RareByte = record { byte = byte; case_bit = bit; behind = 0 } in
+    let rare : RareByte = record { byte = byte; case_bit = bit; after = 0 } in
     let alone = of.alone in
     let is : IsRareByteOf l.folding of.literal 0 rare = record {
       within = omega arith;
-      behind = omega arith;
+      after = omega arith;
       byte = of.same;
       case_bit = of.folds ∙ ap (case_bit l.folding) of.same;
     } in
     let stands = rare_stands l text place end 0 rare occurs (subst (λ t. IsRareByteOf l.folding t 0 rare) same is) in
-    let after = stands.0 in
+    let further = stands.0 in
     let last : end - 1 ≡ end - 1 - 0 = omega arith in
     record { after = omega arith; within = occurs.ends; last = ap (λ k. bit_or (get_or text k 0) bit) last ∙ stands.1 }
 

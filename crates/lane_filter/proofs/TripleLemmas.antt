@@ -14,9 +14,9 @@ use Rattle.lane_filter.specs.declared.pair.BytePair.{BytePair}
 use Rattle.lane_filter.specs.declared.triple.ByteTriple.{ByteTriple}
 
 -- the bits that both masks have stand for the ends before which the pair and the third byte stand
-pub all_told : (triple : ByteTriple) (text : List ℕ) (first one other : ℕ) → triple.third.behind < first
+pub all_told : (triple : ByteTriple) (text : List ℕ) (first one other : ℕ) → triple.third.after < first
     → TellsBits (IsPairEnd triple.pair text) first 64 one → TellsBits (StandsBefore triple.third text) first 64 other → TellsBits (IsTripleEnd triple text) first 64 (bit_and one other)
-all_told triple text first one other after of_one of_other k =
+all_told triple text first one other later of_one of_other k =
     let meet = bit_at_and one other k in
     let small = bit_at-lt one k in
     let small_other = bit_at-lt other k in (
@@ -50,15 +50,15 @@ pub record IsBesidePair (pair : BytePair) (len start place found least : ℕ) : 
 pub third_apart : (pair : BytePair) (len start found least : ℕ) → IsBesidePair pair len start len found least → start + 3 ≤ len → ¬ IsOneOf pair (len - 1 - found)
 third_apart pair len start found least is three taken =
     let much = is.here taken in
-    let none : (q : ℕ) → start ≤ q → q < len → pair.first.behind ≢ len - 1 - q → pair.second.behind ≢ len - 1 - q → ⊥ =
+    let none : (q : ℕ) → start ≤ q → q < len → pair.first.after ≢ len - 1 - q → pair.second.after ≢ len - 1 - q → ⊥ =
     λ q from below one two. omega (arith, much, is.apart q from below (λ e. elim e [ inl a ↦ one a | inr b ↦ two b ])) in
-    elim (cases_eq pair.first.behind (len - 1 - start)) [
-      | inl a ↦ elim (cases_eq pair.second.behind (len - 1 - (start + 1))) [
+    elim (cases_eq pair.first.after (len - 1 - start)) [
+      | inl a ↦ elim (cases_eq pair.second.after (len - 1 - (start + 1))) [
         | inl b ↦ none (start + 2) (omega arith) (omega arith) (λ e. omega (arith, a, e)) (λ e. omega (arith, b, e))
         | inr b ↦ none (start + 1) (omega arith) (omega arith) (λ e. omega (arith, a, e)) b
       ]
-      | inr a ↦ elim (cases_eq pair.second.behind (len - 1 - start)) [
-        | inl b ↦ elim (cases_eq pair.first.behind (len - 1 - (start + 1))) [
+      | inr a ↦ elim (cases_eq pair.second.after (len - 1 - start)) [
+        | inl b ↦ elim (cases_eq pair.first.after (len - 1 - (start + 1))) [
           | inl c ↦ none (start + 2) (omega arith) (omega arith) (λ e. omega (arith, c, e)) (λ e. omega (arith, b, e))
           | inr c ↦ none (start + 1) (omega arith) (omega arith) c (λ e. omega (arith, b, e))
         ]

@@ -2,7 +2,7 @@ pub mod CursorViews
 pub mod Cursors
 pub mod OneBytes
 pub mod Pairs
-pub mod Sieves
+pub mod Prefilters
 pub mod Triples
 pub use Rattle.byte_lanes.specs.Bits
 pub use Rattle.byte_lanes.specs.Filtered

@@ -15,25 +15,25 @@ case_bit Ascii byte = if nat_le 97 byte && nat_le byte 122 then 32 else 0
 -- the byte at a place of a folded literal
 pub record IsRareByteOf (fold : Fold) (literal : List ℕ) (place : ℕ) (rare : RareByte) : Type 0 where
   pub within : place < length literal
-  pub behind : rare.behind + 1 + place ≡ length literal
+  pub after : rare.after + 1 + place ≡ length literal
   pub byte : rare.byte ≡ slice_index literal place
   pub case_bit : rare.case_bit ≡ case_bit fold (slice_index literal place)
 
 -- as far before an end as in the literal the text has the byte, in either case of a letter where case is ignored
 abbrev pub StandsBefore : RareByte → List ℕ → ℕ → Type 0
-StandsBefore rare text end = bit_or (slice_index text (end - 1 - rare.behind)) rare.case_bit ≡ rare.byte
+StandsBefore rare text end = bit_or (slice_index text (end - 1 - rare.after)) rare.case_bit ≡ rare.byte
 
 -- a literal with this pair of bytes may end at this position of the text: both stand before it
 pub record IsPairEnd (pair : BytePair) (text : List ℕ) (end : ℕ) : Type 0 where
-  pub after_first : pair.first.behind < end
-  pub after_second : pair.second.behind < end
+  pub after_first : pair.first.after < end
+  pub after_second : pair.second.after < end
   pub within : end ≤ length text
   pub first : StandsBefore pair.first text end
   pub second : StandsBefore pair.second text end
 
--- one of both bytes has `behind` bytes after it
+-- one of both bytes has `after` bytes after it
 abbrev pub IsOneOf : BytePair → ℕ → Type 0
-IsOneOf pair behind = (pair.first.behind ≡ behind) ⊎ (pair.second.behind ≡ behind)
+IsOneOf pair after = (pair.first.after ≡ after) ⊎ (pair.second.after ≡ after)
 
 -- the case of both bytes counts
 abbrev pub IsExact : BytePair → Type 0

@@ -8,12 +8,12 @@ use Rattle.lane_filter.specs.declared.triple.ByteTriple.{ByteTriple}
 -- a literal with these bytes may end at this position of the text: all of them stand before it
 pub record IsTripleEnd (triple : ByteTriple) (text : List ℕ) (end : ℕ) : Type 0 where
   pub pair : IsPairEnd triple.pair text end
-  pub after_third : triple.third.behind < end
+  pub after_third : triple.third.after < end
   pub third : StandsBefore triple.third text end
 
 -- how many bytes stand after the foremost of them in the literal
-abbrev pub most_behind : ByteTriple → ℕ
-most_behind triple = max (max triple.pair.first.behind triple.pair.second.behind) triple.third.behind
+abbrev pub most_after : ByteTriple → ℕ
+most_after triple = max (max triple.pair.first.after triple.pair.second.after) triple.third.after
 
 -- the case of all bytes counts
 abbrev pub AreExact : ByteTriple → Type 0
@@ -26,4 +26,4 @@ pub record IsTripleOf (l : Literals) (place : ℕ) (triple : ByteTriple) : Type 
   pub stands : slice_get l.texts place ≡ Some literal
   pub third_place : ℕ
   pub third : IsRareByteOf l.folding literal third_place triple.third
-  pub apart : 3 ≤ length literal → ¬ IsOneOf triple.pair triple.third.behind
+  pub apart : 3 ≤ length literal → ¬ IsOneOf triple.pair triple.third.after

@@ -4,9 +4,9 @@ ghost use Rattle.std.specs.Option.{IfNone};
 ghost use Rattle.lane_filter.specs.declared.candidates.TheConstants.{MOST_COPIED};
 ghost use Rattle.byte_lanes.specs.Fronts.{IsFrontOf};
 ghost use Rattle.byte_lanes.specs.PlacesAfter.{NoneWithin, IsFirstAfter, AreMarked};
-ghost use Rattle.lane_filter.specs.Sieves.{IsCandidateOfTwo, Passes};
+ghost use Rattle.lane_filter.specs.Prefilters.{IsCandidateOfTwo, Passes};
 
-use crate::sieve::Sieve;
+use crate::prefilter::Prefilter;
 use byte_lanes::{AnyOf, EndTest, Nibbles, below_bit, from_bit, skip_unmarked, split_lowest};
 use nib_mask::ByteMasks;
 use std::marker::Model;
@@ -170,27 +170,27 @@ fn next_bits<T: EndTest>(test: &T, text: &[u8], from: usize) -> EndBits
 
 /// The first ends after a position that include one passed by the prefilter, or none at the end of the text. The test
 /// is chosen here, before its loop over lanes.
-fn sieved_bits(sieve: &Sieve, text: &[u8], from: usize) -> EndBits
+fn prefilter_bits(prefilter: &Prefilter, text: &[u8], from: usize) -> EndBits
     requires { from ≤ length text.now }
-    ensures marked { AreMarked (Passes sieve.now text.now) from result.first result.done result.mask }
+    ensures marked { AreMarked (Passes prefilter.now text.now) from result.first result.done result.mask }
     ensures within { result.done ≤ length text.now }
     ensures ended { result.mask ≡ 0 → result.done ≡ length text.now }
 {
-    match sieve {
-        Sieve::Nibbles(masks) => next_bits(&Nibbles::new(masks), text, from),
-        Sieve::TwoNibbles(first, last) => two_nibbles_bits(first, last, text, from),
-        Sieve::OneByte(byte) => next_bits(byte, text, from),
-        Sieve::OneExactByte(byte) => next_bits(byte, text, from),
-        Sieve::OneTriple(triple) => next_bits(triple, text, from),
-        Sieve::OneExactTriple(triple) => next_bits(triple, text, from),
-        Sieve::TwoPairs(two) => next_bits(two, text, from),
-        Sieve::TwoExactPairs(two) => next_bits(two, text, from),
-        Sieve::ThreePairs(three) => next_bits(three, text, from),
-        Sieve::ThreeExactPairs(three) => next_bits(three, text, from),
+    match prefilter {
+        Prefilter::Nibbles(masks) => next_bits(&Nibbles::new(masks), text, from),
+        Prefilter::TwoNibbles(first, last) => two_nibbles_bits(first, last, text, from),
+        Prefilter::OneByte(byte) => next_bits(byte, text, from),
+        Prefilter::OneExactByte(byte) => next_bits(byte, text, from),
+        Prefilter::OneTriple(triple) => next_bits(triple, text, from),
+        Prefilter::OneExactTriple(triple) => next_bits(triple, text, from),
+        Prefilter::TwoPairs(two) => next_bits(two, text, from),
+        Prefilter::TwoExactPairs(two) => next_bits(two, text, from),
+        Prefilter::ThreePairs(three) => next_bits(three, text, from),
+        Prefilter::ThreeExactPairs(three) => next_bits(three, text, from),
     }
 }
 
-/// As `sieved_bits`, by the tables of more than eight buckets. It stands alone because a function clears room for all its
+/// As `prefilter_bits`, by the tables of more than eight buckets. It stands alone because a function clears room for all its
 /// tables when it begins, and these take the most.
 #[inline(never)]
 fn two_nibbles_bits(first: &ByteMasks, last: &ByteMasks, text: &[u8], from: usize) -> EndBits
@@ -207,7 +207,7 @@ fn two_nibbles_bits(first: &ByteMasks, last: &ByteMasks, text: &[u8], from: usiz
 /// last end returned.
 #[derive(Drop)]
 pub struct Candidates<'a> {
-    sieve: &'a Sieve,
+    prefilter: &'a Prefilter,
     text: &'a [u8],
     from: usize,
     first: usize,
@@ -230,14 +230,14 @@ impl<'a> Model for Candidates<'a> {
 impl<'a> Candidates<'a> {
     /// The candidates of the text after a position. It reads nothing yet.
     #[inline]
-    pub fn new(sieve: &'a Sieve, text: &'a [u8], from: usize) -> Candidates<'a>
+    pub fn new(prefilter: &'a Prefilter, text: &'a [u8], from: usize) -> Candidates<'a>
         requires { from ≤ length text.now }
-        ensures sieve { result.sieve ≡ sieve.now }
+        ensures prefilter { result.prefilter ≡ prefilter.now }
         ensures text { result.text ≡ text.now }
         ensures from { result.from ≡ from }
     {
         Candidates {
-            sieve,
+            prefilter,
             text,
             from,
             first: from,
@@ -249,12 +249,12 @@ impl<'a> Candidates<'a> {
     /// The first candidate after the last one returned, or `None` if there is no more.
     #[inline(always)]
     pub fn next(&mut self) -> Option<usize>
-        ensures sieve { self.new.sieve ≡ self.old.sieve }
+        ensures prefilter { self.new.prefilter ≡ self.old.prefilter }
         ensures text { self.new.text ≡ self.old.text }
-        ensures first { IfSome result (IsFirstAfter (Passes self.old.sieve self.old.text) self.old.from) }
+        ensures first { IfSome result (IsFirstAfter (Passes self.old.prefilter self.old.text) self.old.from) }
         ensures within { IfSome result (λ end. end ≤ length self.old.text) }
         ensures moved { IfSome result (λ end. self.new.from ≡ end) }
-        ensures none { IfNone result (NoneWithin (Passes self.old.sieve self.old.text) self.old.from
+        ensures none { IfNone result (NoneWithin (Passes self.old.prefilter self.old.text) self.old.from
             (length self.old.text)) }
         ensures stays { IfNone result (self.new.from ≡ self.old.from) }
     {
@@ -262,7 +262,7 @@ impl<'a> Candidates<'a> {
             if self.done == self.text.len() {
                 return None;
             }
-            let ends = sieved_bits(self.sieve, self.text, self.done);
+            let ends = prefilter_bits(self.prefilter, self.text, self.done);
             self.first = ends.first;
             self.mask = ends.mask;
             self.done = ends.done;
@@ -281,7 +281,7 @@ impl<'a> Candidates<'a> {
     #[inline]
     pub fn skip_to(&mut self, place: usize)
         requires { place ≤ length self.old.text }
-        ensures sieve { self.new.sieve ≡ self.old.sieve }
+        ensures prefilter { self.new.prefilter ≡ self.old.prefilter }
         ensures text { self.new.text ≡ self.old.text }
         ensures from { self.new.from ≡ place }
     {
@@ -293,6 +293,6 @@ impl<'a> Candidates<'a> {
                 return;
             }
         }
-        *self = Candidates::new(self.sieve, self.text, place);
+        *self = Candidates::new(self.prefilter, self.text, place);
     }
 }

@@ -32,7 +32,7 @@ impl EndTest for ExactPair {
 
     ghost candidate = { λ s. IsPairEnd s.pair };
 
-    ghost reaches = { λ s. max s.pair.first.behind s.pair.second.behind + 1 };
+    ghost reaches = { λ s. max s.pair.first.after s.pair.second.after + 1 };
 
     fn reach(&self) -> usize {
         self.pair.reach()

@@ -28,11 +28,11 @@ impl ExactTriple {
 
 impl EndTest for ExactTriple {
     ghost use Rattle.std.specs.Prelude.{◌+◌};
-    ghost use Rattle.lane_filter.specs.Triples.{IsTripleEnd, most_behind};
+    ghost use Rattle.lane_filter.specs.Triples.{IsTripleEnd, most_after};
 
     ghost candidate = { λ s. IsTripleEnd s.triple };
 
-    ghost reaches = { λ s. most_behind s.triple + 1 };
+    ghost reaches = { λ s. most_after s.triple + 1 };
 
     fn reach(&self) -> usize {
         self.triple.reach()

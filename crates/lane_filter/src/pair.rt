@@ -23,7 +23,7 @@ pub(crate) struct RareByte {
     /// The bit of a letter's case, or 0 if case counts.
     case_bit: u8,
     /// How many bytes stand between it and the end.
-    behind: u8,
+    after: u8,
 }
 
 impl RareByte {
@@ -37,17 +37,17 @@ impl RareByte {
         RareByte {
             byte,
             case_bit: case_bit(fold, byte),
-            behind: (literal.len() - place - 1) as u8,
+            after: (literal.len() - place - 1) as u8,
         }
     }
 
     /// How many bytes before an end are read.
     #[inline(always)]
     pub(crate) fn reach(&self) -> usize
-        ensures value { result ≡ self.now.behind + 1 }
+        ensures value { result ≡ self.now.after + 1 }
         ensures near { result ≤ 256 }
     {
-        usize::from(self.behind) + 1
+        usize::from(self.after) + 1
     }
 
     /// Whether its case counts.
@@ -73,38 +73,38 @@ impl RareByte {
     /// Whether the text has the byte before an end.
     #[inline(always)]
     pub(crate) fn stands_before(&self, text: &[u8], end: usize) -> bool
-        requires after { self.now.behind < end }
+        requires after { self.now.after < end }
         requires within { end ≤ length text.now }
         ensures { IsTrue result ↔ StandsBefore self.now text.now end }
     {
-        text[end - 1 - usize::from(self.behind)] | self.case_bit == self.byte
+        text[end - 1 - usize::from(self.after)] | self.case_bit == self.byte
     }
 
     /// The bytes of the text that stand there before 64 ends.
     #[inline(always)]
     fn bytes_before(&self, text: &[u8], first: usize) -> u8x64
-        requires after { self.now.behind < first }
+        requires after { self.now.after < first }
         requires within { first + 63 ≤ length text.now }
-        ensures { HoldsBelow (λ k. slice_index text.now (first + k - 1 - self.now.behind)) 64 result }
+        ensures { HoldsBelow (λ k. slice_index text.now (first + k - 1 - self.now.after)) 64 result }
     {
-        load_64(text, first - 1 - usize::from(self.behind))
+        load_64(text, first - 1 - usize::from(self.after))
     }
 
     /// 255 in each of 32 lanes where the text has the byte before an end.
     #[inline(always)]
     pub(crate) fn lanes(&self, text: &[u8], first: usize) -> u8x32
-        requires after { self.now.behind < first }
+        requires after { self.now.after < first }
         requires within { first + 31 ≤ length text.now }
         ensures { TellsLanes (StandsBefore self.now text.now) first result }
     {
-        let bytes = load(text, first - 1 - usize::from(self.behind));
+        let bytes = load(text, first - 1 - usize::from(self.after));
         value_where(with_bits(bytes, self.case_bit), self.byte, 255)
     }
 
     /// Whether the text has the byte before one of 128 ends.
     #[inline(always)]
     pub(crate) fn may_stand(&self, text: &[u8], first: usize) -> bool
-        requires after { self.now.behind < first }
+        requires after { self.now.after < first }
         requires within { first + 127 ≤ length text.now }
         ensures { (k : ℕ) → k < 128 → StandsBefore self.now text.now (first + k) → IsTrue result }
     {
@@ -119,7 +119,7 @@ impl RareByte {
     /// The ends among 64 before which the text has the byte.
     #[inline(always)]
     pub(crate) fn marks(&self, text: &[u8], first: usize) -> u64
-        requires after { self.now.behind < first }
+        requires after { self.now.after < first }
         requires within { first + 63 ≤ length text.now }
         ensures { TellsBits (StandsBefore self.now text.now) first 64 result }
     {
@@ -153,11 +153,11 @@ impl BytePair {
         }
     }
 
-    /// Whether one of them has `behind` bytes after it.
-    pub(crate) fn has_byte_before(&self, behind: usize) -> bool
-        ensures { IsTrue result ↔ IsOneOf self.now behind }
+    /// Whether one of them has `after` bytes after it.
+    pub(crate) fn has_byte_before(&self, after: usize) -> bool
+        ensures { IsTrue result ↔ IsOneOf self.now after }
     {
-        usize::from(self.first.behind) == behind || usize::from(self.second.behind) == behind
+        usize::from(self.first.after) == after || usize::from(self.second.after) == after
     }
 
     /// Whether the case of both bytes counts.
@@ -184,7 +184,7 @@ impl BytePair {
     /// 255 in each of 32 lanes where both bytes stand before an end.
     #[inline(always)]
     pub(crate) fn lanes(&self, text: &[u8], first: usize) -> u8x32
-        requires after { max self.now.first.behind self.now.second.behind < first }
+        requires after { max self.now.first.after self.now.second.after < first }
         requires within { first + 31 ≤ length text.now }
         ensures { TellsLanes (IsPairEnd self.now text.now) first result }
     {
@@ -201,7 +201,7 @@ impl EndTest for BytePair {
 
     ghost candidate = { IsPairEnd };
 
-    ghost reaches = { λ pair. max pair.first.behind pair.second.behind + 1 };
+    ghost reaches = { λ pair. max pair.first.after pair.second.after + 1 };
 
     fn reach(&self) -> usize {
         self.first.reach().max(self.second.reach())

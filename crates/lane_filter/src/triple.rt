@@ -2,7 +2,7 @@
 ghost use Rattle.std.specs.Prelude.{◌≡◌, ◌↔◌, ℕ, ◌+◌, ◌-◌, ◌^◌, ◌<◌, ◌≤◌, IsTrue, List, length};
 ghost use Rattle.byte_lanes.specs.Lanes.{TellsLanes};
 ghost use Rattle.lane_filter.specs.Pairs.{IsOneOf};
-ghost use Rattle.lane_filter.specs.Triples.{AreExact, IsTripleEnd, IsTripleOf, most_behind};
+ghost use Rattle.lane_filter.specs.Triples.{AreExact, IsTripleEnd, IsTripleOf, most_after};
 ghost use Rattle.lit_base.specs.Occurrences.{Occurs};
 
 use crate::pair::{BytePair, CHOSEN_FROM, RareByte, usual_rank};
@@ -62,7 +62,7 @@ impl ByteTriple {
     /// 255 in each of 32 lanes where all bytes stand before an end.
     #[inline(always)]
     fn lanes(&self, text: &[u8], first: usize) -> u8x32
-        requires after { most_behind self.now < first }
+        requires after { most_after self.now < first }
         requires within { first + 31 ≤ length text.now }
         ensures { TellsLanes (IsTripleEnd self.now text.now) first result }
     {
@@ -72,11 +72,11 @@ impl ByteTriple {
 
 impl EndTest for ByteTriple {
     ghost use Rattle.std.specs.Prelude.{◌+◌};
-    ghost use Rattle.lane_filter.specs.Triples.{IsTripleEnd, most_behind};
+    ghost use Rattle.lane_filter.specs.Triples.{IsTripleEnd, most_after};
 
     ghost candidate = { IsTripleEnd };
 
-    ghost reaches = { λ triple. most_behind triple + 1 };
+    ghost reaches = { λ triple. most_after triple + 1 };
 
     fn reach(&self) -> usize {
         self.pair.reach().max(self.third.reach())

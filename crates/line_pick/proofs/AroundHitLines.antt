@@ -11,9 +11,9 @@ use Rattle.lit_base.proofs.EndedLemmas.{ended_lines-append, ended_lines-newline}
 use Rattle.lit_plan.specs.Plans.{Plan}
 use Rattle.line_pick.specs.declared.matcher.Matcher.{Matcher}
 use Rattle.text_lines.specs.HitLines.{AllMiss, IsFirstHitLine}
-use Rattle.line_pick.specs.Lending.{numbered}
+use Rattle.line_pick.specs.Emitting.{numbered}
 use Rattle.line_pick.specs.Matching.{fold_of, literals_of, literals_and_null, picks}
-use Rattle.line_pick.proofs.LentLemmas.{numbered-append, numbered-cons, numbered-one, numbered-same}
+use Rattle.line_pick.proofs.EmittedLemmas.{numbered-append, numbered-cons, numbered-one, numbered-same}
 use Rattle.text_lines.proofs.LiteralParts.{not_passed}
 use Rattle.line_pick.proofs.Patterns.{by_plan, no_plan, null-matches, null-misses, null-occurs}
 
@@ -37,17 +37,17 @@ whole-misses l true line misses = sym (not_passed (matches l.folding true l.text
     absurd (cc)))
 
 -- the lines before a line with a literal, this line, and the text after it
-module _ {l : Literals} {rest missed line behind : List ℕ} (hit : IsFirstHitLine l rest missed line behind) where
-  pub hit-lines : ended_lines rest ≡ ended_lines missed ++ line ∷ ended_lines behind
+module _ {l : Literals} {rest missed line after : List ℕ} (hit : IsFirstHitLine l rest missed line after) where
+  pub hit-lines : ended_lines rest ≡ ended_lines missed ++ line ∷ ended_lines after
   hit-lines =
-      ap ended_lines hit.whole ∙ ended_lines-append missed (line ++ 10 ∷ behind) ∙ ap (λ r. ended_lines missed ++ ended_lines (r ++ (line ++ 10 ∷ behind))) hit.closed
-      ∙ ap (λ ls. ended_lines missed ++ ls) (ended_lines-newline line behind hit.one)
+      ap ended_lines hit.whole ∙ ended_lines-append missed (line ++ 10 ∷ after) ∙ ap (λ r. ended_lines missed ++ ended_lines (r ++ (line ++ 10 ∷ after))) hit.closed
+      ∙ ap (λ ls. ended_lines missed ++ ls) (ended_lines-newline line after hit.one)
 
-  pub hit-length : length rest ≡ length missed + (length line + suc (length behind))
-  hit-length = ap length hit.whole ∙ length-append missed (line ++ 10 ∷ behind) ∙ ap (λ n. length missed + n) (length-append line (10 ∷ behind))
+  pub hit-length : length rest ≡ length missed + (length line + suc (length after))
+  hit-length = ap length hit.whole ∙ length-append missed (line ++ 10 ∷ after) ∙ ap (λ n. length missed + n) (length-append line (10 ∷ after))
 
-  pub hit-count : length (ended_lines rest) ≡ length (ended_lines missed) + suc (length (ended_lines behind))
-  hit-count = ap length hit-lines ∙ length-append (ended_lines missed) (line ∷ ended_lines behind)
+  pub hit-count : length (ended_lines rest) ≡ length (ended_lines missed) + suc (length (ended_lines after))
+  hit-count = ap length hit-lines ∙ length-append (ended_lines missed) (line ∷ ended_lines after)
 
 module _ (l : Literals) (whole invert : Bool) where
   -- lines that hold no literal are all selected, or none
@@ -57,18 +57,18 @@ module _ (l : Literals) (whole invert : Bool) where
       (λ k d inside. ap (λ m. cond invert (not m) m) (whole-misses l whole (get_or (ended_lines text) k d) (misses k d inside)) ∙ select_missed invert)
 
   -- the selected lines of a text up to its first line with a literal, and after it, with their numbers
-  pub hit-numbered : {rest missed line behind : List ℕ} → IsFirstHitLine l rest missed line behind
-      → (before after : ℕ) → after ≡ before + length (ended_lines missed)
+  pub hit-numbered : {rest missed line after : List ℕ} → IsFirstHitLine l rest missed line after
+      → (before later : ℕ) → later ≡ before + length (ended_lines missed)
       → (selected : Bool) → selected ≡ is_selected l.folding whole invert l.texts line
       → numbered (is_selected l.folding whole invert l.texts) before (ended_lines rest)
-      ≡ numbered (λ _. invert) before (ended_lines missed) ++ (numbered (λ _. selected) after (line ∷ []) ++ numbered (is_selected l.folding whole invert l.texts) (after + 1) (ended_lines behind))
-  hit-numbered {rest} {missed} {line} {behind} hit before after at selected is =
+      ≡ numbered (λ _. invert) before (ended_lines missed) ++ (numbered (λ _. selected) later (line ∷ []) ++ numbered (is_selected l.folding whole invert l.texts) (later + 1) (ended_lines after))
+  hit-numbered {rest} {missed} {line} {after} hit before later at selected is =
       let test = is_selected l.folding whole invert l.texts in
-      ap (numbered test before) (hit-lines hit) ∙ numbered-append test before (ended_lines missed) (line ∷ ended_lines behind)
-      ∙ ap (λ n. numbered test before (ended_lines missed) ++ numbered test n (line ∷ ended_lines behind)) (sym at)
-      ∙ ap (λ ls. ls ++ numbered test after (line ∷ ended_lines behind)) (missed-numbered before missed hit.misses)
+      ap (numbered test before) (hit-lines hit) ∙ numbered-append test before (ended_lines missed) (line ∷ ended_lines after)
+      ∙ ap (λ n. numbered test before (ended_lines missed) ++ numbered test n (line ∷ ended_lines after)) (sym at)
+      ∙ ap (λ ls. ls ++ numbered test later (line ∷ ended_lines after)) (missed-numbered before missed hit.misses)
       ∙ ap (λ ls. numbered (λ _. invert) before (ended_lines missed) ++ ls)
-      (numbered-cons test after line (ended_lines behind) ∙ ap (λ ls. ls ++ numbered test (after + 1) (ended_lines behind)) (sym (numbered-one test after line is)))
+      (numbered-cons test later line (ended_lines after) ∙ ap (λ ls. ls ++ numbered test (later + 1) (ended_lines after)) (sym (numbered-one test later line is)))
 
 module _ (m : Matcher) (line : List ℕ) where
   -- what a line matches, it is selected by

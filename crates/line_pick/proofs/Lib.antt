@@ -1,7 +1,7 @@
 pub mod AroundHitLines
 pub mod CutLemmas
-pub mod LentHits
-pub mod LentLemmas
+pub mod EmittedHits
+pub mod EmittedLemmas
 pub mod Literals
 pub mod NumberLemmas
 pub mod OpenLemmas

@@ -17,7 +17,7 @@ use Rattle.text_lines.proofs.LiteralParts.{not_passed, occurs-parts, own, own_fo
 
 -- a literal that ends in a text is a slice of it
 occurs-slice : (l : Literals) (text : List ℕ) (place end : ℕ) (o : Occurs l text place end) → HasSubslice (folded_text l.folding text) o.literal
-occurs-slice l text place end o = let p = occurs-parts l text place end o in (p.before, p.behind, p.whole)
+occurs-slice l text place end o = let p = occurs-parts l text place end o in (p.before, p.after, p.whole)
 
 module _ (l : Literals) (normal : IsNormal l) (line : List ℕ) where
   -- a line that matches a literal has an end of one
@@ -77,7 +77,7 @@ module _ (l : Literals) (normal : IsNormal l) (line : List ℕ) where
         let size : length line ≡ length t = sym (length-map line (folded l.folding)) ∙ ap length all in
         let late : first ≤ place = elim (cases_lt place first) [
           | inl before ↦ absurd (omega (arith, shorter place before, own_length place t stands, size))
-          | inr after ↦ after
+          | inr later ↦ later
         ] in
         (late, subst (Occurs l line place) (omega (arith, size)) (slice-occurs l line place t [] [] stands (all ∙ sym (append-nil t))))
 

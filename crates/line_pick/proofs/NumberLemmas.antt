@@ -1,10 +1,10 @@
--- Lines that are lent without their numbers.
+-- Lines that are emitted without their numbers.
 use Rattle.std.proofs.Common.{◌≡◌, ℕ, ◌+◌, Bool, true, false, cond, List, [], ◌∷◌, ◌++◌, map, Result, Ok, refl, sym, ap, ◌∙◌, subst}
 use Rattle.line_pick.specs.declared.fault.Fault.{Fault}
 use Rattle.line_pick.specs.declared.sink.Next.{Next}
 use Rattle.line_pick.specs.declared.sink.Next.TheVariants.{More}
-use Rattle.line_pick.specs.Lending.{Lends, Lent, NoneLeft, OneMore, LastOne, Whole, Starved, Refused, as_numbered, numbered}
-use Rattle.line_pick.proofs.LentLemmas.{LentOn}
+use Rattle.line_pick.specs.Emitting.{Emits, Emitted, NoneLeft, OneMore, LastOne, Whole, Starved, Refused, as_numbered, numbered}
+use Rattle.line_pick.proofs.EmittedLemmas.{EmittedOn}
 
 -- lines without their numbers
 abbrev pub bare : List (ℕ × List ℕ) → List (List ℕ)
@@ -20,19 +20,19 @@ bare-numbered test a b (line ∷ lines) =
       | false ↦ rest
     ]
 
--- where a line that is taken by one way is taken by another, whatever its number there, lines are lent by the other way under other numbers
-pub Lent-renumbered : {S : Type 0} {takes others : S → ℕ → List ℕ → Result Next Fault → S → Type 0} (P : S → Type 0)
+-- where a line that is taken by one way is taken by another, whatever its number there, lines are emitted by the other way under other numbers
+pub Emitted-renumbered : {S : Type 0} {takes others : S → ℕ → List ℕ → Result Next Fault → S → Type 0} (P : S → Type 0)
     → ((s t : S) (n m : ℕ) (line : List ℕ) (answer : Result Next Fault) → P s → takes s n line answer t → others s m line answer t × P t)
-    → {s t : S} {lines : List (ℕ × List ℕ)} {answer : Result Next Fault} (under : List (ℕ × List ℕ)) → bare lines ≡ bare under → P s → Lent takes s lines answer t → Lent others s under answer t
-Lent-renumbered P step [] same p NoneLeft = NoneLeft
-Lent-renumbered P step (x ∷ under) same p NoneLeft = absurd (cc)
-Lent-renumbered P step [] same p (OneMore h rest) = absurd (cc)
-Lent-renumbered {others = others} P step ((m, line') ∷ under) same p (OneMore {s = s} {t = mid} {number = number} {line = line} h rest) =
+    → {s t : S} {lines : List (ℕ × List ℕ)} {answer : Result Next Fault} (under : List (ℕ × List ℕ)) → bare lines ≡ bare under → P s → Emitted takes s lines answer t → Emitted others s under answer t
+Emitted-renumbered P step [] same p NoneLeft = NoneLeft
+Emitted-renumbered P step (x ∷ under) same p NoneLeft = absurd (cc)
+Emitted-renumbered P step [] same p (OneMore h rest) = absurd (cc)
+Emitted-renumbered {others = others} P step ((m, line') ∷ under) same p (OneMore {s = s} {t = mid} {number = number} {line = line} h rest) =
     let next = step s mid number m line (Ok More) p h in
     let is : line ≡ line' = (cc) in
-    OneMore (subst (λ l. others s m l (Ok More) mid) is next.0) (Lent-renumbered P step under (cc) next.1 rest)
-Lent-renumbered P step [] same p (LastOne h last) = absurd (cc)
-Lent-renumbered {others = others} P step ((m, line') ∷ under) same p (LastOne {s = s} {t = t} {number = number} {line = line} {answer = answer} h last) =
+    OneMore (subst (λ l. others s m l (Ok More) mid) is next.0) (Emitted-renumbered P step under (cc) next.1 rest)
+Emitted-renumbered P step [] same p (LastOne h last) = absurd (cc)
+Emitted-renumbered {others = others} P step ((m, line') ∷ under) same p (LastOne {s = s} {t = t} {number = number} {line = line} {answer = answer} h last) =
     let is : line ≡ line' = (cc) in
     LastOne (subst (λ l. others s m l answer t) is (step s t number m line answer p h).0) last
 
@@ -46,46 +46,46 @@ front-renumbered (x ∷ front) rest (y ∷ under) same =
     (y ∷ w.0, w.1, ap (λ ls. y ∷ ls) w.2, ap (λ l. l ∷ bare front) first ∙ ap (λ ls. y.1 ∷ ls) w.3)
 
 module _ {S : Type 0} (takes : S → ℕ → List ℕ → Result Next Fault → S → Type 0) where
-  -- lines that are lent under their numbers are lent
-  pub Lent-taken : (is_numbered : Bool) {s t : S} {lines : List (ℕ × List ℕ)} {answer : Result Next Fault} → Lent takes s lines answer t → Lent (as_numbered is_numbered takes) s lines answer t
-  Lent-taken true h = h
-  Lent-taken false NoneLeft = NoneLeft
-  Lent-taken false (OneMore {number = number} h rest) = OneMore (number, h) (Lent-taken false rest)
-  Lent-taken false (LastOne {number = number} h last) = LastOne (number, h) last
+  -- lines that are emitted under their numbers are emitted
+  pub Emitted-taken : (is_numbered : Bool) {s t : S} {lines : List (ℕ × List ℕ)} {answer : Result Next Fault} → Emitted takes s lines answer t → Emitted (as_numbered is_numbered takes) s lines answer t
+  Emitted-taken true h = h
+  Emitted-taken false NoneLeft = NoneLeft
+  Emitted-taken false (OneMore {number = number} h rest) = OneMore (number, h) (Emitted-taken false rest)
+  Emitted-taken false (LastOne {number = number} h last) = LastOne (number, h) last
 
-  pub Lends-taken : (is_numbered : Bool) {s t : S} {lines : List (ℕ × List ℕ)} {answer : Result Next Fault} → Lends takes s lines answer t → Lends (as_numbered is_numbered takes) s lines answer t
-  Lends-taken is_numbered (Whole h) = Whole (Lent-taken is_numbered h)
-  Lends-taken is_numbered (Starved front rest parts h) = Starved front rest parts (Lent-taken is_numbered h)
-  Lends-taken is_numbered Refused = Refused
+  pub Emits-taken : (is_numbered : Bool) {s t : S} {lines : List (ℕ × List ℕ)} {answer : Result Next Fault} → Emits takes s lines answer t → Emits (as_numbered is_numbered takes) s lines answer t
+  Emits-taken is_numbered (Whole h) = Whole (Emitted-taken is_numbered h)
+  Emits-taken is_numbered (Starved front rest parts h) = Starved front rest parts (Emitted-taken is_numbered h)
+  Emits-taken is_numbered Refused = Refused
 
   -- lines are numbered or not as they were
-  pub Lends-same : {old new : Bool} {s t : S} {lines : List (ℕ × List ℕ)} {answer : Result Next Fault} → new ≡ old → Lends (as_numbered new takes) s lines answer t → Lends (as_numbered old takes) s lines answer t
-  Lends-same {s = s} {t = t} {lines = lines} {answer = answer} e h = subst (λ k. Lends (as_numbered k takes) s lines answer t) e h
+  pub Emits-same : {old new : Bool} {s t : S} {lines : List (ℕ × List ℕ)} {answer : Result Next Fault} → new ≡ old → Emits (as_numbered new takes) s lines answer t → Emits (as_numbered old takes) s lines answer t
+  Emits-same {s = s} {t = t} {lines = lines} {answer = answer} e h = subst (λ k. Emits (as_numbered k takes) s lines answer t) e h
 
-  -- lines that are lent under some numbers are lent under any
-  Lent-under : {s t : S} {lines : List (ℕ × List ℕ)} {answer : Result Next Fault} (under : List (ℕ × List ℕ)) → bare lines ≡ bare under → Lent (as_numbered false takes) s lines answer t → Lent (as_numbered false takes) s under answer t
-  Lent-under under same h = Lent-renumbered (λ _. Unit {0}) (λ s t n m line answer _ taken. (taken, tt)) under same tt h
+  -- lines that are emitted under some numbers are emitted under any
+  Emitted-under : {s t : S} {lines : List (ℕ × List ℕ)} {answer : Result Next Fault} (under : List (ℕ × List ℕ)) → bare lines ≡ bare under → Emitted (as_numbered false takes) s lines answer t → Emitted (as_numbered false takes) s under answer t
+  Emitted-under under same h = Emitted-renumbered (λ _. Unit {0}) (λ s t n m line answer _ taken. (taken, tt)) under same tt h
 
-  Lends-under : {s t : S} {lines : List (ℕ × List ℕ)} {answer : Result Next Fault} (under : List (ℕ × List ℕ)) → bare lines ≡ bare under → Lends (as_numbered false takes) s lines answer t → Lends (as_numbered false takes) s under answer t
-  Lends-under under same (Whole h) = Whole (Lent-under under same h)
-  Lends-under under same (Starved front rest parts h) =
+  Emits-under : {s t : S} {lines : List (ℕ × List ℕ)} {answer : Result Next Fault} (under : List (ℕ × List ℕ)) → bare lines ≡ bare under → Emits (as_numbered false takes) s lines answer t → Emits (as_numbered false takes) s under answer t
+  Emits-under under same (Whole h) = Whole (Emitted-under under same h)
+  Emits-under under same (Starved front rest parts h) =
       let w = front-renumbered front rest under (ap bare (sym parts) ∙ same) in
-      Starved w.0 w.1 w.2 (Lent-under w.0 w.3 h)
-  Lends-under under same Refused = Refused
+      Starved w.0 w.1 w.2 (Emitted-under w.0 w.3 h)
+  Emits-under under same Refused = Refused
 
   module _ (test : List ℕ → Bool) (a b : ℕ) (lines : List (List ℕ)) where
-    -- lines are lent after another number of lines, if this is the same one where they are numbered
-    pub Lent-moved : (is_numbered : Bool) → (is_numbered ≡ true → a ≡ b) → {s t : S} {answer : Result Next Fault} → Lent (as_numbered is_numbered takes) s (numbered test a lines) answer t → Lent (as_numbered is_numbered takes) s (numbered test b lines) answer t
-    Lent-moved true same {s} {t} {answer} h = subst (λ n. Lent takes s (numbered test n lines) answer t) (same refl) h
-    Lent-moved false same h = Lent-under (numbered test b lines) (bare-numbered test a b lines) h
+    -- lines are emitted after another number of lines, if this is the same one where they are numbered
+    pub Emitted-moved : (is_numbered : Bool) → (is_numbered ≡ true → a ≡ b) → {s t : S} {answer : Result Next Fault} → Emitted (as_numbered is_numbered takes) s (numbered test a lines) answer t → Emitted (as_numbered is_numbered takes) s (numbered test b lines) answer t
+    Emitted-moved true same {s} {t} {answer} h = subst (λ n. Emitted takes s (numbered test n lines) answer t) (same refl) h
+    Emitted-moved false same h = Emitted-under (numbered test b lines) (bare-numbered test a b lines) h
 
-    pub Lends-moved : (is_numbered : Bool) → (is_numbered ≡ true → a ≡ b) → {s t : S} {answer : Result Next Fault} → Lends (as_numbered is_numbered takes) s (numbered test a lines) answer t → Lends (as_numbered is_numbered takes) s (numbered test b lines) answer t
-    Lends-moved true same {s} {t} {answer} h = subst (λ n. Lends takes s (numbered test n lines) answer t) (same refl) h
-    Lends-moved false same h = Lends-under (numbered test b lines) (bare-numbered test a b lines) h
+    pub Emits-moved : (is_numbered : Bool) → (is_numbered ≡ true → a ≡ b) → {s t : S} {answer : Result Next Fault} → Emits (as_numbered is_numbered takes) s (numbered test a lines) answer t → Emits (as_numbered is_numbered takes) s (numbered test b lines) answer t
+    Emits-moved true same {s} {t} {answer} h = subst (λ n. Emits takes s (numbered test n lines) answer t) (same refl) h
+    Emits-moved false same h = Emits-under (numbered test b lines) (bare-numbered test a b lines) h
 
     -- and so are the remaining lines
-    pub LentOn-moved : (is_numbered : Bool) → (is_numbered ≡ true → a ≡ b) → {s t : S} {whole : List (ℕ × List ℕ)} → LentOn (as_numbered is_numbered takes) s whole t (numbered test b lines) → LentOn (as_numbered is_numbered takes) s whole t (numbered test a lines)
-    LentOn-moved is_numbered same p = record { go = λ answer u later. p.go answer u (Lent-moved is_numbered same later) }
+    pub EmittedOn-moved : (is_numbered : Bool) → (is_numbered ≡ true → a ≡ b) → {s t : S} {whole : List (ℕ × List ℕ)} → EmittedOn (as_numbered is_numbered takes) s whole t (numbered test b lines) → EmittedOn (as_numbered is_numbered takes) s whole t (numbered test a lines)
+    EmittedOn-moved is_numbered same p = record { go = λ answer u later. p.go answer u (Emitted-moved is_numbered same later) }
 
 -- the number of lines as shown: 0 where lines are not numbered
 pub shown-same : (is_numbered : Bool) (n : ℕ) → is_numbered ≡ true → n ≡ cond is_numbered n 0

@@ -17,8 +17,8 @@ use Rattle.lit_base.proofs.EndedLemmas.{ended_lines-newline, ended_lines-none, o
 use Rattle.lit_base.proofs.MatchLemmas.{matching}
 use Rattle.lit_base.proofs.PieceLemmas.{null_if}
 use Rattle.lit_plan.specs.Plans.{Plan}
-use Rattle.text_ends.proofs.Occurring.{occurs_behind, occurs_in_front, occurs_in_rest, occurs_of_front}
-use Rattle.line_pick.specs.Lending.{numbered}
+use Rattle.text_ends.proofs.Occurring.{occurs_after, occurs_in_front, occurs_in_rest, occurs_of_front}
+use Rattle.line_pick.specs.Emitting.{numbered}
 use Rattle.line_pick.specs.Matching.{fold_of, literals_of, literals_and_null}
 use Rattle.line_pick.specs.OpenLines.{Decides, IsDecided, IsDecidingPart}
 use Rattle.line_pick.proofs.Literals.{end-from_match, match-from_end, own_length}
@@ -175,7 +175,7 @@ module _ (l : Literals) (normal : IsNormal l) (longest : ℕ) (bound : All (λ l
     later-line : (more : List ℕ) → matches l.folding false l.texts (tail ++ more) ≡ true → matches l.folding false l.texts (line ++ more) ≡ true
     later-line more e =
         let w = end-from_match l normal (tail ++ more) ((matching.matches l.folding false l.texts (tail ++ more)).0 e) in
-        let moved : HasEnd l (line ++ more) (length before + w.0) = subst (λ t. HasEnd l t (length before + w.0)) (grown more) (w.2.0, occurs_behind l before (tail ++ more) w.2.0 w.0 w.2.1) in
+        let moved : HasEnd l (line ++ more) (length before + w.0) = subst (λ t. HasEnd l t (length before + w.0)) (grown more) (w.2.0, occurs_after l before (tail ++ more) w.2.0 w.0 w.2.1) in
         (matching.matches l.folding false l.texts (line ++ more)).1 (match-from_end l normal (line ++ more) (length before + w.0) moved)
 
     -- and the other way

@@ -5,7 +5,7 @@ use Rattle.line_pick.specs.declared.fault.Fault.{Fault}
 use Rattle.line_pick.specs.declared.fault.Fault.TheVariants.{StreamTooLong}
 use Rattle.line_pick.specs.declared.sink.Next.{Next}
 use Rattle.line_pick.specs.declared.sink.Next.TheVariants.{More}
-use Rattle.line_pick.specs.Lending.{Lends, Lent, as_numbered, numbered}
+use Rattle.line_pick.specs.Emitting.{Emits, Emitted, as_numbered, numbered}
 use Rattle.line_pick.specs.Matching.{selects}
 use Rattle.line_pick.specs.OpenLines.{Keeps, most_kept}
 use Rattle.line_pick.specs.Picking.{Picking, answer_in, fed_state, finished_state}
@@ -30,7 +30,7 @@ pub record IsFed (old : Picking) (piece : List ℕ) (new : Picking) : Type 0 whe
 -- a running picker is fed: it emits the selected lines that the piece ends, and is refused exactly where the bytes fed
 -- would pass 2^64 - 1. An empty piece wants no memory
 pub record Feeds {S : Type 0} (takes : S → ℕ → List ℕ → Result Next Fault → S → Type 0) (old : Picking) (piece : List ℕ) (sink : S) (answer : Result Next Fault) (new : Picking) (left : S) : Type 0 where
-  pub lent : Lends (as_numbered old.is_numbered takes) sink (picked old (ended_lines (old.held ++ piece))) answer left
+  pub emitted : Emits (as_numbered old.is_numbered takes) sink (picked old (ended_lines (old.held ++ piece))) answer left
   pub more : answer ≡ Ok More → IsFed old piece new
   pub state : new.state ≡ fed_state answer
   pub too_long : (answer ≡ Err StreamTooLong) ↔ (2 ^ 64 ≤ old.bytes + length piece)
@@ -38,7 +38,7 @@ pub record Feeds {S : Type 0} (takes : S → ℕ → List ℕ → Result Next Fa
 
 -- a running picker is finished: it emits the open line, if it is a line and selected
 pub record Finishes {S : Type 0} (takes : S → ℕ → List ℕ → Result Next Fault → S → Type 0) (old : Picking) (sink : S) (answer : Result Next Fault) (new : Picking) (left : S) : Type 0 where
-  pub lent : Lent (as_numbered old.is_numbered takes) sink (picked old (last_line old.held)) answer left
+  pub emitted : Emitted (as_numbered old.is_numbered takes) sink (picked old (last_line old.held)) answer left
   pub state : new.state ≡ finished_state answer
   pub fault : answer ≢ Err StreamTooLong
 

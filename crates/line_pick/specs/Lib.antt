@@ -1,6 +1,6 @@
 pub mod Faults
 pub mod Feeding
-pub mod Lending
+pub mod Emitting
 pub mod Matching
 pub mod OpenLines
 pub mod Picking

@@ -1,9 +1,9 @@
 //! The selected lines of a text that comes in pieces, emitted one by one with their numbers.
 #![tactic(auto)]
 
+mod emitting;
 mod fault;
 mod halt;
-mod lending;
 mod line_rule;
 mod line_search;
 mod matcher;
@@ -12,7 +12,7 @@ mod picker;
 mod progress;
 mod sink;
 mod state;
-mod text_lending;
+mod text_emitting;
 mod tuning;
 mod whole_lines;
 

@@ -2,7 +2,7 @@
 ghost use Rattle.std.specs.Prelude.{◌≡◌, ◌≢◌, [], Ok, Err, IfSome, Some, false, true, is_some};
 ghost use Rattle.std.specs.Option.{option_copied};
 ghost use Rattle.line_pick.specs.Feeding.{Feeds, Finishes, Stays};
-ghost use Rattle.line_pick.specs.Lending.{answer_of};
+ghost use Rattle.line_pick.specs.Emitting.{answer_of};
 ghost use Rattle.line_pick.specs.Matching.{AreInLines, list_of};
 ghost use Rattle.line_pick.specs.declared.state.State.TheVariants.{Running};
 
@@ -176,17 +176,17 @@ impl<'p> Picker<'p> {
         if let Some(answer) = self.state.answer() {
             return answer;
         }
-        let answer = answered(self.progress.lend_open(self.search.matcher, sink));
+        let answer = answered(self.progress.emit_open(self.search.matcher, sink));
         self.state = State::after_finish(answer);
         answer
     }
 }
 
 /// The answer of a call in which emitting ended so.
-fn answered(lent: Result<(), Halt>) -> Result<Next, Fault>
-    ensures { result ≡ answer_of lent }
+fn answered(emitted: Result<(), Halt>) -> Result<Next, Fault>
+    ensures { result ≡ answer_of emitted }
 {
-    match lent {
+    match emitted {
         Ok(()) => Ok(Next::More),
         Err(Halt::Stopped) => Ok(Next::Stop),
         Err(Halt::Failed(fault)) => Err(fault),

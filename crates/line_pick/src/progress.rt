@@ -2,19 +2,19 @@
 ghost use Rattle.std.specs.Prelude.{◌≡◌, ◌≢◌, ◌↔◌, ◌<◌, ◌≤◌, ◌+◌, ◌^◌, ◌++◌, ◌∷◌, [], Err, IfOk, IsOk, OnOk, OnErr, length, slice_range, true, vec_len};
 ghost use Rattle.std.specs.Option.{option_copied};
 ghost use Rattle.lit_base.specs.Lines.{IsOnePiece, ended_lines, last_line, open_rest};
-ghost use Rattle.line_pick.specs.Lending.{Lends, Lent, answer_of, as_numbered, numbered};
+ghost use Rattle.line_pick.specs.Emitting.{Emits, Emitted, answer_of, as_numbered, numbered};
 ghost use Rattle.line_pick.specs.Matching.{IsByPlan, picks};
 ghost use Rattle.line_pick.specs.OpenLines.{Decides, IsKept, Keeps, most_kept};
 ghost use Rattle.line_pick.specs.Progresses.{IsSound};
 
+use crate::emitting::emit_selected;
 use crate::fault::Fault;
 use crate::halt::Halt;
-use crate::lending::lend_selected;
 use crate::line_search::LineSearch;
 use crate::matcher::Matcher;
 use crate::open_line::{Part, deciding_part, is_decided, is_short};
 use crate::sink::Sink;
-use crate::text_lending::lend_text;
+use crate::text_emitting::emit_text;
 use std::alloc::Global;
 use text_lines::{split_ended, split_line};
 
@@ -64,7 +64,7 @@ impl Progress {
         ensures sound { IsSound self.new }
         ensures seen { self.new.has_bytes ≡ self.old.has_bytes }
         ensures numbered { self.new.is_numbered ≡ self.old.is_numbered }
-        ensures lent { Lends (as_numbered self.old.is_numbered S.takes) sink.old
+        ensures emitted { Emits (as_numbered self.old.is_numbered S.takes) sink.old
             (numbered (picks search.old.matcher) self.old.lines (ended_lines (self.old.held.items ++ piece.now)))
             (answer_of result) sink.new }
         ensures held { OnOk result (Keeps self.old.has_bytes (picks search.old.matcher) (most_kept (option_copied search.old.matcher.plan)) self.new.held.items
@@ -83,9 +83,9 @@ impl Progress {
         }
         match split_line(piece) {
             None => self.hold_open(search, piece),
-            Some((front, behind)) => {
+            Some((front, after)) => {
                 self.end_line(search.matcher, front, sink)?;
-                self.take_lines(search, behind, sink)
+                self.take_lines(search, after, sink)
             }
         }
     }
@@ -183,7 +183,7 @@ impl Progress {
         ensures sound { IsSound self.new }
         ensures seen { self.new.has_bytes ≡ self.old.has_bytes }
         ensures numbered { self.new.is_numbered ≡ self.old.is_numbered }
-        ensures lent { Lends S.takes sink.old
+        ensures emitted { Emits S.takes sink.old
             (numbered (picks matcher.entry) self.old.lines ((self.old.held.items ++ front.now) ∷ []))
             (answer_of result) sink.new }
         ensures held { OnOk result (self.new.held.items ≡ []) }
@@ -192,7 +192,7 @@ impl Progress {
         ensures faults { result ≢ Err (Halt.Failed Fault.StreamTooLong) }
     {
         self.hold(front)?;
-        lend_selected(matcher, self.held.as_slice(), self.lines, sink)?;
+        emit_selected(matcher, self.held.as_slice(), self.lines, sink)?;
         self.held.clear();
         self.lines += 1;
         Ok(())
@@ -213,7 +213,7 @@ impl Progress {
         ensures sound { IsSound self.new }
         ensures seen { self.new.has_bytes ≡ self.old.has_bytes }
         ensures numbered { self.new.is_numbered ≡ self.old.is_numbered }
-        ensures lent { Lends (as_numbered self.old.is_numbered S.takes) sink.old
+        ensures emitted { Emits (as_numbered self.old.is_numbered S.takes) sink.old
             (numbered (picks search.old.matcher) self.old.lines (ended_lines text.now))
             (answer_of result) sink.new }
         ensures held { OnOk result (Keeps self.old.has_bytes (picks search.old.matcher) (most_kept (option_copied search.old.matcher.plan)) self.new.held.items (open_rest text.now)) }
@@ -226,14 +226,14 @@ impl Progress {
         // Read here, it is known to fit, and so is the number of lines.
         let _bytes = self.bytes;
         let (ended, open) = split_ended(text);
-        self.lines = lend_text(search, ended, self.lines, self.is_numbered, sink)?;
+        self.lines = emit_text(search, ended, self.lines, self.is_numbered, sink)?;
         self.hold_open(search, open)
     }
 
     /// Emits the open line, if it is a line and selected.
-    pub fn lend_open<S: Sink>(&self, matcher: Matcher<'_>, sink: &mut S) -> Result<(), Halt>
+    pub fn emit_open<S: Sink>(&self, matcher: Matcher<'_>, sink: &mut S) -> Result<(), Halt>
         requires { IsSound self.now }
-        ensures lent { Lent S.takes sink.old
+        ensures emitted { Emitted S.takes sink.old
             (numbered (picks matcher.entry) self.now.lines (last_line self.now.held.items))
             (answer_of result) sink.new }
         ensures faults { result ≢ Err (Halt.Failed Fault.StreamTooLong) }
@@ -242,7 +242,7 @@ impl Progress {
             return Ok(());
         }
         let _bytes = self.bytes;
-        lend_selected(matcher, self.held.as_slice(), self.lines, sink)
+        emit_selected(matcher, self.held.as_slice(), self.lines, sink)
     }
 }
 

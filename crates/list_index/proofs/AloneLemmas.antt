@@ -1,17 +1,16 @@
 -- Where two literals end together the shorter is a suffix of the longer. So the first of several is the shortest suffix
 -- of each other.
-use Rattle.std.proofs.Common.{◌≡◌, ℕ, Bool, true, false, ◌+◌, ◌-◌, ◌<◌, ◌≤◌, ◌↔◌, List, [], Some, All, Option, None, MatchOption, inl, inr, length, drop, get_or, replicate, set, slice_range, refl, sym, ap, ◌∙◌, subst, arith}
+use Rattle.std.proofs.Common.{◌≡◌, ℕ, Bool, true, false, ◌+◌, ◌-◌, ◌<◌, ◌≤◌, List, [], Some, All, inl, inr, length, drop, get_or, replicate, set, slice_range, sym, ap, ◌∙◌, subst, arith}
 use Rattle.std.specs.List.{slice_get}
-use Rattle.std.specs.List.Sorted.{IsNonDecreasing}
 use Rattle.std.proofs.lemmas.Bool.{cases_eq, cases_lt, true_from_ne_false}
 use Rattle.std.proofs.lemmas.List.{drop-map, get_or-replicate, get_or-set_other, get_or-set_same, length-drop, length-map, length-replicate, length-set, take_all}
 use Rattle.std.proofs.lemmas.Option.{get_or_from_slice_get, slice_get-get_or, slice_get_within}
 use Rattle.lit_base.specs.Folding.{folded, folded_text}
-use Rattle.lit_base.specs.Literals.{IsNormal, Literals, lengths, literal_at}
-use Rattle.lit_base.specs.Occurrences.{IsFirstEnding, NoneEnds, Occurs}
+use Rattle.lit_base.specs.Literals.{IsNormal, Literals, literal_at}
+use Rattle.lit_base.specs.Occurrences.{IsFirstEnding, Occurs}
 use Rattle.lit_base.proofs.LengthLemmas.{length_at, lengths_rise}
 use Rattle.list_index.proofs.SuffixLemmas.{drop-range}
-use Rattle.list_index.specs.Alone.{IsAlone, SayAlone}
+use Rattle.list_index.specs.Alone.{SayAlone}
 
 -- what holds of all literals holds of one
 pub of_literal : (P : List ℕ → Type 0) (texts : List (List ℕ)) (place : ℕ) (literal : List ℕ) → All P texts → slice_get texts place ≡ Some literal → P literal

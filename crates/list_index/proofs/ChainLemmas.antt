@@ -5,7 +5,7 @@ use Rattle.std.specs.Option.{is_some}
 use Rattle.std.proofs.lemmas.Bool.{cases_eq, cases_lt}
 use Rattle.std.proofs.lemmas.List.{get_or-replicate, get_or-set_other, get_or-set_same, length-map, length-replicate, length-set}
 use Rattle.std.proofs.lemmas.Option.{get_or_from_slice_get, slice_get_within}
-use Rattle.list_index.specs.Chains.{AreChainsOf, HaveWidths, IsChained, IsFirstTold, IsNextWith, NoneToldEnds, Reaches, hash_at, told_at}
+use Rattle.list_index.specs.Chains.{AreChainsOf, HaveWidths, IsChained, IsFirstKeyed, IsNextWith, NoneKeyedEnds, Reaches, hash_at, key_width_at}
 use Rattle.lit_base.specs.Literals.{Literals, lengths, literal_at}
 use Rattle.lit_base.specs.Occurrences.{Occurs, NoneEnds, IsFirstEnding}
 use Rattle.list_index.specs.Suffixes.{suffix_key, hash_of}
@@ -60,16 +60,16 @@ chained_more value count low heads links inside room links_room old = record {
 
 module _ (l : Literals) (text : List ℕ) (end width : ℕ) (chains : SuffixChains) (are : AreChainsOf l chains) (bytes : AreBytes text) (narrow : width ≤ 8) where
   -- where a literal with a key of this width ends, the text has the key kept of it
-  pub kept_key : (place : ℕ) → told_at l place ≡ width → Occurs l text place end → get_or chains.keys.items place 0 ≡ suffix_key l.folding text end width
-  kept_key place told occurs =
+  pub kept_key : (place : ℕ) → key_width_at l place ≡ width → Occurs l text place end → get_or chains.keys.items place 0 ≡ suffix_key l.folding text end width
+  kept_key place keyed occurs =
       let there = slice_get_within l.texts place occurs.literal occurs.stands in
-      let wide : width ≤ length (literal_at l place) = omega (arith, told) in
+      let wide : width ≤ length (literal_at l place) = omega (arith, keyed) in
       are.keyed place there
-      ∙ ap (suffix_key l.folding (literal_at l place) (length (literal_at l place))) told
+      ∙ ap (suffix_key l.folding (literal_at l place) (length (literal_at l place))) keyed
       ∙ sym (key-occurs l text place end width bytes narrow wide occurs)
 
   -- one step along the chain
-  pub reaches_link : (from next : ℕ) → next < length l.texts → (from ≤ next → told_at l next ≡ width → ¬ Occurs l text next end) → Reaches l text end width chains from next
+  pub reaches_link : (from next : ℕ) → next < length l.texts → (from ≤ next → key_width_at l next ≡ width → ¬ Occurs l text next end) → Reaches l text end width chains from next
       → Reaches l text end width chains from (get_or chains.links.items next 0)
   reaches_link from next inside apart old =
       let key : ℕ = suffix_key l.folding text end width in
@@ -77,36 +77,36 @@ module _ (l : Literals) (text : List ℕ) (end width : ℕ) (chains : SuffixChai
       subst (λ h. IsNextWith (hash_at chains.bits chains.keys.items) (length l.texts) h (next + 1) (get_or chains.links.items next 0)) (old.has inside) (are.chained.link next (omega arith) inside) in
       record {
         within = step.within;
-        passed = λ place low high told occurs. elim (cases_lt place next) [
-          | inl before ↦ old.passed place low before told occurs
-          | inr behind ↦ elim (cases_eq place next) [
-            | inl here ↦ apart (omega (arith, low, here)) (subst (λ p. told_at l p ≡ width) here told) (subst (λ p. Occurs l text p end) here occurs)
-            | inr later ↦ step.skipped place (omega (arith, behind, later)) high (ap (hash_of chains.bits) (kept_key place told occurs))
+        passed = λ place low high keyed occurs. elim (cases_lt place next) [
+          | inl before ↦ old.passed place low before keyed occurs
+          | inr after ↦ elim (cases_eq place next) [
+            | inl here ↦ apart (omega (arith, low, here)) (subst (λ p. key_width_at l p ≡ width) here keyed) (subst (λ p. Occurs l text p end) here occurs)
+            | inr later ↦ step.skipped place (omega (arith, after, later)) high (ap (hash_of chains.bits) (kept_key place keyed occurs))
           ]
         ];
         has = step.has;
       }
 
 -- a later literal has no narrower key
-pub told_rises : (l : Literals) → IsNonDecreasing (lengths l) → (place other : ℕ) → place ≤ other → other < length l.texts → told_at l place ≤ told_at l other
-told_rises l rising place other low inside =
+pub key_widths_rise : (l : Literals) → IsNonDecreasing (lengths l) → (place other : ℕ) → place ≤ other → other < length l.texts → key_width_at l place ≤ key_width_at l other
+key_widths_rise l rising place other low inside =
     let below = rising place other 0 low (omega (arith, inside, length-map l.texts (length {A = ℕ}))) in
     omega (arith, below, length_at l.texts place 0 (omega arith), length_at l.texts other 0 inside)
 
 -- a literal that ends at a position has a key no wider than the text before it
-pub fits_before : (l : Literals) (text : List ℕ) (place end : ℕ) → Occurs l text place end → told_at l place ≤ end
+pub fits_before : (l : Literals) (text : List ℕ) (place end : ℕ) → Occurs l text place end → key_width_at l place ≤ end
 fits_before l text place end occurs = omega (arith, occurs.begins, ap length (get_or_from_slice_get l.texts place occurs.literal [] occurs.stands))
 
 -- what the literals of a width answer is none, and so none of them ends there
-pub none_told : (l : Literals) (text : List ℕ) (from end width : ℕ) (r : Option ℕ) → false ≡ is_some r
-    → MatchOption r (NoneToldEnds l text from end width) (λ place. IsFirstTold l text from end width place) → NoneToldEnds l text from end width
-none_told l text from end width None e found = found
-none_told l text from end width (Some p) e found = (cc)
+pub none_keyed : (l : Literals) (text : List ℕ) (from end width : ℕ) (r : Option ℕ) → false ≡ is_some r
+    → MatchOption r (NoneKeyedEnds l text from end width) (λ place. IsFirstKeyed l text from end width place) → NoneKeyedEnds l text from end width
+none_keyed l text from end width None e found = found
+none_keyed l text from end width (Some p) e found = (cc)
 
 -- a literal is found at this width, and the smaller widths hold none: it is the first of all
 pub first_by_width : (l : Literals) (text : List ℕ) (from end width : ℕ) (r : Option ℕ) → IsNonDecreasing (lengths l)
-    → ((place : ℕ) → from ≤ place → told_at l place < width → ¬ Occurs l text place end) → true ≡ is_some r
-    → MatchOption r (NoneToldEnds l text from end width) (λ place. IsFirstTold l text from end width place)
+    → ((place : ℕ) → from ≤ place → key_width_at l place < width → ¬ Occurs l text place end) → true ≡ is_some r
+    → MatchOption r (NoneKeyedEnds l text from end width) (λ place. IsFirstKeyed l text from end width place)
     → MatchOption r (NoneEnds l text from end) (λ place. IsFirstEnding l text from end place)
 first_by_width l text from end width None rising before e found = (cc)
 first_by_width l text from end width (Some p) rising before e found =
@@ -115,19 +115,19 @@ first_by_width l text from end width (Some p) rising before e found =
       counted = found.counted;
       occurs = found.occurs;
       first = λ other low high occurs.
-          let rises = told_rises l rising other p (omega (arith, high)) inside in
-          elim (cases_lt (told_at l other) width) [
+          let rises = key_widths_rise l rising other p (omega (arith, high)) inside in
+          elim (cases_lt (key_width_at l other) width) [
             | inl narrower ↦ before other low narrower occurs
-            | inr wide ↦ found.first other low high (omega (arith, wide, rises, found.told)) occurs
+            | inr wide ↦ found.first other low high (omega (arith, wide, rises, found.keyed)) occurs
           ];
     }
 
 -- a literal is found, and the widths kept after it have the bits of all later literals
-pub behind_found : (l : Literals) (text : List ℕ) (from end width left : ℕ) (r : Option ℕ)
-    → MatchOption r (NoneToldEnds l text from end width) (λ place. IsFirstTold l text from end width place)
-    → ((place : ℕ) → IsFirstTold l text from end width place → HaveWidths l text (place + 1) end left) → IfSome r (λ place. HaveWidths l text (place + 1) end left)
-behind_found l text from end width left None found have = tt
-behind_found l text from end width left (Some p) found have = have p found
+pub after_found : (l : Literals) (text : List ℕ) (from end width left : ℕ) (r : Option ℕ)
+    → MatchOption r (NoneKeyedEnds l text from end width) (λ place. IsFirstKeyed l text from end width place)
+    → ((place : ℕ) → IsFirstKeyed l text from end width place → HaveWidths l text (place + 1) end left) → IfSome r (λ place. HaveWidths l text (place + 1) end left)
+after_found l text from end width left None found have = tt
+after_found l text from end width left (Some p) found have = have p found
 
 -- a literal that is found is in the list
 pub found_within : (l : Literals) (text : List ℕ) (from end : ℕ) (r : Option ℕ) → MatchOption r (NoneEnds l text from end) (λ place. IsFirstEnding l text from end place)

@@ -9,12 +9,12 @@ use Rattle.std.proofs.lemmas.Nat.Bits.{bit_at-lt, bit_at-zero, bit_at_and, bit_a
 use Rattle.std.proofs.lemmas.Map.Keys.{Less-from_sorted}
 use Rattle.std.proofs.lemmas.Option.{get_or_from_slice_get, slice_get_within}
 use Rattle.list_index.specs.declared.suffixes.checks.SuffixChecks.{SuffixChecks}
-use Rattle.list_index.specs.Chains.{HaveWidths, NoneToldEnds, told_at}
+use Rattle.list_index.specs.Chains.{HaveWidths, NoneKeyedEnds, key_width_at}
 use Rattle.list_index.specs.Checks.{AreChecksOf, IsChecked, last_key}
 use Rattle.lit_base.specs.Literals.{IsNormal, Literals, literal_cmp, literal_at}
 use Rattle.lit_base.specs.Occurrences.{Occurs}
 use Rattle.lit_base.specs.Folding.{folded_text}
-use Rattle.list_index.specs.Suffixes.{last_bits, spelled, suffix_key, told_width}
+use Rattle.list_index.specs.Suffixes.{last_bits, spelled, suffix_key, key_width}
 use Rattle.lit_base.proofs.InsertLemmas.{literal_total}
 use Rattle.lit_base.proofs.SortedLists.{not_below}
 use Rattle.list_index.proofs.SuffixLemmas.{AreBytes, key-occurs, masked, spelled_fits}
@@ -22,19 +22,19 @@ use Rattle.list_index.proofs.SuffixLemmas.{AreBytes, key-occurs, masked, spelled
 -- where a literal ends, the hash of the bytes before has the bit of its key width, if the hash of its own checked bytes
 -- has it
 pub checked-occurs : (l : Literals) (checks : SuffixChecks) (text : List ℕ) (place end most : ℕ) → AreChecksOf l checks → AreBytes text → 8 ≤ end → Occurs l text place end
-    → IsChecked checks.widths.items (told_at l place) (last_key l most place)
-    → IsChecked checks.widths.items (told_at l place) (bit_or (bit_and (spelled (slice_range text (end - 8) end)) (last_bits (min (told_at l place) most))) checks.case_bits)
+    → IsChecked checks.widths.items (key_width_at l place) (last_key l most place)
+    → IsChecked checks.widths.items (key_width_at l place) (bit_or (bit_and (spelled (slice_range text (end - 8) end)) (last_bits (min (key_width_at l place) most))) checks.case_bits)
 unfolding suffix_key
 checked-occurs l checks text place end most is bytes room occurs checked =
     let inside : end ≤ length text = occurs.ends in
-    let width : ℕ = min (told_at l place) most in
+    let width : ℕ = min (key_width_at l place) most in
     let narrow : width ≤ 8 = omega arith in
     let word : ℕ = spelled (slice_range text (end - 8) end) in
     let masks : bit_and word (last_bits width) ≡ spelled (replicate (8 - width) 0 ++ slice_range text (end - width) end) =
     masked text end width word bytes narrow room inside (spelled_fits text end bytes room inside) refl in
     let key : bit_or (bit_and word (last_bits width)) checks.case_bits ≡ suffix_key l.folding text end width = λ i. bit_or (masks i) (is.case i) in
     let literal = key-occurs l text place end width bytes narrow (omega arith) occurs in
-    subst (IsChecked checks.widths.items (told_at l place)) (sym (key ∙ literal)) checked
+    subst (IsChecked checks.widths.items (key_width_at l place)) (sym (key ∙ literal)) checked
 
 -- a bit that some widths have stays, whatever is added
 pub width_stays : (widths more place : ℕ) → bit_at widths place ≡ 1 → bit_at (bit_or widths more) place ≡ 1
@@ -53,8 +53,8 @@ width_added widths byte back bit has =
     omega (arith, has, one, alone, both, bit_at-zero back, bit_at_or widths (bit_and byte (1 * 2 ^ back % 256)) back, bit_at-lt (bit_or widths (bit_and byte (1 * 2 ^ back % 256))) back)
 
 -- a literal that ends somewhere has a key of at least one byte
-told_some : (l : Literals) (checks : SuffixChecks) (text : List ℕ) (place end : ℕ) → AreChecksOf l checks → Occurs l text place end → 0 < told_at l place
-told_some l checks text place end is occurs =
+key_width_some : (l : Literals) (checks : SuffixChecks) (text : List ℕ) (place end : ℕ) → AreChecksOf l checks → Occurs l text place end → 0 < key_width_at l place
+key_width_some l checks text place end is occurs =
     let there = slice_get_within l.texts place occurs.literal occurs.stands in
     omega (arith, is.some, is.wide place there)
 
@@ -69,17 +69,17 @@ bit_below byte back low has = omega (arith, has, bit_at_ones 7 back low, bit_at_
 -- some widths, the lowest with its bit set being one more than a number
 module _ (l : Literals) (checks : SuffixChecks) (is : AreChecksOf l checks) (text : List ℕ) (from end widths low : ℕ) (have : HaveWidths l text from end widths) where
   -- no literal with a narrower key ends there
-  pub narrower_none : ((i : ℕ) → i < low → bit_at widths i ≡ 0) → (place : ℕ) → from ≤ place → told_at l place < low + 1 → ¬ Occurs l text place end
+  pub narrower_none : ((i : ℕ) → i < low → bit_at widths i ≡ 0) → (place : ℕ) → from ≤ place → key_width_at l place < low + 1 → ¬ Occurs l text place end
   narrower_none none place counted narrow occurs =
-      let some = told_some l checks text place end is occurs in
-      absurd (omega (arith, have place counted occurs, none (told_at l place - 1) (omega arith)))
+      let some = key_width_some l checks text place end is occurs in
+      absurd (omega (arith, have place counted occurs, none (key_width_at l place - 1) (omega arith)))
 
   -- where no literal of this width does, the bits of the others stay without it
-  pub widths_left : low < 8 → NoneToldEnds l text from end (low + 1) → HaveWidths l text from end (bit_and widths (bit_not w8 (1 * 2 ^ low % 256)))
+  pub widths_left : low < 8 → NoneKeyedEnds l text from end (low + 1) → HaveWidths l text from end (bit_and widths (bit_not w8 (1 * 2 ^ low % 256)))
   widths_left small none place counted occurs =
-      let some = told_some l checks text place end is occurs in
-      let other : told_at l place - 1 ≢ low = λ e. none place counted (omega arith) occurs in
-      bit_at_clear_other w8 widths low small (told_at l place - 1) (omega arith) other ∙ have place counted occurs
+      let some = key_width_some l checks text place end is occurs in
+      let other : key_width_at l place - 1 ≢ low = λ e. none place counted (omega arith) occurs in
+      bit_at_clear_other w8 widths low small (key_width_at l place - 1) (omega arith) other ∙ have place counted occurs
 
 -- without a bit that it has a number is less
 pub fewer_widths : (widths low : ℕ) → low < 8 → bit_at widths low ≡ 1 → bit_and widths (bit_not w8 (1 * 2 ^ low % 256)) < widths
@@ -104,13 +104,13 @@ ends_once l normal text place other end one two len before =
 
 -- after a literal that ends there, the bits of the others stay without the bit of its length, unless its key is the
 -- widest
-pub others_left : (l : Literals) → IsNormal l → (checks : SuffixChecks) → AreChecksOf l checks → (text : List ℕ) (from end place len widths left : ℕ) → Occurs l text place end → from ≤ place + 1 → told_at l place ≡ told_width len
+pub others_left : (l : Literals) → IsNormal l → (checks : SuffixChecks) → AreChecksOf l checks → (text : List ℕ) (from end place len widths left : ℕ) → Occurs l text place end → from ≤ place + 1 → key_width_at l place ≡ key_width len
     → HaveWidths l text from end widths → ((width : ℕ) → 0 < width → width ≤ 8 → (width ≡ len → width ≡ 8) → bit_at widths (width - 1) ≡ 1 → bit_at left (width - 1) ≡ 1)
     → HaveWidths l text (place + 1) end left
-others_left l normal checks is text from end place len widths left one counted told have stays other later two =
-    let width : ℕ = told_at l other in
+others_left l normal checks is text from end place len widths left one counted keyed have stays other later two =
+    let width : ℕ = key_width_at l other in
     let widest : width ≡ len → width ≡ 8 = λ e. elim (cases_lt width 8) [
       | inl narrow ↦ absurd (ends_once l normal text place other end one two (omega arith) (omega arith))
       | inr wide ↦ omega arith
     ] in
-    stays width (told_some l checks text other end is two) (omega arith) widest (have other (omega arith) two)
+    stays width (key_width_some l checks text other end is two) (omega arith) widest (have other (omega arith) two)

@@ -79,11 +79,11 @@ pub padded : (xs bytes : List ℕ) → xs ≡ bytes → length bytes ≤ 8
 padded xs bytes same few =
     let room : ℕ = 8 - length bytes in
     let front : take room (replicate 8 0) ≡ replicate room 0 = take-replicate room 8 0 (omega arith) in
-    let behind : drop (8 - room) (drop room (replicate 8 0)) ≡ [] =
+    let after : drop (8 - room) (drop room (replicate 8 0)) ≡ [] =
     drop-drop (8 - room) room (replicate 8 0) ∙ drop_all (room + (8 - room)) (replicate 8 0) (omega (arith, length-replicate {A = ℕ} 8 0)) in
     let list : put_mid room (8 - room) (replicate 8 0) xs ≡ replicate room 0 ++ bytes =
     ap (λ z. z ++ (xs ++ drop (8 - room) (drop room (replicate 8 0)))) front
-    ∙ ap (λ z. replicate room 0 ++ (xs ++ z)) behind
+    ∙ ap (λ z. replicate room 0 ++ (xs ++ z)) after
     ∙ ap (λ z. replicate room 0 ++ z) (append-nil xs ∙ same) in
     ap (from_le_bytes w64) list ∙ read_is_spelled (replicate room 0 ++ bytes) (padded_len bytes few)
 
@@ -209,10 +209,10 @@ same_key fold text t end width bytes narrow wide room inside is =
     let whole : length (zeros ++ part) ≤ 8 = omega (arith, length-append zeros part, length-replicate {A = ℕ} (8 - width) 0) in
     let small : AreBytes (zeros ++ part) = zeros_bytes (8 - width) part (range_bytes text (end - width) end inside bytes) in
     let alike = spelled-folded fold 8 (zeros ++ part) whole small in
-    let fold_behind : folded_text fold (zeros ++ part) ≡ zeros ++ folded_text fold part = folded-zeros fold (8 - width) part in
+    let fold_after : folded_text fold (zeros ++ part) ≡ zeros ++ folded_text fold part = folded-zeros fold (8 - width) part in
     let literal = ap (λ s. bit_or (spelled (zeros ++ s)) (case_bits fold)) (last_bytes fold text t end width wide room inside is) in
     subst (λ m. bit_or (spelled (zeros ++ part)) m ≡ bit_or (spelled (folded_text fold (zeros ++ part))) m) (eight_case_bits fold) (sym alike)
-    ∙ ap (λ s. bit_or (spelled s) (case_bits fold)) fold_behind
+    ∙ ap (λ s. bit_or (spelled s) (case_bits fold)) fold_after
     ∙ sym literal
 
 -- where a literal ends, the text has the literal's key

@@ -11,4 +11,4 @@ cursor_of fields = record { literals = fields.list.now; text = fields.text.now; 
 -- the position lies in the text, and each remaining literal has the bit of its key width
 pub record IsReady (fields : Inside) : Type 0 where
   pub inside : fields.end ≤ length fields.text.now
-  pub told : HaveWidths fields.list.now fields.text.now fields.from fields.end fields.widths
+  pub keyed : HaveWidths fields.list.now fields.text.now fields.from fields.end fields.widths

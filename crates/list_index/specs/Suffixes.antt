@@ -27,5 +27,5 @@ unfoldable pub hash_of : ℕ → ℕ → ℕ
 hash_of bits key = key * 11400714819323198485 % 18446744073709551616 / 2 ^ (64 - bits)
 
 -- the key width of a literal: its length, up to eight
-abbrev pub told_width : ℕ → ℕ
-told_width len = min len 8
+abbrev pub key_width : ℕ → ℕ
+key_width len = min len 8

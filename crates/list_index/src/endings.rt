@@ -4,7 +4,7 @@ ghost use Rattle.std.specs.Option.{IfNone};
 ghost use Rattle.lit_base.specs.Occurrences.{IsFirstEnding, NoneEnds, Occurs};
 
 use crate::index::ListIndex;
-use crate::suffixes::widths_behind;
+use crate::suffixes::widths_after;
 use std::marker::Model;
 
 /// The literals that end at one position of a text, in order, from some place of the list on. A contract sees the
@@ -54,7 +54,7 @@ impl<'a> Endings<'a> {
 
     /// The literals that end at `end` after the literal at `place`, which ends there.
     #[inline]
-    pub(crate) fn behind(
+    pub(crate) fn after(
         list: &'a ListIndex,
         text: &'a [u8],
         end: usize,
@@ -72,7 +72,7 @@ impl<'a> Endings<'a> {
             text,
             end,
             from: place + 1,
-            widths: widths_behind(list.suffixes.widths_at(text, end), len),
+            widths: widths_after(list.suffixes.widths_at(text, end), len),
         }
     }
 

@@ -151,14 +151,14 @@ impl ListIndex {
     /// The literals that end at `end` in the text after the literal at `place`, which ends there. It gives the same as
     /// `endings` from the next place on, and searches for no other literal as short: none ends there.
     #[inline]
-    pub fn endings_behind<'a>(&'a self, text: &'a [u8], end: usize, place: usize) -> Endings<'a>
+    pub fn endings_after<'a>(&'a self, text: &'a [u8], end: usize, place: usize) -> Endings<'a>
         requires { Occurs self.now text.now place end }
         ensures literals { result.literals ≡ self.now }
         ensures text { result.text ≡ text.now }
         ensures end { result.end ≡ end }
         ensures from { result.from ≡ place + 1 }
     {
-        Endings::behind(self, text, end, place)
+        Endings::after(self, text, end, place)
     }
 
     /// The first of the literals that ends at `end` in the text, if there is one. It gives the same as `next_ending`

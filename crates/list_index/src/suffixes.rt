@@ -113,11 +113,11 @@ impl Suffixes {
         requires of { AreSuffixesOf literals.now self.now }
         requires normal { IsNormal literals.now }
         requires inside { end ≤ length text.now }
-        requires told { HaveWidths literals.now text.now from end widths.old }
+        requires keyed { HaveWidths literals.now text.now from end widths.old }
         ensures first { MatchOption result
             (NoneEnds literals.now text.now from end)
             (λ place. IsFirstEnding literals.now text.now from end place) }
-        ensures told { IfSome result (λ place. HaveWidths literals.now text.now (place + 1) end widths.new) }
+        ensures keyed { IfSome result (λ place. HaveWidths literals.now text.now (place + 1) end widths.new) }
     {
         let mut left = *widths;
         while left != 0 {
@@ -125,9 +125,9 @@ impl Suffixes {
             if end < width {
                 return None;
             }
-            let found = self.chains.next_told(literals, text, end, from, width);
+            let found = self.chains.next_keyed(literals, text, end, from, width);
             if found.is_some() {
-                *widths = widths_behind(left, width);
+                *widths = widths_after(left, width);
                 return found;
             }
             left &= !(1 << (width - 1));
@@ -139,7 +139,7 @@ impl Suffixes {
 /// The key widths, out of `widths`, of literals that may end after a literal of `len` bytes at the same position. A
 /// literal whose key has all its bytes is the only one of its length there.
 #[inline]
-pub(crate) fn widths_behind(widths: u8, len: usize) -> u8
+pub(crate) fn widths_after(widths: u8, len: usize) -> u8
     requires { 0 < len }
     ensures { (width : ℕ) → 0 < width → width ≤ 8 → (width ≡ len → width ≡ 8) → bit_at widths (width - 1) ≡ 1 → bit_at result (width - 1) ≡ 1 }
 {

@@ -35,16 +35,16 @@ last_piece-append (p ∷ ps) qs some = last_piece-cons p (ps ++ qs) (longer ps) 
     longer (r ∷ rs) = omega arith
 
 -- a newline in front of a text, and another byte
-behind_newline : (ps whole : List (List ℕ)) (more : List ℕ) → 0 < length ps → whole ≡ without_last ps ++ pieces (last_piece ps ++ more)
+after_newline : (ps whole : List (List ℕ)) (more : List ℕ) → 0 < length ps → whole ≡ without_last ps ++ pieces (last_piece ps ++ more)
     → [] ∷ whole ≡ without_last ([] ∷ ps) ++ pieces (last_piece ([] ∷ ps) ++ more)
-behind_newline [] whole more some e = absurd (omega arith)
-behind_newline (p ∷ ps) whole more some e = ap (λ rs. [] ∷ rs) e
+after_newline [] whole more some e = absurd (omega arith)
+after_newline (p ∷ ps) whole more some e = ap (λ rs. [] ∷ rs) e
 
-behind_byte : (b : ℕ) (ps whole : List (List ℕ)) (more : List ℕ) → 0 < length ps → eqb b 10 ≡ false → whole ≡ without_last ps ++ pieces (last_piece ps ++ more)
+after_byte : (b : ℕ) (ps whole : List (List ℕ)) (more : List ℕ) → 0 < length ps → eqb b 10 ≡ false → whole ≡ without_last ps ++ pieces (last_piece ps ++ more)
     → onto_first b whole ≡ without_last (onto_first b ps) ++ pieces (last_piece (onto_first b ps) ++ more)
-behind_byte b [] whole more some other e = absurd (omega arith)
-behind_byte b (p ∷ []) whole more some other e = ap (onto_first b) e ∙ sym (ap (λ t. cond t ([] ∷ pieces (p ++ more)) (onto_first b (pieces (p ++ more)))) other)
-behind_byte b (p ∷ q ∷ ps) whole more some other e = ap (onto_first b) e
+after_byte b [] whole more some other e = absurd (omega arith)
+after_byte b (p ∷ []) whole more some other e = ap (onto_first b) e ∙ sym (ap (λ t. cond t ([] ∷ pieces (p ++ more)) (onto_first b (pieces (p ++ more)))) other)
+after_byte b (p ∷ q ∷ ps) whole more some other e = ap (onto_first b) e
 
 -- the pieces of a text in two parts: those that newlines of the first part end, then the pieces of its open rest with
 -- the second part
@@ -53,8 +53,8 @@ pieces-append [] more = refl
 pieces-append (b ∷ bs) more =
     elim (eqb b 10) as (λ t. eqb b 10 ≡ t → cond t ([] ∷ pieces (bs ++ more)) (onto_first b (pieces (bs ++ more)))
     ≡ without_last (cond t ([] ∷ pieces bs) (onto_first b (pieces bs))) ++ pieces (last_piece (cond t ([] ∷ pieces bs) (onto_first b (pieces bs))) ++ more)) [
-      | true ↦ λ newline. behind_newline (pieces bs) (pieces (bs ++ more)) more (some_piece bs) (pieces-append bs more)
-      | false ↦ λ other. behind_byte b (pieces bs) (pieces (bs ++ more)) more (some_piece bs) other (pieces-append bs more)
+      | true ↦ λ newline. after_newline (pieces bs) (pieces (bs ++ more)) more (some_piece bs) (pieces-append bs more)
+      | false ↦ λ other. after_byte b (pieces bs) (pieces (bs ++ more)) more (some_piece bs) other (pieces-append bs more)
     ] refl
 
 pub ended_lines-append : (text more : List ℕ) → ended_lines (text ++ more) ≡ ended_lines text ++ ended_lines (open_rest text ++ more)

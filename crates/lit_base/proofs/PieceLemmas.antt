@@ -31,17 +31,17 @@ not_null : (c : ℕ) (cs : List ℕ) → pieces (c ∷ cs) ≢ [] ∷ []
 not_null c cs = not_null_by c (eqb c 10) (pieces cs) (not_none cs)
 
 -- a newline in front puts a null piece in front
-behind_newline : (ps tail : List (List ℕ)) → ps ≢ [] → ps ≡ without_empty_last ps ++ tail → [] ∷ ps ≡ without_empty_last ([] ∷ ps) ++ tail
-behind_newline [] tail some e = absurd (some refl)
-behind_newline (p ∷ ps) tail some e = ap (λ qs. [] ∷ qs) e
+after_newline : (ps tail : List (List ℕ)) → ps ≢ [] → ps ≡ without_empty_last ps ++ tail → [] ∷ ps ≡ without_empty_last ([] ∷ ps) ++ tail
+after_newline [] tail some e = absurd (some refl)
+after_newline (p ∷ ps) tail some e = ap (λ qs. [] ∷ qs) e
 
 -- another byte in front goes onto the first piece
-behind_byte : (b : ℕ) (ps tail : List (List ℕ)) → ps ≢ [] → ps ≢ [] ∷ [] → ps ≡ without_empty_last ps ++ tail → onto_first b ps ≡ without_empty_last (onto_first b ps) ++ tail
-behind_byte b [] tail some more e = absurd (some refl)
-behind_byte b ([] ∷ []) tail some more e = absurd (more refl)
-behind_byte b ((x ∷ xs) ∷ []) tail some more e = let none : [] ≡ tail = (cc) in ap (λ qs. (b ∷ x ∷ xs) ∷ qs) none
-behind_byte b ([] ∷ q ∷ qs) tail some more e = let rest : q ∷ qs ≡ without_empty_last (q ∷ qs) ++ tail = (cc) in ap (λ rs. (b ∷ []) ∷ rs) rest
-behind_byte b ((x ∷ xs) ∷ q ∷ qs) tail some more e = let rest : q ∷ qs ≡ without_empty_last (q ∷ qs) ++ tail = (cc) in ap (λ rs. (b ∷ x ∷ xs) ∷ rs) rest
+after_byte : (b : ℕ) (ps tail : List (List ℕ)) → ps ≢ [] → ps ≢ [] ∷ [] → ps ≡ without_empty_last ps ++ tail → onto_first b ps ≡ without_empty_last (onto_first b ps) ++ tail
+after_byte b [] tail some more e = absurd (some refl)
+after_byte b ([] ∷ []) tail some more e = absurd (more refl)
+after_byte b ((x ∷ xs) ∷ []) tail some more e = let none : [] ≡ tail = (cc) in ap (λ qs. (b ∷ x ∷ xs) ∷ qs) none
+after_byte b ([] ∷ q ∷ qs) tail some more e = let rest : q ∷ qs ≡ without_empty_last (q ∷ qs) ++ tail = (cc) in ap (λ rs. (b ∷ []) ∷ rs) rest
+after_byte b ((x ∷ xs) ∷ q ∷ qs) tail some more e = let rest : q ∷ qs ≡ without_empty_last (q ∷ qs) ++ tail = (cc) in ap (λ rs. (b ∷ x ∷ xs) ∷ rs) rest
 
 -- the pieces are the lines, and a null one where the text is open
 pieces_split : (text : List ℕ) → pieces text ≡ without_empty_last (pieces text) ++ null_if (is_open text)
@@ -52,8 +52,8 @@ pieces_split (b ∷ c ∷ cs) =
     let tail : List (List ℕ) = null_if (is_open (c ∷ cs)) in
     let e = pieces_split (c ∷ cs) in
     elim (eqb b 10) as (λ t. cond t ([] ∷ ps) (onto_first b ps) ≡ without_empty_last (cond t ([] ∷ ps) (onto_first b ps)) ++ tail) [
-      | true ↦ behind_newline ps tail (not_none (c ∷ cs)) e
-      | false ↦ behind_byte b ps tail (not_none (c ∷ cs)) (not_null c cs) e
+      | true ↦ after_newline ps tail (not_none (c ∷ cs)) e
+      | false ↦ after_byte b ps tail (not_none (c ∷ cs)) (not_null c cs) e
     ]
 
 pub pieces-lines : (text : List ℕ) → pieces text ≡ lines text ++ null_if (is_open text)

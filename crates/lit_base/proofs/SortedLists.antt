@@ -32,9 +32,9 @@ module _ {K : Type 0} (R : K → K → Ordering) (o : IsTotalOrder R) where
   not_both t u less more = let back : R u t ≡ Greater = o.antisymm u t ∙ ap ordering_reverse less in (cc)
 
   -- an element of a list that is not its first is after it
-  behind : (x t : K) (xs : List K) → AllByRecursion (λ y. R x y ≡ Less) xs → (x ≡ t) ⊎ In t xs → (x ≡ t) ⊎ (R x t ≡ Less)
-  behind x t xs all (inl e) = inl e
-  behind x t xs all (inr h) = inr (of_one (λ y. R x y ≡ Less) t xs all h)
+  after : (x t : K) (xs : List K) → AllByRecursion (λ y. R x y ≡ Less) xs → (x ≡ t) ⊎ In t xs → (x ≡ t) ⊎ (R x t ≡ Less)
+  after x t xs all (inl e) = inl e
+  after x t xs all (inr h) = inr (of_one (λ y. R x y ≡ Less) t xs all h)
 
   -- the first elements are the same
   same_first : (x y : K) → (y ≡ x) ⊎ (R y x ≡ Less) → (x ≡ y) ⊎ (R x y ≡ Less) → x ≡ y
@@ -53,7 +53,7 @@ module _ {K : Type 0} (R : K → K → Ordering) (o : IsTotalOrder R) where
   same_by_in [] (y ∷ ys) s r to back = absurd (back y (inl refl))
   same_by_in (x ∷ xs) [] s r to back = absurd (to x (inl refl))
   same_by_in (x ∷ xs) (y ∷ ys) s r to back =
-      let e : x ≡ y = same_first x y (behind y x ys r.0 (to x (inl refl))) (behind x y xs s.0 (back y (inl refl))) in
+      let e : x ≡ y = same_first x y (after y x ys r.0 (to x (inl refl))) (after x y xs s.0 (back y (inl refl))) in
       let rest : xs ≡ ys = same_by_in xs ys s.1 r.1
       (λ t h. in_rest x y t xs ys e s.0 h (to t (inr h)))
       (λ t h. in_rest y x t ys xs (sym e) r.0 h (back t (inr h))) in

@@ -64,7 +64,7 @@ pub record EndedLaw : Type 0 where
   pub rest : (text more : List ℕ) → open_rest (text ++ more) ≡ open_rest (open_rest text ++ more)
   -- a newline ends a line; a text without one is open
   pub ended : (line rest : List ℕ) → IsOnePiece line → ended_lines (line ++ 10 ∷ rest) ≡ line ∷ ended_lines rest
-  pub behind : (line rest : List ℕ) → IsOnePiece line → open_rest (line ++ 10 ∷ rest) ≡ open_rest rest
+  pub after : (line rest : List ℕ) → IsOnePiece line → open_rest (line ++ 10 ∷ rest) ≡ open_rest rest
   pub none : (line : List ℕ) → IsOnePiece line → ended_lines line ≡ []
   pub all_open : (line : List ℕ) → IsOnePiece line → open_rest line ≡ line
   -- the ended lines and the open rest hold no newline, and are the lines of the text

@@ -27,20 +27,20 @@ no_row : (n : ℕ) → IsRow (0 * n) []
 no_row n = record { len = grind arith; numbers = All-nil (λ x. x < 2 ^ 64) }
 
 -- the first line, and others after it
-behind_version : (most : ℕ) (ls : List (List (List ℕ))) (left : List ℕ) → line_text (version_words most) ++ (flat_map line_text ls ++ left) ≡ flat_map line_text (version_words most ∷ ls) ++ left
-behind_version most ls left = sym (append_assoc (line_text (version_words most)) (flat_map line_text ls) left)
+after_version : (most : ℕ) (ls : List (List (List ℕ))) (left : List ℕ) → line_text (version_words most) ++ (flat_map line_text ls ++ left) ≡ flat_map line_text (version_words most ∷ ls) ++ left
+after_version most ls left = sym (append_assoc (line_text (version_words most)) (flat_map line_text ls) left)
 
 -- the first line is wrong
-pub bad_first : (most : ℕ) (text : List ℕ) → IsMost most → ((after : List ℕ) → text ≢ line_text (version_words most) ++ after) → IsFirstBadFor most text 1
+pub bad_first : (most : ℕ) (text : List ℕ) → IsMost most → ((later : List ℕ) → text ≢ line_text (version_words most) ++ later) → IsFirstBadFor most text 1
 bad_first most text is none =
     first_bad most 0 text text (completed 1 most some_ends 0 []) is (completed_fits most 1 0 most 0 some_ends [] is (record { some = omega arith; few = omega arith }) (has_some_ends most is) (omega arith) (omega arith) (no_row 1)) (omega arith) refl
-    (λ d after has same e. none after e)
+    (λ d later has same e. none later e)
 
 -- the line with the number of literals is wrong
 pub bad_count : (most : ℕ) (text rest : List ℕ) → IsMost most → text ≡ line_text (version_words most) ++ rest → NoLine IsCount literals_words rest → IsFirstBadFor most text 2
 bad_count most text rest is e none =
-    first_bad most 1 text rest (completed 1 most some_ends 0 []) is (completed_fits most 1 0 most 0 some_ends [] is (record { some = omega arith; few = omega arith }) (has_some_ends most is) (omega arith) (omega arith) (no_row 1)) (omega arith) (e ∙ behind_version most [] rest)
-    (λ d after has same line. none (literals_in most d) after has.literals line)
+    first_bad most 1 text rest (completed 1 most some_ends 0 []) is (completed_fits most 1 0 most 0 some_ends [] is (record { some = omega arith; few = omega arith }) (has_some_ends most is) (omega arith) (omega arith) (no_row 1)) (omega arith) (e ∙ after_version most [] rest)
+    (λ d later has same line. none (literals_in most d) later has.literals line)
 
 -- lines with the same text have the same number of literals
 pub same_count : (m n : ℕ) → IsCount m → IsCount n → line_text (literals_words m) ≡ line_text (literals_words n) → m ≡ n
@@ -66,8 +66,8 @@ bad_ends most n text rest left is e count e' none =
     let n-is : literals_in most c ≡ n = count_of most n 0 most 0 some_ends [] is (omega arith) (no_row n) in
     first_bad most 2 text left c is fits (omega arith)
     (e ∙ ap (λ (t : List ℕ). line_text (version_words most) ++ t) (e' ∙ ap (λ (t : List ℕ). t ++ left) (ap (λ (m : ℕ). line_text (literals_words m)) (sym n-is) ∙ sym (append-nil (line_text (literals_words (literals_in most c))))))
-    ∙ behind_version most (literals_words (literals_in most c) ∷ []) left)
-    (λ d after has same line. none d.ends after has.ends line)
+    ∙ after_version most (literals_words (literals_in most c) ∷ []) left)
+    (λ d later has same line. none d.ends later has.ends line)
 
 -- two texts, and what follows
 joined_two : (a b x : List ℕ) → a ++ (b ++ x) ≡ (a ++ (b ++ [])) ++ x
@@ -83,18 +83,18 @@ bad_cost most n ends text rest left after_ends is e count e' has_ends e'' none =
     let c = completed n most ends 0 [] in
     let fits = completed_fits most n 0 most 0 ends [] is count has_ends (omega arith) (omega arith) (no_row n) in
     let n-is : literals_in most c ≡ n = count_of most n 0 most 0 ends [] is (omega arith) (no_row n) in
-    let behind : rest ≡ (line_text (literals_words n) ++ (line_text (ends_words ends) ++ [])) ++ after_ends = e' ∙ ap (λ (t : List ℕ). line_text (literals_words n) ++ t) e'' ∙ joined_two (line_text (literals_words n)) (line_text (ends_words ends)) after_ends in
+    let after : rest ≡ (line_text (literals_words n) ++ (line_text (ends_words ends) ++ [])) ++ after_ends = e' ∙ ap (λ (t : List ℕ). line_text (literals_words n) ++ t) e'' ∙ joined_two (line_text (literals_words n)) (line_text (ends_words ends)) after_ends in
     first_bad most 3 text after_ends c is fits (omega arith)
-    (e ∙ ap (λ (t : List ℕ). line_text (version_words most) ++ t) (behind ∙ ap (λ (m : ℕ). (line_text (literals_words m) ++ (line_text (ends_words ends) ++ [])) ++ after_ends) (sym n-is))
-    ∙ behind_version most (literals_words (literals_in most c) ∷ ends_words ends ∷ []) after_ends)
-    (λ d after has same line. none d.cost after has.small_cost line)
+    (e ∙ ap (λ (t : List ℕ). line_text (version_words most) ++ t) (after ∙ ap (λ (m : ℕ). (line_text (literals_words m) ++ (line_text (ends_words ends) ++ [])) ++ after_ends) (sym n-is))
+    ∙ after_version most (literals_words (literals_in most c) ∷ ends_words ends ∷ []) after_ends)
+    (λ d later has same line. none d.cost later has.small_cost line)
 
 -- the lines that were read before the rows
 pub head_read : (most n cost : ℕ) (ends text rest left after_ends after_cost : List ℕ) → text ≡ line_text (version_words most) ++ rest → IsCount n → rest ≡ line_text (literals_words n) ++ left → HasEnds most ends → left ≡ line_text (ends_words ends) ++ after_ends → cost < 2 ^ 64 → after_ends ≡ line_text (cost_words cost) ++ after_cost → StartsWithHead most n cost ends text after_cost
 head_read most n cost ends text rest left after_ends after_cost first count second has_ends third small fourth =
-    let behind : rest ≡ (line_text (literals_words n) ++ (line_text (ends_words ends) ++ (line_text (cost_words cost) ++ []))) ++ after_cost =
+    let after : rest ≡ (line_text (literals_words n) ++ (line_text (ends_words ends) ++ (line_text (cost_words cost) ++ []))) ++ after_cost =
     second ∙ ap (λ (t : List ℕ). line_text (literals_words n) ++ t) (third ∙ ap (λ (t : List ℕ). line_text (ends_words ends) ++ t) fourth) ∙ joined_three (line_text (literals_words n)) (line_text (ends_words ends)) (line_text (cost_words cost)) after_cost in
-    record { count = count; has_ends = has_ends; small_cost = small; lines = first ∙ ap (λ (t : List ℕ). line_text (version_words most) ++ t) behind ∙ behind_version most (literals_words n ∷ ends_words ends ∷ cost_words cost ∷ []) after_cost }
+    record { count = count; has_ends = has_ends; small_cost = small; lines = first ∙ ap (λ (t : List ℕ). line_text (version_words most) ++ t) after ∙ after_version most (literals_words n ∷ ends_words ends ∷ cost_words cost ∷ []) after_cost }
 
 -- a row of a certificate
 row_of_certificate : (most n r : ℕ) (d : CertificateNumbers) → HasTextFor most d → literals_in most d ≡ n → r < most → IsRow n (take (literals_in most d) (drop (r * literals_in most d) d.potentials))
@@ -121,9 +121,9 @@ lines_read most n cost r ends text rest ps left head rows =
     ∙ ap (λ (t : List ℕ). t ++ left) (sym (flat_map-append line_text lines (rows_of r n ps)))
 
 -- a line after r rows is wrong
-bad_behind : (most n cost r : ℕ) (ends text rest ps left : List ℕ) → IsMost most → StartsWithHead most n cost ends text rest → r ≤ most → StartsWithRows r n rest ps left
-    → ((d : CertificateNumbers) (after : List ℕ) → HasTextFor most d → literals_in most d ≡ n → left ≢ line_text (get_or (lines_of most d) (r + 4) []) ++ after) → IsFirstBadFor most text (r + 5)
-bad_behind most n cost r ends text rest ps left is head le rows none =
+bad_after : (most n cost r : ℕ) (ends text rest ps left : List ℕ) → IsMost most → StartsWithHead most n cost ends text rest → r ≤ most → StartsWithRows r n rest ps left
+    → ((d : CertificateNumbers) (later : List ℕ) → HasTextFor most d → literals_in most d ≡ n → left ≢ line_text (get_or (lines_of most d) (r + 4) []) ++ later) → IsFirstBadFor most text (r + 5)
+bad_after most n cost r ends text rest ps left is head le rows none =
     let zeros = most - r in
     let c = completed n zeros ends cost ps in
     let fits = completed_fits most n r zeros cost ends ps is head.count head.has_ends head.small_cost (omega arith) rows.row in
@@ -132,35 +132,35 @@ bad_behind most n cost r ends text rest ps left is head le rows none =
     let number : r + 4 + 1 ≡ r + 5 = omega arith in
     subst (IsFirstBadFor most text) number (first_bad most (r + 4) text left c is fits (omega arith)
     (lines_read most n cost r ends text rest ps left head rows ∙ ap (λ (ls : List (List (List ℕ))). flat_map line_text ls ++ left) (sym front))
-    (λ d after has same. none d after has (count_from_lines most (r + 4) n c d (omega arith) (omega arith) head.count n-is has same)))
+    (λ d later has same. none d later has (count_from_lines most (r + 4) n c d (omega arith) (omega arith) head.count n-is has same)))
 
 -- a row is wrong
 pub bad_row : (most n cost r : ℕ) (ends text rest ps left : List ℕ) → IsMost most → StartsWithHead most n cost ends text rest → r < most → StartsWithRows r n rest ps left → NoLine (IsRow n) (row_words (r + 1)) left → IsFirstBadFor most text (r + 5)
 bad_row most n cost r ends text rest ps left is head lt rows none =
-    bad_behind most n cost r ends text rest ps left is head (omega arith) rows (λ d after has n-is e.
-    none (take (literals_in most d) (drop (r * literals_in most d) d.potentials)) after (row_of_certificate most n r d has n-is lt) (e ∙ ap (λ (l : List (List ℕ)). line_text l ++ after) (line_of_row most r d lt)))
+    bad_after most n cost r ends text rest ps left is head (omega arith) rows (λ d later has n-is e.
+    none (take (literals_in most d) (drop (r * literals_in most d) d.potentials)) later (row_of_certificate most n r d has n-is lt) (e ∙ ap (λ (l : List (List ℕ)). line_text l ++ later) (line_of_row most r d lt)))
 
 -- the last line is wrong
-pub bad_last : (most n cost : ℕ) (ends text rest ps left : List ℕ) → IsMost most → StartsWithHead most n cost ends text rest → StartsWithRows most n rest ps left → ((after : List ℕ) → left ≢ codes "end" ++ 10 ∷ after) → IsFirstBadFor most text (most + 5)
+pub bad_last : (most n cost : ℕ) (ends text rest ps left : List ℕ) → IsMost most → StartsWithHead most n cost ends text rest → StartsWithRows most n rest ps left → ((later : List ℕ) → left ≢ codes "end" ++ 10 ∷ later) → IsFirstBadFor most text (most + 5)
 bad_last most n cost ends text rest ps left is head rows none =
-    bad_behind most n cost most ends text rest ps left is head (omega arith) rows (λ d after has n-is e.
-    none after (e ∙ ap (λ (l : List (List ℕ)). line_text l ++ after) (line_of_end most d)))
+    bad_after most n cost most ends text rest ps left is head (omega arith) rows (λ d later has n-is e.
+    none later (e ∙ ap (λ (l : List (List ℕ)). line_text l ++ later) (line_of_end most d)))
 
 -- all lines were read
-pub all_read : (most n cost : ℕ) (ends text rest ps left after : List ℕ) → IsMost most → StartsWithHead most n cost ends text rest → StartsWithRows most n rest ps left → left ≡ codes "end" ++ 10 ∷ after → HasTextFor most (record { ends = ends; cost = cost; potentials = ps }) × (text ≡ spelling_for most (record { ends = ends; cost = cost; potentials = ps }) ++ after)
-all_read most n cost ends text rest ps left after is head rows e =
+pub all_read : (most n cost : ℕ) (ends text rest ps left later : List ℕ) → IsMost most → StartsWithHead most n cost ends text rest → StartsWithRows most n rest ps left → left ≡ codes "end" ++ 10 ∷ later → HasTextFor most (record { ends = ends; cost = cost; potentials = ps }) × (text ≡ spelling_for most (record { ends = ends; cost = cost; potentials = ps }) ++ later)
+all_read most n cost ends text rest ps left later is head rows e =
     let c : CertificateNumbers = record { ends = ends; cost = cost; potentials = ps } in
     let n-is : literals_in most c ≡ n = count_is most n c is rows.row.len in
     let lines = head_lines most n ends cost ++ rows_of most n ps in
     let end = (codes "end" ∷ []) ∷ [] in
-    let text_is : text ≡ flat_map line_text (lines ++ end) ++ after =
+    let text_is : text ≡ flat_map line_text (lines ++ end) ++ later =
     lines_read most n cost most ends text rest ps left head rows
     ∙ ap (λ (t : List ℕ). flat_map line_text lines ++ t) e
-    ∙ sym (append_assoc (flat_map line_text lines) (flat_map line_text end) after)
-    ∙ ap (λ (t : List ℕ). t ++ after) (sym (flat_map-append line_text lines end)) in (
+    ∙ sym (append_assoc (flat_map line_text lines) (flat_map line_text end) later)
+    ∙ ap (λ (t : List ℕ). t ++ later) (sym (flat_map-append line_text lines end)) in (
       record { rows = rows.row.len ∙ ap (λ (k : ℕ). most * k) (sym n-is); literals = rw n-is head.count; ends = head.has_ends; small_cost = head.small_cost; small_potentials = rows.row.numbers },
-      text_is ∙ ap (λ (ls : List (List (List ℕ))). flat_map line_text ls ++ after) (append_assoc (head_lines most n ends cost) (rows_of most n ps) end)
-          ∙ ap (λ (k : ℕ). flat_map line_text (head_lines most k ends cost ++ (rows_of most k ps ++ end)) ++ after) (sym n-is),
+      text_is ∙ ap (λ (ls : List (List (List ℕ))). flat_map line_text ls ++ later) (append_assoc (head_lines most n ends cost) (rows_of most n ps) end)
+          ∙ ap (λ (k : ℕ). flat_map line_text (head_lines most k ends cost ++ (rows_of most k ps ++ end)) ++ later) (sym n-is),
     )
 
 -- a row is wrong, or want of memory

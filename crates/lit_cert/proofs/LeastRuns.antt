@@ -59,8 +59,8 @@ module _ (l : Literals) (here before : List ℕ) (low high first end m q price :
       ])
 
   -- and none after m an end before q
-  pub suffice_behind : RunsSuffice l here before (m + 1) high q end
-  suffice_behind p above below fits =
+  pub suffice_after : RunsSuffice l here before (m + 1) high q end
+  suffice_after p above below fits =
       suffice p (omega arith) below (λ k past start stop. elim (cases_lt k q) [
         | inl early ↦
             let four = quadrangle m p k q (omega arith) past (omega arith) (omega (arith, least.high, within)) in
@@ -83,8 +83,8 @@ abbrev pub RowFits : Literals → List ℕ → ℕ → ℕ → Type 0
 RowFits l hs r n = AllFit l (slice_range hs ((r - 1) * n) (r * n)) (slice_range hs ((r - 2) * n) ((r - 1) * n)) 0 (n - 1)
 
 -- the number read after a step
-behind_at : (hs : List ℕ) (n r k : ℕ) → 2 ≤ r → k < n → get_or (slice_range hs ((r - 2) * n) ((r - 1) * n)) k 0 ≡ potential hs n (r - 1) k
-behind_at hs n r k from_two inner =
+after_at : (hs : List ℕ) (n r k : ℕ) → 2 ≤ r → k < n → get_or (slice_range hs ((r - 2) * n) ((r - 1) * n)) k 0 ≡ potential hs n (r - 1) k
+after_at hs n r k from_two inner =
     let two : r - 2 ≡ (r - 1) - 1 = omega arith in
     rw two (row_at hs n (r - 1) k (omega (arith, from_two)) inner)
 
@@ -92,11 +92,11 @@ behind_at hs n r k from_two inner =
 pub steps-from_fit : (l : Literals) (hs : List ℕ) (r : ℕ) → 2 ≤ r → RowFits l hs r (length l.texts) → StepsHold l hs r (length l.texts)
 steps-from_fit l hs r from_two fit o inner k past below =
     let n = length l.texts in
-    omega (arith, fit o (omega arith) (omega (arith, past, below)) k past (omega arith) below, row_at hs n r o (omega (arith, from_two)) inner, behind_at hs n r k from_two below)
+    omega (arith, fit o (omega arith) (omega (arith, past, below)) k past (omega arith) below, row_at hs n r o (omega (arith, from_two)) inner, after_at hs n r k from_two below)
 
 -- and where the steps hold, they all fit
 pub fit-from_steps : (l : Literals) (hs : List ℕ) (r : ℕ) → 2 ≤ r → StepsHold l hs r (length l.texts) → RowFits l hs r (length l.texts)
 fit-from_steps l hs r from_two hold p low high k past start below =
     let n = length l.texts in
     let inner : p < n = omega (arith, past, below) in
-    omega (arith, hold p inner k past below, row_at hs n r p (omega (arith, from_two)) inner, behind_at hs n r k from_two below)
+    omega (arith, hold p inner k past below, row_at hs n r p (omega (arith, from_two)) inner, after_at hs n r k from_two below)

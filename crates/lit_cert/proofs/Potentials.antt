@@ -35,8 +35,8 @@ pub step_read : (l : Literals) (hs : List ℕ) (r p q n m price : ℕ) → n ≡
 step_read l hs r p q n m price size from_two inner later shortest is =
     let two : r - 2 ≡ (r - 1) - 1 = omega arith in
     let here = sym (potential-inner hs n r p inner) ∙ subst (λ k. potential hs n r p ≡ potential hs k r p) size refl in
-    let behind = row_at hs n (r - 1) q (omega (arith, from_two)) later ∙ subst (λ k. potential hs n (r - 1) q ≡ potential hs k (r - 1) q) size refl in
-    (here, rw two behind, is ∙ cost-run (lengths l) p q (q - p) m refl shortest)
+    let after = row_at hs n (r - 1) q (omega (arith, from_two)) later ∙ subst (λ k. potential hs n (r - 1) q ≡ potential hs k (r - 1) q) size refl in
+    (here, rw two after, is ∙ cost-run (lengths l) p q (q - p) m refl shortest)
 
 -- the first entry of the last row
 pub last_row_read : (l : Literals) (hs : List ℕ) (most n bound : ℕ) → n ≡ length l.texts → 1 ≤ most → HasLength most l hs → bound ≡ get_or hs ((most - 1) * n) bound → bound ≡ potential_of l hs most 0

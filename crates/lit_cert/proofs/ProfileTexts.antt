@@ -16,7 +16,7 @@ use Rattle.lit_cert.specs.Reading.{Follows, IsBadRow, IsBadText, IsFirstBad, IsF
 use Rattle.lit_cert.proofs.Plain.{IsMost, is_most}
 use Rattle.lit_cert.proofs.Exits.{bad_first, bad_row}
 use Rattle.lit_cert.proofs.OneWay.{fewer_lines, one_certificate, right_lines}
-use Rattle.lit_cert.proofs.TooLong.{IsLong, first_bad_behind, none_spells, right_behind, right_in_front}
+use Rattle.lit_cert.proofs.TooLong.{IsLong, first_bad_after, none_spells, right_after, right_in_front}
 use Rattle.lit_cert.proofs.Lengths.{length-spelling_for-le}
 
 -- the first line of a profile's texts
@@ -57,8 +57,8 @@ profile_of p text rest k some first right =
     subst (λ q. IsRightFor (buckets q) text k) (same_profile right.0 p start.0 rest (sym start.1 ∙ first)) right.1
 
 -- the first bad line after a profile's first line
-pub bad_behind_first : (p : Profile) (text rest : List ℕ) (k : ℕ) → text ≡ first_line_of p ++ rest → IsFirstBadFor (buckets p) text k → IsFirstBad text k
-bad_behind_first p text rest k first bad = record {
+pub bad_after_first : (p : Profile) (text rest : List ℕ) (k : ℕ) → text ≡ first_line_of p ++ rest → IsFirstBadFor (buckets p) text k → IsFirstBad text k
+bad_after_first p text rest k first bad = record {
   from_one = bad.from_one;
   before = (p, bad.before);
   wrong = λ right. bad.wrong (profile_of p text rest k bad.from_one first right);
@@ -81,17 +81,17 @@ head_begins p n cost ends text rest head =
     (others ++ rest, head.lines ∙ append_assoc (first_line_of p) others rest)
 
 -- so the first bad line after them is the text's
-pub bad_behind_head : (p : Profile) (n cost : ℕ) (ends text rest : List ℕ) (k : ℕ) → StartsWithHead (buckets p) n cost ends text rest → IsFirstBadFor (buckets p) text k → IsFirstBad text k
-bad_behind_head p n cost ends text rest k head bad =
+pub bad_after_head : (p : Profile) (n cost : ℕ) (ends text rest : List ℕ) (k : ℕ) → StartsWithHead (buckets p) n cost ends text rest → IsFirstBadFor (buckets p) text k → IsFirstBad text k
+bad_after_head p n cost ends text rest k head bad =
     let start = head_begins p n cost ends text rest head in
-    bad_behind_first p text start.0 k start.1 bad
+    bad_after_first p text start.0 k start.1 bad
 
 -- a row is wrong, or want of memory
 pub bad_rows : (p : Profile) (n cost : ℕ) (ends text rest : List ℕ) (e : Fault) → StartsWithHead (buckets p) n cost ends text rest → IsBadRow (buckets p) n rest e → IsBadText text e
 bad_rows p n cost ends text rest OutOfMemory head h = tt
 bad_rows p n cost ends text rest (BadCertText k) head h =
     let start = head_begins p n cost ends text rest head in
-    rw h.2 (bad_behind_first p text start.0 (h.0 + 5) start.1 (bad_row (buckets p) n cost h.0 ends text rest h.3 h.4 (is_most p) head h.1 h.5 h.6))
+    rw h.2 (bad_after_first p text start.0 (h.0 + 5) start.1 (bad_row (buckets p) n cost h.0 ends text rest h.3 h.4 (is_most p) head h.1 h.5 h.6))
 bad_rows p n cost ends text rest ReadFault head h = h
 bad_rows p n cost ends text rest WriteFault head h = h
 
@@ -136,7 +136,7 @@ bad_in_front k text front rest long e bad =
     let enough : (p : Profile) → IsLong (buckets p) front = long_enough front long in
     record {
       from_one = bad.from_one;
-      before = (bad.before.0, rw e (right_behind (buckets bad.before.0) (k - 1) front rest (is_most bad.before.0) (enough bad.before.0) bad.before.1));
+      before = (bad.before.0, rw e (right_after (buckets bad.before.0) (k - 1) front rest (is_most bad.before.0) (enough bad.before.0) bad.before.1));
       wrong = λ right. bad.wrong (right.0, right_in_front (buckets right.0) k front rest (is_most right.0) (enough right.0) (rw e at right.1));
     }
   where

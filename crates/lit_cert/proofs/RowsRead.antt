@@ -68,5 +68,5 @@ stops_at_row most r n text ps left ReadFault lt so_far h = h
 stops_at_row most r n text ps left WriteFault lt so_far h = h
 
 -- the numbers after a row's own
-pub behind_number : (seen numbers row : List ℕ) (x : ℕ) → seen ≡ numbers → numbers ≡ x ∷ row → take (length seen - 1) (drop 1 seen) ≡ row
-behind_number seen numbers row x e is = rw (e, is) (take_all (length (x ∷ row) - 1) row (omega arith))
+pub after_number : (seen numbers row : List ℕ) (x : ℕ) → seen ≡ numbers → numbers ≡ x ∷ row → take (length seen - 1) (drop 1 seen) ≡ row
+after_number seen numbers row x e is = rw (e, is) (take_all (length (x ∷ row) - 1) row (omega arith))

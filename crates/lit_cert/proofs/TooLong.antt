@@ -30,8 +30,8 @@ past_end most k text c is long follows past =
     omega (arith, ap length all)
 
 -- lines of the front are lines of the text
-pub right_behind : (most k : ℕ) (front rest : List ℕ) → IsMost most → IsLong most front → IsRightFor most front k → IsRightFor most (front ++ rest) k
-right_behind most k front rest is long right =
+pub right_after : (most k : ℕ) (front rest : List ℕ) → IsMost most → IsLong most front → IsRightFor most front k → IsRightFor most (front ++ rest) k
+right_after most k front rest is long right =
     let follows = right.1 in (
       right.0,
       record {
@@ -60,10 +60,10 @@ right_in_front most k front rest is long right =
     )
 
 -- so the first bad line is the same
-pub first_bad_behind : (most k : ℕ) (text front rest : List ℕ) → IsMost most → IsLong most front → text ≡ front ++ rest → IsFirstBadFor most front k → IsFirstBadFor most text k
-first_bad_behind most k text front rest is long e bad = record {
+pub first_bad_after : (most k : ℕ) (text front rest : List ℕ) → IsMost most → IsLong most front → text ≡ front ++ rest → IsFirstBadFor most front k → IsFirstBadFor most text k
+first_bad_after most k text front rest is long e bad = record {
   from_one = bad.from_one;
-  before = rw e (right_behind most (k - 1) front rest is long bad.before);
+  before = rw e (right_after most (k - 1) front rest is long bad.before);
   wrong = λ right. bad.wrong (right_in_front most k front rest is long (rw e at right));
 }
 

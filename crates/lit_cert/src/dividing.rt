@@ -38,7 +38,7 @@ fn places_hold(
 ) -> bool
     requires quadrangle { MeetQuadrangle (cost_of list.now) (length list.now.texts) }
     requires small { All (λ h. h < 2 ^ 40) before.now }
-    requires behind { high < end }
+    requires after { high < end }
     requires within { end ≤ length before.now }
     requires before { length before.now ≡ length list.now.texts }
     requires here { length here.now ≡ length list.now.texts }
@@ -62,7 +62,7 @@ fn least_run(list: &LitList, before: &[u64], p: usize, first: usize, end: usize)
     requires small { All (λ h. h < 2 ^ 40) before.now }
     requires within { end ≤ length before.now }
     requires before { length before.now ≡ length list.now.texts }
-    requires behind { p < first }
+    requires after { p < first }
     requires some { first < end }
     ensures { IsLeastRun list.now before.now p first end result.0 result.1 }
 {

@@ -2,12 +2,12 @@
 use Rattle.std.proofs.Common.{◌≡◌, ℕ, ◌+◌, ◌-◌, ◌≤◌, List, ◌++◌, length, take, subst, arith}
 use Rattle.lit_base.specs.Literals.{Literals}
 use Rattle.lit_base.specs.Occurrences.{IsHits, Occurs}
-use Rattle.text_ends.specs.HitsBehind.{AreHitsBehind, Continues}
+use Rattle.text_ends.specs.HitsAfter.{AreHitsAfter, Continues}
 use Rattle.text_ends.proofs.HitLists.{hits_joined}
 use Rattle.lit_plan.specs.Bounds.{HasBounds}
 
 -- the hits after the start of a text, counted from 0, are the hits of the text
-pub hits_from_start : (l : Literals) (text : List ℕ) (hits : List (ℕ × ℕ)) → HasBounds l → AreHitsBehind l text 0 0 hits → IsHits l text hits
+pub hits_from_start : (l : Literals) (text : List ℕ) (hits : List (ℕ × ℕ)) → HasBounds l → AreHitsAfter l text 0 0 hits → IsHits l text hits
 hits_from_start l text hits b all = record {
   rising = all.rising;
   members = λ place end. (
@@ -17,7 +17,7 @@ hits_from_start l text hits b all = record {
 }
 
 -- the hits of a text are those after its start
-hits_to_start : (l : Literals) (text : List ℕ) (hits : List (ℕ × ℕ)) → HasBounds l → IsHits l text hits → AreHitsBehind l text 0 0 hits
+hits_to_start : (l : Literals) (text : List ℕ) (hits : List (ℕ × ℕ)) → HasBounds l → IsHits l text hits → AreHitsAfter l text 0 0 hits
 hits_to_start l text hits b all = record {
   rising = all.rising;
   members = λ place end. (
@@ -28,8 +28,8 @@ hits_to_start l text hits b all = record {
 }
 
 -- the hits after a position continue the hits up to there
-pub hits_continued : (l : Literals) (text : List ℕ) (from : ℕ) (hits : List (ℕ × ℕ)) → HasBounds l → from ≤ length text → AreHitsBehind l text from from hits → Continues l text from hits
+pub hits_continued : (l : Literals) (text : List ℕ) (from : ℕ) (hits : List (ℕ × ℕ)) → HasBounds l → from ≤ length text → AreHitsAfter l text from from hits → Continues l text from hits
 hits_continued l text from hits b within later front early =
     let told : from ≡ 0 + (from - 0) = omega arith in
     hits_from_start l text (front ++ hits) b
-    (hits_joined l text 0 from 0 front hits (omega arith) within (hits_to_start l (take from text) front b early) (subst (λ x. AreHitsBehind l text from x hits) told later))
+    (hits_joined l text 0 from 0 front hits (omega arith) within (hits_to_start l (take from text) front b early) (subst (λ x. AreHitsAfter l text from x hits) told later))

@@ -10,18 +10,18 @@ ghost use Rattle.lit_base.specs.Occurrences.{Occurs};
 ghost use Rattle.lit_cert.specs.Certified.{IsCertified};
 ghost use Rattle.lit_base.specs.declared.limits.TheConstants.{MAX_LITERAL_LEN};
 ghost use Rattle.nib_mask.specs.Candidates.{CoversBy};
-ghost use Rattle.lane_filter.specs.Sieves.{Passes};
+ghost use Rattle.lane_filter.specs.Prefilters.{Passes};
 ghost use Rattle.lit_plan.specs.Plans.{IsRefusalOf, Plan};
 ghost use Rattle.lit_plan.specs.Starts.{StartsAt};
 ghost use Rattle.lit_plan.specs.Bounds.{HasBounds, carry_of};
 
 use crate::fault::Fault;
 use crate::overlap::carry;
-use lane_filter::Sieve;
+use lane_filter::Prefilter;
 use list_index::ListIndex;
 use lit_base::LitList;
 use lit_cert::{Certificate, certified_law, check};
-use sieve_search::SievedEnds;
+use prefilter_search::PrefilteredEnds;
 use std::alloc::AllocError;
 use std::marker::Model;
 use std::sync::Arc;
@@ -32,7 +32,7 @@ use text_ends::Hit;
 pub struct Compiled {
     index: Arc<ListIndex>,
     certificate: Certificate,
-    sieve: Sieve,
+    prefilter: Prefilter,
 }
 
 impl Model for Compiled {
@@ -42,7 +42,7 @@ impl Model for Compiled {
 
     ghost view = { λ p. record { literals = p.index.value; certificate = p.certificate } };
 
-    ghost invariant = { λ p. IsCompiled p.index.value p.certificate p.sieve };
+    ghost invariant = { λ p. IsCompiled p.index.value p.certificate p.prefilter };
 }
 
 impl Compiled {
@@ -70,11 +70,11 @@ impl Compiled {
         requires { IsCertified index.value certificate }
         ensures { result ≡ record { literals = index.value; certificate = certificate } }
     {
-        let sieve = Sieve::of(index.list(), &certificate.ends);
+        let prefilter = Prefilter::of(index.list(), &certificate.ends);
         Compiled {
             index,
             certificate,
-            sieve,
+            prefilter,
         }
     }
 
@@ -138,19 +138,19 @@ impl Compiled {
 
     /// The prefilter for the literals, which passes each occurrence.
     #[inline]
-    pub fn sieve(&self) -> &Sieve
+    pub fn prefilter(&self) -> &Prefilter
         ensures { CoversBy self.now.literals (Passes result.now) }
     {
-        &self.sieve
+        &self.prefilter
     }
 
     /// The positions of a text after `from` at which literals end, found by the prefilter. It reads nothing yet.
     #[inline]
-    pub fn ends_behind<'a>(&'a self, text: &'a [u8], from: usize) -> SievedEnds<'a>
+    pub fn ends_after<'a>(&'a self, text: &'a [u8], from: usize) -> PrefilteredEnds<'a>
         requires { from ≤ length text.now }
         ensures { result ≡ record { literals = self.now.literals; text = text.now; from = from } }
     {
-        SievedEnds::behind(self.index(), self.sieve(), text, from)
+        PrefilteredEnds::after(self.index(), self.prefilter(), text, from)
     }
 
     /// How many bytes of a literal may precede a piece in which it ends.

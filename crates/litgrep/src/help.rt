@@ -15,7 +15,7 @@ Usage: litgrep [-F] [-c | -l | -q] [-insvx] LIST [FILE]...
 
 Without -e and -f the first operand is the pattern list. Each other operand is
 a file to search; - is standard input, which is searched where there is none.
-Options may follow operands; behind -- all words are operands.
+Options may follow operands; after -- all words are operands.
 
 Options:
   -F, --fixed-strings       patterns are literals, as they always are here
@@ -53,7 +53,7 @@ GNU grep has more options, which POSIX has not. In their place:
   for -L                        -q on each file, and its status
   for -m 5                      litgrep cat f | head -n 5
   for -r, --include             find . -exec litgrep cat /dev/null {} +
-  for -z                        tr, before and behind litgrep
+  for -z                        tr, before and after litgrep
   for -o, -b                    litplan scan
   for -w, --color               GNU grep on the lines that litgrep selects
   for -A, -B, -C, -E, -G, -P    GNU grep

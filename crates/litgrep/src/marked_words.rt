@@ -57,8 +57,8 @@ pub fn take_marks(alloc: Global, words: &mut Vec<String>) -> Result<Vec<String>,
     let mut unmarked = Vec::new(alloc);
     for place in 0..words.len() {
         let word = words[place].as_str();
-        if let Some((before, behind)) = word.split_once(MARK) {
-            let text = format!(in alloc; "{before}{behind}")?;
+        if let Some((before, after)) = word.split_once(MARK) {
+            let text = format!(in alloc; "{before}{after}")?;
             unmarked.push(text.clone()?)?;
             words[place] = text;
         }

@@ -533,7 +533,7 @@ each W. INPUT is held in memory, in a buffer that doubles: up to twice its size.
 workers up to 24, and a worker that has 256 KiB of INPUT up to 9.4 MiB. Status 0, or 2 with a message.
 
 With --names the lines are `LIT START \"LITERAL\"`: how many bytes there are before it, and the literal, with any byte that is
-not printable ASCII as \\x and two digits, and a quote or a backslash behind a backslash.
+not printable ASCII as \\x and two digits, and a quote or a backslash after a backslash.
 
 Example: where the words of a list end in a log
   litplan scan --workers 4 words access.log";

@@ -2,14 +2,14 @@
 ghost use Rattle.std.specs.Prelude.{◌≡◌, ◌+◌, ◌-◌, ◌*◌, ◌<◌, ◌≤◌, IfOk, IsOk, IsOkUnless, length};
 ghost use Rattle.lit_base.specs.Occurrences.{IsHits};
 ghost use Rattle.lit_base.specs.NextEnds.{NoEndAfter};
-ghost use Rattle.text_ends.specs.HitsBehind.{Continues};
+ghost use Rattle.text_ends.specs.HitsAfter.{Continues};
 ghost use Rattle.lit_plan.specs.declared.fault.Fault.TheVariants as flow;
 ghost use Rattle.par_scan.specs.declared.fault.Fault.TheVariants.{OutOfMemory};
 ghost use denote.Param.Send.{IsSync};
 
 use crate::fault::Fault;
 use crate::gate::Gate;
-use flow_scan::{Compiled, Hit, make_if_long, scan_behind};
+use flow_scan::{Compiled, Hit, make_if_long, scan_after};
 use std::alloc::Global;
 use std::thread::{Threads, join};
 
@@ -88,7 +88,7 @@ fn scan_part<G: Gate>(
     ensures quiet { NoEndAfter compiled.now.literals text.now from → IsOk result }
 {
     gate.enter(worker);
-    let hits = hits_behind(alloc, compiled, text, from);
+    let hits = hits_after(alloc, compiled, text, from);
     gate.leave(worker);
     match hits {
         Ok(hits) => Ok(hits),
@@ -97,7 +97,7 @@ fn scan_part<G: Gate>(
 }
 
 /// The hits that end in a text after a position, by a finder if the rest of the text is long.
-fn hits_behind(
+fn hits_after(
     alloc: Global,
     compiled: &Compiled,
     text: &[u8],
@@ -111,7 +111,7 @@ fn hits_behind(
     let mut finder = None;
     make_if_long(&mut finder, alloc, compiled, (text.len() - from) as u64);
     match finder {
-        Some(mut finder) => finder.scan_behind(alloc, compiled, text, from),
-        None => scan_behind(alloc, compiled, text, from),
+        Some(mut finder) => finder.scan_after(alloc, compiled, text, from),
+        None => scan_after(alloc, compiled, text, from),
     }
 }

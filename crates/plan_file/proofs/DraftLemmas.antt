@@ -153,15 +153,15 @@ start_begun version bytes w bad =
     let texts = some_texts s.count in
     let len : length texts ≡ s.count = length-some_texts s.count in
     let p = draft_of s.fold s.profile texts in
-    let after = flat_map literal_text texts ++ certificate_text p.certificate in
+    let later = flat_map literal_text texts ++ certificate_text p.certificate in
     let fits = b.whole.1 in
     record {
       front = b.front;
       rest = b.rest;
       bytes_are = b.bytes_are;
       left_is = b.left_is;
-      more = b.more ++ after;
-      whole = (p, draft_is version s.fold s.profile texts fits.profile (omega (arith, len, fits.some)) (omega (arith, len, fits.few)) (all_some_texts s.count), sym (append_assoc b.front b.more after) ∙ ap (λ (t : List ℕ). t ++ after) b.whole.2 ∙ sym (entry_from s texts len));
+      more = b.more ++ later;
+      whole = (p, draft_is version s.fold s.profile texts fits.profile (omega (arith, len, fits.some)) (omega (arith, len, fits.few)) (all_some_texts s.count), sym (append_assoc b.front b.more later) ∙ ap (λ (t : List ℕ). t ++ later) b.whole.2 ∙ sym (entry_from s texts len));
     }
 
 -- a wrong literal
@@ -177,19 +177,19 @@ in_literals_begun version bytes w i =
     let len : length texts ≡ s.count = omega (arith, length-append i.texts (text ∷ some_texts k), length-some_texts k, i.missing) in
     let p = draft_of s.fold s.profile texts in
     let certificate = certificate_text p.certificate in
-    let after = flat_map literal_text (some_texts k) ++ certificate in
+    let later = flat_map literal_text (some_texts k) ++ certificate in
     let all = all_texts_append i.texts (text ∷ some_texts k) (texts_of_normal (record { folding = s.fold; texts = i.texts }) i.right) (b.whole.1, all_some_texts k) in
-    let literals : flat_map literal_text texts ++ certificate ≡ before ++ (literal_text text ++ after) =
+    let literals : flat_map literal_text texts ++ certificate ≡ before ++ (literal_text text ++ later) =
     ap (λ (t : List ℕ). t ++ certificate) (flat_map-append literal_text i.texts (text ∷ some_texts k)) ∙ append_assoc before (flat_map literal_text (text ∷ some_texts k)) certificate
     ∙ ap (λ (t : List ℕ). before ++ t) (append_assoc (literal_text text) (flat_map literal_text (some_texts k)) certificate) in
-    let here : (start ++ (before ++ b.front)) ++ (b.more ++ after) ≡ start ++ (before ++ (literal_text text ++ after)) =
-    append_assoc start (before ++ b.front) (b.more ++ after) ∙ ap (λ (t : List ℕ). start ++ t) (append_assoc before b.front (b.more ++ after) ∙ ap (λ (t : List ℕ). before ++ t) (sym (append_assoc b.front b.more after) ∙ ap (λ (t : List ℕ). t ++ after) b.whole.2)) in
+    let here : (start ++ (before ++ b.front)) ++ (b.more ++ later) ≡ start ++ (before ++ (literal_text text ++ later)) =
+    append_assoc start (before ++ b.front) (b.more ++ later) ∙ ap (λ (t : List ℕ). start ++ t) (append_assoc before b.front (b.more ++ later) ∙ ap (λ (t : List ℕ). before ++ t) (sym (append_assoc b.front b.more later) ∙ ap (λ (t : List ℕ). t ++ later) b.whole.2)) in
     record {
       front = start ++ (before ++ b.front);
       rest = b.rest;
       bytes_are = i.bytes_are ∙ ap (λ (t : List ℕ). start ++ (before ++ t)) b.bytes_are ∙ ap (λ (t : List ℕ). start ++ t) (sym (append_assoc before b.front b.rest)) ∙ sym (append_assoc start (before ++ b.front) b.rest);
       left_is = b.left_is;
-      more = b.more ++ after;
+      more = b.more ++ later;
       whole = (p, draft_is version s.fold s.profile texts i.fits.profile (omega (arith, len, i.fits.some)) (omega (arith, len, i.fits.few)) all, here ∙ ap (λ (t : List ℕ). start ++ t) (sym literals) ∙ sym (entry_from s texts len));
     }
 
@@ -298,20 +298,20 @@ wrong_begun text w (inl bad) =
     record { front = b.front; rest = b.rest; bytes_are = b.bytes_are; left_is = b.left_is; more = b.more ++ others; whole = subst IsDraftFile (sym same) file }
 wrong_begun text w (inr h) =
     let head = head_text h.version h.count in
-    let behind = h.wrong in
-    let plans = flat_map plan_text behind.plans in
-    let b = next_begun h.version (h.count - length behind.plans) behind.rest w behind.wrong in
-    let all = behind.plans ++ b.whole.0 in
+    let after = h.wrong in
+    let plans = flat_map plan_text after.plans in
+    let b = next_begun h.version (h.count - length after.plans) after.rest w after.wrong in
+    let all = after.plans ++ b.whole.0 in
     let drafts : AreDrafts h.version h.count ((plans ++ b.front) ++ b.more) = (
       all,
-      omega (arith, length-append behind.plans b.whole.0, b.whole.1, behind.within),
-      right_drafts h.version behind.plans b.whole.0 (recursion_from_All (IsPlan h.version) behind.plans behind.each) b.whole.2,
-      append_assoc plans b.front b.more ∙ ap (λ (t : List ℕ). plans ++ t) b.whole.3 ∙ sym (flat_map-append plan_text behind.plans b.whole.0),
+      omega (arith, length-append after.plans b.whole.0, b.whole.1, after.within),
+      right_drafts h.version after.plans b.whole.0 (recursion_from_All (IsPlan h.version) after.plans after.each) b.whole.2,
+      append_assoc plans b.front b.more ∙ ap (λ (t : List ℕ). plans ++ t) b.whole.3 ∙ sym (flat_map-append plan_text after.plans b.whole.0),
     ) in
     record {
       front = head ++ (plans ++ b.front);
       rest = b.rest;
-      bytes_are = h.text_is ∙ ap (λ (t : List ℕ). head ++ t) (behind.text_is ∙ ap (λ (t : List ℕ). plans ++ t) b.bytes_are ∙ sym (append_assoc plans b.front b.rest)) ∙ sym (append_assoc head (plans ++ b.front) b.rest);
+      bytes_are = h.text_is ∙ ap (λ (t : List ℕ). head ++ t) (after.text_is ∙ ap (λ (t : List ℕ). plans ++ t) b.bytes_are ∙ sym (append_assoc plans b.front b.rest)) ∙ sym (append_assoc head (plans ++ b.front) b.rest);
       left_is = b.left_is;
       more = b.more;
       whole = headed h.version h.count (plans ++ b.front) b.more h.few drafts;

@@ -68,15 +68,15 @@ unfolding list_at
 list_bad version bytes e are is =
     let limit = limit_of version in
     let made : ℕ × List ℕ → List (List ℕ) × List ℕ → Result ((Profile × Literals) × List ℕ) Wrong = λ flags texts. Ok ((profile_of flags.0, record { folding = fold_of flags.0; texts = texts.0 }), texts.1) in
-    let behind : ℕ × List ℕ → ℕ × List ℕ → Result ((Profile × Literals) × List ℕ) Wrong = λ flags n. literals_at (fold_of flags.0) n.0 MAX_LIST_LEN [] n.1 >>= made flags in
-    elim (stop (field bytes (is_flag version) Flags (byte_at bytes)) (λ flags. field flags.1 (is_count limit) Count (number_at w16 flags.1) >>= behind flags) e is) [
+    let after : ℕ × List ℕ → ℕ × List ℕ → Result ((Profile × Literals) × List ℕ) Wrong = λ flags n. literals_at (fold_of flags.0) n.0 MAX_LIST_LEN [] n.1 >>= made flags in
+    elim (stop (field bytes (is_flag version) Flags (byte_at bytes)) (λ flags. field flags.1 (is_count limit) Count (number_at w16 flags.1) >>= after flags) e is) [
       | inl f ↦ inl (flags_bad version bytes e f)
       | inr p ↦
           let flag = field_read bytes (is_flag version) Flags (byte_at bytes) p.0 p.1 in
           let known = at_most p.0.0 (last_flags version) flag.1 in
           let t0 = byte_read bytes p.0 flag.0 in
           let are1 = rest_bytes (p.0.0 ∷ []) p.0.1 t0 are in
-          elim (stop (field p.0.1 (is_count limit) Count (number_at w16 p.0.1)) (behind p.0) e p.2) [
+          elim (stop (field p.0.1 (is_count limit) Count (number_at w16 p.0.1)) (after p.0) e p.2) [
             | inl f ↦ inl (count_bad version p.0.0 bytes p.0.1 e known t0 are1 f)
             | inr q ↦
                 let number = field_read p.0.1 (is_count limit) Count (number_at w16 p.0.1) q.0 q.1 in
@@ -117,26 +117,26 @@ same_literal a b s t la lb e =
     record { text = same_front a b s t len back; rest = same_back a b s t len back }
 
 -- the fields of a literal are its spelling
-literal_fields_text : (text after : List ℕ) → literal_text text ++ after ≡ text_of (literal_fields text) ++ after
-literal_fields_text text after = ap (λ (t : List ℕ). (to_be_bytes w16 (length text) ++ t) ++ after) (sym (append-nil text))
+literal_fields_text : (text later : List ℕ) → literal_text text ++ later ≡ text_of (literal_fields text) ++ later
+literal_fields_text text later = ap (λ (t : List ℕ). (to_be_bytes w16 (length text) ++ t) ++ later) (sym (append-nil text))
 
 -- a literal that fits has no bad field
-fitting_literal : (room : ℕ) (bytes text after : List ℕ) (w : Wrong) → FitsLiteral room text → bytes ≡ literal_text text ++ after → IsFirstBad (FitsLiteral room) literal_fields bytes w → ⊥
-fitting_literal room bytes text after w fits e bad = none_bad (FitsLiteral room) literal_fields (literal_steady room) bytes after w text fits (e ∙ literal_fields_text text after) bad
+fitting_literal : (room : ℕ) (bytes text later : List ℕ) (w : Wrong) → FitsLiteral room text → bytes ≡ literal_text text ++ later → IsFirstBad (FitsLiteral room) literal_fields bytes w → ⊥
+fitting_literal room bytes text later w fits e bad = none_bad (FitsLiteral room) literal_fields (literal_steady room) bytes later w text fits (e ∙ literal_fields_text text later) bad
 
 fits_next : (fold : Fold) (room : ℕ) (before text : List ℕ) → IsNext fold room before text → FitsLiteral room text
 fits_next fold room before text next = record { some = next.some; short = next.short; fits = next.fits }
 
 -- where a right literal stands, nothing is wrong
-pub none_literal : (fold : Fold) (room : ℕ) (before bytes text after : List ℕ) (w : Wrong) → IsNext fold room before text → bytes ≡ literal_text text ++ after → IsWrongLiteral fold room before bytes w → ⊥
-none_literal fold room before bytes text after w next e (inl bad) = fitting_literal room bytes text after w (fits_next fold room before text next) e bad
-none_literal fold room before bytes text after w next e (inr (inl full)) = omega (arith, full.0, next.some, next.fits)
-none_literal fold room before bytes text after w next e (inr (inr (inl u))) =
-    let same = same_literal u.text text u.rest after u.fits.short next.short (sym u.bytes_are ∙ e) in
+pub none_literal : (fold : Fold) (room : ℕ) (before bytes text later : List ℕ) (w : Wrong) → IsNext fold room before text → bytes ≡ literal_text text ++ later → IsWrongLiteral fold room before bytes w → ⊥
+none_literal fold room before bytes text later w next e (inl bad) = fitting_literal room bytes text later w (fits_next fold room before text next) e bad
+none_literal fold room before bytes text later w next e (inr (inl full)) = omega (arith, full.0, next.some, next.fits)
+none_literal fold room before bytes text later w next e (inr (inr (inl u))) =
+    let same = same_literal u.text text u.rest later u.fits.short next.short (sym u.bytes_are ∙ e) in
     let less : folded_len fold text < length text = subst (λ (t : List ℕ). folded_len fold t < length t) same.text u.unfolded in
     omega (arith, less, folded_len_whole fold text next.folded)
-none_literal fold room before bytes text after w next e (inr (inr (inr o))) =
-    let same = same_literal o.text text o.rest after o.fits.short next.short (sym o.bytes_are ∙ e) in
+none_literal fold room before bytes text later w next e (inr (inr (inr o))) =
+    let same = same_literal o.text text o.rest later o.fits.short next.short (sym o.bytes_are ∙ e) in
     o.not_after (ap (literal_cmp before) same.text ∙ next.after)
 
 -- one thing is wrong with a literal

@@ -59,12 +59,12 @@ next_longer version (suc missing) rest tail w whole h = longer_entry version res
 wrong_longer : (front tail : List ℕ) (w : Wrong) → Whole file_bytes front w → IsWrong front w → IsWrong (front ++ tail) (shift (length tail) w)
 wrong_longer front tail w whole (inl bad) = inl (longer_bad FitsHead head_fields head_steady 8 (λ head fits. omega arith) front tail w (whole_fewer 8 file_bytes front w (omega arith) whole) bad)
 wrong_longer front tail w whole (inr h) =
-    let behind = h.wrong in
+    let after = h.wrong in
     let head = head_text h.version h.count in
-    let plans = flat_map plan_text behind.plans in
-    let size : length plans ≤ most_bytes * length behind.plans = plans_len h.version behind.plans (by_recursion h.version behind.plans behind.each) in
-    let enough : 0 < h.count - length behind.plans → file_bytes ≤ length front → most_bytes ≤ length behind.rest =
-    λ some le. omega (arith, some, le, h.few, size, ap length h.text_is, length-append head h.rest, length-head_text h.version h.count, ap length behind.text_is, length-append plans behind.rest) in
+    let plans = flat_map plan_text after.plans in
+    let size : length plans ≤ most_bytes * length after.plans = plans_len h.version after.plans (by_recursion h.version after.plans after.each) in
+    let enough : 0 < h.count - length after.plans → file_bytes ≤ length front → most_bytes ≤ length after.rest =
+    λ some le. omega (arith, some, le, h.few, size, ap length h.text_is, length-append head h.rest, length-head_text h.version h.count, ap length after.text_is, length-append plans after.rest) in
     inr (record {
       version = h.version;
       count = h.count;
@@ -72,12 +72,12 @@ wrong_longer front tail w whole (inr h) =
       rest = h.rest ++ tail;
       text_is = ap (λ (t : List ℕ). t ++ tail) h.text_is ∙ append_assoc head h.rest tail;
       wrong = record {
-        plans = behind.plans;
-        rest = behind.rest ++ tail;
-        each = behind.each;
-        within = behind.within;
-        text_is = ap (λ (t : List ℕ). t ++ tail) behind.text_is ∙ append_assoc plans behind.rest tail;
-        wrong = next_longer h.version (h.count - length behind.plans) behind.rest tail w (λ some. whole_rest file_bytes most_bytes front behind.rest w (enough some) whole) behind.wrong;
+        plans = after.plans;
+        rest = after.rest ++ tail;
+        each = after.each;
+        within = after.within;
+        text_is = ap (λ (t : List ℕ). t ++ tail) after.text_is ∙ append_assoc plans after.rest tail;
+        wrong = next_longer h.version (h.count - length after.plans) after.rest tail w (λ some. whole_rest file_bytes most_bytes front after.rest w (enough some) whole) after.wrong;
       };
     })
 

@@ -9,7 +9,7 @@ use Rattle.plan_file.specs.declared.fault.Wrong.{Wrong}
 use Rattle.plan_file.specs.declared.version.Version.{Version}
 use Rattle.plan_file.specs.declared.version.Version.TheVariants.{One, Two}
 use Rattle.plan_file.specs.FirstBad.{FitsHead, IsFirstBad, head_fields, text_of}
-use Rattle.plan_file.specs.FirstFaults.{IsFirstFault, IsWrong, IsWrongBehind, IsWrongNext}
+use Rattle.plan_file.specs.FirstFaults.{IsFirstFault, IsWrong, IsWrongAfter, IsWrongNext}
 use Rattle.plan_file.specs.Reading.{head_at, plan_at}
 use Rattle.plan_file.specs.Spelling.{head_text, plan_text, ArePlans, IsFile, IsFileOf, IsPlan}
 use Rattle.plan_file.proofs.EntryParts.{one_entry, one_value, right_entry}
@@ -54,28 +54,28 @@ regroup : (p : Plan) (ps : List Plan) (rest : List ℕ) → flat_map plan_text (
 regroup p ps rest = append_assoc (plan_text p) (flat_map plan_text ps) rest
 
 -- one thing is wrong after plans that are right
-one_behind : (version : Version) (count : ℕ) (ps qs : List Plan) (r s : List ℕ) (w v : Wrong) → AllByRecursion (IsPlan version) ps → AllByRecursion (IsPlan version) qs → length ps ≤ count → length qs ≤ count
+one_after : (version : Version) (count : ℕ) (ps qs : List Plan) (r s : List ℕ) (w v : Wrong) → AllByRecursion (IsPlan version) ps → AllByRecursion (IsPlan version) qs → length ps ≤ count → length qs ≤ count
     → flat_map plan_text ps ++ r ≡ flat_map plan_text qs ++ s → IsWrongNext version (count - length ps) r w → IsWrongNext version (count - length qs) s v → w ≡ v
-one_behind version count [] [] r s w v ip iq lp lq e h k = one_next version (count - 0) s w v (subst (λ (t : List ℕ). IsWrongNext version (count - 0) t w) e h) k
-one_behind version count [] (q ∷ qs) r s w v ip iq lp lq e h k = absurd (right_next version (count - 0) q r (flat_map plan_text qs ++ s) w (omega (arith, lq)) iq.0 (e ∙ regroup q qs s) h)
-one_behind version count (p ∷ ps) [] r s w v ip iq lp lq e h k = absurd (right_next version (count - 0) p s (flat_map plan_text ps ++ r) v (omega (arith, lp)) ip.0 (sym e ∙ regroup p ps r) k)
-one_behind version count (p ∷ ps) (q ∷ qs) r s w v ip iq lp lq e h k =
+one_after version count [] [] r s w v ip iq lp lq e h k = one_next version (count - 0) s w v (subst (λ (t : List ℕ). IsWrongNext version (count - 0) t w) e h) k
+one_after version count [] (q ∷ qs) r s w v ip iq lp lq e h k = absurd (right_next version (count - 0) q r (flat_map plan_text qs ++ s) w (omega (arith, lq)) iq.0 (e ∙ regroup q qs s) h)
+one_after version count (p ∷ ps) [] r s w v ip iq lp lq e h k = absurd (right_next version (count - 0) p s (flat_map plan_text ps ++ r) v (omega (arith, lp)) ip.0 (sym e ∙ regroup p ps r) k)
+one_after version count (p ∷ ps) (q ∷ qs) r s w v ip iq lp lq e h k =
     let first = same_first version p q (flat_map plan_text ps ++ r) (flat_map plan_text qs ++ s) ip.0 iq.0 (sym (regroup p ps r) ∙ e ∙ regroup q qs s) in
     let np : count - length (p ∷ ps) ≡ (count - 1) - length ps = omega arith in
     let nq : count - length (q ∷ qs) ≡ (count - 1) - length qs = omega arith in
-    one_behind version (count - 1) ps qs r s w v ip.1 iq.1 (omega (arith, lp)) (omega (arith, lq)) first.rest
+    one_after version (count - 1) ps qs r s w v ip.1 iq.1 (omega (arith, lp)) (omega (arith, lq)) first.rest
     (subst (λ (n : ℕ). IsWrongNext version n r w) np h) (subst (λ (n : ℕ). IsWrongNext version n s v) nq k)
 
 -- where all plans stand, nothing is wrong
-right_behind : (version : Version) (ps qs : List Plan) (s : List ℕ) (w : Wrong) → AllByRecursion (IsPlan version) ps → AllByRecursion (IsPlan version) qs → length qs ≤ length ps
+right_after : (version : Version) (ps qs : List Plan) (s : List ℕ) (w : Wrong) → AllByRecursion (IsPlan version) ps → AllByRecursion (IsPlan version) qs → length qs ≤ length ps
     → flat_map plan_text ps ≡ flat_map plan_text qs ++ s → IsWrongNext version (length ps - length qs) s w → ⊥
-right_behind version [] [] s w ip iq le e h = h.0 (sym e)
-right_behind version [] (q ∷ qs) s w ip iq le e h = absurd (omega (arith, le))
-right_behind version (p ∷ ps) [] s w ip iq le e h = right_next version (length (p ∷ ps) - 0) p s (flat_map plan_text ps) w (omega arith) ip.0 (sym e) h
-right_behind version (p ∷ ps) (q ∷ qs) s w ip iq le e h =
+right_after version [] [] s w ip iq le e h = h.0 (sym e)
+right_after version [] (q ∷ qs) s w ip iq le e h = absurd (omega (arith, le))
+right_after version (p ∷ ps) [] s w ip iq le e h = right_next version (length (p ∷ ps) - 0) p s (flat_map plan_text ps) w (omega arith) ip.0 (sym e) h
+right_after version (p ∷ ps) (q ∷ qs) s w ip iq le e h =
     let first = same_first version p q (flat_map plan_text ps) (flat_map plan_text qs ++ s) ip.0 iq.0 (e ∙ regroup q qs s) in
     let n : length (p ∷ ps) - length (q ∷ qs) ≡ length ps - length qs = omega arith in
-    right_behind version ps qs s w ip.1 iq.1 (omega (arith, le)) first.rest (subst (λ (k : ℕ). IsWrongNext version k s w) n h)
+    right_after version ps qs s w ip.1 iq.1 (omega (arith, le)) first.rest (subst (λ (k : ℕ). IsWrongNext version k s w) n h)
 
 -- as many plans with the same text are the same
 same_plans : (version : Version) (ps qs : List Plan) → AllByRecursion (IsPlan version) ps → AllByRecursion (IsPlan version) qs → length ps ≡ length qs → flat_map plan_text ps ≡ flat_map plan_text qs → ps ≡ qs
@@ -123,8 +123,8 @@ one_head : (version other : Version) (count number : ℕ) (s t : List ℕ) → c
 one_head version other count number s t few also e = one_value (head_again version count s few) (ap head_at e ∙ head_again other number t also)
 
 -- a fault after a head
-abbrev WrongBehind : Wrong → Head → Type 0
-WrongBehind w head = IsWrongBehind head.0.0 head.0.1 head.1 w
+abbrev WrongAfter : Wrong → Head → Type 0
+WrongAfter w head = IsWrongAfter head.0.0 head.0.1 head.1 w
 
 -- then nothing is wrong with it
 pub none_wrong : (text : List ℕ) (ps : List Plan) (w : Wrong) → IsFile text ps → IsWrong text w → ⊥
@@ -133,8 +133,8 @@ none_wrong text ps w f (inr h) =
     let here : Head = ((f.version, length ps), flat_map plan_text ps) in
     let there : Head = ((h.version, h.count), h.rest) in
     let both : there ≡ here = one_head h.version f.version h.count (length ps) h.rest (flat_map plan_text ps) h.few f.file.are.few (sym h.text_is ∙ f.file.spelled) in
-    let behind : WrongBehind w here = subst (WrongBehind w) both h.wrong in
-    right_behind f.version ps behind.plans behind.rest w (by_recursion f.version ps f.file.are.each) (by_recursion f.version behind.plans behind.each) behind.within behind.text_is behind.wrong
+    let after : WrongAfter w here = subst (WrongAfter w) both h.wrong in
+    right_after f.version ps after.plans after.rest w (by_recursion f.version ps f.file.are.each) (by_recursion f.version after.plans after.each) after.within after.text_is after.wrong
 
 -- one thing is wrong with a text
 pub one_wrong : (text : List ℕ) (w v : Wrong) → IsWrong text w → IsWrong text v → w ≡ v
@@ -145,9 +145,9 @@ one_wrong text w v (inr h) (inr k) =
     let one : Head = ((h.version, h.count), h.rest) in
     let other : Head = ((k.version, k.count), k.rest) in
     let both : other ≡ one = one_head k.version h.version k.count h.count k.rest h.rest k.few h.few (sym k.text_is ∙ h.text_is) in
-    let first : WrongBehind w one = h.wrong in
-    let second : WrongBehind v one = subst (WrongBehind v) both k.wrong in
-    one_behind h.version h.count first.plans second.plans first.rest second.rest w v (by_recursion h.version first.plans first.each) (by_recursion h.version second.plans second.each) first.within second.within
+    let first : WrongAfter w one = h.wrong in
+    let second : WrongAfter v one = subst (WrongAfter v) both k.wrong in
+    one_after h.version h.count first.plans second.plans first.rest second.rest w v (by_recursion h.version first.plans first.each) (by_recursion h.version second.plans second.each) first.within second.within
     (sym first.text_is ∙ second.text_is) first.wrong second.wrong
 
 -- ---- the plans that a version can spell

@@ -18,5 +18,5 @@ next_within version (suc missing) rest w wrong = entry_within version rest w wro
 pub wrong_within : (text : List ℕ) (w : Wrong) → IsWrong text w → w.left ≤ length text
 wrong_within text w (inl bad) = bad_within FitsHead head_fields text w bad
 wrong_within text w (inr h) =
-    let behind = h.wrong in
-    omega (arith, next_within h.version _ behind.rest w behind.wrong, ap length h.text_is, length-append (head_text h.version h.count) h.rest, ap length behind.text_is, length-append (flat_map plan_text behind.plans) behind.rest)
+    let after = h.wrong in
+    omega (arith, next_within h.version _ after.rest w after.wrong, ap length h.text_is, length-append (head_text h.version h.count) h.rest, ap length after.text_is, length-append (flat_map plan_text after.plans) after.rest)

@@ -105,10 +105,10 @@ unfolding list_at
 list_read version bytes x are e =
     let limit = limit_of version in
     let made : ℕ × List ℕ → List (List ℕ) × List ℕ → (Profile × Literals) × List ℕ = λ flags texts. ((profile_of flags.0, record { folding = fold_of flags.0; texts = texts.0 }), texts.1) in
-    let behind : ℕ × List ℕ → ℕ × List ℕ → Result ((Profile × Literals) × List ℕ) Wrong = λ flags n. literals_at (fold_of flags.0) n.0 MAX_LIST_LEN [] n.1 >>= λ texts. Ok (made flags texts) in
-    let a = step (field bytes (is_flag version) Flags (byte_at bytes)) (λ flags. field flags.1 (is_count limit) Count (number_at w16 flags.1) >>= behind flags) x e in
+    let after : ℕ × List ℕ → ℕ × List ℕ → Result ((Profile × Literals) × List ℕ) Wrong = λ flags n. literals_at (fold_of flags.0) n.0 MAX_LIST_LEN [] n.1 >>= λ texts. Ok (made flags texts) in
+    let a = step (field bytes (is_flag version) Flags (byte_at bytes)) (λ flags. field flags.1 (is_count limit) Count (number_at w16 flags.1) >>= after flags) x e in
     let flags = a.value.0 in
-    let b = step (field a.value.1 (is_count limit) Count (number_at w16 a.value.1)) (behind a.value) x a.second in
+    let b = step (field a.value.1 (is_count limit) Count (number_at w16 a.value.1)) (after a.value) x a.second in
     let count = b.value.0 in
     let d = step (literals_at (fold_of flags) count MAX_LIST_LEN [] b.value.1) (λ texts. Ok (made a.value texts)) x b.second in
     let texts = d.value.0 in
@@ -138,9 +138,9 @@ list_again_with : (version : Version) (profile : Profile) (fold : Fold) (texts :
 unfolding list_at
 list_again_with version profile fold texts rest normal some few can =
     let limit = limit_of version in
-    let behind = flat_map literal_text texts ++ rest in
-    let bytes = to_be_bytes w16 (length texts) ++ behind in
-    let n = field_again bytes (is_count limit) Count (number_at w16 bytes) (length texts, behind) (number_again w16 tt (length texts) behind (omega (arith, normal.few))) (between_from 1 limit (length texts) some few) in
+    let after = flat_map literal_text texts ++ rest in
+    let bytes = to_be_bytes w16 (length texts) ++ after in
+    let n = field_again bytes (is_count limit) Count (number_at w16 bytes) (length texts, after) (number_again w16 tt (length texts) after (omega (arith, normal.few))) (between_from 1 limit (length texts) some few) in
     rw (flags_pass version fold profile can, n, fold_told fold profile, profile_told fold profile, literals_again fold MAX_LIST_LEN [] texts rest (follow_normal (record { folding = fold; texts = texts }) normal)) refl
 
 pub list_again : (version : Version) (profile : Profile) (l : Literals) (rest : List ℕ) → IsNormal l → 1 ≤ length l.texts → length l.texts ≤ limit_of version → CanTell version profile → list_at version (literals_text profile l ++ rest) ≡ Ok ((profile, l), rest)

@@ -10,7 +10,7 @@ use Rattle.plan_file.specs.declared.fault.Stop.{Stop}
 use Rattle.plan_file.specs.declared.fault.Stop.TheVariants as stop
 use Rattle.plan_file.specs.declared.version.Version.{Version}
 use Rattle.plan_file.specs.Faults.{IfWrong}
-use Rattle.plan_file.specs.FirstFaults.{AreEntries, IsWrong, IsWrongBehind, IsWrongEntry, IsWrongNext}
+use Rattle.plan_file.specs.FirstFaults.{AreEntries, IsWrong, IsWrongAfter, IsWrongEntry, IsWrongNext}
 use Rattle.plan_file.specs.Reading.{head_at, plan_at, wrong_at}
 use Rattle.plan_file.specs.Spelling.{head_text, plan_text, IsFile, IsPlan}
 use Rattle.plan_file.proofs.EntryParts.{entry_bad}
@@ -39,7 +39,7 @@ so_far_more version i bytes plans more p rest after s is e m =
     (record { each = All-push (IsPlan version) plans p s.each is; number = omega (arith, length-append plans (p ∷ []), s.number); text_is = text })
 
 -- a fault of the next entry is a fault after the plans that were read
-pub wrong_next : (version : Version) (count i : ℕ) (bytes : List ℕ) (plans : List Plan) (rest : List ℕ) (e : Stop) → i < count → SoFar version i bytes plans rest → IfWrong (IsWrongEntry version rest) e → IfWrong (IsWrongBehind version count bytes) e
+pub wrong_next : (version : Version) (count i : ℕ) (bytes : List ℕ) (plans : List Plan) (rest : List ℕ) (e : Stop) → i < count → SoFar version i bytes plans rest → IfWrong (IsWrongEntry version rest) e → IfWrong (IsWrongAfter version count bytes) e
 wrong_next version count i bytes plans rest stop.OutOfMemory lt s wrong = tt
 wrong_next version count i bytes plans rest (stop.Wrong w) lt s wrong =
     let k : suc (count - (i + 1)) ≡ count - length plans = omega (arith, s.number) in
@@ -53,7 +53,7 @@ wrong_next version count i bytes plans rest (stop.Wrong w) lt s wrong =
     }
 
 -- bytes after the last plan are wrong
-pub wrong_trailing : (version : Version) (count i : ℕ) (bytes : List ℕ) (plans : List Plan) (rest : List ℕ) → count ≤ i → i ≤ count → SoFar version i bytes plans rest → rest ≢ [] → IsWrongBehind version count bytes (wrong_at Trailing rest)
+pub wrong_trailing : (version : Version) (count i : ℕ) (bytes : List ℕ) (plans : List Plan) (rest : List ℕ) → count ≤ i → i ≤ count → SoFar version i bytes plans rest → rest ≢ [] → IsWrongAfter version count bytes (wrong_at Trailing rest)
 wrong_trailing version count i bytes plans rest done le s some =
     let k : 0 ≡ count - length plans = omega (arith, s.number) in
     record {
@@ -86,9 +86,9 @@ whole version count text rest plans bytes head are =
     }
 
 -- a fault after the head is a fault of the text
-pub wrong_behind : (version : Version) (count : ℕ) (text rest : List ℕ) (e : Stop) → AreBytes text → head_at text ≡ Ok ((version, count), rest) → IfWrong (IsWrongBehind version count rest) e → IfWrong (IsWrong text) e
-wrong_behind version count text rest stop.OutOfMemory bytes head wrong = tt
-wrong_behind version count text rest (stop.Wrong w) bytes head wrong =
+pub wrong_after : (version : Version) (count : ℕ) (text rest : List ℕ) (e : Stop) → AreBytes text → head_at text ≡ Ok ((version, count), rest) → IfWrong (IsWrongAfter version count rest) e → IfWrong (IsWrong text) e
+wrong_after version count text rest stop.OutOfMemory bytes head wrong = tt
+wrong_after version count text rest (stop.Wrong w) bytes head wrong =
     let h = head_read text ((version, count), rest) bytes head in
     inr (record { version = version; count = count; few = h.1; rest = rest; text_is = h.0; wrong = wrong })
 

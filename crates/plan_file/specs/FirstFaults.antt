@@ -106,7 +106,7 @@ IsWrongNext version zero rest w = (rest ≢ []) × (w ≡ wrong_at Trailing rest
 IsWrongNext version (suc missing) rest w = IsWrongEntry version rest w
 
 -- of `count` plans the first are right, and this is wrong after them
-pub record IsWrongBehind (version : Version) (count : ℕ) (bytes : List ℕ) (w : Wrong) : Type 0 where
+pub record IsWrongAfter (version : Version) (count : ℕ) (bytes : List ℕ) (w : Wrong) : Type 0 where
   pub plans : List Plan
   pub rest : List ℕ
   pub each : All (IsPlan version) plans
@@ -121,7 +121,7 @@ pub record IsWrongPlans (text : List ℕ) (w : Wrong) : Type 0 where
   pub few : count ≤ 64
   pub rest : List ℕ
   pub text_is : text ≡ head_text version count ++ rest
-  pub wrong : IsWrongBehind version count rest w
+  pub wrong : IsWrongAfter version count rest w
 
 -- this is wrong with a text: the first bad field of its head, or something after it
 abbrev pub IsWrong : List ℕ → Wrong → Type 0

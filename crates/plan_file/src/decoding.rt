@@ -3,7 +3,7 @@ ghost use Rattle.std.specs.Prelude.{◌≡◌, ◌≢◌, ℕ, ◌≤◌, ◌++�
 ghost use Rattle.lit_plan.specs.Plans.{Plan};
 ghost use Rattle.plan_file.specs.declared.fault.Cause.{Cause};
 ghost use Rattle.plan_file.specs.Faults.{Gives, IfBadFile, IfWrong};
-ghost use Rattle.plan_file.specs.FirstFaults.{AreEntries, IsFirstFault, IsWrong, IsWrongBehind, IsWrongEntry};
+ghost use Rattle.plan_file.specs.FirstFaults.{AreEntries, IsFirstFault, IsWrong, IsWrongAfter, IsWrongEntry};
 ghost use Rattle.plan_file.specs.Reading.{head_at, plan_at};
 ghost use Rattle.plan_file.specs.Spelling.{BeginsDraft, BeginsFile, IsFile, IsPlan, plan_text};
 
@@ -81,7 +81,7 @@ fn plans_of(
     bytes: &[u8],
 ) -> Result<Vec<Compiled>, Stop>
     ensures found { IfOk result (λ plans. AreEntries version count bytes.now plans.items) }
-    ensures wrong { IfErr result (IfWrong (IsWrongBehind version count bytes.now)) }
+    ensures wrong { IfErr result (IfWrong (IsWrongAfter version count bytes.now)) }
 {
     let mut plans = Vec::new(alloc);
     let mut rest = bytes;

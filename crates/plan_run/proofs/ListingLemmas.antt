@@ -27,21 +27,21 @@ wrote-more names l old mid new done part text is first second =
     subst (Appends old new) (sym (lines-both names l done part)) (Appends-trans old mid new (hit_lines names l done) (hit_lines names l part) first (subst (Appends mid new) is second))
 
 -- the text written of more lines is a front of all of them
-front-more : (names : Bool) (l : Literals) (old mid new : Option (List ℕ)) (all done part behind : List (ℕ × ℕ)) (text : List ℕ) → all ≡ done ++ (part ++ behind) → text ≡ hit_lines names l part
+front-more : (names : Bool) (l : Literals) (old mid new : Option (List ℕ)) (all done part after : List (ℕ × ℕ)) (text : List ℕ) → all ≡ done ++ (part ++ after) → text ≡ hit_lines names l part
     → Appends old mid (hit_lines names l done) → AppendsFront mid new text → AppendsFront old new (hit_lines names l all)
-front-more names l old mid new all done part behind text parts is first f =
-    let later : hit_lines names l (part ++ behind) ≡ f.front ++ (f.rest ++ hit_lines names l behind) =
-    lines-both names l part behind ∙ (ap (λ t. t ++ hit_lines names l behind) (sym is ∙ f.parts) ∙ append_assoc f.front f.rest (hit_lines names l behind)) in
+front-more names l old mid new all done part after text parts is first f =
+    let later : hit_lines names l (part ++ after) ≡ f.front ++ (f.rest ++ hit_lines names l after) =
+    lines-both names l part after ∙ (ap (λ t. t ++ hit_lines names l after) (sym is ∙ f.parts) ∙ append_assoc f.front f.rest (hit_lines names l after)) in
     record {
       front = hit_lines names l done ++ f.front;
-      rest = f.rest ++ hit_lines names l behind;
-      parts = ap (hit_lines names l) parts ∙ (lines-both names l done (part ++ behind) ∙ (ap (λ t. hit_lines names l done ++ t) later ∙ sym (append_assoc (hit_lines names l done) f.front (f.rest ++ hit_lines names l behind))));
+      rest = f.rest ++ hit_lines names l after;
+      parts = ap (hit_lines names l) parts ∙ (lines-both names l done (part ++ after) ∙ (ap (λ t. hit_lines names l done ++ t) later ∙ sym (append_assoc (hit_lines names l done) f.front (f.rest ++ hit_lines names l after))));
       grown = Appends-trans old mid new (hit_lines names l done) f.front first f.grown;
     }
 
 -- a write of more lines that stopped
-pub stopped-more : (names : Bool) (l : Literals) (old mid new : Option (List ℕ)) (all done part behind : List (ℕ × ℕ)) (text : List ℕ) (status : Status) (stop : Stop) → all ≡ done ++ (part ++ behind) → text ≡ hit_lines names l part
+pub stopped-more : (names : Bool) (l : Literals) (old mid new : Option (List ℕ)) (all done part after : List (ℕ × ℕ)) (text : List ℕ) (status : Status) (stop : Stop) → all ≡ done ++ (part ++ after) → text ≡ hit_lines names l part
     → Appends old mid (hit_lines names l done) → Writes text status (Err stop) mid new → Writes (hit_lines names l all) status (Err stop) old new
-stopped-more names l old mid new all done part behind text status (Refused refusal) parts is first w = absurd w
-stopped-more names l old mid new all done part behind text status WriteFault parts is first w = front-more names l old mid new all done part behind text parts is first w
-stopped-more names l old mid new all done part behind text status OutOfMemory parts is first w = front-more names l old mid new all done part behind text parts is first w
+stopped-more names l old mid new all done part after text status (Refused refusal) parts is first w = absurd w
+stopped-more names l old mid new all done part after text status WriteFault parts is first w = front-more names l old mid new all done part after text parts is first w
+stopped-more names l old mid new all done part after text status OutOfMemory parts is first w = front-more names l old mid new all done part after text parts is first w

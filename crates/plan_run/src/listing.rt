@@ -54,11 +54,11 @@ fn tell_lines<'a, W: ByteOut>(
     let mut text = Vec::new(alloc);
     let mut rest = hits;
     while !rest.is_empty() {
-        let (part, behind) = rest.split_at(rest.len().min(HITS_AT_ONCE));
+        let (part, after) = rest.split_at(rest.len().min(HITS_AT_ONCE));
         text.clear();
         push_hits(compiled, names, part, &mut text)?;
         tell_bytes(text.as_slice(), Status::Done, out)?;
-        rest = behind;
+        rest = after;
     }
     Ok(Status::Done)
 }

@@ -278,7 +278,7 @@ fn refuses_a_byte_more(alloc: Global) -> Result<bool, Fail> {
 }
 
 #[test]
-fn refuses_a_byte_behind_the_last_plan(rt: HostRuntime) -> Result<(), Fail> {
+fn refuses_a_byte_after_the_last_plan(rt: HostRuntime) -> Result<(), Fail> {
     assert!(rt; refuses_a_byte_more(rt.alloc())?);
     Ok(())
 }

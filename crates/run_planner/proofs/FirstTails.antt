@@ -14,29 +14,29 @@ use Rattle.run_planner.specs.FirstCut.{ComeNoLater, IsNoLaterCut, IsFirstCut, Is
 use Rattle.run_planner.proofs.Tails.{tail_cost-end, tail_cost-le}
 
 -- what s runs more cost after each end, where there are as many
-abbrev Behind : (ℕ → ℕ → ℕ) → (ℕ → ℕ) → ℕ → ℕ → Type 0
-Behind c rest n s = (q : ℕ) → q ≤ n → (q < n → 1 ≤ s) → IsTailCost c n s q (rest q)
+abbrev After : (ℕ → ℕ → ℕ) → (ℕ → ℕ) → ℕ → ℕ → Type 0
+After c rest n s = (q : ℕ) → q ≤ n → (q < n → 1 ≤ s) → IsTailCost c n s q (rest q)
 
 -- after an end before n there are further runs
 more_runs : (n s end : ℕ) (ends : List ℕ) → CutsFrom n end ends → length ends ≤ s → end < n → 1 ≤ s
 more_runs n s end ends cuts few inner = omega (arith, length-cuts n end ends cuts inner, few)
 
 -- the first end of a cheapest cut reaches the price
-reaches : (c : ℕ → ℕ → ℕ) (rest : ℕ → ℕ) (n s p v end : ℕ) (ends : List ℕ) → IsTailCost c n (suc s) p v → Behind c rest n s → p < end → CutsFrom n end ends → length ends ≤ s → c p end + cut_price c end ends ≡ v → c p end + rest end ≡ v
-reaches c rest n s p v end ends tail behind past cuts few price =
+reaches : (c : ℕ → ℕ → ℕ) (rest : ℕ → ℕ) (n s p v end : ℕ) (ends : List ℕ) → IsTailCost c n (suc s) p v → After c rest n s → p < end → CutsFrom n end ends → length ends ≤ s → c p end + cut_price c end ends ≡ v → c p end + rest end ≡ v
+reaches c rest n s p v end ends tail after past cuts few price =
     let within = cuts-le n end ends cuts in
-    let after = behind end within (more_runs n s end ends cuts few) in
-    let there = after.reached in
+    let further = after end within (more_runs n s end ends cuts few) in
+    let there = further.reached in
     let least = tail.least (end ∷ there.0) (past, there.1) (omega (arith, there.2)) in
-    omega (arith, least, there.3, after.least ends cuts few, price)
+    omega (arith, least, there.3, further.least ends cuts few, price)
 
 -- the price of the cut that begins with the first end that reaches, and goes on as a first cheapest cut
-first_price : (c : ℕ → ℕ → ℕ) (rest : ℕ → ℕ) (n s p v end : ℕ) (ends others : List ℕ) → IsTailCost c n (suc s) p v → Behind c rest n s → p < end → end ≤ n → (end < n → c p end + rest end ≡ v) → ((q : ℕ) → p < q → q < end → 1 ≤ s → c p q + rest q ≡ v → ⊥) → cut_price c end ends ≡ rest end → CutsFrom n p others → length others ≤ suc s → cut_price c p others ≡ v → c p end + cut_price c end ends ≡ v
-first_price c rest n s p v end ends [] tail behind past within reached before price cuts few is = absurd (omega (arith, cuts, past, within))
-first_price c rest n s p v end ends (other ∷ others) tail behind past within reached before price cuts few is = elim (cases_lt end n) [
+first_price : (c : ℕ → ℕ → ℕ) (rest : ℕ → ℕ) (n s p v end : ℕ) (ends others : List ℕ) → IsTailCost c n (suc s) p v → After c rest n s → p < end → end ≤ n → (end < n → c p end + rest end ≡ v) → ((q : ℕ) → p < q → q < end → 1 ≤ s → c p q + rest q ≡ v → ⊥) → cut_price c end ends ≡ rest end → CutsFrom n p others → length others ≤ suc s → cut_price c p others ≡ v → c p end + cut_price c end ends ≡ v
+first_price c rest n s p v end ends [] tail after past within reached before price cuts few is = absurd (omega (arith, cuts, past, within))
+first_price c rest n s p v end ends (other ∷ others) tail after past within reached before price cuts few is = elim (cases_lt end n) [
   | inl inner ↦ omega (arith, reached inner, price)
   | inr last ↦
-      let here = reaches c rest n s p v other others tail behind cuts.0 cuts.1 (omega (arith, few)) is in
+      let here = reaches c rest n s p v other others tail after cuts.0 cuts.1 (omega (arith, few)) is in
       let le = cuts-le n other others cuts.1 in
       elim (cases_lt other end) [
         | inl earlier ↦ absurd (before other cuts.0 earlier (more_runs n s other others cuts.1 (omega (arith, few)) (omega (arith, earlier, within))) here)
@@ -47,10 +47,10 @@ first_price c rest n s p v end ends (other ∷ others) tail behind past within r
 ]
 
 -- and no cheapest cut comes earlier
-none_earlier : (c : ℕ → ℕ → ℕ) (rest : ℕ → ℕ) (n s p v end : ℕ) (ends others : List ℕ) → IsTailCost c n (suc s) p v → Behind c rest n s → p < end → end ≤ n → ((q : ℕ) → p < q → q < end → 1 ≤ s → c p q + rest q ≡ v → ⊥) → IsFirstTail c n s end (rest end) ends → CutsFrom n p others → length others ≤ suc s → cut_price c p others ≡ v → ComeNoLater (end ∷ ends) others
-none_earlier c rest n s p v end ends [] tail behind past within before first cuts few is = absurd (omega (arith, cuts, past, within))
-none_earlier c rest n s p v end ends (other ∷ others) tail behind past within before first cuts few is =
-    let here = reaches c rest n s p v other others tail behind cuts.0 cuts.1 (omega (arith, few)) is in
+none_earlier : (c : ℕ → ℕ → ℕ) (rest : ℕ → ℕ) (n s p v end : ℕ) (ends others : List ℕ) → IsTailCost c n (suc s) p v → After c rest n s → p < end → end ≤ n → ((q : ℕ) → p < q → q < end → 1 ≤ s → c p q + rest q ≡ v → ⊥) → IsFirstTail c n s end (rest end) ends → CutsFrom n p others → length others ≤ suc s → cut_price c p others ≡ v → ComeNoLater (end ∷ ends) others
+none_earlier c rest n s p v end ends [] tail after past within before first cuts few is = absurd (omega (arith, cuts, past, within))
+none_earlier c rest n s p v end ends (other ∷ others) tail after past within before first cuts few is =
+    let here = reaches c rest n s p v other others tail after cuts.0 cuts.1 (omega (arith, few)) is in
     elim (cases_lt other end) [
       | inl earlier ↦ absurd (before other cuts.0 earlier (more_runs n s other others cuts.1 (omega (arith, few)) (omega (arith, earlier, within))) here)
       | inr no_earlier ↦ elim (cases_lt end other) [
@@ -63,14 +63,14 @@ none_earlier c rest n s p v end ends (other ∷ others) tail behind past within 
     ]
 
 -- so it is the first cheapest cut from there on
-first_tail-next : (c : ℕ → ℕ → ℕ) (rest : ℕ → ℕ) (n s p v end : ℕ) (ends : List ℕ) → IsTailCost c n (suc s) p v → Behind c rest n s → p < end → end ≤ n → (end < n → c p end + rest end ≡ v) → ((q : ℕ) → p < q → q < end → 1 ≤ s → c p q + rest q ≡ v → ⊥) → IsFirstTail c n s end (rest end) ends → IsFirstTail c n (suc s) p v (end ∷ ends)
-first_tail-next c rest n s p v end ends tail behind past within reached before first =
+first_tail-next : (c : ℕ → ℕ → ℕ) (rest : ℕ → ℕ) (n s p v end : ℕ) (ends : List ℕ) → IsTailCost c n (suc s) p v → After c rest n s → p < end → end ≤ n → (end < n → c p end + rest end ≡ v) → ((q : ℕ) → p < q → q < end → 1 ≤ s → c p q + rest q ≡ v → ⊥) → IsFirstTail c n s end (rest end) ends → IsFirstTail c n (suc s) p v (end ∷ ends)
+first_tail-next c rest n s p v end ends tail after past within reached before first =
     let some = tail.reached in
     record {
       cuts = (past, first.cuts);
       few = omega (arith, first.few);
-      price = first_price c rest n s p v end ends some.0 tail behind past within reached before first.price some.1 some.2 some.3;
-      first = λ others cuts few is. none_earlier c rest n s p v end ends others tail behind past within before first cuts few is;
+      price = first_price c rest n s p v end ends some.0 tail after past within reached before first.price some.1 some.2 some.3;
+      first = λ others cuts few is. none_earlier c rest n s p v end ends others tail after past within before first cuts few is;
     }
 
 -- nothing is the first cut of nothing
@@ -78,8 +78,8 @@ pub first_tail-end : (c : ℕ → ℕ → ℕ) (n r v : ℕ) → 0 ≡ v → IsF
 first_tail-end c n r v is = record { cuts = refl; few = omega arith; price = is; first = λ others cuts few same. tt }
 
 -- what a row of potentials says of the ends after which its runs go on
-behind-rows : (c : ℕ → ℕ → ℕ) (n s : ℕ) (rows : List ℕ) → AreTailCosts c n (suc s) rows → Behind c (potential rows n s) n s
-behind-rows c n s rows tails q within some = elim (cases_lt q n) [
+after-rows : (c : ℕ → ℕ → ℕ) (n s : ℕ) (rows : List ℕ) → AreTailCosts c n (suc s) rows → After c (potential rows n s) n s
+after-rows c n s rows tails q within some = elim (cases_lt q n) [
   | inl inner ↦ tails s q (some inner) (omega arith) inner
   | inr last ↦
       let end : n ≡ q = omega (arith, last, within) in
@@ -99,7 +99,7 @@ goes_on c n rows zero p end some tails past within = absurd (omega (arith, some)
 goes_on c n rows (suc s) p end some tails past within =
     let one : s ≡ suc s - 1 = omega arith in
     subst (λ k. GoesOn c n rows k (suc s) p end) one (λ reached before ends first.
-    first_tail-next c (potential rows n s) n s p (potential rows n (suc s) p) end ends (tails (suc s) p some (omega arith) (omega (arith, past, within))) (behind-rows c n s rows tails) past within reached before first)
+    first_tail-next c (potential rows n s) n s p (potential rows n (suc s) p) end ends (tails (suc s) p some (omega arith) (omega (arith, past, within))) (after-rows c n s rows tails) past within reached before first)
 
 -- the row of one run fewer, as it is read
 pub fewer_at : (rows : List ℕ) (n r w q : ℕ) → w ≡ n → 2 ≤ r → q < n → get_or (slice_range rows ((r - 2) * w) ((r - 1) * w)) q 0 ≡ potential rows n (r - 1) q

@@ -41,10 +41,10 @@ best-from_scan c rest n p first last from stop end price is to inner suffice low
 
 -- the prices that the middle place and both sides ask for: both sides have less than half as many places
 pub count-split : (low middle high first end last d a b e f : ℕ) → low < high → middle ≡ low + (high - low) / 2 → first ≤ end → end ≤ last → high - low < 2 ^ d → b ≤ a + (last - first) + 1 → ((k : ℕ) → middle - low < 2 ^ k → e ≤ b + k * (end - first) + (middle - low)) → ((k : ℕ) → high - (middle + 1) < 2 ^ k → f ≤ e + k * (last - end) + (high - (middle + 1))) → f ≤ a + d * (last - first) + (high - low)
-count-split low middle high first end last zero a b e f some is from to digits here before behind = absurd (omega (arith, digits, some))
-count-split low middle high first end last (suc k) a b e f some is from to digits here before behind =
+count-split low middle high first end last zero a b e f some is from to digits here before after = absurd (omega (arith, digits, some))
+count-split low middle high first end last (suc k) a b e f some is from to digits here before after =
     let half = rw (pow-suc 2 k) at digits in
     let left = before k (omega (arith, half, is, some)) in
-    let right = behind k (omega (arith, half, is, some)) in
+    let right = after k (omega (arith, half, is, some)) in
     let whole : last - first ≡ (end - first) + (last - end) = omega (arith, from, to) in
     rw whole (omega (arith, left, right, rw whole at here, is, some))

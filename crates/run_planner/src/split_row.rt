@@ -90,7 +90,7 @@ pub(crate) fn fill_row<M: Meter>(
     ensures filled { (p : ℕ) → low ≤ p → p < high →
         IsLeastSplit (M.prices meter.old) (slice_index later.now) (length later.now) p (slice_index row.new p) }
     ensures before { (p : ℕ) → p < low → slice_index row.new p ≡ slice_index row.old p }
-    ensures behind { (p : ℕ) → high ≤ p → low ≤ p → slice_index row.new p ≡ slice_index row.old p }
+    ensures after { (p : ℕ) → high ≤ p → low ≤ p → slice_index row.new p ≡ slice_index row.old p }
     ensures len { length row.new ≡ length row.old }
     ensures prices { M.prices meter.new ≡ M.prices meter.old }
     ensures size { M.size meter.new ≡ M.size meter.old }

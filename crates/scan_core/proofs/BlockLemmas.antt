@@ -21,21 +21,21 @@ blocks_told stream first now next done block reply told grown is =
 
 -- with the blocks after it, it is the blocks of the earlier rest
 pub blocks_go_on : (most : ℕ) (all rest others block : List (ℕ × ℕ)) (done : List (List (ℕ × ℕ))) → rest ≢ [] → block ≡ take most rest → others ≡ drop most rest → ((more : List (List (ℕ × ℕ))) → AreBlocks most rest more → AreBlocks most all (done ++ more)) → (more : List (List (ℕ × ℕ))) → AreBlocks most others more → AreBlocks most all ((done ++ block ∷ []) ++ more)
-blocks_go_on most all rest others block done some first behind goes more cut =
+blocks_go_on most all rest others block done some first after goes more cut =
     subst (AreBlocks most all) (sym (append_assoc done (block ∷ []) more))
-    (goes (block ∷ more) (some, first, subst (λ hs. AreBlocks most hs more) behind cut))
+    (goes (block ∷ more) (some, first, subst (λ hs. AreBlocks most hs more) after cut))
 
 -- full blocks, and then the blocks of the rest
-pub blocks_behind : {X : Type 0} (most : ℕ) (full blocks : List (List X)) (rest : List X) → 0 < most → AreFull most full → AreBlocks most rest blocks → AreBlocks most (joined full ++ rest) (full ++ blocks)
-blocks_behind most [] blocks rest some all cut = cut
-blocks_behind {X} most (block ∷ full) blocks rest some all cut =
+pub blocks_after : {X : Type 0} (most : ℕ) (full blocks : List (List X)) (rest : List X) → 0 < most → AreFull most full → AreBlocks most rest blocks → AreBlocks most (joined full ++ rest) (full ++ blocks)
+blocks_after most [] blocks rest some all cut = cut
+blocks_after {X} most (block ∷ full) blocks rest some all cut =
     let text : List X = block ++ (joined full ++ rest) in
     let whole : joined (block ∷ full) ++ rest ≡ text = append_assoc block (joined full) rest in
     let front : take most text ≡ block = ap (λ n. take n text) (sym all.0) ∙ take_at block (joined full ++ rest) (length block) refl in
     let back : drop most text ≡ joined full ++ rest = ap (λ n. drop n text) (sym all.0) ∙ drop_at block (joined full ++ rest) (length block) refl in
     let any : text ≢ [] = λ e. absurd (omega (arith, some, all.0, ap length e, length-append block (joined full ++ rest))) in
     subst (λ xs. AreBlocks most xs (block ∷ full ++ blocks)) (sym whole)
-    (any, sym front, subst (λ xs. AreBlocks most xs (full ++ blocks)) (sym back) (blocks_behind most full blocks rest some all.1 cut))
+    (any, sym front, subst (λ xs. AreBlocks most xs (full ++ blocks)) (sym back) (blocks_after most full blocks rest some all.1 cut))
 
 -- a list that is no longer than some number has blocks
 blocks_within : {X : Type 0} (most limit : ℕ) (xs : List X) → 0 < most → length xs ≤ limit → (blocks : List (List X)) × AreBlocks most xs blocks

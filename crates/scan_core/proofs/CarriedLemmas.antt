@@ -10,7 +10,7 @@ use Rattle.lit_base.proofs.LengthLemmas.{last_greatest}
 use Rattle.lit_plan.specs.Plans as plans
 use Rattle.flow_scan.specs.Tails.{AreAdded, last_bytes, tail_after}
 use Rattle.lit_plan.specs.Bounds.{HasBounds, carry_of}
-use Rattle.flow_scan.proofs.TailSteps.{added_behind_all, last_of_last, last_of_short}
+use Rattle.flow_scan.proofs.TailSteps.{added_after_all, last_of_last, last_of_short}
 use Rattle.scan_wire.specs.Messages.{RequestParts, Publish, Open, Feed, Close, ShowPlan}
 use Rattle.scan_core.specs.declared.limits.TheConstants.{MAX_STREAMS}
 use Rattle.scan_core.specs.declared.refusal.Refusal.{Refusal}
@@ -128,7 +128,7 @@ refusals_same tails bytes (ShowPlan stream) seen =
 hits_past : (l : Literals) (tail bytes piece : List ℕ) (place : ℕ) (hits : List (ℕ × ℕ)) → HasBounds l → tail ≡ last_bytes (carry_of l) bytes → place ≡ length bytes → AreAdded l tail piece place hits → AreHitsPast l (bytes ++ piece) (length bytes) hits
 hits_past l tail bytes piece place hits bounds last reached added =
     let all : AreAdded l bytes piece (length bytes) hits =
-    added_behind_all l bytes piece (length bytes) hits bounds
+    added_after_all l bytes piece (length bytes) hits bounds
     (subst (λ n. AreAdded l (last_bytes (carry_of l) bytes) piece n hits) reached (subst (λ t. AreAdded l t piece place hits) last added)) in
     record {
       rising = all.rising;

@@ -11,7 +11,7 @@ use Rattle.std.proofs.lemmas.Option.{none-some, same_Some}
 use Rattle.flow_scan.specs.Scanners.{Scanning, fed}
 use Rattle.flow_scan.specs.Tails.{AreAdded, last_bytes, tail_after}
 use Rattle.lit_plan.specs.Bounds.{carry_of}
-use Rattle.flow_scan.proofs.TailSteps.{added_behind_all, added_joined, added_nothing, last_of_last, last_of_short}
+use Rattle.flow_scan.proofs.TailSteps.{added_after_all, added_joined, added_nothing, last_of_last, last_of_short}
 use Rattle.scan_wire.specs.Messages.{Feed}
 use Rattle.scan_wire.specs.declared.message.TheConstants.{MAX_HITS}
 use Rattle.scan_core.specs.declared.refusal.Refusal.TheVariants.{NoSuchStream, StreamTooLong}
@@ -43,9 +43,9 @@ fed_twice scan first second =
     λ i. record scan { place = place i; tail = tail i }
 
 -- a place that fits, after a piece of an open stream
-pub place_fits : (s : Serving) (stream index : ℕ) (piece : List ℕ) (at : StandsAt stream s.streams index) (behind : Option ℕ) → IsKept at.state.scan
-    → MatchOption behind (2 ^ 64 ≤ at.state.scan.place + length piece) (λ place. (place ≡ at.state.scan.place + length piece) × (place < 2 ^ 64))
-    → IfOk (ok_or behind StreamTooLong) (λ place. MayFeed s stream piece place)
+pub place_fits : (s : Serving) (stream index : ℕ) (piece : List ℕ) (at : StandsAt stream s.streams index) (after : Option ℕ) → IsKept at.state.scan
+    → MatchOption after (2 ^ 64 ≤ at.state.scan.place + length piece) (λ place. (place ≡ at.state.scan.place + length piece) × (place < 2 ^ 64))
+    → IfOk (ok_or after StreamTooLong) (λ place. MayFeed s stream piece place)
 place_fits s stream index piece at None kept long = tt
 place_fits s stream index piece at (Some place) kept is = record {
   state = at.state;
@@ -56,9 +56,9 @@ place_fits s stream index piece at (Some place) kept is = record {
 }
 
 -- and a piece that does not fit
-pub place_refused : (s : Serving) (stream index : ℕ) (piece : List ℕ) (at : StandsAt stream s.streams index) (behind : Option ℕ)
-    → MatchOption behind (2 ^ 64 ≤ at.state.scan.place + length piece) (λ place. (place ≡ at.state.scan.place + length piece) × (place < 2 ^ 64))
-    → IfErr (ok_or behind StreamTooLong) (λ refusal. refusal_of by_tails (parts_of s) (Feed stream piece) ≡ Some refusal)
+pub place_refused : (s : Serving) (stream index : ℕ) (piece : List ℕ) (at : StandsAt stream s.streams index) (after : Option ℕ)
+    → MatchOption after (2 ^ 64 ≤ at.state.scan.place + length piece) (λ place. (place ≡ at.state.scan.place + length piece) × (place < 2 ^ 64))
+    → IfErr (ok_or after StreamTooLong) (λ refusal. refusal_of by_tails (parts_of s) (Feed stream piece) ≡ Some refusal)
 place_refused s stream index piece at None long = fed_too_long s stream index piece at long
 place_refused s stream index piece at (Some place) is = tt
 
@@ -74,8 +74,8 @@ feeding_none s stream piece place may = record {
 }
 
 -- the stream stands after the bytes that it was fed
-pub stands_behind : (s t : Serving) (stream : ℕ) (bytes : List ℕ) (hits : List (ℕ × ℕ)) → (f : IsFeeding s stream bytes hits t) → stream_at stream (parts_of t) ≡ Some (record f.state { scan = fed f.state.scan bytes })
-stands_behind s t stream bytes hits f =
+pub stands_after : (s t : Serving) (stream : ℕ) (bytes : List ℕ) (hits : List (ℕ × ℕ)) → (f : IsFeeding s stream bytes hits t) → stream_at stream (parts_of t) ≡ Some (record f.state { scan = fed f.state.scan bytes })
+stands_after s t stream bytes hits f =
     ap (λ (u : Serving). lookup (nat_eq stream) u.streams) f.is
     ∙ lookup_set stream s.streams f.state (record f.state { scan = fed f.state.scan bytes }) f.here
 
@@ -86,7 +86,7 @@ both_added : (s t : Serving) (stream : ℕ) (bytes more : List ℕ) (hits rest :
 both_added s t stream bytes more hits rest f added =
     let scan = f.state.scan in
     added_joined scan.plan.literals scan.tail bytes more scan.place hits rest f.added
-    (added_behind_all scan.plan.literals (scan.tail ++ bytes) more (scan.place + length bytes) rest f.kept.bounds added)
+    (added_after_all scan.plan.literals (scan.tail ++ bytes) more (scan.place + length bytes) rest f.kept.bounds added)
 
 -- the session after both
 both_fed : (s t u : Serving) (stream : ℕ) (bytes more : List ℕ) (state : Bound) → t ≡ fed_by s stream state bytes → u ≡ fed_by t stream (record state { scan = fed state.scan bytes }) more → u ≡ fed_by s stream state (bytes ++ more)
@@ -101,8 +101,8 @@ both_fed s t u stream bytes more state first second =
 -- a front more
 pub feeding_more : (s t u : Serving) (stream : ℕ) (bytes piece : List ℕ) (most count : ℕ) (told old new : List (ℕ × ℕ)) → IsFeeding s stream bytes (told ++ old) t → FeedsFront t stream piece most count old new u → IsFeeding s stream (bytes ++ take count piece) (told ++ new) u
 feeding_more s t u stream bytes piece most count told old new f front =
-    let behind : Bound = record f.state { scan = fed f.state.scan bytes } in
-    let same : front.state ≡ behind = same_Some front.state behind (sym front.here ∙ stands_behind s t stream bytes (told ++ old) f) in
+    let after : Bound = record f.state { scan = fed f.state.scan bytes } in
+    let same : front.state ≡ after = same_Some front.state after (sym front.here ∙ stands_after s t stream bytes (told ++ old) f) in
     let gained = front.stops.gained in
     let added : AreAdded f.state.scan.plan.literals (tail_after f.state.scan.plan.literals f.state.scan.tail bytes) (take count piece) (f.state.scan.place + length bytes) gained.found =
     subst (λ (b : Bound). AreAdded b.scan.plan.literals b.scan.tail (take count piece) b.scan.place gained.found) same gained.added in
@@ -123,7 +123,7 @@ feeding_goes_on s t stream piece bytes rest hits place may is f =
     let reached : place ≡ f.state.scan.place + length piece = may.reached ∙ ap (λ (b : Bound). b.scan.place + length piece) same in
     let fits : f.state.scan.place + length bytes + length rest < 2 ^ 64 = omega (arith, may.fits, reached, ap length is, length-append bytes rest) in
     let room : nat_le (2 ^ 64) (f.state.scan.place + length bytes + length rest) ≡ false = grind (arith, nat_tests) in
-    ap (λ o. stream_refusal o (λ (state : Bound). if nat_le (2 ^ 64) (state.scan.place + length rest) then Some StreamTooLong else None)) (stands_behind s t stream bytes hits f)
+    ap (λ o. stream_refusal o (λ (state : Bound). if nat_le (2 ^ 64) (state.scan.place + length rest) then Some StreamTooLong else None)) (stands_after s t stream bytes hits f)
     ∙ ap (λ b. if b then Some StreamTooLong else None) room
 
 -- for any remaining bytes there are the hits
@@ -182,10 +182,10 @@ feed_open s stream piece none missing =
 
 -- a front of a piece is fed to the stream at an index
 pub front_fed : (s new : Serving) (stream index : ℕ) (piece : List ℕ) (most count : ℕ) (old hits : List (ℕ × ℕ)) (next : ℕ × Bound) → (at : StandsAt stream s.streams index) → MovesUpTo (stream, at.state) piece most count old hits next → new ≡ record s { streams = set s.streams index next } → FeedsFront s stream piece most count old hits new
-front_fed s new stream index piece most count old hits next at moves after = record {
+front_fed s new stream index piece most count old hits next at moves later = record {
   state = at.state;
   here = lookup_at stream s.streams index at;
   stops = moves.stops;
-  is = after ∙ ap (λ (n : ℕ × Bound). record s { streams = set s.streams index n }) moves.state
+  is = later ∙ ap (λ (n : ℕ × Bound). record s { streams = set s.streams index n }) moves.state
       ∙ ap (λ streams. record s { streams = streams }) (set_at stream s.streams index (record at.state { scan = fed at.state.scan (take count piece) }) at);
 }

@@ -12,7 +12,7 @@ use Rattle.lit_base.specs.Folding.{folded_text}
 use Rattle.lit_base.specs.Literals.{Literals}
 use Rattle.lit_base.specs.Occurrences.{IsFirstEnding, Occurs}
 use Rattle.text_ends.specs.HitsAt.{AreHitsAt}
-use Rattle.text_ends.specs.HitsBehind.{AreHitsBehind}
+use Rattle.text_ends.specs.HitsAfter.{AreHitsAfter}
 use Rattle.text_ends.proofs.HitLists.{AreHitsAtBefore, hits_at_ended, hits_at_more, hits_at_none, hits_further, hits_none, none_past}
 
 -- what a test decides holds or not
@@ -79,7 +79,7 @@ hits_at l text end at =
     (all.0, hits_at_ended l text end at (length l.texts) all.0 all.1 (λ place later o. absurd (omega (arith, later, slice_get_within l.texts place o.literal o.stands))))
 
 -- the hits after a place and up to another
-hits_up_to : (l : Literals) (text : List ℕ) (from at k : ℕ) → from + k ≤ length text → (found : List (ℕ × ℕ)) × AreHitsBehind l (take (from + k) text) from at found
+hits_up_to : (l : Literals) (text : List ℕ) (from at k : ℕ) → from + k ≤ length text → (found : List (ℕ × ℕ)) × AreHitsAfter l (take (from + k) text) from at found
 hits_up_to l text from at zero within =
     ([], hits_none l (take (from + 0) text) from at (none_past l (take (from + 0) text) from (omega (arith, length-take (from + 0) text))))
 hits_up_to l text from at (suc k) within =
@@ -90,11 +90,11 @@ hits_up_to l text from at (suc k) within =
     )
 
 -- the hits after a place
-pub hits_exist : (l : Literals) (text : List ℕ) (from at : ℕ) → (found : List (ℕ × ℕ)) × AreHitsBehind l text from at found
+pub hits_exist : (l : Literals) (text : List ℕ) (from at : ℕ) → (found : List (ℕ × ℕ)) × AreHitsAfter l text from at found
 hits_exist l text from at = elim (cases_lt (length text) from) [
   | inl past ↦ ([], hits_none l text from at (none_past l text from (omega (arith, past))))
   | inr within ↦
       let whole : take (from + (length text - from)) text ≡ text = take_all (from + (length text - from)) text (omega (arith, within)) in
       let all = hits_up_to l text from at (length text - from) (omega (arith, within)) in
-      (all.0, subst (λ t. AreHitsBehind l t from at all.0) whole all.1)
+      (all.0, subst (λ t. AreHitsAfter l t from at all.0) whole all.1)
 ]

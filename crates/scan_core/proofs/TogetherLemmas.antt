@@ -93,7 +93,7 @@ module _ (entries : List Entry) (one_plan : HasOnePlan entries) where
     all = λ e there. let h = same.all e there in (suc h.0, omega (arith, h.1), h.2);
     no_others = λ e there. elim (head_or_rest entry e current there.0 there.1 there.2) [
       | inl first ↦ subst (Contains entries) first among
-      | inr behind ↦ same.no_others e behind
+      | inr after ↦ same.no_others e after
     ];
   }
 

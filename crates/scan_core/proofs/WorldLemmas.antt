@@ -203,7 +203,7 @@ module _ (past : ℕ → Option Past) (es more : List Entry) (stay : (e : Entry)
 -- Runs
 
 -- a world after events: one plan a number, and the past of each stream
-record IsBehind (events : List Event) (world : World) : Type 0 where
+record IsAfter (events : List Event) (world : World) : Type 0 where
   one : HasOnePlan world.entries
   known : (who : ℕ) → AllKnown (λ n. past_of who n events) world.entries (world.sessions who).streams
   apart : (who : ℕ) → Apart (world.sessions who).streams
@@ -213,16 +213,16 @@ past_push : (who n : ℕ) (past : Option Past) (events : List Event) (event : Ev
 past_push who n past [] event = refl
 past_push who n past (e ∷ events) event = past_push who n (past_event who n past e) events event
 
-first_behind : (world : World) → IsFirst world → IsBehind [] world
-first_behind world first = record {
+first_after : (world : World) → IsFirst world → IsAfter [] world
+first_after world first = record {
   one = first.one_plan;
   known = λ who n state at. absurd (none-some state (sym (ap (λ (s : SessionParts Streamed). lookup (nat_eq n) s.streams) (first.sessions who)) ∙ at));
   apart = λ who. subst (λ (s : SessionParts Streamed). Apart s.streams) (sym (first.sessions who)) tt;
 }
 
 -- the session of an event
-own_behind : (events : List Event) (event : Event) (old new : World) → IsBehind events old → (h : Happens event old new) → AllKnown (λ n. past_of event.who n (events ++ event ∷ [])) new.entries (new.sessions event.who).streams × Apart (new.sessions event.who).streams
-own_behind events event old new behind h =
+own_after : (events : List Event) (event : Event) (old new : World) → IsAfter events old → (h : Happens event old new) → AllKnown (λ n. past_of event.who n (events ++ event ∷ [])) new.entries (new.sessions event.who).streams × Apart (new.sessions event.who).streams
+own_after events event old new after h =
     let who = event.who in
     let before = old.sessions who in
     let outcome : Outcome Streamed = record { replies = event.replies; met = h.met; after = new.sessions who } in
@@ -230,7 +230,7 @@ own_behind events event old new behind h =
     let met : (e : Entry) → h.met ≡ Some e → Contains new.entries e =
     λ e is. met_stands (is_publish event.request) e old.entries new.entries (subst (λ m. MeetsEntries (is_publish event.request) m old.entries new.entries) is h.entries) in
     let kept : Keeps (λ n. past_of who n events) new.entries event.request outcome =
-    keeps_step (λ n. past_of who n events) old.entries new.entries stay before (behind.apart who) (behind.known who) event.request outcome
+    keeps_step (λ n. past_of who n events) old.entries new.entries stay before (after.apart who) (after.known who) event.request outcome
     (refusal_of by_bytes before event.request) refl h.step met in (
       (λ n state at.
           let told : past_of who n (events ++ event ∷ []) ≡ next_past event.request event.replies (λ m. past_of who m events) n =
@@ -239,12 +239,12 @@ own_behind events event old new behind h =
       kept.1,
     )
 
-happens_behind : (events : List Event) (event : Event) (old new : World) → IsBehind events old → Happens event old new → IsBehind (events ++ event ∷ []) new
-happens_behind events event old new behind h = record {
-  one = one_plan_kept (is_publish event.request) h.met old.entries new.entries behind.one h.entries;
+happens_after : (events : List Event) (event : Event) (old new : World) → IsAfter events old → Happens event old new → IsAfter (events ++ event ∷ []) new
+happens_after events event old new after h = record {
+  one = one_plan_kept (is_publish event.request) h.met old.entries new.entries after.one h.entries;
   known = λ who n state at. elim (eqb_tells event.who who) [
     | inl t ↦
-        let own = own_behind events event old new behind h in
+        let own = own_after events event old new after h in
         subst (λ w. Known (past_of w n (events ++ event ∷ [])) new.entries state) t.1
         (own.0 n state (ap (λ w. lookup (nat_eq n) (new.sessions w).streams) t.1 ∙ at))
     | inr f ↦
@@ -252,34 +252,34 @@ happens_behind events event old new behind h = record {
         let stay : (e : Entry) → Contains old.entries e → Contains new.entries e = λ e. entries_stay (is_publish event.request) h.met old.entries new.entries e h.entries in
         known_like (past_of who n events) (past_of who n (events ++ event ∷ [])) old.entries new.entries state state
         (past_push who n None events event ∙ ap (λ b. cond (b && is_accepted event.replies) (past_after n event.request (past_of who n events)) (past_of who n events)) f.0)
-        refl stay (behind.known who n state (ap (λ (s : SessionParts Streamed). lookup (nat_eq n) s.streams) (sym same) ∙ at))
+        refl stay (after.known who n state (ap (λ (s : SessionParts Streamed). lookup (nat_eq n) s.streams) (sym same) ∙ at))
   ];
   apart = λ who. elim (eqb_tells event.who who) [
-    | inl t ↦ let own = own_behind events event old new behind h in subst (λ w. Apart (new.sessions w).streams) t.1 own.1
-    | inr f ↦ subst (λ (s : SessionParts Streamed). Apart s.streams) (sym (h.others who (λ e. f.1 (sym e)))) (behind.apart who)
+    | inl t ↦ let own = own_after events event old new after h in subst (λ w. Apart (new.sessions w).streams) t.1 own.1
+    | inr f ↦ subst (λ (s : SessionParts Streamed). Apart s.streams) (sym (h.others who (λ e. f.1 (sym e)))) (after.apart who)
   ];
 }
 
-runs_behind : (before events : List Event) (old new : World) → IsBehind before old → Runs old events new → IsBehind (before ++ events) new
-runs_behind before [] old new behind same =
-    subst (λ (w : World). IsBehind (before ++ []) w) (sym same) (subst (λ es. IsBehind es old) (sym (append-nil before)) behind)
-runs_behind before (event ∷ events) old new behind runs =
-    subst (λ es. IsBehind es new) (append_assoc before (event ∷ []) events)
-    (runs_behind (before ++ event ∷ []) events runs.0 new (happens_behind before event old runs.0 behind runs.1) runs.2)
+runs_after : (before events : List Event) (old new : World) → IsAfter before old → Runs old events new → IsAfter (before ++ events) new
+runs_after before [] old new after same =
+    subst (λ (w : World). IsAfter (before ++ []) w) (sym same) (subst (λ es. IsAfter es old) (sym (append-nil before)) after)
+runs_after before (event ∷ events) old new after runs =
+    subst (λ es. IsAfter es new) (append_assoc before (event ∷ []) events)
+    (runs_after (before ++ event ∷ []) events runs.0 new (happens_after before event old runs.0 after runs.1) runs.2)
 
-runs_from_first : (first last : World) (events : List Event) → IsFirst first → Runs first events last → IsBehind events last
-runs_from_first first last events is runs = runs_behind [] events first last (first_behind first is) runs
+runs_from_first : (first last : World) (events : List Event) → IsFirst first → Runs first events last → IsAfter events last
+runs_from_first first last events is runs = runs_after [] events first last (first_after first is) runs
 
 -- Answers
 
 -- an accepted Feed is answered by what its stream has had
-answered : (events : List Event) (world : World) (who stream : ℕ) (piece : List ℕ) (outcome : Outcome Streamed) (o : Option Refusal) → IsBehind events world → is_accepted outcome.replies ≡ true → MatchOption o (IsAccepted by_bytes (world.sessions who) (Feed stream piece) outcome) (λ refusal. outcome ≡ refused (world.sessions who) (Feed stream piece) refusal) → AnswersByPast events world.entries who stream piece outcome.replies
-answered events world who stream piece outcome (Some refusal) behind accepted step =
+answered : (events : List Event) (world : World) (who stream : ℕ) (piece : List ℕ) (outcome : Outcome Streamed) (o : Option Refusal) → IsAfter events world → is_accepted outcome.replies ≡ true → MatchOption o (IsAccepted by_bytes (world.sessions who) (Feed stream piece) outcome) (λ refusal. outcome ≡ refused (world.sessions who) (Feed stream piece) refusal) → AnswersByPast events world.entries who stream piece outcome.replies
+answered events world who stream piece outcome (Some refusal) after accepted step =
     absurd (let wrong : false ≡ true = sym (ap (λ (out : Outcome Streamed). is_accepted out.replies) step) ∙ accepted in cc)
-answered events world who stream piece outcome None behind accepted a =
+answered events world who stream piece outcome None after accepted a =
     let state = a.0 in
     let feeds = a.2 in
-    let known = behind.known who stream state a.1 in
+    let known = after.known who stream state a.1 in
     let place = length state.bytes + length piece in
     let past : AreHitsPast known.entry.plan.literals (concat known.pieces ++ piece) (length (concat known.pieces)) feeds.hits =
     subst (λ bs. AreHitsPast known.entry.plan.literals (bs ++ piece) (length bs) feeds.hits) known.bytes

@@ -242,7 +242,7 @@ impl<'s> Session<'s> {
     }
 
     /// The place of a stream after a piece, or why a Feed of it is refused. It takes no memory.
-    pub fn place_behind(&self, stream: u32, piece: &[u8]) -> Result<u64, Refusal>
+    pub fn place_after(&self, stream: u32, piece: &[u8]) -> Result<u64, Refusal>
         ensures ok { IfOk result (λ place. MayFeed self.now stream piece.now place) }
         ensures refused { IfErr result (λ refusal. refusal_of by_tails (parts_of self.now) (Feed stream piece.now) ≡ Some refusal) }
     {
@@ -251,7 +251,7 @@ impl<'s> Session<'s> {
         };
         self.streams
             .get(place)
-            .place_behind(piece)
+            .place_after(piece)
             .ok_or(Refusal::StreamTooLong)
     }
 

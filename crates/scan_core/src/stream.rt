@@ -124,7 +124,7 @@ impl<'s> Stream<'s> {
     }
 
     /// The place after a piece; none where it would pass 2^64 - 1.
-    pub(crate) fn place_behind(&self, piece: &[u8]) -> Option<u64>
+    pub(crate) fn place_after(&self, piece: &[u8]) -> Option<u64>
         ensures place { MatchOption result
             (2 ^ 64 ≤ self.now.1.scan.place + length piece.now)
             (λ place. (place ≡ self.now.1.scan.place + length piece.now) × (place < 2 ^ 64)) }

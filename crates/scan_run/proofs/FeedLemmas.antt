@@ -16,7 +16,7 @@ use Rattle.scan_core.specs.Blocks.{AreFull, joined}
 use Rattle.scan_core.specs.Fronts.{IsFeeding, MayFeed}
 use Rattle.scan_core.specs.Sessions.{IsEvent, Serving}
 use Rattle.scan_core.specs.Steps.{fed_replies}
-use Rattle.scan_core.proofs.BlockLemmas.{blocks_behind, blocks_exist, full-append, joined-append}
+use Rattle.scan_core.proofs.BlockLemmas.{blocks_after, blocks_exist, full-append, joined-append}
 use Rattle.scan_core.proofs.FrontLemmas.{feeding_completes, feeding_ends, feeding_more, feeding_none}
 use Rattle.scan_run.specs.Beside.{AgreeAfter, IsEventBeside, IsStepBeside}
 use Rattle.scan_run.specs.Feeding.{FeedsOn, HasFed, StopsFeeding, last_block}
@@ -75,11 +75,11 @@ both_cut blocks more gained left cut =
 
 -- a front more
 pub fed_on : (s t u : Serving) (stream : ℕ) (piece rest others : List ℕ) (count : ℕ) (old new : List (ℕ × ℕ)) (v w x : Option (List ℕ)) (a b c : List ℕ) → HasFed s stream piece rest old t v w a b → FeedsOn t stream rest count old new u w x b c → others ≡ drop count rest → HasFed s stream piece others new u v x a c
-fed_on s t u stream piece rest others count old new v w x a b c so on behind = record {
+fed_on s t u stream piece rest others count old new v w x a b c so on after = record {
   bytes = so.bytes ++ take count rest;
   blocks = so.blocks ++ on.told.blocks;
   text_is = so.text_is ∙ ap (λ bs. so.bytes ++ bs) (sym (take-append-drop count rest))
-      ∙ sym (append_assoc so.bytes (take count rest) (drop count rest)) ∙ ap (λ bs. (so.bytes ++ take count rest) ++ bs) (sym behind);
+      ∙ sym (append_assoc so.bytes (take count rest) (drop count rest)) ∙ ap (λ bs. (so.bytes ++ take count rest) ++ bs) (sym after);
   few = on.few;
   full = full-append MAX_HITS so.blocks on.told.blocks so.full on.told.full;
   feeding = subst (λ hs. IsFeeding s stream (so.bytes ++ take count rest) hs u) (both_cut so.blocks on.told.blocks on.gained new on.told.cut)
@@ -99,7 +99,7 @@ event_of s t stream piece rest place hits v w a b may none so =
     let all : so.bytes ≡ piece = sym (append-nil so.bytes) ∙ ap (λ bs. so.bytes ++ bs) (sym (empty rest none)) ∙ sym so.text_is in
     feeding_ends s t stream piece (joined so.blocks ++ hits) (so.blocks ++ last_block hits) place may
     (subst (λ bs. IsFeeding s stream bs (joined so.blocks ++ hits) t) all so.feeding)
-    (blocks_behind MAX_HITS so.blocks (last_block hits) hits (omega arith) so.full (last_is MAX_HITS hits so.few))
+    (blocks_after MAX_HITS so.blocks (last_block hits) hits (omega arith) so.full (last_is MAX_HITS hits so.few))
 
 -- the answer is complete
 pub answered_whole : (s t : Serving) (stream : ℕ) (piece rest : List ℕ) (place : ℕ) (hits : List (ℕ × ℕ)) (v w x : Option (List ℕ)) (a b c : List ℕ) → MayFeed s stream piece place → length rest ≡ 0 → HasFed s stream piece rest hits t v w a b → Sends w x b c (replies_text (fed_replies stream (last_block hits) place)) → Answered IsEvent s t (Feed stream piece) v x a c
@@ -132,7 +132,7 @@ stopped_within s t stream piece bytes rest place full left v w a may is are feed
     inr (record {
       replies = fed_replies stream (full ++ last.0) place;
       new = done.1;
-      is_step = feeding_ends s done.1 stream piece (joined full ++ (left ++ more)) (full ++ last.0) place may fed (blocks_behind MAX_HITS full last.0 (left ++ more) (omega arith) are last.1);
+      is_step = feeding_ends s done.1 stream piece (joined full ++ (left ++ more)) (full ++ last.0) place may fed (blocks_after MAX_HITS full last.0 (left ++ more) (omega arith) are last.1);
       sent = less_is v w a _ _ (told_last stream full last.0 place) (less_of_more v w a (replies_text (map (Hits stream) full)) (replies_text (fed_replies stream last.0 place)) (last_some stream last.0 place) sent);
     })
 
@@ -154,7 +154,7 @@ stopped_feeding s t stream piece rest place hits v w x a b may so (inr (count, g
 
 -- a request by which a session gains no ticket
 abbrev GainsNone : RequestParts → Type 0
-GainsNone request = (loaded : List Told) (replies : List ReplyParts) (after : Serving) → AgreeAfter loaded request replies after
+GainsNone request = (loaded : List Told) (replies : List ReplyParts) (later : Serving) → AgreeAfter loaded request replies later
 
 -- is answered beside loaded plans as it is alone
 pub answered_beside : (loaded : List Told) (s t : Serving) (request : RequestParts) (v w : Option (List ℕ)) (a b : List ℕ) → GainsNone request → Answered IsEvent s t request v w a b → Answered (IsEventBeside loaded) s t request v w a b

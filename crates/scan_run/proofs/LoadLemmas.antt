@@ -32,8 +32,8 @@ prefix-longer {old} {new} {text} more p = record {
 }
 
 -- and one of a text after another, which was written whole
-pub prefix-behind : (a b c : Option (List ℕ)) (done text : List ℕ) → Appends a b done → AppendsPrefix b c text → AppendsPrefix a c (done ++ text)
-prefix-behind a b c done text whole p = record {
+pub prefix-after : (a b c : Option (List ℕ)) (done text : List ℕ) → Appends a b done → AppendsPrefix b c text → AppendsPrefix a c (done ++ text)
+prefix-after a b c done text whole p = record {
   count = length done + p.count;
   fewer = omega (arith, p.fewer, length-append done text);
   text = subst (Appends a c) (sym (take-append-add done text p.count)) (Appends-trans a b c done (take p.count text) whole p.text);
@@ -45,32 +45,32 @@ OnErr-then (Ok x) p then = tt
 OnErr-then (Err e) p then = then p
 
 -- a text and a front of one after it, after a text that was written whole
-up-to-behind : (a b c : Option (List ℕ)) (done text behind : List ℕ) → Appends a b done → AppendsUpTo b c text behind → AppendsUpTo a c (done ++ text) behind
-up-to-behind a b c done text behind whole part = record {
+up-to-after : (a b c : Option (List ℕ)) (done text after : List ℕ) → Appends a b done → AppendsUpTo b c text after → AppendsUpTo a c (done ++ text) after
+up-to-after a b c done text after whole part = record {
   count = part.count;
   fewer = part.fewer;
-  grown = subst (Appends a c) (sym (append_assoc done text (take part.count behind))) (Appends-trans a b c done (text ++ take part.count behind) whole part.grown);
+  grown = subst (Appends a c) (sym (append_assoc done text (take part.count after))) (Appends-trans a b c done (text ++ take part.count after) whole part.grown);
 }
 
 -- the lines of plans after others
 lines_of-append : (xs ys : List Told) → plan_lines (xs ++ ys) ≡ plan_lines xs ++ plan_lines ys
 lines_of-append xs ys = flat_map-append (λ ticket. plan_line ticket.number) xs ys
 
-lines-behind : (a b c : Option (List ℕ)) (xs ys : List Told) → Appends a b (plan_lines xs) → Appends b c (plan_lines ys) → Appends a c (plan_lines (xs ++ ys))
-lines-behind a b c xs ys whole said = subst (Appends a c) (sym (lines_of-append xs ys)) (Appends-trans a b c (plan_lines xs) (plan_lines ys) whole said)
+lines-after : (a b c : Option (List ℕ)) (xs ys : List Told) → Appends a b (plan_lines xs) → Appends b c (plan_lines ys) → Appends a c (plan_lines (xs ++ ys))
+lines-after a b c xs ys whole said = subst (Appends a c) (sym (lines_of-append xs ys)) (Appends-trans a b c (plan_lines xs) (plan_lines ys) whole said)
 
 -- lines after lines that were written whole
-says-behind : (a b c : Option (List ℕ)) (xs ys : List Told) (r : Result (Unit {0}) Fault) → Appends a b (plan_lines xs) → SaysLines ys r b c → SaysLines (xs ++ ys) r a c
-says-behind a b c xs ys (Ok _) whole said = lines-behind a b c xs ys whole said
-says-behind a b c xs ys (Err OutOfMemory) whole said = lines-behind a b c xs ys whole said
-says-behind a b c xs ys (Err (BadPlanFile place cause)) whole said = lines-behind a b c xs ys whole said
-says-behind a b c xs ys (Err ReadFault) whole said = lines-behind a b c xs ys whole said
-says-behind a b c xs ys (Err WriteFault) whole ends = record {
+says-after : (a b c : Option (List ℕ)) (xs ys : List Told) (r : Result (Unit {0}) Fault) → Appends a b (plan_lines xs) → SaysLines ys r b c → SaysLines (xs ++ ys) r a c
+says-after a b c xs ys (Ok _) whole said = lines-after a b c xs ys whole said
+says-after a b c xs ys (Err OutOfMemory) whole said = lines-after a b c xs ys whole said
+says-after a b c xs ys (Err (BadPlanFile place cause)) whole said = lines-after a b c xs ys whole said
+says-after a b c xs ys (Err ReadFault) whole said = lines-after a b c xs ys whole said
+says-after a b c xs ys (Err WriteFault) whole ends = record {
   before = xs ++ ends.before;
   last = ends.last;
   all = ap (λ ts. xs ++ ts) ends.all ∙ sym (append_assoc xs ends.before (ends.last ∷ []));
   said = subst (λ t. AppendsUpTo a c t (plan_line ends.last.number)) (sym (lines_of-append xs ends.before))
-      (up-to-behind a b c (plan_lines xs) (plan_lines ends.before) (plan_line ends.last.number) whole ends.said);
+      (up-to-after a b c (plan_lines xs) (plan_lines ends.before) (plan_line ends.last.number) whole ends.said);
 }
 
 plans_of-append : (xs ys : List Told) → plans_of (xs ++ ys) ≡ plans_of xs ++ plans_of ys
@@ -140,7 +140,7 @@ published-then store xs ys ts us vs a b c r p q =
       parts = ap (λ t. t ++ ys) all ∙ ap (λ t. plans_of p.published ++ t) q.parts ∙ sym (append_assoc (plans_of p.published) (plans_of q.published) q.more)
           ∙ ap (λ t. t ++ q.more) (sym (plans_of-append p.published q.published));
       left = q.left;
-      said = says-behind a b c p.published q.published r p.said q.said;
+      said = says-after a b c p.published q.published r p.said q.said;
     }
 
 left-more : (xs ys : List Plan) (fault : Fault) → MayLeave xs (Err fault) → MayLeave (xs ++ ys) (Err fault)
@@ -169,11 +169,11 @@ abbrev stopped : Fault → Result (Unit {0}) Fault
 stopped fault = Err fault
 
 -- a message after lines
-message-behind : (a b c : Option (List ℕ)) (name : List ℕ) (published : List Told) (fault result : Fault) → Appends a b (plan_lines published) → fault ≢ WriteFault
+message-after : (a b c : Option (List ℕ)) (name : List ℕ) (published : List Told) (fault result : Fault) → Appends a b (plan_lines published) → fault ≢ WriteFault
     → IsMessage (message_on name fault) fault result b c → IsSaid name published (Err fault) (Err result) a c
-message-behind a b c name published fault result lines other (Written is all) =
+message-after a b c name published fault result lines other (Written is all) =
     Whole (ap stopped is) (λ e. other (let same : fault ≡ WriteFault = cc in same)) (Appends-trans a b c (plan_lines published) (message_on name fault) lines all)
-message-behind a b c name published fault result lines other (Cut is part) =
+message-after a b c name published fault result lines other (Cut is part) =
     InMessage fault refl (ap stopped is) record {
       count = part.count;
       fewer = part.fewer;
@@ -195,9 +195,9 @@ line-still a b c published ends still = record {
 
 says-message : (a b c : Option (List ℕ)) (name : List ℕ) (published : List Told) (fault result : Fault) → SaysLines published (stopped fault) a b
     → IsMessage (message_on name fault) fault result b c → IsSaid name published (stopped fault) (stopped result) a c
-says-message a b c name published OutOfMemory result said message = message-behind a b c name published OutOfMemory result said (λ e. cc) message
-says-message a b c name published (BadPlanFile place cause) result said message = message-behind a b c name published (BadPlanFile place cause) result said (λ e. cc) message
-says-message a b c name published ReadFault result said message = message-behind a b c name published ReadFault result said (λ e. cc) message
+says-message a b c name published OutOfMemory result said message = message-after a b c name published OutOfMemory result said (λ e. cc) message
+says-message a b c name published (BadPlanFile place cause) result said message = message-after a b c name published (BadPlanFile place cause) result said (λ e. cc) message
+says-message a b c name published ReadFault result said message = message-after a b c name published ReadFault result said (λ e. cc) message
 says-message a b c name published WriteFault result said (Written is all) = InLine refl (ap stopped is) (line-still a b c published said all)
 says-message a b c name published WriteFault result said (Cut is part) = absurd (omega (arith, part.fewer))
 

@@ -6,7 +6,7 @@ use Rattle.scan_wire.specs.Messages.{Fed, Hits, ReplyParts}
 use Rattle.scan_wire.specs.declared.message.TheConstants.{MAX_HITS}
 use Rattle.scan_serve.specs.Sending.{Sends, SendsLess}
 use Rattle.scan_serve.proofs.RunLemmas.{replies_text-append}
-use Rattle.scan_serve.proofs.SendLemmas.{behind_none, front_is, reply_some, sends_is, sends_none, sends_then, sends_then_front}
+use Rattle.scan_serve.proofs.SendLemmas.{after_none, front_is, reply_some, sends_is, sends_none, sends_then, sends_then_front}
 use Rattle.scan_core.specs.Blocks.{AreBlocks, joined}
 use Rattle.scan_core.specs.Steps.{fed_replies}
 use Rattle.scan_core.proofs.BlockLemmas.{full-append, joined-append}
@@ -51,8 +51,8 @@ tells_none stream hits v b = record { blocks = []; full = tt; cut = refl; sent =
 
 -- one full reply more
 pub tells_more : (stream : ℕ) (old now block new : List (ℕ × ℕ)) (u v w : Option (List ℕ)) (a b c : List ℕ) → MAX_HITS ≤ length now → block ≡ take MAX_HITS now → new ≡ drop MAX_HITS now → TellsFull stream old now u v a b → Sends v w b c (reply_text (Hits stream block)) → TellsFull stream old new u w a c
-tells_more stream old now block new u v w a b c many front behind told sent =
-    let whole : now ≡ block ++ new = sym (take-append-drop MAX_HITS now) ∙ ap (λ hs. hs ++ drop MAX_HITS now) (sym front) ∙ ap (λ hs. block ++ hs) (sym behind) in
+tells_more stream old now block new u v w a b c many front after told sent =
+    let whole : now ≡ block ++ new = sym (take-append-drop MAX_HITS now) ∙ ap (λ hs. hs ++ drop MAX_HITS now) (sym front) ∙ ap (λ hs. block ++ hs) (sym after) in
     let size : length block ≡ MAX_HITS = ap length front ∙ omega (arith, many, length-take MAX_HITS now) in
     record {
       blocks = told.blocks ++ block ∷ [];
@@ -96,4 +96,4 @@ told_last stream blocks more place =
 
 -- the place is a reply, so there are bytes
 pub last_some : (stream : ℕ) (blocks : List (List (ℕ × ℕ))) (place : ℕ) → replies_text (fed_replies stream blocks place) ≢ []
-last_some stream blocks place e = reply_some (Fed stream place) (behind_none (replies_text (map (Hits stream) blocks)) (reply_text (Fed stream place)) (told_place stream blocks place ∙ e))
+last_some stream blocks place e = reply_some (Fed stream place) (after_none (replies_text (map (Hits stream) blocks)) (reply_text (Fed stream place)) (told_place stream blocks place ∙ e))

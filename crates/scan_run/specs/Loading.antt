@@ -43,10 +43,10 @@ said_of name published (Ok _) = plan_lines published
 said_of name published (Err fault) = plan_lines published ++ message_on name fault
 
 -- a text was written, and of one after it a front that is not all of it
-pub record AppendsUpTo (old new : Option (List ℕ)) (text behind : List ℕ) : Type 0 where
+pub record AppendsUpTo (old new : Option (List ℕ)) (text after : List ℕ) : Type 0 where
   pub count : ℕ
-  pub fewer : count < length behind
-  pub grown : Appends old new (text ++ take count behind)
+  pub fewer : count < length after
+  pub grown : Appends old new (text ++ take count after)
 
 -- the lines of plans were written, but of the plan published last a front, and not all
 pub record EndsInLine (published : List tickets.Told) (old new : Option (List ℕ)) : Type 0 where

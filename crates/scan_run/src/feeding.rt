@@ -69,8 +69,8 @@ fn feed_whole<W: ByteOut>(
     let mut rest = piece;
     while !rest.is_empty() {
         let count = feed_on(alloc, session, hits, stream, rest, outbox, out)?;
-        let (_, behind) = rest.split_at(count);
-        rest = behind;
+        let (_, after) = rest.split_at(count);
+        rest = after;
     }
     tell_last(stream, hits, place, outbox, out)
 }
@@ -94,7 +94,7 @@ pub(crate) fn answer_feed<W: ByteOut>(
     ensures flag { result ≢ Err Stop.WriteFault → W.has_failed out.new ≡ W.has_failed out.old }
     ensures store { session.new.store ≡ session.old.store }
 {
-    match session.place_behind(stream, piece) {
+    match session.place_after(stream, piece) {
         Ok(place) => feed_whole(alloc, session, hits, stream, piece, place, outbox, out),
         Err(refusal) => outbox.push(out, &refusal.reply(stream)),
     }

@@ -117,8 +117,8 @@ halts_first step s text rest place v b (halt.Bad cause) le is h = (subst (λ (x 
 halts_first step s text rest place v b (halt.Stopped stop) le is h = stops_at step s text place v v b (subst (λ (x : List ℕ). BeginsWithFrame x) is h) (Appends-nil v)
 
 -- what halts after requests that were answered
-pub halts_behind : {S : Type 0} (step : Step S) (s t u : S) (text : List ℕ) (i j : ℕ) (x y z : Option (List ℕ)) (a b c : List ℕ) (h : Halt) → AnswersAll step s t text i j x y a b
+pub halts_after : {S : Type 0} (step : Step S) (s t u : S) (text : List ℕ) (i j : ℕ) (x y z : Option (List ℕ)) (a b c : List ℕ) (h : Halt) → AnswersAll step s t text i j x y a b
     → OnHalt (λ cause. HasCause cause (drop j text) × AnswersAll step t u text j j y z b c) (AnswersFront step t text j y z b) h
     → OnHalt (λ cause. HasCause cause (drop j text) × AnswersAll step s u text i j x z a c) (AnswersFront step s text i x z a) h
-halts_behind step s t u text i j x y z a b c (halt.Bad cause) p q = (q.0, answers_then step s t u text i j j x y z a b c p q.1)
-halts_behind step s t u text i j x y z a b c (halt.Stopped stop) p q = answers_then_front step s t text i j x y z a b p q
+halts_after step s t u text i j x y z a b c (halt.Bad cause) p q = (q.0, answers_then step s t u text i j j x y z a b c p q.1)
+halts_after step s t u text i j x y z a b c (halt.Stopped stop) p q = answers_then_front step s t text i j x y z a b p q

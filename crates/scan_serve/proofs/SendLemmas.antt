@@ -45,9 +45,9 @@ pub sends_then_less : (u v w : Option (List ℕ)) (a b x y : List ℕ) → Sends
 sends_then_less u v w a b x y p q = record { front = sends_then_front u v w a b x y p q.front; missed = q.missed }
 
 -- what two parts are nothing of, the second is nothing of
-pub behind_none : (a text : List ℕ) → a ++ text ≡ [] → text ≡ []
-behind_none [] text e = e
-behind_none (x ∷ a) text e = absurd (omega (arith, ap length e))
+pub after_none : (a text : List ℕ) → a ++ text ≡ [] → text ≡ []
+after_none [] text e = e
+after_none (x ∷ a) text e = absurd (omega (arith, ap length e))
 
 -- nothing is written of a text
 abbrev pub front_none : (v : Option (List ℕ)) (a text : List ℕ) → SendsFront v v a text
@@ -55,7 +55,7 @@ front_none v a text = record { done = []; lost = a ++ text; written = Appends-ni
 
 -- nothing is written of a text that is not empty
 pub less_none : (v : Option (List ℕ)) (a text : List ℕ) → text ≢ [] → SendsLess v v a text
-less_none v a text some = record { front = front_none v a text; missed = λ e. some (behind_none a text e) }
+less_none v a text some = record { front = front_none v a text; missed = λ e. some (after_none a text e) }
 
 -- the write of all that waits failed
 pub less_failed : (v w : Option (List ℕ)) (a : List ℕ) → AppendsPrefix v w a → SendsLess v w a []
@@ -99,7 +99,7 @@ less_of_more v w a x y some s = record {
     written = s.written;
     text_is = sym (append_assoc a x y) ∙ ap (λ (t : List ℕ). t ++ y) s.text_is ∙ append_assoc s.done s.lost y;
   };
-  missed = λ e. some (behind_none s.lost y e);
+  missed = λ e. some (after_none s.lost y e);
 }
 
 -- no reply is without bytes

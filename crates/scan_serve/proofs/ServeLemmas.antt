@@ -75,8 +75,8 @@ served_then step s t u a b c x y z held mid rest last p q = record {
     joined xs ys zs = ap (λ (l : List ReplyParts). replies_text l ++ replies_text (ys ++ zs)) (append-nil xs) ∙ sym (replies_text-append xs (ys ++ zs)) ∙ ap (λ (l : List ReplyParts). replies_text l) (sym (append_assoc xs ys zs))
 
 -- what was written before a front
-abbrev front_behind : (u v w : Option (List ℕ)) (one two all : List ℕ) → one ++ two ≡ all → Appends u v one → SendsFront v w [] two → SendsFront u w [] all
-front_behind u v w one two all e p f = record {
+abbrev front_after : (u v w : Option (List ℕ)) (one two all : List ℕ) → one ++ two ≡ all → Appends u v one → SendsFront v w [] two → SendsFront u w [] all
+front_after u v w one two all e p f = record {
   done = one ++ f.done;
   lost = f.lost;
   written = Appends-trans u v w one f.done p f.written;
@@ -99,7 +99,7 @@ served_then_front step s t a b c x y z held mid p q = record {
         ∙ ap (λ (w : List ℕ). w ++ q.answers.rest) (sym (flat_map-append request_text p.answers.requests q.answers.requests));
     run = run_then step s t q.answers.new p.answers.requests q.answers.requests p.answers.replies q.answers.replies p.answers.run q.answers.run;
     is_last = q.answers.is_last;
-    written = front_behind x y z (replies_text (p.answers.replies ++ [])) (replies_text (q.answers.replies ++ q.answers.last)) _ (joined p.answers.replies q.answers.replies q.answers.last) p.answers.written q.answers.written;
+    written = front_after x y z (replies_text (p.answers.replies ++ [])) (replies_text (q.answers.replies ++ q.answers.last)) _ (joined p.answers.replies q.answers.replies q.answers.last) p.answers.written q.answers.written;
     missed = q.answers.missed;
   };
 }

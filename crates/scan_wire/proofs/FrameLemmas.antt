@@ -25,23 +25,23 @@ pub length-frame_text : (f : FrameParts) → length (frame_text f) ≡ 9 + lengt
 length-frame_text f = omega (arith, length-append (u32_text (5 + length f.payload)) (body_of f), length-body_of f, length-u32_text (5 + length f.payload))
 
 -- a text begins with the length of the frame that it begins with
-begins_same : (text : List ℕ) (n : ℕ) (rest : List ℕ) (f : FrameParts) (after : List ℕ) → n < 2 ^ 32 → text ≡ u32_text n ++ rest → IsFrame f → text ≡ frame_text f ++ after → SameFirst n (5 + length f.payload) rest (body_of f ++ after)
-begins_same text n rest f after ln is frame e =
-    u32_same n (5 + length f.payload) rest (body_of f ++ after) ln (omega (arith, frame.payload)) (sym is ∙ e ∙ append_assoc (u32_text (5 + length f.payload)) (body_of f) after)
+begins_same : (text : List ℕ) (n : ℕ) (rest : List ℕ) (f : FrameParts) (later : List ℕ) → n < 2 ^ 32 → text ≡ u32_text n ++ rest → IsFrame f → text ≡ frame_text f ++ later → SameFirst n (5 + length f.payload) rest (body_of f ++ later)
+begins_same text n rest f later ln is frame e =
+    u32_same n (5 + length f.payload) rest (body_of f ++ later) ln (omega (arith, frame.payload)) (sym is ∙ e ∙ append_assoc (u32_text (5 + length f.payload)) (body_of f) later)
 
 -- no frame stands at the front
 abbrev pub NoFrame : List ℕ → Type 0
-NoFrame text = (f : FrameParts) (after : List ℕ) → IsFrame f → text ≢ frame_text f ++ after
+NoFrame text = (f : FrameParts) (later : List ℕ) → IsFrame f → text ≢ frame_text f ++ later
 
 -- no frame has fewer than four bytes
 none_short : (text : List ℕ) → length text < 4 → NoFrame text
-none_short text short f after frame e = omega (arith, ap length e, length-append (frame_text f) after, length-frame_text f)
+none_short text short f later frame e = omega (arith, ap length e, length-append (frame_text f) later, length-frame_text f)
 
 -- a frame with bytes missing is not whole
 none_cut : (text : List ℕ) (n : ℕ) (rest : List ℕ) → n < 2 ^ 32 → text ≡ u32_text n ++ rest → length rest < n → NoFrame text
-none_cut text n rest ln is few f after frame e =
-    let same = begins_same text n rest f after ln is frame e in
-    omega (arith, same.number, ap length same.rest, length-append (body_of f) after, length-body_of f)
+none_cut text n rest ln is few f later frame e =
+    let same = begins_same text n rest f later ln is frame e in
+    omega (arith, same.number, ap length same.rest, length-append (body_of f) later, length-body_of f)
 
 -- a text at whose front no frame stands, and no bad length, waits
 waits_from : (text : List ℕ) → NoFrame text → (HasBadLength text → ⊥) → Waits text
@@ -75,11 +75,11 @@ starts_with text n rest front f kind stream is most long front_is body =
     let len : n ≡ 5 + length f.payload = omega (arith, ap length front_is, ap length body, length-take n rest, length-body_of f) in
     let rest-is : rest ≡ body_of f ++ drop n rest = sym (take-append-drop n rest) ∙ ap (λ (x : List ℕ). x ++ drop n rest) (sym front_is ∙ body) in
     let text-is : text ≡ frame_text f ++ drop n rest = is ∙ ap (λ (x : List ℕ). u32_text n ++ x) rest-is ∙ sym (append_assoc (u32_text n) (body_of f) (drop n rest)) ∙ ap (λ (k : ℕ). (u32_text k ++ body_of f) ++ drop n rest) len in
-    let behind : drop (9 + length f.payload) text ≡ drop n rest = ap (λ (x : List ℕ). drop (9 + length f.payload) x) text-is ∙ drop_at (frame_text f) (drop n rest) (9 + length f.payload) (length-frame_text f) in
+    let after : drop (9 + length f.payload) text ≡ drop n rest = ap (λ (x : List ℕ). drop (9 + length f.payload) x) text-is ∙ drop_at (frame_text f) (drop n rest) (9 + length f.payload) (length-frame_text f) in
     record {
       is_frame = record { kind = kind; stream = stream; payload = omega (arith, len, most) };
       within = omega (arith, ap length text-is, length-append (frame_text f) (drop n rest), length-frame_text f);
-      text_is = text-is ∙ ap (λ (x : List ℕ). frame_text f ++ x) (sym behind);
+      text_is = text-is ∙ ap (λ (x : List ℕ). frame_text f ++ x) (sym after);
     }
 
 -- the frame of a request at the front is the request

@@ -36,24 +36,24 @@ rest_same x y s t sx sy e =
     sym (drop_at x s (length y) same.number) ∙ ap (λ (w : List ℕ). drop (length y) w) same.rest ∙ drop_at y t (length y) refl
 
 -- what stands after the first literals of a text that is a list of literals
-pub record Behind (xs ys : List (List ℕ)) (rest : List ℕ) : Type 0 where
+pub record After (xs ys : List (List ℕ)) (rest : List ℕ) : Type 0 where
   pub others : List (List ℕ)
   pub count : length others + length xs ≡ length ys
   pub short : All IsShort others
   pub rest_is : rest ≡ flat_map literal_text others
 
-pub behind : (xs ys : List (List ℕ)) (rest : List ℕ) → All IsShort xs → All IsShort ys → length xs ≤ length ys → flat_map literal_text xs ++ rest ≡ flat_map literal_text ys → Behind xs ys rest
-behind [] ys rest sx sy le e = record { others = ys; count = omega arith; short = sy; rest_is = e }
-behind (x ∷ xs) [] rest sx sy le e = absurd (omega arith)
-behind (x ∷ xs) (y ∷ ys) rest sx sy le e =
+pub after : (xs ys : List (List ℕ)) (rest : List ℕ) → All IsShort xs → All IsShort ys → length xs ≤ length ys → flat_map literal_text xs ++ rest ≡ flat_map literal_text ys → After xs ys rest
+after [] ys rest sx sy le e = record { others = ys; count = omega arith; short = sy; rest_is = e }
+after (x ∷ xs) [] rest sx sy le e = absurd (omega arith)
+after (x ∷ xs) (y ∷ ys) rest sx sy le e =
     let next = rest_same x y (flat_map literal_text xs ++ rest) (flat_map literal_text ys) (All-head IsShort x xs sx) (All-head IsShort y ys sy) (sym (append_assoc (literal_text x) (flat_map literal_text xs) rest) ∙ e) in
-    let b = behind xs ys rest (All-tail IsShort x xs sx) (All-tail IsShort y ys sy) (omega arith) next in
+    let b = after xs ys rest (All-tail IsShort x xs sx) (All-tail IsShort y ys sy) (omega arith) next in
     record { others = b.others; count = omega (arith, b.count); short = b.short; rest_is = b.rest_is }
 
 -- where the next literal is missing, there is no such list
 pub no_next : (count : ℕ) (bytes : List ℕ) (xs : List (List ℕ)) (rest : List ℕ) → All IsShort xs → length xs < count → bytes ≡ flat_map literal_text xs ++ rest → NoLiteral rest → NoLiterals count bytes
 no_next count bytes xs rest sx lt e none ys are =
-    let b = behind xs ys rest sx are.are_literals.lengths (omega (arith, are.count_is)) (sym e ∙ are.text_is) in
+    let b = after xs ys rest sx are.are_literals.lengths (omega (arith, are.count_is)) (sym e ∙ are.text_is) in
     no_next_of b.others rest (omega (arith, b.count, are.count_is)) b.short b.rest_is none
   where
     no_next_of : (zs : List (List ℕ)) (text : List ℕ) → 0 < length zs → All IsShort zs → text ≡ flat_map literal_text zs → NoLiteral text → ⊥
@@ -63,7 +63,7 @@ no_next count bytes xs rest sx lt e none ys are =
 -- where bytes follow the last literal, there is no such list
 pub no_more : (count : ℕ) (bytes : List ℕ) (xs : List (List ℕ)) (rest : List ℕ) → All IsShort xs → length xs ≡ count → bytes ≡ flat_map literal_text xs ++ rest → rest ≢ [] → NoLiterals count bytes
 no_more count bytes xs rest sx len e some ys are =
-    let b = behind xs ys rest sx are.are_literals.lengths (omega (arith, are.count_is)) (sym e ∙ are.text_is) in
+    let b = after xs ys rest sx are.are_literals.lengths (omega (arith, are.count_is)) (sym e ∙ are.text_is) in
     some (b.rest_is ∙ none_of b.others (omega (arith, b.count, are.count_is)))
   where
     none_of : (zs : List (List ℕ)) → length zs ≡ 0 → flat_map literal_text zs ≡ []
@@ -71,9 +71,9 @@ no_more count bytes xs rest sx len e some ys are =
     none_of (z ∷ zs) h = absurd (omega arith)
 
 -- one more literal
-pub one_more : (bytes : List ℕ) (xs : List (List ℕ)) (x rest after : List ℕ) → bytes ≡ flat_map literal_text xs ++ rest → rest ≡ literal_text x ++ after → bytes ≡ flat_map literal_text (xs ++ x ∷ []) ++ after
-one_more bytes xs x rest after e n =
-    e ∙ ap (λ (w : List ℕ). flat_map literal_text xs ++ w) n ∙ sym (append_assoc (flat_map literal_text xs) (literal_text x) after) ∙ ap (λ (w : List ℕ). w ++ after) (sym (pushed xs))
+pub one_more : (bytes : List ℕ) (xs : List (List ℕ)) (x rest later : List ℕ) → bytes ≡ flat_map literal_text xs ++ rest → rest ≡ literal_text x ++ later → bytes ≡ flat_map literal_text (xs ++ x ∷ []) ++ later
+one_more bytes xs x rest later e n =
+    e ∙ ap (λ (w : List ℕ). flat_map literal_text xs ++ w) n ∙ sym (append_assoc (flat_map literal_text xs) (literal_text x) later) ∙ ap (λ (w : List ℕ). w ++ later) (sym (pushed xs))
   where
     pushed : (zs : List (List ℕ)) → flat_map literal_text (zs ++ x ∷ []) ≡ flat_map literal_text zs ++ literal_text x
     pushed [] = append-nil (literal_text x)
@@ -86,11 +86,11 @@ pub record SoFar (count : ℕ) (bytes : List ℕ) (xs : List (List ℕ)) (rest :
   pub text_is : bytes ≡ flat_map literal_text xs ++ rest
 
 -- one more is read
-pub so_far_more : (count : ℕ) (bytes : List ℕ) (xs ys : List (List ℕ)) (x rest after : List ℕ) → SoFar count bytes xs rest → IsShort x → rest ≡ literal_text x ++ after → ys ≡ xs ++ x ∷ [] → SoFar (count + 1) bytes ys after
-so_far_more count bytes xs ys x rest after s short n is = record {
+pub so_far_more : (count : ℕ) (bytes : List ℕ) (xs ys : List (List ℕ)) (x rest later : List ℕ) → SoFar count bytes xs rest → IsShort x → rest ≡ literal_text x ++ later → ys ≡ xs ++ x ∷ [] → SoFar (count + 1) bytes ys later
+so_far_more count bytes xs ys x rest later s short n is = record {
   count_is = omega (arith, s.count_is, ap length is, length-append xs (x ∷ []));
   short = subst (λ (w : List (List ℕ)). All IsShort w) (sym is) (All-push IsShort xs x s.short short);
-  text_is = one_more bytes xs x rest after s.text_is n ∙ ap (λ (w : List (List ℕ)). flat_map literal_text w ++ after) (sym is);
+  text_is = one_more bytes xs x rest later s.text_is n ∙ ap (λ (w : List (List ℕ)). flat_map literal_text w ++ later) (sym is);
 }
 
 -- all are read, and nothing follows

@@ -180,7 +180,7 @@ static STOPPED: [Turn; 3] = [
 ];
 
 #[test]
-fn lends_nothing_after_a_stop(rt: HostRuntime) -> Result<(), Fail> {
+fn emits_nothing_after_a_stop(rt: HostRuntime) -> Result<(), Fail> {
     let wrong = first_wrong_of(rt.alloc(), b"a", PARTS, Mood::StopsAt(3), &STOPPED)?;
     assert_eq!(rt; wrong, None);
     Ok(())

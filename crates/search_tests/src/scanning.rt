@@ -218,7 +218,7 @@ fn carries_the_longest_literal_byte_by_byte(rt: HostRuntime) {
 }
 
 #[test]
-fn gives_each_end_once_over_many_seams(rt: HostRuntime) {
+fn gives_each_end_once_over_many_boundaries(rt: HostRuntime) {
     assert_eq!(rt; count_in_letters(rt.alloc(), b"aa", 100_000), Some(99_999));
 }
 

@@ -461,7 +461,7 @@ fn writes_a_plan_of_sixteen_buckets(rt: HostRuntime) -> Result<(), Fail> {
 }
 
 /// The Hits of one hit and a Closed, after a byte.
-fn replies_behind_a_byte(alloc: Global) -> Result<Vec<u8>, Fault> {
+fn replies_after_a_byte(alloc: Global) -> Result<Vec<u8>, Fault> {
     let mut out = vec![in alloc; 9u8]?;
     append_hits(&mut out, 7, &[Hit { lit: 0, end_at: 6 }])?;
     append_reply(&mut out, &Reply::Closed { stream: 7 })?;
@@ -469,12 +469,12 @@ fn replies_behind_a_byte(alloc: Global) -> Result<Vec<u8>, Fault> {
 }
 
 #[test]
-fn appends_behind_what_is_there(rt: HostRuntime) -> Result<(), Fail> {
+fn appends_after_what_is_there(rt: HostRuntime) -> Result<(), Fail> {
     let text = [
         9, 0, 0, 0, 17, 0x13, 0, 0, 0, 7, 0, 1, 0, 0, 0, 0, 0, 0, 0, 0, 0, 6, 0, 0, 0, 5, 0x15, 0,
         0, 0, 7,
     ];
-    assert!(rt; replies_behind_a_byte(rt.alloc())?.as_slice() == text.as_slice());
+    assert!(rt; replies_after_a_byte(rt.alloc())?.as_slice() == text.as_slice());
     Ok(())
 }
 

@@ -22,13 +22,13 @@ use Rattle.lit_base.specs.Literals.{Literals, literal_at}
 use Rattle.lit_base.specs.Occurrences.{HasEnd, IsFirstEnding, NoneEnds, Occurs}
 use Rattle.list_index.specs.Suffixes.{case_bits, hash_of, last_bits, spelled, suffix_key}
 use Rattle.list_index.proofs.SuffixLemmas.{AreBytes, drop-range, key-occurs, key-occurs_inside, masked, range_bytes, spelled-drop, spelled_fits, zeros_bytes}
-use Rattle.shift_search.specs.Looks.{AreLooks, IsVerified}
+use Rattle.shift_search.specs.Probes.{AreProbes, IsVerified}
 use Rattle.lit_base.specs.NextEnds.{Finds, IsFirstFound, NoEndUpTo}
 use Rattle.shift_search.specs.ShiftOr.{AreConfirmsOf, AreEntriesOf, Bucketing, LetThrough, NoneOf, RulesOut, RulesOutWords, bucket_at, last_number_at, number_at, pair_case_bits}
 use Rattle.shift_search.specs.declared.confirming.Confirms.{Confirms}
 use Rattle.shift_search.specs.declared.confirming.TheConstants.{CONFIRM_BITS}
 use Rattle.shift_search.specs.declared.entries.TheConstants.{ENTRIES}
-use Rattle.shift_search.specs.declared.looks.Looks.{Looks}
+use Rattle.shift_search.specs.declared.probes.Probes.{Probes}
 
 -- there are eight buckets
 pub few_buckets : (buckets : List ℕ) (place : ℕ) → bucket_at buckets place < 8
@@ -60,15 +60,15 @@ ruled_here b text at further word close rules place ahead near occurs =
     let small : bit < 64 = omega (arith, near, few_buckets b.buckets place) in
     elim (cases_lt ahead further) [
       | inl before ↦ moved_low word (8 * further) bit small (omega (arith, before, few_buckets b.buckets place))
-      | inr behind ↦
-          let back : bit - 8 * further ≡ 8 * (ahead - further) + bucket = omega (arith, behind) in
-          let there : at + ahead ≡ at + further + (ahead - further) = omega (arith, behind) in
-          moved_high word (8 * further) bit small (omega (arith, behind)) ∙ ap (bit_at word) back ∙ rules place (ahead - further) (omega (arith, near)) (subst (Occurs b.literals text place) there occurs)
+      | inr after ↦
+          let back : bit - 8 * further ≡ 8 * (ahead - further) + bucket = omega (arith, after) in
+          let there : at + ahead ≡ at + further + (ahead - further) = omega (arith, after) in
+          moved_high word (8 * further) bit small (omega (arith, after)) ∙ ap (bit_at word) back ∙ rules place (ahead - further) (omega (arith, near)) (subst (Occurs b.literals text place) there occurs)
     ]
 
 -- and the bytes shifted past its last byte rule out ends from eight positions further on
-pub ruled_behind : (b : Bucketing) (text : List ℕ) (at further word : ℕ) → further < 8 → word < 2 ^ 64 → RulesOut b text (at + further) word → RulesOut b text (at + 8) (word / 2 ^ (64 - 8 * further))
-ruled_behind b text at further word close fits rules place ahead near occurs =
+pub ruled_after : (b : Bucketing) (text : List ℕ) (at further word : ℕ) → further < 8 → word < 2 ^ 64 → RulesOut b text (at + further) word → RulesOut b text (at + 8) (word / 2 ^ (64 - 8 * further))
+ruled_after b text at further word close fits rules place ahead near occurs =
     let bucket : ℕ = bucket_at b.buckets place in
     let count : ℕ = 64 - 8 * further in
     let bit : ℕ = 8 * ahead + bucket in
@@ -97,23 +97,23 @@ words_here b text at further words moved close is rules i four =
     subst (RulesOut b text (at + 8 * i)) (sym (is i four)) (ruled_here b text (at + 8 * i) further (slice_index words i) close (subst (λ p. RulesOut b text p (slice_index words i)) there (rules i four)))
 
 -- and after these positions
-pub words_behind : (b : Bucketing) (text : List ℕ) (at further : ℕ) (words moved : List ℕ) → further < 8 → ((i : ℕ) → i < 4 → slice_index words i < 2 ^ 64) → ((i : ℕ) → i < 4 → slice_index moved i ≡ slice_index words i / 2 ^ (64 - 8 * further)) → RulesOutWords b text (at + further) words → RulesOutWords b text (at + 8) moved
-words_behind b text at further words moved close fits is rules i four =
+pub words_after : (b : Bucketing) (text : List ℕ) (at further : ℕ) (words moved : List ℕ) → further < 8 → ((i : ℕ) → i < 4 → slice_index words i < 2 ^ 64) → ((i : ℕ) → i < 4 → slice_index moved i ≡ slice_index words i / 2 ^ (64 - 8 * further)) → RulesOutWords b text (at + further) words → RulesOutWords b text (at + 8) moved
+words_after b text at further words moved close fits is rules i four =
     let there : at + further + 8 * i ≡ at + 8 * i + further = omega arith in
     let eight : at + 8 * i + 8 ≡ at + 8 + 8 * i = omega arith in
     subst (RulesOut b text (at + 8 + 8 * i)) (sym (is i four)) (subst (λ p. RulesOut b text p (slice_index words i / 2 ^ (64 - 8 * further))) eight
-    (ruled_behind b text (at + 8 * i) further (slice_index words i) close (fits i four) (subst (λ p. RulesOut b text p (slice_index words i)) there (rules i four))))
+    (ruled_after b text (at + 8 * i) further (slice_index words i) close (fits i four) (subst (λ p. RulesOut b text p (slice_index words i)) there (rules i four))))
 
 -- four words rule out ends after their positions: each at the positions of the next word, and the last of four earlier words at the positions of the first
-pub words_next : (b : Bucketing) (text : List ℕ) (at : ℕ) (before behind next : List ℕ) → slice_index next 0 ≡ slice_index before 3 → ((i : ℕ) → i < 3 → slice_index next (i + 1) ≡ slice_index behind i) → RulesOut b text at (slice_index before 3) → RulesOutWords b text (at + 8) behind → RulesOutWords b text at next
-words_next b text at before behind next first others rules later zero four =
+pub words_next : (b : Bucketing) (text : List ℕ) (at : ℕ) (before after next : List ℕ) → slice_index next 0 ≡ slice_index before 3 → ((i : ℕ) → i < 3 → slice_index next (i + 1) ≡ slice_index after i) → RulesOut b text at (slice_index before 3) → RulesOutWords b text (at + 8) after → RulesOutWords b text at next
+words_next b text at before after next first others rules later zero four =
     let here : at ≡ at + 8 * 0 = omega arith in
     subst (λ p. RulesOut b text p (slice_index next 0)) here (subst (RulesOut b text at) (sym first) rules)
-words_next b text at before behind next first others rules later (suc i) four =
+words_next b text at before after next first others rules later (suc i) four =
     let there : at + 8 + 8 * i ≡ at + 8 * suc i = omega arith in
     let place : i + 1 ≡ suc i = omega arith in
-    let is : slice_index next (suc i) ≡ slice_index behind i = ap (slice_index next) (sym place) ∙ others i (omega (arith, four)) in
-    subst (RulesOut b text (at + 8 * suc i)) (sym is) (subst (λ p. RulesOut b text p (slice_index behind i)) there (later i (omega (arith, four))))
+    let is : slice_index next (suc i) ≡ slice_index after i = ap (slice_index next) (sym place) ∙ others i (omega (arith, four)) in
+    subst (RulesOut b text (at + 8 * suc i)) (sym is) (subst (λ p. RulesOut b text p (slice_index after i)) there (later i (omega (arith, four))))
 
 -- four words that rule out ends from positions eight apart
 pub words_of : (b : Bucketing) (text : List ℕ) (at first second third fourth : ℕ) → RulesOut b text at first → RulesOut b text (at + 8) second → RulesOut b text (at + 16) third → RulesOut b text (at + 24) fourth → RulesOutWords b text at (first ∷ second ∷ third ∷ fourth ∷ [])
@@ -128,26 +128,26 @@ pub word_fits : (words : List ℕ) → length words ≡ 4 → Each1 (Fits w64) w
 word_fits words long fits i four = Fits-lt-pow (Each1-get_or (Fits w64) words i 0 (omega (arith, long, four)) fits)
 
 -- four words, then one more
-abbrev pub with_one_behind : List ℕ → ℕ → List ℕ
-with_one_behind words behind = slice_index words 0 ∷ slice_index words 1 ∷ slice_index words 2 ∷ slice_index words 3 ∷ behind ∷ []
+abbrev pub with_one_after : List ℕ → ℕ → List ℕ
+with_one_after words after = slice_index words 0 ∷ slice_index words 1 ∷ slice_index words 2 ∷ slice_index words 3 ∷ after ∷ []
 
 -- they rule out ends from positions eight apart
-five_words : (b : Bucketing) (text : List ℕ) (at behind : ℕ) (words : List ℕ) → RulesOutWords b text at words → RulesOut b text (at + 32) behind → (i : ℕ) → i ≤ 4
-    → RulesOut b text (at + 8 * i) (slice_index (with_one_behind words behind) i)
-five_words b text at behind words rules last zero upto = rules 0 (omega arith)
-five_words b text at behind words rules last (suc zero) upto = rules 1 (omega arith)
-five_words b text at behind words rules last (suc (suc zero)) upto = rules 2 (omega arith)
-five_words b text at behind words rules last (suc (suc (suc zero))) upto = rules 3 (omega arith)
-five_words b text at behind words rules last (suc (suc (suc (suc zero)))) upto = last
-five_words b text at behind words rules last (suc (suc (suc (suc (suc i))))) upto = absurd (omega (arith, upto))
+five_words : (b : Bucketing) (text : List ℕ) (at after : ℕ) (words : List ℕ) → RulesOutWords b text at words → RulesOut b text (at + 32) after → (i : ℕ) → i ≤ 4
+    → RulesOut b text (at + 8 * i) (slice_index (with_one_after words after) i)
+five_words b text at after words rules last zero upto = rules 0 (omega arith)
+five_words b text at after words rules last (suc zero) upto = rules 1 (omega arith)
+five_words b text at after words rules last (suc (suc zero)) upto = rules 2 (omega arith)
+five_words b text at after words rules last (suc (suc (suc zero))) upto = rules 3 (omega arith)
+five_words b text at after words rules last (suc (suc (suc (suc zero)))) upto = last
+five_words b text at after words rules last (suc (suc (suc (suc (suc i))))) upto = absurd (omega (arith, upto))
 
 -- and the first four of the five fit in 64 bits if they do as four
-few_of_five : (words : List ℕ) (behind : ℕ) → ((i : ℕ) → i < 4 → slice_index words i < 2 ^ 64) → (i : ℕ) → i < 4 → slice_index (with_one_behind words behind) i < 2 ^ 64
-few_of_five words behind fits zero below = fits 0 below
-few_of_five words behind fits (suc zero) below = fits 1 below
-few_of_five words behind fits (suc (suc zero)) below = fits 2 below
-few_of_five words behind fits (suc (suc (suc zero))) below = fits 3 below
-few_of_five words behind fits (suc (suc (suc (suc i)))) below = absurd (omega (arith, below))
+few_of_five : (words : List ℕ) (after : ℕ) → ((i : ℕ) → i < 4 → slice_index words i < 2 ^ 64) → (i : ℕ) → i < 4 → slice_index (with_one_after words after) i < 2 ^ 64
+few_of_five words after fits zero below = fits 0 below
+few_of_five words after fits (suc zero) below = fits 1 below
+few_of_five words after fits (suc (suc zero)) below = fits 2 below
+few_of_five words after fits (suc (suc (suc zero))) below = fits 3 below
+few_of_five words after fits (suc (suc (suc (suc i)))) below = absurd (omega (arith, below))
 
 -- a bit of a number of four bits
 pub low_of_four : (n low : ℕ) → n < 16 → bit_at n low ≡ 1 → low < 4
@@ -158,18 +158,18 @@ low_of_four n low small set = elim (cases_lt low 4) [
 
 -- where a word has all its bits, nothing ends at its positions
 pub none_of_word : (b : Bucketing) (text : List ℕ) (at word : ℕ) → 8 ≤ at → RulesOut b text at word → word ≡ 2 ^ 64 - 1 → NoEndUpTo b.literals text (at - 1) (at + 7)
-none_of_word b text at word some rules full end after within here =
+none_of_word b text at word some rules full end beyond within here =
     let ahead : ℕ = end - at in
-    let near : ahead < 8 = omega (arith, within, after, some) in
-    let there : end ≡ at + ahead = omega (arith, after, some) in
+    let near : ahead < 8 = omega (arith, within, beyond, some) in
+    let there : end ≡ at + ahead = omega (arith, beyond, some) in
     let bit : ℕ = 8 * ahead + bucket_at b.buckets here.0 in
     let unset : bit_at (2 ^ 64 - 1) bit ≡ 0 = ap (λ w. bit_at w bit) (sym full) ∙ rules here.0 ahead near (subst (Occurs b.literals text here.0) there here.1) in
     absurd (omega (arith, unset, bit_at_ones 64 bit (omega (arith, near, few_buckets b.buckets here.0))))
 
 -- where nothing ends at the positions of the first words, nothing ends up to the next word
 pub none_of_words : (l : Literals) (text : List ℕ) (from at count : ℕ) → 8 ≤ at → NoEndUpTo l text from (at - 1) → ((i : ℕ) → i < count → NoEndUpTo l text (at + 8 * i - 1) (at + 8 * i + 7)) → NoEndUpTo l text from (at + 8 * count - 1)
-none_of_words l text from at count some before none end after within here = elim (cases_lt end at) [
-  | inl upto ↦ before end after (omega (arith, upto)) here
+none_of_words l text from at count some before none end beyond within here = elim (cases_lt end at) [
+  | inl upto ↦ before end beyond (omega (arith, upto)) here
   | inr past ↦
       let i : ℕ = (end - at) / 8 in
       none i (omega (arith, within, past)) end (omega (arith, past, some)) (omega (arith, past)) here
@@ -177,9 +177,9 @@ none_of_words l text from at count some before none end after within here = elim
 
 -- where four words have all their bits, nothing ends at their positions
 pub none_of_group : (b : Bucketing) (text : List ℕ) (at : ℕ) (words : List ℕ) → 8 ≤ at → RulesOutWords b text at words → ((i : ℕ) → i < 4 → slice_index words i ≡ 2 ^ 64 - 1) → NoEndUpTo b.literals text (at - 1) (at + 31)
-none_of_group b text at words some rules full end after within =
+none_of_group b text at words some rules full end beyond within =
     none_of_words b.literals text (at - 1) at 4 some (λ other past upto. absurd (omega (arith, past, upto)))
-    (λ i below. none_of_word b text (at + 8 * i) (slice_index words i) (omega (arith, some)) (rules i below) (full i below)) end after (omega (arith, within))
+    (λ i below. none_of_word b text (at + 8 * i) (slice_index words i) (omega (arith, some)) (rules i below) (full i below)) end beyond (omega (arith, within))
 
 -- the bits that a word lacks stand for the ends that it does not rule out
 pub all_unruled : (b : Bucketing) (text : List ℕ) (at word : ℕ) → word < 2 ^ 64 → RulesOut b text at word → (place ahead : ℕ) → ahead < 8 → Occurs b.literals text place (at + ahead) → bit_at (bit_not w64 word) (8 * ahead + bucket_at b.buckets place) ≡ 1
@@ -188,17 +188,17 @@ all_unruled b text at word fits rules place ahead near occurs =
     omega (arith, bit_at_not w64 word bit fits (omega (arith, near, few_buckets b.buckets place)), rules place ahead near occurs)
 
 -- the bits that remain of a state: each for a literal that ends there, and no others than before
-pub record AreLeft (b : Bucketing) (text : List ℕ) (looks : Looks) (unruled : ℕ) : Type 0 where
-  pub kept : (place ahead : ℕ) → ahead < 8 → Occurs b.literals text place (looks.at + ahead) → bit_at looks.unruled (8 * ahead + bucket_at b.buckets place) ≡ 1 → bit_at unruled (8 * ahead + bucket_at b.buckets place) ≡ 1
-  pub less : (bit : ℕ) → bit_at unruled bit ≡ 1 → bit_at looks.unruled bit ≡ 1
+pub record AreLeft (b : Bucketing) (text : List ℕ) (probes : Probes) (unruled : ℕ) : Type 0 where
+  pub kept : (place ahead : ℕ) → ahead < 8 → Occurs b.literals text place (probes.at + ahead) → bit_at probes.unruled (8 * ahead + bucket_at b.buckets place) ≡ 1 → bit_at unruled (8 * ahead + bucket_at b.buckets place) ≡ 1
+  pub less : (bit : ℕ) → bit_at unruled bit ≡ 1 → bit_at probes.unruled bit ≡ 1
 
 -- all of them are at first
-pub all_left : (b : Bucketing) (text : List ℕ) (looks : Looks) → AreLeft b text looks looks.unruled
-all_left b text looks = record { kept = λ place ahead near occurs set. set; less = λ bit set. set }
+pub all_left : (b : Bucketing) (text : List ℕ) (probes : Probes) → AreLeft b text probes probes.unruled
+all_left b text probes = record { kept = λ place ahead near occurs set. set; less = λ bit set. set }
 
 -- where no literal of the lowest bit's bucket ends at its position, the other bits remain
-pub others_left : (b : Bucketing) (text : List ℕ) (looks : Looks) (unruled low rest : ℕ) → AreLeft b text looks unruled → SplitsLowest unruled low rest → NoneOf b text (low % 8) (looks.at + low / 8) → AreLeft b text looks rest
-others_left b text looks unruled low rest are split none = record {
+pub others_left : (b : Bucketing) (text : List ℕ) (probes : Probes) (unruled low rest : ℕ) → AreLeft b text probes unruled → SplitsLowest unruled low rest → NoneOf b text (low % 8) (probes.at + low / 8) → AreLeft b text probes rest
+others_left b text probes unruled low rest are split none = record {
   kept = λ place ahead near occurs had.
       let bit : ℕ = 8 * ahead + bucket_at b.buckets place in
       let set : bit_at unruled bit ≡ 1 = are.kept place ahead near occurs had in
@@ -208,7 +208,7 @@ others_left b text looks unruled low rest are split none = record {
           | inl below ↦ absurd (omega (arith, split.lowest bit below, set))
           | inr from ↦
               let same : bucket_at b.buckets place ≡ low % 8 = omega (arith, upto, from, few_buckets b.buckets place) in
-              let there : looks.at + ahead ≡ looks.at + low / 8 = omega (arith, upto, from, few_buckets b.buckets place) in
+              let there : probes.at + ahead ≡ probes.at + low / 8 = omega (arith, upto, from, few_buckets b.buckets place) in
               absurd (none place same (subst (Occurs b.literals text place) there occurs))
         ]
       ];
@@ -216,42 +216,42 @@ others_left b text looks unruled low rest are split none = record {
 }
 
 -- an end of a literal among the eight positions has a remaining bit
-left_at : (b : Bucketing) (text : List ℕ) (from end : ℕ) (looks : Looks) (unruled : ℕ) → AreLooks b text from looks → AreLeft b text looks unruled → from < end → looks.at ≤ end → end ≤ looks.at + 7
-    → (here : HasEnd b.literals text end) → bit_at unruled (8 * (end - looks.at) + bucket_at b.buckets here.0) ≡ 1
-left_at b text from end looks unruled are left after behind within here =
-    let ahead : ℕ = end - looks.at in
-    let there : end ≡ looks.at + ahead = omega (arith, behind) in
+left_at : (b : Bucketing) (text : List ℕ) (from end : ℕ) (probes : Probes) (unruled : ℕ) → AreProbes b text from probes → AreLeft b text probes unruled → from < end → probes.at ≤ end → end ≤ probes.at + 7
+    → (here : HasEnd b.literals text end) → bit_at unruled (8 * (end - probes.at) + bucket_at b.buckets here.0) ≡ 1
+left_at b text from end probes unruled are left beyond after within here =
+    let ahead : ℕ = end - probes.at in
+    let there : end ≡ probes.at + ahead = omega (arith, after) in
     let occurs = subst (Occurs b.literals text here.0) there here.1 in
-    let near : ahead < 8 = omega (arith, within, behind) in
-    left.kept here.0 ahead near occurs (are.unruled here.0 ahead near (omega (arith, after, there)) occurs)
+    let near : ahead < 8 = omega (arith, within, after) in
+    left.kept here.0 ahead near occurs (are.unruled here.0 ahead near (omega (arith, beyond, there)) occurs)
 
 -- where no bit remains, nothing ends after a position and among the eight
-pub none_left : (b : Bucketing) (text : List ℕ) (from : ℕ) (looks : Looks) (unruled : ℕ) → AreLooks b text from looks → AreLeft b text looks unruled → unruled ≡ 0 → NoEndUpTo b.literals text from (looks.at + 7)
-none_left b text from looks unruled are left none end after within here = elim (cases_lt end looks.at) [
-  | inl before ↦ are.none end after (omega (arith, before)) here
-  | inr behind ↦
-      let bit : ℕ = 8 * (end - looks.at) + bucket_at b.buckets here.0 in
-      absurd (omega (arith, left_at b text from end looks unruled are left after behind within here, ap (λ w. bit_at w bit) none, bit_at-zero bit))
+pub none_left : (b : Bucketing) (text : List ℕ) (from : ℕ) (probes : Probes) (unruled : ℕ) → AreProbes b text from probes → AreLeft b text probes unruled → unruled ≡ 0 → NoEndUpTo b.literals text from (probes.at + 7)
+none_left b text from probes unruled are left none end beyond within here = elim (cases_lt end probes.at) [
+  | inl before ↦ are.none end beyond (omega (arith, before)) here
+  | inr after ↦
+      let bit : ℕ = 8 * (end - probes.at) + bucket_at b.buckets here.0 in
+      absurd (omega (arith, left_at b text from end probes unruled are left beyond after within here, ap (λ w. bit_at w bit) none, bit_at-zero bit))
 ]
 
 -- the first literal that ends at the position of the lowest bit is the first found, and the later bits are the state of a search after it
-pub lowest_verified : (b : Bucketing) (text : List ℕ) (from : ℕ) (looks : Looks) (unruled low rest behind first : ℕ) → looks.at + 7 ≤ length text → AreLooks b text from looks → AreLeft b text looks unruled → SplitsLowest unruled low rest
-    → ((k : ℕ) → (bit_at behind k ≡ 1) ↔ ((8 * (low / 8) + 8 ≤ k) × (bit_at rest k ≡ 1))) → IsFirstEnding b.literals text 0 (looks.at + low / 8) first
-    → IsVerified b text from (record { end = looks.at + low / 8; first = first; looks = record { at = looks.at; unruled = behind; carried = looks.carried } })
-lowest_verified b text from looks unruled low rest behind first inside are left split further ending =
-    let after : from < looks.at + low / 8 = are.later low (left.less low split.set) in record {
+pub lowest_verified : (b : Bucketing) (text : List ℕ) (from : ℕ) (probes : Probes) (unruled low rest after first : ℕ) → probes.at + 7 ≤ length text → AreProbes b text from probes → AreLeft b text probes unruled → SplitsLowest unruled low rest
+    → ((k : ℕ) → (bit_at after k ≡ 1) ↔ ((8 * (low / 8) + 8 ≤ k) × (bit_at rest k ≡ 1))) → IsFirstEnding b.literals text 0 (probes.at + low / 8) first
+    → IsVerified b text from (record { end = probes.at + low / 8; first = first; probes = record { at = probes.at; unruled = after; carried = probes.carried } })
+lowest_verified b text from probes unruled low rest after first inside are left split further ending =
+    let beyond : from < probes.at + low / 8 = are.later low (left.less low split.set) in record {
       first = record {
-        after = after;
-        none = λ other past sooner here. elim (cases_lt other looks.at) [
+        after = beyond;
+        none = λ other past sooner here. elim (cases_lt other probes.at) [
           | inl before ↦ are.none other past (omega (arith, before)) here
           | inr there ↦
-              let bit : ℕ = 8 * (other - looks.at) + bucket_at b.buckets here.0 in
-              let set = left_at b text from other looks unruled are left past there (omega (arith, sooner, split.small)) here in
+              let bit : ℕ = 8 * (other - probes.at) + bucket_at b.buckets here.0 in
+              let set = left_at b text from other probes unruled are left past there (omega (arith, sooner, split.small)) here in
               absurd (omega (arith, split.lowest bit (omega (arith, sooner, there, few_buckets b.buckets here.0)), set))
         ];
         first = ending;
       };
-      looks = record {
+      probes = record {
         some = are.some;
         near = omega (arith, split.small);
         inside = λ _. inside;
@@ -261,7 +261,7 @@ lowest_verified b text from looks unruled low rest behind first inside are left 
         unruled = λ place ahead near past occurs.
             let bit : ℕ = 8 * ahead + bucket_at b.buckets place in
             let high : 8 * (low / 8) + 8 ≤ bit = omega (arith, past) in
-            let set = left.kept place ahead near occurs (are.unruled place ahead near (omega (arith, past, after)) occurs) in
+            let set = left.kept place ahead near occurs (are.unruled place ahead near (omega (arith, past, beyond)) occurs) in
             (further bit).1 (high, (split.others bit).1 (omega (arith, high), set));
         carried = are.carried;
       };
@@ -269,12 +269,12 @@ lowest_verified b text from looks unruled low rest behind first inside are left 
 
 -- where nothing ends up to a position, and nothing from an earlier one up to another, nothing ends up to this last one
 pub none_joined : (l : Literals) (text : List ℕ) (from at start last : ℕ) → start ≤ at → NoEndUpTo l text from at → NoEndUpTo l text start last → NoEndUpTo l text from last
-none_joined l text from at start last near before behind end after within here = elim (cases_lt at end) [ inl later ↦ behind end (omega (arith, near, later)) within here | inr sooner ↦ before end after sooner here ]
+none_joined l text from at start last near before after end beyond within here = elim (cases_lt at end) [ inl later ↦ after end (omega (arith, near, later)) within here | inr sooner ↦ before end beyond sooner here ]
 
 -- the ends that are not ruled out at eight positions are the state of a search after any position before them, if nothing ends up to the first of the eight
-pub looks_here : (b : Bucketing) (text : List ℕ) (from start at ruled carried : ℕ) → from ≤ start → start < at → 8 ≤ at → at + 7 ≤ length text → ruled < 2 ^ 64 → NoEndUpTo b.literals text from (at - 1) → RulesOut b text at ruled → RulesOut b text (at + 8) carried
-    → AreLooks b text start (record { at = at; unruled = bit_not w64 ruled; carried = carried })
-looks_here b text from start at ruled carried ahead near some inside fits none rules behind = record {
+pub probes_here : (b : Bucketing) (text : List ℕ) (from start at ruled carried : ℕ) → from ≤ start → start < at → 8 ≤ at → at + 7 ≤ length text → ruled < 2 ^ 64 → NoEndUpTo b.literals text from (at - 1) → RulesOut b text at ruled → RulesOut b text (at + 8) carried
+    → AreProbes b text start (record { at = at; unruled = bit_not w64 ruled; carried = carried })
+probes_here b text from start at ruled carried ahead near some inside fits none rules after = record {
   some = some;
   near = omega (arith, near);
   inside = λ _. inside;
@@ -282,44 +282,44 @@ looks_here b text from start at ruled carried ahead near some inside fits none r
   later = λ bit _. omega (arith, near);
   none = λ end past within. none end (omega (arith, past, ahead)) within;
   unruled = λ place further close _ occurs. all_unruled b text at ruled fits rules place further close occurs;
-  carried = behind;
+  carried = after;
 }
 
 -- so are the ends at the eight positions of one of four words, with the next word for the ends ruled out after it
-pub looks_of_word : (b : Bucketing) (text : List ℕ) (start at behind : ℕ) (words : List ℕ) (word : ℕ) → start < at + 8 * word → 8 ≤ at → at + 31 ≤ length text → length words ≡ 4 → Each1 (Fits w64) words → word < 4
-    → RulesOutWords b text at words → RulesOut b text (at + 32) behind → NoEndUpTo b.literals text start (at + 8 * word - 1)
-    → AreLooks b text start (record { at = at + 8 * word; unruled = bit_not w64 (slice_index (with_one_behind words behind) word); carried = slice_index (with_one_behind words behind) (word + 1) })
-looks_of_word b text start at behind words word before some inside long fits four rules last none =
+pub probes_of_word : (b : Bucketing) (text : List ℕ) (start at after : ℕ) (words : List ℕ) (word : ℕ) → start < at + 8 * word → 8 ≤ at → at + 31 ≤ length text → length words ≡ 4 → Each1 (Fits w64) words → word < 4
+    → RulesOutWords b text at words → RulesOut b text (at + 32) after → NoEndUpTo b.literals text start (at + 8 * word - 1)
+    → AreProbes b text start (record { at = at + 8 * word; unruled = bit_not w64 (slice_index (with_one_after words after) word); carried = slice_index (with_one_after words after) (word + 1) })
+probes_of_word b text start at after words word before some inside long fits four rules last none =
     let here : ℕ = at + 8 * word in
-    let all : List ℕ = with_one_behind words behind in
+    let all : List ℕ = with_one_after words after in
     let next : at + 8 * (word + 1) ≡ here + 8 = omega arith in
-    looks_here b text start start here (slice_index all word) (slice_index all (word + 1)) (omega arith) (omega (arith, before)) (omega (arith, some)) (omega (arith, inside, four))
-    (few_of_five words behind (word_fits words long fits) word four) none
-    (five_words b text at behind words rules last word (omega (arith, four))) (subst (λ p. RulesOut b text p (slice_index all (word + 1))) next (five_words b text at behind words rules last (word + 1) (omega (arith, four))))
+    probes_here b text start start here (slice_index all word) (slice_index all (word + 1)) (omega arith) (omega (arith, before)) (omega (arith, some)) (omega (arith, inside, four))
+    (few_of_five words after (word_fits words long fits) word four) none
+    (five_words b text at after words rules last word (omega (arith, four))) (subst (λ p. RulesOut b text p (slice_index all (word + 1))) next (five_words b text at after words rules last (word + 1) (omega (arith, four))))
 
 -- the first end found after a position up to which nothing ends is the first after any earlier one
 pub found_further : (l : Literals) (text : List ℕ) (from at start end place : ℕ) → from ≤ start → start ≤ at → NoEndUpTo l text from at → IsFirstFound l text start end place → IsFirstFound l text from end place
 found_further l text from at start end place ahead near before found = record {
   after = omega (arith, ahead, found.after);
-  none = λ other after sooner here. elim (cases_lt at other) [ inl later ↦ found.none other (omega (arith, near, later)) sooner here | inr less ↦ before other after less here ];
+  none = λ other beyond sooner here. elim (cases_lt at other) [ inl later ↦ found.none other (omega (arith, near, later)) sooner here | inr less ↦ before other beyond less here ];
   first = found.first;
 }
 
 -- so is all that a search finds there, up to a position within its reach
 pub finds_further : (l : Literals) (text : List ℕ) (from at start stop last : ℕ) (found : Option (ℕ × ℕ)) → from ≤ start → start ≤ at → last ≤ stop → NoEndUpTo l text from at → Finds l text start stop found → Finds l text from last found
-finds_further l text from at start stop last None ahead near within before finds = λ end after inside. none_joined l text from at start stop near before finds end after (omega (arith, inside, within))
+finds_further l text from at start stop last None ahead near within before finds = λ end beyond inside. none_joined l text from at start stop near before finds end beyond (omega (arith, inside, within))
 finds_further l text from at start stop last (Some hit) ahead near within before finds = found_further l text from at start hit.0 hit.1 ahead near before finds
 
 -- the ends found at a text's start, up to some position
 pub found_in_front : (l : Literals) (text : List ℕ) (from front last : ℕ) (found : Option (ℕ × ℕ)) → from < front → last ≡ min (length text) front → Finds l text from last found → IfSome found (λ hit. hit.0 ≤ last)
     → MatchOption found (NoEndUpTo l text from (max from front)) (λ hit. (hit.0 ≤ front) × IsFirstFound l text from hit.0 hit.1)
-found_in_front l text from front last None ahead is finds within = λ end after upto here. finds end after (omega (arith, upto, ahead, is, here.1.ends)) here
+found_in_front l text from front last None ahead is finds within = λ end beyond upto here. finds end beyond (omega (arith, upto, ahead, is, here.1.ends)) here
 found_in_front l text from front last (Some hit) ahead is finds within = (omega (arith, within, is), finds)
 
 -- a position at which no literal ends
 pub none_one : (l : Literals) (text : List ℕ) (at : ℕ) → NoneEnds l text 0 (at + 1) → NoEndUpTo l text at (at + 1)
-none_one l text at none end after within here =
-    let same : end ≡ at + 1 = omega (arith, after, within) in
+none_one l text at none end beyond within here =
+    let same : end ≡ at + 1 = omega (arith, beyond, within) in
     none here.0 (omega arith) (subst (Occurs l text here.0) same here.1)
 
 -- the last of two bytes is the byte that is known alone

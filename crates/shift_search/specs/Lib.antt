@@ -1,3 +1,3 @@
 pub mod Blocks
-pub mod Looks
+pub mod Probes
 pub mod ShiftOr

@@ -45,12 +45,12 @@ RulesOutWords b text at words = (i : ℕ) → i < 4 → RulesOut b text (at + 8 
 -- the ends that probes rule out from a position on, and from eight positions further on
 pub record IsRuled (b : Bucketing) (text : List ℕ) (at : ℕ) (ruled : Ruled) : Type 0 where
   pub here : RulesOut b text at ruled.here
-  pub behind : RulesOut b text (at + 8) ruled.behind
+  pub after : RulesOut b text (at + 8) ruled.after
 
 -- as above, for four words in a row
 pub record AreRuled (b : Bucketing) (text : List ℕ) (at : ℕ) (ruled : FourRuled) : Type 0 where
   pub here : RulesOutWords b text at ruled.here
-  pub behind : RulesOutWords b text (at + 8) ruled.behind
+  pub after : RulesOutWords b text (at + 8) ruled.after
 
 -- no literal of a bucket ends at a position
 abbrev pub NoneOf : Bucketing → List ℕ → ℕ → ℕ → Type 0

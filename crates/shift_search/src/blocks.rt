@@ -8,7 +8,7 @@ ghost use Rattle.shift_search.specs.declared.blocks.TheConstants.{GROUP, GROUPS}
 ghost use Rattle.shift_search.specs.declared.entries.TheConstants.{ENTRIES};
 
 use crate::joining::lacking;
-use crate::looking::four_looks;
+use crate::probing::four_probes;
 use std::simd::prelude::*;
 
 /// Positions of a group, which four words cover.
@@ -22,7 +22,7 @@ pub(crate) const GROUPS: usize = 32;
 #[derive(Clone, Copy)]
 pub(crate) struct Noted {
     /// What its last probes rule out after the block.
-    pub behind: u64x4,
+    pub after: u64x4,
     /// How many of the block's groups are noted: each with an end that is not ruled out, and maybe others.
     pub count: usize,
 }
@@ -31,7 +31,7 @@ pub(crate) struct Noted {
 /// the words that say which ends are ruled out, four for each group. Writes the numbers of the noted groups at the
 /// start of `groups`.
 #[inline(always)]
-pub(crate) fn look_at_block<const STEP: usize>(
+pub(crate) fn probe_block<const STEP: usize>(
     entries: &[u64],
     text: &[u8],
     at: usize,
@@ -49,15 +49,15 @@ pub(crate) fn look_at_block<const STEP: usize>(
     ensures few { result.count ≤ GROUPS }
     ensures block { (b : Bucketing) → AreEntriesOf b.literals b.buckets entries.now → RulesOut b text.now at (slice_index before 3)
         → IsBlock b text.now at GROUPS words.new groups.new result.count }
-    ensures behind { (b : Bucketing) → AreEntriesOf b.literals b.buckets entries.now → RulesOut b text.now at (slice_index before 3)
-        → RulesOut b text.now (at + GROUP * GROUPS) (slice_index result.behind 3) }
+    ensures after { (b : Bucketing) → AreEntriesOf b.literals b.buckets entries.now → RulesOut b text.now at (slice_index before 3)
+        → RulesOut b text.now (at + GROUP * GROUPS) (slice_index result.after 3) }
 {
-    let mut behind = before;
+    let mut after = before;
     let mut count = 0usize;
     for group in 0..GROUPS {
-        let now = four_looks::<STEP>(entries, text, at + GROUP * group);
-        let ruled = now.with_those_before(behind);
-        behind = now.behind;
+        let now = four_probes::<STEP>(entries, text, at + GROUP * group);
+        let ruled = now.with_those_before(after);
+        after = now.after;
         store_words(ruled, words, 4 * group);
         groups[count] = group;
         count = if lacking(ruled) == 0 {
@@ -66,7 +66,7 @@ pub(crate) fn look_at_block<const STEP: usize>(
             count + 1
         };
     }
-    Noted { behind, count }
+    Noted { after, count }
 }
 
 /// Writes the numbers of the words of the noted groups that lack a bit to the start of `numbers`. Returns how many they

@@ -10,7 +10,7 @@ use std::simd::prelude::*;
 #[derive(Clone, Copy)]
 pub(crate) struct Ruled {
     pub here: u64,
-    pub behind: u64,
+    pub after: u64,
 }
 
 impl Ruled {
@@ -21,7 +21,7 @@ impl Ruled {
     {
         Ruled {
             here: entry,
-            behind: 0,
+            after: 0,
         }
     }
 
@@ -34,7 +34,7 @@ impl Ruled {
     {
         Ruled {
             here: self.here | entry << (8 * ahead),
-            behind: self.behind | entry >> (64 - 8 * ahead),
+            after: self.after | entry >> (64 - 8 * ahead),
         }
     }
 }
@@ -43,7 +43,7 @@ impl Ruled {
 #[derive(Clone, Copy)]
 pub(crate) struct FourRuled {
     pub here: u64x4,
-    pub behind: u64x4,
+    pub after: u64x4,
 }
 
 impl FourRuled {
@@ -54,7 +54,7 @@ impl FourRuled {
     {
         FourRuled {
             here: entries,
-            behind: u64x4::splat(0),
+            after: u64x4::splat(0),
         }
     }
 
@@ -67,7 +67,7 @@ impl FourRuled {
     {
         FourRuled {
             here: joined(self.here, moved_on(entries, 8 * ahead)),
-            behind: joined(self.behind, moved_back(entries, 64 - 8 * ahead)),
+            after: joined(self.after, moved_back(entries, 64 - 8 * ahead)),
         }
     }
 
@@ -77,7 +77,7 @@ impl FourRuled {
     pub fn with_those_before(self, before: u64x4) -> u64x4
         ensures { (b : Bucketing) (text : List ℕ) (at : ℕ) → AreRuled b text at self → RulesOut b text at (slice_index before 3) → RulesOutWords b text at result }
     {
-        joined(self.here, next_of(before, self.behind))
+        joined(self.here, next_of(before, self.after))
     }
 }
 

@@ -5,7 +5,7 @@ ghost use Rattle.shift_search.specs.declared.entries.TheConstants.{ENTRIES};
 
 use crate::blocks::{GROUP, GROUPS};
 use crate::entries::PLACES;
-use crate::looking::{Stride, looks_by};
+use crate::probing::{Stride, probes_by};
 use crate::tuning::{
     EACH_COST, HIT_COST, LEFT_COST, LEFT_IN_BLOCK_COST, NEAR, SHIFT_OR_COST, SPARSE, START_COST,
 };
@@ -17,7 +17,7 @@ pub(crate) fn cost_of(count: usize, left: usize, found: EndRate, stride: Stride)
         Stride::One => EACH_COST,
         Stride::Two => SHIFT_OR_COST,
     };
-    let looks = count.saturating_mul(cost) / 1024;
+    let probes = count.saturating_mul(cost) / 1024;
     let scanned = found.ends.saturating_sub(found.starts);
     let is_by_blocks = found.ends.saturating_mul(NEAR + GROUP * GROUPS) < count;
     let price = if is_by_blocks {
@@ -25,7 +25,7 @@ pub(crate) fn cost_of(count: usize, left: usize, found: EndRate, stride: Stride)
     } else {
         LEFT_COST
     };
-    looks
+    probes
         .saturating_add(left.saturating_mul(price))
         .saturating_add(scanned.saturating_mul(HIT_COST))
         .saturating_add(found.starts.saturating_mul(START_COST))
@@ -53,8 +53,8 @@ fn count_left(entries: &[u64], sample: &[u8], stride: Stride) -> (usize, usize)
     for stretch in sample.chunks(SPARSE) {
         if stretch.len() == SPARSE {
             let at = SPARSE - (PLACES - 1);
-            let looks = looks_by(entries, stretch, at, stride);
-            let unruled = !looks.here >> (64 - 8 * told);
+            let probes = probes_by(entries, stretch, at, stride);
+            let unruled = !probes.here >> (64 - 8 * told);
             left = left.saturating_add(unruled.count_ones() as usize);
             all = all.saturating_add(told);
         }

@@ -5,17 +5,17 @@ ghost use Rattle.std.specs.Option.{IfNone};
 ghost use Rattle.shift_search.specs.Blocks.{AreNoted};
 ghost use Rattle.lit_base.specs.NextEnds.{Finds, IsFirstFound, NoEndUpTo};
 ghost use Rattle.shift_search.specs.ShiftOr.{AreEntriesOf, NoneOf, RulesOut, RulesOutWords};
-ghost use Rattle.shift_search.specs.Looks.{AreLooks, AreLooksBehind, IsVerified};
+ghost use Rattle.shift_search.specs.Probes.{AreProbes, AreProbesAfter, IsVerified};
 ghost use Rattle.shift_search.specs.declared.blocks.TheConstants.{GROUP, GROUPS};
 ghost use Rattle.shift_search.specs.declared.shift_or.TheConstants.{FRONT};
 
-use crate::blocks::{GROUP, GROUPS, look_at_block, note_words};
+use crate::blocks::{GROUP, GROUPS, note_words, probe_block};
 use crate::confirming::{CONFIRM_BITS, Confirms};
 use crate::entries::{ENTRIES, PLACES, fill_all};
 use crate::joining::{lacking, last_alone, last_of};
-use crate::looking::{Stride, four_looks, looks_by};
-use crate::looks::{Looks, Verified, bits_behind};
 use crate::prices::{cost_of, estimate};
+use crate::probes::{Probes, Verified, bits_after};
+use crate::probing::{Stride, four_probes, probes_by};
 use crate::runs::cut_runs;
 use crate::tuning::NEAR;
 use lane_filter::split_lowest;
@@ -151,8 +151,8 @@ impl ShiftOr {
 
     /// The state of a search after a position.
     #[inline]
-    pub fn looks_behind(&self, text: &[u8], from: usize) -> Looks
-        ensures { AreLooksBehind self.now text.now from result }
+    pub fn probes_after(&self, text: &[u8], from: usize) -> Probes
+        ensures { AreProbesAfter self.now text.now from result }
     {
         let start = from.max(FRONT);
         let carried = if start > text.len() {
@@ -160,7 +160,7 @@ impl ShiftOr {
         } else {
             self.carried_to(text, start + 1)
         };
-        Looks {
+        Probes {
             at: start - (PLACES - 1),
             unruled: 0,
             carried,
@@ -169,38 +169,38 @@ impl ShiftOr {
 
     /// What the probes at the eight positions before `at` rule out from `at` on. Nothing without entries.
     fn carried_to(&self, text: &[u8], at: usize) -> u64
-        requires behind { 12 ≤ at }
+        requires after { 12 ≤ at }
         requires inside { at ≤ length text.now + 1 }
         ensures { RulesOut self.now text.now at result }
     {
         let Some(entries) = self.made_entries() else {
             return 0;
         };
-        looks_by(entries, text, at - PLACES, self.stride).behind
+        probes_by(entries, text, at - PLACES, self.stride).after
     }
 
     /// The first position of the text after `from` at which some literal ends, wherever it begins, with the first such
-    /// literal. `looks` is the state of a search after `from`, and then its state after this end. Adds the false
+    /// literal. `probes` is the state of a search after `from`, and then its state after this end. Adds the false
     /// positives, counted for each bucket, to `left`. It takes no memory.
     #[inline(never)]
     pub fn next_by(
         &self,
         text: &[u8],
         from: usize,
-        looks: &mut Looks,
+        probes: &mut Probes,
         left: &mut usize,
     ) -> Option<(usize, usize)>
-        requires { AreLooksBehind self.now text.now from looks.old }
+        requires { AreProbesAfter self.now text.now from probes.old }
         ensures next { Finds self.now.literals text.now from (length text.now) result }
-        ensures looks { IfSome result (λ found. AreLooksBehind self.now text.now found.0 looks.new) }
-        ensures over { IfNone result (looks.new ≡ looks.old) }
+        ensures probes { IfSome result (λ found. AreProbesAfter self.now text.now found.0 probes.new) }
+        ensures over { IfNone result (probes.new ≡ probes.old) }
     {
         let Some(entries) = self.made_entries() else {
-            return self.next_without_entries(text, from, looks);
+            return self.next_without_entries(text, from, probes);
         };
         match self.stride {
-            Stride::One => self.next_by_step::<1>(entries, text, from, looks, left),
-            Stride::Two => self.next_by_step::<2>(entries, text, from, looks, left),
+            Stride::One => self.next_by_step::<1>(entries, text, from, probes, left),
+            Stride::Two => self.next_by_step::<2>(entries, text, from, probes, left),
         }
     }
 
@@ -210,15 +210,15 @@ impl ShiftOr {
         &self,
         text: &[u8],
         from: usize,
-        looks: &mut Looks,
+        probes: &mut Probes,
     ) -> Option<(usize, usize)>
         ensures next { Finds self.now.literals text.now from (length text.now) result }
-        ensures looks { IfSome result (λ found. AreLooksBehind self.now text.now found.0 looks.new) }
-        ensures over { IfNone result (looks.new ≡ looks.old) }
+        ensures probes { IfSome result (λ found. AreProbesAfter self.now text.now found.0 probes.new) }
+        ensures over { IfNone result (probes.new ≡ probes.old) }
     {
         let found = self.first_between(text, from, text.len());
         if let Some((end, _)) = found {
-            *looks = self.looks_behind(text, end);
+            *probes = self.probes_after(text, end);
         }
         found
     }
@@ -230,38 +230,38 @@ impl ShiftOr {
         entries: &[u64],
         text: &[u8],
         from: usize,
-        looks: &mut Looks,
+        probes: &mut Probes,
         left: &mut usize,
     ) -> Option<(usize, usize)>
         requires entries { AreEntriesOf self.now.literals self.now.buckets entries.now }
-        requires looks { AreLooksBehind self.now text.now from looks.old }
+        requires probes { AreProbesAfter self.now text.now from probes.old }
         ensures next { Finds self.now.literals text.now from (length text.now) result }
-        ensures looks { IfSome result (λ found. AreLooksBehind self.now text.now found.0 looks.new) }
-        ensures over { IfNone result (looks.new ≡ looks.old) }
+        ensures probes { IfSome result (λ found. AreProbesAfter self.now text.now found.0 probes.new) }
+        ensures over { IfNone result (probes.new ≡ probes.old) }
     {
         if let Some(found) = self.end_in_front(text, from) {
             return Some(found);
         }
-        if let Some(found) = self.end_left(text, *looks, left) {
-            *looks = found.looks;
+        if let Some(found) = self.end_left(text, *probes, left) {
+            *probes = found.probes;
             return Some((found.end, found.first));
         }
         // Single variables hold the state, and functions return new ones. Otherwise it is stored at each turn.
-        let mut at = looks.at;
-        let mut before = last_alone(looks.carried);
+        let mut at = probes.at;
+        let mut before = last_alone(probes.carried);
         let (mut far, mut opened) = (at.saturating_add(NEAR), at);
         // A turn needs 32 more positions after a block of eight.
         let last_four = text.len().saturating_sub(5 * PLACES - 1);
         'fours: while at <= last_four {
             let ahead = at + PLACES;
-            let now = four_looks::<STEP>(entries, text, ahead);
+            let now = four_probes::<STEP>(entries, text, ahead);
             let ruled = now.with_those_before(before);
-            before = now.behind;
+            before = now.after;
             at += 4 * PLACES;
             if lacking(ruled) != 0 {
                 let carried = last_of(before);
                 if let Some(found) = self.verify_four(text, ahead, ruled, carried, left) {
-                    *looks = found.looks;
+                    *probes = found.probes;
                     return Some((found.end, found.first));
                 }
                 let here = Quiet { at, carried, far };
@@ -272,12 +272,12 @@ impl ShiftOr {
                 opened = at;
             }
         }
-        let rest = Looks {
+        let rest = Probes {
             at,
             unruled: 0,
             carried: last_of(before),
         };
-        self.next_by_eights(entries, text, from, rest, looks, left)
+        self.next_by_eights(entries, text, from, rest, probes, left)
     }
 
     /// Continues as `skip_blocks` does, if blocks may be tried here and the last group with an end that was not ruled
@@ -330,21 +330,14 @@ impl ShiftOr {
         let mut is_open = true;
         'quiet: while is_open && at < last {
             let ahead = at + PLACES;
-            let noted = look_at_block::<STEP>(
-                entries,
-                text,
-                ahead,
-                before,
-                &mut words,
-                &mut groups,
-            );
+            let noted = probe_block::<STEP>(entries, text, ahead, before, &mut words, &mut groups);
             let count = note_words(&words, &groups, noted.count, &mut numbers);
-            let mut vain = 0;
-            if self.has_end(text, ahead, &words, &numbers, count, &mut vain) {
+            let mut false_positives = 0;
+            if self.has_end(text, ahead, &words, &numbers, count, &mut false_positives) {
                 break;
             }
-            *left = left.saturating_add(vain);
-            before = noted.behind;
+            *left = left.saturating_add(false_positives);
+            before = noted.after;
             at += GROUP * GROUPS;
             is_open = count != 0;
         }
@@ -357,7 +350,7 @@ impl ShiftOr {
     }
 
     /// Whether a literal ends in a block, by the words that are noted. Adds the false positives, counted for each
-    /// bucket, to `vain`.
+    /// bucket, to `false_positives`.
     #[inline(always)]
     fn has_end(
         &self,
@@ -366,7 +359,7 @@ impl ShiftOr {
         words: &[u64],
         numbers: &[usize],
         count: usize,
-        vain: &mut usize,
+        false_positives: &mut usize,
     ) -> bool
         requires eight { 8 ≤ at }
         requires inside { at + (GROUP * GROUPS - 1) ≤ length text.now }
@@ -377,12 +370,12 @@ impl ShiftOr {
     {
         for slot in 0..count {
             let word = numbers[slot];
-            let looks = Looks {
+            let probes = Probes {
                 at: at + PLACES * word,
                 unruled: !words[word],
                 carried: 0,
             };
-            if let Some(_found) = self.first_verified(text, looks, vain) {
+            if let Some(_found) = self.first_verified(text, probes, false_positives) {
                 return true;
             }
         }
@@ -396,8 +389,8 @@ impl ShiftOr {
         entries: &[u64],
         text: &[u8],
         from: usize,
-        rest: Looks,
-        looks: &mut Looks,
+        rest: Probes,
+        probes: &mut Probes,
         left: &mut usize,
     ) -> Option<(usize, usize)>
         requires entries { AreEntriesOf self.now.literals self.now.buckets entries.now }
@@ -407,30 +400,30 @@ impl ShiftOr {
         requires none { NoEndUpTo self.now.literals text.now from (rest.at + 7) }
         requires carried { RulesOut self.now text.now (rest.at + 8) rest.carried }
         ensures next { Finds self.now.literals text.now from (length text.now) result }
-        ensures looks { IfSome result (λ found. AreLooksBehind self.now text.now found.0 looks.new) }
-        ensures over { IfNone result (looks.new ≡ looks.old) }
+        ensures probes { IfSome result (λ found. AreProbesAfter self.now text.now found.0 probes.new) }
+        ensures over { IfNone result (probes.new ≡ probes.old) }
     {
         let mut at = rest.at;
         let mut carried = rest.carried;
         let last = text.len().saturating_sub(2 * PLACES - 1);
         'eights: while at <= last {
             at += PLACES;
-            let now = looks_by(entries, text, at, self.stride);
+            let now = probes_by(entries, text, at, self.stride);
             let unruled = !(now.here | carried);
-            carried = now.behind;
-            let left_here = Looks {
+            carried = now.after;
+            let left_here = Probes {
                 at,
                 unruled,
                 carried,
             };
             if let Some(found) = self.end_left(text, left_here, left) {
-                *looks = found.looks;
+                *probes = found.probes;
                 return Some((found.end, found.first));
             }
         }
         let found = self.first_between(text, at + (PLACES - 1), text.len());
         if let Some((end, _)) = found {
-            *looks = self.looks_behind(text, end);
+            *probes = self.probes_after(text, end);
         }
         found
     }
@@ -450,52 +443,52 @@ impl ShiftOr {
 
     /// The first end that probes did not rule out and at which some literal ends, with the first such literal.
     #[inline(always)]
-    fn end_left(&self, text: &[u8], looks: Looks, left: &mut usize) -> Option<Verified>
-        requires eight { 8 ≤ looks.at }
-        requires inside { 0 < looks.unruled → looks.at + 7 ≤ length text.now }
-        ensures { (start : ℕ) → AreLooks self.now text.now start looks → MatchOption result
-            (NoEndUpTo self.now.literals text.now start (looks.at + 7))
+    fn end_left(&self, text: &[u8], probes: Probes, left: &mut usize) -> Option<Verified>
+        requires eight { 8 ≤ probes.at }
+        requires inside { 0 < probes.unruled → probes.at + 7 ≤ length text.now }
+        ensures { (start : ℕ) → AreProbes self.now text.now start probes → MatchOption result
+            (NoEndUpTo self.now.literals text.now start (probes.at + 7))
             (IsVerified self.now text.now start) }
     {
-        if looks.unruled == 0 {
+        if probes.unruled == 0 {
             return None;
         }
-        self.verify(text, looks, left)
+        self.verify(text, probes, left)
     }
 
     /// As `first_verified`, in a call.
     #[inline(never)]
-    fn verify(&self, text: &[u8], looks: Looks, left: &mut usize) -> Option<Verified>
-        requires eight { 8 ≤ looks.at }
-        requires inside { looks.at + 7 ≤ length text.now }
-        ensures { (start : ℕ) → AreLooks self.now text.now start looks → MatchOption result
-            (NoEndUpTo self.now.literals text.now start (looks.at + 7))
+    fn verify(&self, text: &[u8], probes: Probes, left: &mut usize) -> Option<Verified>
+        requires eight { 8 ≤ probes.at }
+        requires inside { probes.at + 7 ≤ length text.now }
+        ensures { (start : ℕ) → AreProbes self.now text.now start probes → MatchOption result
+            (NoEndUpTo self.now.literals text.now start (probes.at + 7))
             (IsVerified self.now text.now start) }
     {
-        self.first_verified(text, looks, left)
+        self.first_verified(text, probes, left)
     }
 
     /// The first of eight ends that probes did not rule out and at which some literal ends, with the first such
     /// literal.
     #[inline(always)]
-    fn first_verified(&self, text: &[u8], looks: Looks, left: &mut usize) -> Option<Verified>
-        requires eight { 8 ≤ looks.at }
-        requires inside { looks.at + 7 ≤ length text.now }
-        ensures { (start : ℕ) → AreLooks self.now text.now start looks → MatchOption result
-            (NoEndUpTo self.now.literals text.now start (looks.at + 7))
+    fn first_verified(&self, text: &[u8], probes: Probes, left: &mut usize) -> Option<Verified>
+        requires eight { 8 ≤ probes.at }
+        requires inside { probes.at + 7 ≤ length text.now }
+        ensures { (start : ℕ) → AreProbes self.now text.now start probes → MatchOption result
+            (NoEndUpTo self.now.literals text.now start (probes.at + 7))
             (IsVerified self.now text.now start) }
     {
-        let mut unruled = looks.unruled;
+        let mut unruled = probes.unruled;
         'ends: while unruled != 0 {
             let (bit, others) = split_lowest(unruled);
-            let end = looks.at + bit / 8;
+            let end = probes.at + bit / 8;
             if self.may_end(text, end, bit % 8) {
                 if let Some(first) = self.index.next_ending(text, end, 0) {
-                    let unruled = bits_behind(others, bit / 8);
+                    let unruled = bits_after(others, bit / 8);
                     return Some(Verified {
                         end,
                         first,
-                        looks: Looks { unruled, ..looks },
+                        probes: Probes { unruled, ..probes },
                     });
                 }
             }
@@ -506,35 +499,35 @@ impl ShiftOr {
     }
 
     /// As `first_verified`, for four words in a row with eight positions each. `ruled` has the bits that are ruled out
-    /// there, and `behind` the bits after the last word.
+    /// there, and `after` the bits after the last word.
     #[inline(never)]
     fn verify_four(
         &self,
         text: &[u8],
         at: usize,
         ruled: u64x4,
-        behind: u64,
+        after: u64,
         left: &mut usize,
     ) -> Option<Verified>
         requires eight { 8 ≤ at }
         requires inside { at + 31 ≤ length text.now }
         requires ruled { RulesOutWords self.now text.now at ruled }
-        requires behind { RulesOut self.now text.now (at + 32) behind }
+        requires after { RulesOut self.now text.now (at + 32) after }
         ensures { (start : ℕ) → start < at → NoEndUpTo self.now.literals text.now start (at - 1) → MatchOption result
             (NoEndUpTo self.now.literals text.now start (at + 31))
             (IsVerified self.now text.now start) }
     {
         let [first, second, third, fourth] = ruled.to_array();
-        let words = [first, second, third, fourth, behind];
+        let words = [first, second, third, fourth, after];
         let mut unseen = lacking(ruled);
         'words: while unseen != 0 {
             let (word, others) = split_lowest(unseen);
-            let looks = Looks {
+            let probes = Probes {
                 at: at + PLACES * word,
                 unruled: !words[word],
                 carried: words[word + 1],
             };
-            if let Some(found) = self.first_verified(text, looks, left) {
+            if let Some(found) = self.first_verified(text, probes, left) {
                 return Some(found);
             }
             unseen = others;

@@ -122,13 +122,13 @@ module _ (t : Tables) (sized : AreSized t) (steps : (state class : ℕ) → stat
       | inl first ↦
           let none : s ≡ [] = state_zero t s path first.0 in
           ([], sym first.1, subst (λ y. Leads t (b ∷ y) []) (sym none) (goes_nowhere b (subst (λ y. IsChild t (state_of t y) (slice_index t.classes b) (step t (state_of t y) (slice_index t.classes b)) → ⊥) none other.0)))
-      | inr behind ↦ elim (cases_lt 0 (length s)) [
+      | inr after ↦ elim (cases_lt 0 (length s)) [
         | inl some ↦
             let found = shorter some in
             let down = found.0 in
             let to = found.1 in
-            (to.0, to.1 ∙ ap (λ x. step t x (slice_index t.classes b)) down.1 ∙ sym behind.1, goes_shorter s down.0 b to.0 other.0 down.2 to.2)
-        | inr none ↦ absurd (empty s (omega (arith, none)) behind.0)
+            (to.0, to.1 ∙ ap (λ x. step t x (slice_index t.classes b)) down.1 ∙ sym after.1, goes_shorter s down.0 b to.0 other.0 down.2 to.2)
+        | inr none ↦ absurd (empty s (omega (arith, none)) after.0)
       ]
     ]
   ]

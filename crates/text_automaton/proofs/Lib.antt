@@ -1,5 +1,5 @@
 pub mod FrontLemmas
 pub mod QuietLemmas
 pub mod ReadLemmas
-pub mod TellingLemmas
-pub mod ToldLemmas
+pub mod OutputLemmas
+pub mod OutputListLemmas

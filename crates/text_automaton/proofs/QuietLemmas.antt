@@ -20,9 +20,9 @@ bit_of_less v n k q long few low =
     let tests : List Bool = map (λ x. ltb x q) v in
     let same = bitmask_splat w16 ltb v n q long few in
     let test : get_or tests k false ≡ ltb (get_or v k 0) q = get_or-map (λ x. ltb x q) v k 0 false (omega (arith, low, long)) in
-    let told = set_if_less (get_or v k 0) q (ltb (get_or v k 0) q) refl in
+    let output = set_if_less (get_or v k 0) q (ltb (get_or v k 0) q) refl in
     let whole = ap (λ m. bit_at m k) same ∙ bit_mask_l tests k ∙ ap (λ b. cond {A = ℕ} b 1 0) test in
-    (λ h. told.0 (sym whole ∙ h), λ h. whole ∙ told.1 h)
+    (λ h. output.0 (sym whole ∙ h), λ h. whole ∙ output.1 h)
 
 -- there are no other bits
 pub bits_of_less : (v : List ℕ) (n q : ℕ) → length v ≡ n → n ≤ 64 → mask_l (map (top 15) (zip2 (λ a b. cond (ltb a b) (2 ^ 16 - 1) 0) v (replicate n q))) % 2 ^ 64 < 2 ^ n

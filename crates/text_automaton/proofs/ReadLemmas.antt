@@ -2,7 +2,7 @@
 use Rattle.std.proofs.Common.{◌≡◌, ℕ, suc, ◌+◌, ◌*◌, ◌<◌, ◌≤◌, ◌⊎◌, List, inl, inr, length, get_or, set, slice_index, sym, ap, ◌∙◌, subst, arith}
 use Rattle.std.proofs.lemmas.Bool.{cases_eq, cases_lt}
 use Rattle.std.proofs.lemmas.List.{get_or-set_other, get_or-set_same}
-use Rattle.text_automaton.specs.Fronts.{IsRead, state_behind}
+use Rattle.text_automaton.specs.Fronts.{IsRead, state_after}
 use Rattle.text_automaton.specs.Tables.{count_of, step}
 use Rattle.text_automaton.specs.declared.tables.Tables.{Tables}
 
@@ -18,7 +18,7 @@ read_on t text longest place at next state to old here there led known = record 
     | inr far ↦ inr (omega (arith, far, there))
   ];
   state = led ∙ ap (λ s. step t s (slice_index t.classes (slice_index text at))) old.state
-      ∙ ap (λ p. step t (state_behind t text old.from old.count) (slice_index t.classes (slice_index text p))) (here ∙ sym old.here);
+      ∙ ap (λ p. step t (state_after t text old.from old.count) (slice_index t.classes (slice_index text p))) (here ∙ sym old.here);
   known = known;
 }
 

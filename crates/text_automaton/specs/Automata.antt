@@ -11,9 +11,9 @@ use Rattle.text_automaton.specs.declared.tables.TheConstants.{MOST_STATES}
 
 -- the literals, and the output of each state: a range of a list. States below `quiet` have no output. Before the
 -- automaton is made, no state belongs to a position
-pub record Telling : Type 0 where
+pub record Outputs : Type 0 where
   pub literals : Literals
-  pub told : List ℕ
+  pub output : List ℕ
   pub lows : List ℕ
   pub highs : List ℕ
   pub quiet : ℕ
@@ -24,8 +24,8 @@ abbrev pub room_of : Literals → ℕ
 room_of l = min MOST_STATES (sum_by length l.texts + 1)
 
 -- the output of a state
-abbrev pub told_by : Telling → ℕ → List ℕ
-told_by a state = slice_range a.told (slice_index a.lows state) (slice_index a.highs state)
+abbrev pub output_of : Outputs → ℕ → List ℕ
+output_of a state = slice_range a.output (slice_index a.lows state) (slice_index a.highs state)
 
 -- these are the literals that end at a position of a text, in order
 pub record AreEnding (l : Literals) (text : List ℕ) (end : ℕ) (found : List ℕ) : Type 0 where
@@ -33,20 +33,20 @@ pub record AreEnding (l : Literals) (text : List ℕ) (end : ℕ) (found : List 
   pub members : (place : ℕ) → Contains found place ↔ Occurs l text place end
 
 -- a state belongs to a position: its output is the literals that end there, and its number says whether there are any
-pub record IsStateAt (a : Telling) (text : List ℕ) (end state : ℕ) : Type 0 where
+pub record IsStateAt (a : Outputs) (text : List ℕ) (end state : ℕ) : Type 0 where
   pub known : state < length a.lows
-  pub ending : AreEnding a.literals text end (told_by a state)
-  pub quiet : state < a.quiet → told_by a state ≡ []
-  pub telling : a.quiet ≤ state → 0 < length (told_by a state)
+  pub ending : AreEnding a.literals text end (output_of a state)
+  pub quiet : state < a.quiet → output_of a state ≡ []
+  pub reporting : a.quiet ≤ state → 0 < length (output_of a state)
 
 -- the states of `count` positions after `start`
-abbrev pub AreStatesBehind : Telling → List ℕ → ℕ → ℕ → List ℕ → Type 0
-AreStatesBehind a text start count states = (at : ℕ) → at < count → IsStateAt a text (start + at + 1) (slice_index states at)
+abbrev pub AreStatesAfter : Outputs → List ℕ → ℕ → ℕ → List ℕ → Type 0
+AreStatesAfter a text start count states = (at : ℕ) → at < count → IsStateAt a text (start + at + 1) (slice_index states at)
 
 -- a reading of a text: the states of some positions are known, and those up to the current position are passed
-pub record IsReading (a : Telling) (text : List ℕ) (r : Reading) : Type 0 where
+pub record IsReading (a : Outputs) (text : List ℕ) (r : Reading) : Type 0 where
   pub made : a.is_made ≡ true
-  pub states : AreStatesBehind a text r.start r.count r.states
+  pub states : AreStatesAfter a text r.start r.count r.states
   pub passed : r.next ≤ r.count
   pub room : r.count ≤ BLOCK
   pub inside : r.start + r.count ≤ length text
@@ -56,6 +56,6 @@ abbrev pub place_of : Reading → ℕ
 place_of r = r.start + r.next
 
 -- an end, and a state: the next end after a position, and the state there
-pub record IsNextTold (a : Telling) (text : List ℕ) (from : ℕ) (found : ℕ × ℕ) : Type 0 where
+pub record IsNextReported (a : Outputs) (text : List ℕ) (from : ℕ) (found : ℕ × ℕ) : Type 0 where
   pub next : IsNextEnd a.literals text from found.0
   pub state : IsStateAt a text found.0 found.1

@@ -36,9 +36,9 @@ read_of fold text from zero = []
 read_of fold text from (suc count) = folded fold (slice_index text (from + count)) ∷ read_of fold text from count
 
 -- the state to which they lead from the first one
-abbrev pub state_behind : Tables → List ℕ → ℕ → ℕ → ℕ
-state_behind t text from zero = 0
-state_behind t text from (suc count) = step t (state_behind t text from count) (slice_index t.classes (slice_index text (from + count)))
+abbrev pub state_after : Tables → List ℕ → ℕ → ℕ → ℕ
+state_after t text from zero = 0
+state_after t text from (suc count) = step t (state_after t text from count) (slice_index t.classes (slice_index text (from + count)))
 
 -- a state belongs to a position: the bytes before it lead there, read from the start of the text on, or from far enough
 -- before it that literals of `longest` bytes are read whole
@@ -47,5 +47,5 @@ pub record IsRead (t : Tables) (text : List ℕ) (longest place to : ℕ) : Type
   pub count : ℕ
   pub here : from + count ≡ place
   pub front : (from ≡ 0) ⊎ (from + longest ≤ place)
-  pub state : to ≡ state_behind t text from count
+  pub state : to ≡ state_after t text from count
   pub known : to < count_of t

@@ -2,4 +2,4 @@ pub mod Automata
 pub mod Fronts
 pub mod Stages
 pub mod Tables
-pub mod ToldWalks
+pub mod AutomatonWalks

@@ -16,8 +16,8 @@ abbrev pub step : Tables → ℕ → ℕ → ℕ
 step t state class = slice_index t.rows.items (CLASSES * state + class)
 
 -- the output of a state
-abbrev pub told_at : Tables → ℕ → List ℕ
-told_at t state = slice_range t.told.items (slice_index t.lows.items state) (slice_index t.highs.items state)
+abbrev pub output_at : Tables → ℕ → List ℕ
+output_at t state = slice_range t.output.items (slice_index t.lows.items state) (slice_index t.highs.items state)
 
 -- each state has a row and all other entries; each entry is a state, or a range of the outputs
 pub record AreSized (t : Tables) : Type 0 where
@@ -31,7 +31,7 @@ pub record AreSized (t : Tables) : Type 0 where
   pub highs : length t.highs.items ≡ count_of t
   pub stepped : (i : ℕ) → i < length t.rows.items → slice_index t.rows.items i < count_of t
   pub known : (state : ℕ) → state < count_of t → (slice_index t.parents.items state < count_of t) × (slice_index t.fails.items state < count_of t)
-      × (slice_index t.lows.items state ≤ slice_index t.highs.items state) × (slice_index t.highs.items state ≤ length t.told.items)
+      × (slice_index t.lows.items state ≤ slice_index t.highs.items state) × (slice_index t.highs.items state ≤ length t.output.items)
 
 -- a byte has the class of its folded byte, and each class but 0 belongs to one folded byte
 abbrev pub AreClasses : Fold → List ℕ → List ℕ → Type 0
@@ -60,14 +60,14 @@ IsFail t state = ((slice_index t.parents.items state ≡ 0) × (slice_index t.fa
 
 -- the output of a state is the output of its failure link and the literal that it spells, in order; the state's number
 -- says whether it has any
-pub record IsTelling (t : Tables) (count state : ℕ) : Type 0 where
+pub record IsOutputRight (t : Tables) (count state : ℕ) : Type 0 where
   pub own : slice_index t.owns.items state < count → slice_index t.ends.items (slice_index t.owns.items state) ≡ state
-  pub first : state ≡ 0 → told_at t state ≡ []
-  pub others : 0 < state → ((slice_index t.owns.items state < count) × (told_at t state ≡ told_at t (slice_index t.fails.items state) ++ slice_index t.owns.items state ∷ []))
-      ⊎ ((count ≤ slice_index t.owns.items state) × (told_at t state ≡ told_at t (slice_index t.fails.items state)))
-  pub rising : IsStrictlyIncreasing (told_at t state)
-  pub quiet : state < t.quiet → told_at t state ≡ []
-  pub telling : t.quiet ≤ state → 0 < length (told_at t state)
+  pub first : state ≡ 0 → output_at t state ≡ []
+  pub others : 0 < state → ((slice_index t.owns.items state < count) × (output_at t state ≡ output_at t (slice_index t.fails.items state) ++ slice_index t.owns.items state ∷ []))
+      ⊎ ((count ≤ slice_index t.owns.items state) × (output_at t state ≡ output_at t (slice_index t.fails.items state)))
+  pub rising : IsStrictlyIncreasing (output_at t state)
+  pub quiet : state < t.quiet → output_at t state ≡ []
+  pub reporting : t.quiet ≤ state → 0 < length (output_at t state)
 
 -- the state to which some bytes lead from the first one, the last byte first
 abbrev pub state_of : Tables → List ℕ → ℕ
@@ -100,5 +100,5 @@ pub record AreRight (t : Tables) (l : Literals) : Type 0 where
   pub classes : AreClasses l.folding t.classes t.bytes
   pub steps : (state class : ℕ) → state < count_of t → class < CLASSES → IsStep t state class
   pub fails : (state : ℕ) → 0 < state → state < count_of t → IsFail t state
-  pub telling : (state : ℕ) → state < count_of t → IsTelling t (length l.texts) state
+  pub reporting : (state : ℕ) → state < count_of t → IsOutputRight t (length l.texts) state
   pub spelled : (place : ℕ) → place < length l.texts → IsSpelled t l place

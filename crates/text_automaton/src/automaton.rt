@@ -3,11 +3,11 @@ ghost use Rattle.std.specs.Prelude.{◌≡◌, ℕ, ◌+◌, ◌<◌, ◌≤◌,
 ghost use Rattle.std.specs.Option.{IfNone};
 ghost use Rattle.lit_base.specs.Literals.{literal_at};
 ghost use Rattle.lit_base.specs.NextEnds.{NoEndAfter};
-ghost use Rattle.text_automaton.specs.Automata.{IsNextTold, IsReading, place_of, room_of, told_by};
+ghost use Rattle.text_automaton.specs.Automata.{IsNextReported, IsReading, place_of, room_of, output_of};
 
 use crate::reading::Reading;
+use crate::reporting::first_reporting;
 use crate::tables::{MOST_STATES, Tables};
-use crate::telling::first_telling;
 use list_index::ListIndex;
 use lit_base::LitList;
 use std::alloc::{AllocError, Global};
@@ -40,16 +40,16 @@ pub struct Automaton {
 
 impl Model for Automaton {
     ghost use Rattle.std.specs.Prelude.{◌≡◌};
-    ghost use Rattle.text_automaton.specs.Automata.{Telling, room_of};
+    ghost use Rattle.text_automaton.specs.Automata.{Outputs, room_of};
     ghost use Rattle.text_automaton.specs.Stages.{is_made};
     ghost use Rattle.text_automaton.specs.Tables.{AreRight};
     ghost use Rattle.text_automaton.specs.declared.automaton.Stage.TheVariants.{Made};
 
-    ghost Value = { Telling };
+    ghost Value = { Outputs };
 
     ghost view = { λ a. record {
       literals = a.index.value;
-      told = a.tables.told.items;
+      output = a.tables.output.items;
       lows = a.tables.lows.items;
       highs = a.tables.highs.items;
       quiet = a.tables.quiet;
@@ -113,13 +113,13 @@ impl Automaton {
     }
 
     /// A reading of the text after position `from`, with nothing read yet, or `None` if the tables are not made.
-    pub fn reading_behind(&self, text: &[u8], from: usize) -> Option<Reading>
+    pub fn reading_after(&self, text: &[u8], from: usize) -> Option<Reading>
         requires { from ≤ length text.now }
         ensures some { IfSome result (λ reading. IsReading self.now text.now reading × (place_of reading ≡ from)) }
         ensures none { IfNone result (self.now.is_made ≡ false) }
     {
         match self.stage {
-            Stage::Made => Some(Reading::behind(from)),
+            Stage::Made => Some(Reading::after(from)),
             Stage::Unmade | Stage::Refused => None,
         }
     }
@@ -131,13 +131,13 @@ impl Automaton {
         requires { IsReading self.now text.now reading.old }
         ensures next { MatchOption result
             (NoEndAfter self.now.literals text.now (place_of reading.old))
-            (IsNextTold self.now text.now (place_of reading.old)) }
+            (IsNextReported self.now text.now (place_of reading.old)) }
         ensures reading { IsReading self.now text.now reading.new }
         ensures place { IfSome result (λ found. place_of reading.new ≡ found.0) }
         ensures ahead { place_of reading.old ≤ place_of reading.new }
     {
         'reads: loop {
-            let at = first_telling(
+            let at = first_reporting(
                 &reading.states,
                 reading.next,
                 reading.count,
@@ -170,7 +170,7 @@ impl Automaton {
         let longest = longest_of(list);
         let count = self
             .tables
-            .read_behind(text, longest, start, &mut reading.states);
+            .read_after(text, longest, start, &mut reading.states);
         reading.start = start;
         reading.count = count;
         reading.next = 0;
@@ -178,12 +178,12 @@ impl Automaton {
 
     /// The output of a state of a position: its literals, in order.
     #[inline(always)]
-    pub fn told_by(&self, state: usize) -> &[u16]
+    pub fn output_of(&self, state: usize) -> &[u16]
         requires made { self.now.is_made ≡ true }
         requires known { state < length self.now.lows }
-        ensures { result.now ≡ told_by self.now state }
+        ensures { result.now ≡ output_of self.now state }
     {
-        self.tables.told_at(state)
+        self.tables.output_at(state)
     }
 }
 

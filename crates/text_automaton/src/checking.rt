@@ -3,7 +3,7 @@ ghost use Rattle.std.specs.Prelude.{◌≡◌, ◌↔◌, ◌⊎◌, ◌++◌, �
 ghost use Rattle.std.specs.List.Sorted.{IsStrictlyIncreasing};
 ghost use Rattle.lit_base.specs.Literals.{literal_at};
 ghost use Rattle.lit_base.specs.Folding.{folded};
-ghost use Rattle.text_automaton.specs.Tables.{AreClasses, AreRight, AreSized, IsChild, IsFail, IsKnown, IsSpelled, IsStep, IsTelling, step, told_at};
+ghost use Rattle.text_automaton.specs.Tables.{AreClasses, AreRight, AreSized, IsChild, IsFail, IsKnown, IsSpelled, IsStep, IsOutputRight, step, output_at};
 
 use crate::tables::{CLASSES, MOST_STATES, Tables};
 use lit_base::{Fold, LitList, fold_byte};
@@ -29,7 +29,7 @@ impl Tables {
         if !self.are_classes(list.fold()) || !self.are_steps() || !self.are_fails() {
             return false;
         }
-        if !self.are_telling(list.len()) {
+        if !self.are_outputs_right(list.len()) {
             return false;
         }
         self.are_spelled(list)
@@ -84,14 +84,14 @@ impl Tables {
         requires lows { length self.now.lows.items ≡ count }
         requires highs { length self.now.highs.items ≡ count }
         ensures { IsTrue result → (state : ℕ) → state < count → (slice_index self.now.parents.items state < count) × (slice_index self.now.fails.items state < count)
-            × (slice_index self.now.lows.items state ≤ slice_index self.now.highs.items state) × (slice_index self.now.highs.items state ≤ length self.now.told.items) }
+            × (slice_index self.now.lows.items state ≤ slice_index self.now.highs.items state) × (slice_index self.now.highs.items state ≤ length self.now.output.items) }
     {
         for state in 0..count {
             let high = self.highs[state] as usize;
             if self.parents[state] as usize >= count
                 || self.fails[state] as usize >= count
                 || self.lows[state] as usize > high
-                || high > self.told.len()
+                || high > self.output.len()
             {
                 return false;
             }
@@ -234,21 +234,21 @@ impl Tables {
 
     /// The output of a state: its literals.
     #[inline(always)]
-    pub fn told_at(&self, state: usize) -> &[u16]
+    pub fn output_at(&self, state: usize) -> &[u16]
         requires sized { AreSized self.now }
         requires state { state < length self.now.parents.items }
-        ensures { result.now ≡ told_at self.now state }
+        ensures { result.now ≡ output_at self.now state }
     {
-        &self.told[self.lows[state] as usize..self.highs[state] as usize]
+        &self.output[self.lows[state] as usize..self.highs[state] as usize]
     }
 
     /// Whether each state has the right output, for a list of `count` literals.
-    fn are_telling(&self, count: usize) -> bool
+    fn are_outputs_right(&self, count: usize) -> bool
         requires { AreSized self.now }
-        ensures { IsTrue result → (state : ℕ) → state < length self.now.parents.items → IsTelling self.now count state }
+        ensures { IsTrue result → (state : ℕ) → state < length self.now.parents.items → IsOutputRight self.now count state }
     {
         for state in 0..self.count() {
-            if !self.is_telling(count, state) {
+            if !self.is_output_right(count, state) {
                 return false;
             }
         }
@@ -256,16 +256,16 @@ impl Tables {
     }
 
     /// The same for one state.
-    fn is_telling(&self, count: usize, state: usize) -> bool
+    fn is_output_right(&self, count: usize, state: usize) -> bool
         requires sized { AreSized self.now }
         requires state { state < length self.now.parents.items }
-        ensures { IsTrue result → IsTelling self.now count state }
+        ensures { IsTrue result → IsOutputRight self.now count state }
     {
-        let told = self.told_at(state);
+        let output = self.output_at(state);
         self.is_own(count, state)
-            && self.adds_own(count, state, told)
-            && is_rising(told)
-            && (state < self.quiet) == told.is_empty()
+            && self.adds_own(count, state, output)
+            && is_rising(output)
+            && (state < self.quiet) == output.is_empty()
     }
 
     /// Whether the literal that a state spells, if there is one, has this state.
@@ -288,23 +288,23 @@ impl Tables {
     }
 
     /// Whether the output of a state is the output of its failure link and the literal that it spells, if there is one.
-    fn adds_own(&self, count: usize, state: usize, told: &[u16]) -> bool
+    fn adds_own(&self, count: usize, state: usize, output: &[u16]) -> bool
         requires sized { AreSized self.now }
         requires state { state < length self.now.parents.items }
-        requires told { told.now ≡ told_at self.now state }
-        ensures first { IsTrue result → state ≡ 0 → told_at self.now state ≡ [] }
-        ensures others { IsTrue result → 0 < state → ((slice_index self.now.owns.items state < count) × (told_at self.now state ≡ told_at self.now (slice_index self.now.fails.items state) ++ slice_index self.now.owns.items state ∷ []))
-            ⊎ ((count ≤ slice_index self.now.owns.items state) × (told_at self.now state ≡ told_at self.now (slice_index self.now.fails.items state))) }
+        requires output { output.now ≡ output_at self.now state }
+        ensures first { IsTrue result → state ≡ 0 → output_at self.now state ≡ [] }
+        ensures others { IsTrue result → 0 < state → ((slice_index self.now.owns.items state < count) × (output_at self.now state ≡ output_at self.now (slice_index self.now.fails.items state) ++ slice_index self.now.owns.items state ∷ []))
+            ⊎ ((count ≤ slice_index self.now.owns.items state) × (output_at self.now state ≡ output_at self.now (slice_index self.now.fails.items state))) }
     {
         if state == 0 {
-            return told.is_empty();
+            return output.is_empty();
         }
-        let others = self.told_at(self.fail(state));
+        let others = self.output_at(self.fail(state));
         let own = self.own(state);
         if own < count {
-            is_with(told, others, own)
+            is_with(output, others, own)
         } else {
-            told == others
+            output == others
         }
     }
 
@@ -347,22 +347,22 @@ impl Tables {
 }
 
 /// Whether a list of literals is another list with one more at its end.
-fn is_with(told: &[u16], others: &[u16], own: usize) -> bool
-    ensures { IsTrue result → told.now ≡ others.now ++ own ∷ [] }
+fn is_with(output: &[u16], others: &[u16], own: usize) -> bool
+    ensures { IsTrue result → output.now ≡ others.now ++ own ∷ [] }
 {
     let count = others.len();
-    if told.len() <= count || told.len() - count != 1 || told[count] as usize != own {
+    if output.len() <= count || output.len() - count != 1 || output[count] as usize != own {
         return false;
     }
-    &told[..count] == others
+    &output[..count] == others
 }
 
 /// Whether literals stand in order, each once.
-fn is_rising(told: &[u16]) -> bool
-    ensures { IsTrue result → IsStrictlyIncreasing told.now }
+fn is_rising(output: &[u16]) -> bool
+    ensures { IsTrue result → IsStrictlyIncreasing output.now }
 {
-    for place in 1..told.len() {
-        if told[place - 1] >= told[place] {
+    for place in 1..output.len() {
+        if output[place - 1] >= output[place] {
             return false;
         }
     }

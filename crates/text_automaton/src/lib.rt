@@ -2,13 +2,13 @@
 #![tactic(auto)]
 
 mod automaton;
+mod automaton_ends;
 mod checking;
 mod making;
 mod reading;
+mod reporting;
 mod tables;
-mod telling;
-mod told;
 
 pub use automaton::Automaton;
+pub use automaton_ends::AutomatonEnds;
 pub use reading::Reading;
-pub use told::ToldEnds;

@@ -1,17 +1,17 @@
 //! How tables are made. Nothing here decides whether they are right: that is checked.
 ghost use Rattle.std.specs.Prelude.{◌<◌};
 
-use crate::tables::{CLASSES, MOST_STATES, MOST_TOLD, NONE, Tables};
+use crate::tables::{CLASSES, MOST_OUTPUTS, MOST_STATES, NONE, Tables};
 use lit_base::{LitList, MAX_LITERALS, fold_byte};
 
 impl Tables {
     /// Builds the tables of a list. `None` if it has more than `MOST_STATES` prefixes, `CLASSES - 1` bytes or
-    /// `MOST_TOLD` outputs over all states.
+    /// `MOST_OUTPUTS` outputs over all states.
     pub fn make(&mut self, list: &LitList) -> Option<()> {
         self.begin(list);
         self.class_bytes(list)?;
         self.grow(list)?;
-        self.tell()?;
+        self.note_outputs()?;
         self.part();
         Some(())
     }
@@ -23,7 +23,7 @@ impl Tables {
         self.lasts.clear();
         self.fails.clear();
         self.owns.clear();
-        self.told.clear();
+        self.output.clear();
         self.ends.clear();
         // It takes no memory, and so is not refused.
         let _are_made = self.ends.resize(list.len(), 0);
@@ -149,32 +149,34 @@ impl Tables {
     }
 
     /// Lists the output of each state: the output of its failure link, and the literal that it spells.
-    fn tell(&mut self) -> Option<()> {
+    fn note_outputs(&mut self) -> Option<()> {
         self.lows.clear();
         self.highs.clear();
         for state in 0..self.parents.len() {
-            let low = u16::try_from(self.told.len()).ok()?;
+            let low = u16::try_from(self.output.len()).ok()?;
             let (first, last) = self.range_at(usize::from(self.fail_at(state)));
             for place in first..last {
                 let literal = self.literal_at(place);
-                self.tell_one(literal)?;
+                self.note_output(literal)?;
             }
             let own = self.own_at(state);
             if own != NONE {
-                self.tell_one(own)?;
+                self.note_output(own)?;
             }
             self.lows.push(low).ok()?;
-            self.highs.push(u16::try_from(self.told.len()).ok()?).ok()?;
+            self.highs
+                .push(u16::try_from(self.output.len()).ok()?)
+                .ok()?;
         }
         Some(())
     }
 
     /// Adds a literal to the outputs.
-    fn tell_one(&mut self, literal: u16) -> Option<()> {
-        if self.told.len() >= MOST_TOLD {
+    fn note_output(&mut self, literal: u16) -> Option<()> {
+        if self.output.len() >= MOST_OUTPUTS {
             return None;
         }
-        self.told.push(literal).ok()
+        self.output.push(literal).ok()
     }
 
     /// What stands at a place of the rows.
@@ -194,10 +196,10 @@ impl Tables {
 
     /// The literal at a place of the outputs.
     fn literal_at(&self, place: usize) -> u16 {
-        at(&self.told, place)
+        at(&self.output, place)
     }
 
-    /// Where the output of a state begins in `told`, and where it ends.
+    /// Where the output of a state begins in `output`, and where it ends.
     fn range_at(&self, state: usize) -> (usize, usize) {
         let (low, high) = (at(&self.lows, state), at(&self.highs, state));
         (usize::from(low), usize::from(high))

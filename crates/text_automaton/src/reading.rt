@@ -26,7 +26,7 @@ pub struct Reading {
 
 impl Reading {
     /// A reading of a text after a position, with nothing read yet.
-    pub(crate) fn behind(from: usize) -> Reading
+    pub(crate) fn after(from: usize) -> Reading
         ensures start { result.start ≡ from }
         ensures count { result.count ≡ 0 }
         ensures next { result.next ≡ 0 }
@@ -70,7 +70,7 @@ impl Tables {
     }
 
     /// The states of the positions after `start`, up to a block or the end of the text. Returns their number.
-    pub fn read_behind(
+    pub fn read_after(
         &self,
         text: &[u8],
         longest: usize,

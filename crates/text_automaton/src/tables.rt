@@ -17,7 +17,7 @@ pub(crate) const CLASSES: usize = 128;
 pub(crate) const MOST_STATES: usize = 32768;
 
 /// A list with more outputs over all states gets none either; each state lists all literals that its prefix ends with.
-pub(crate) const MOST_TOLD: usize = 65535;
+pub(crate) const MOST_OUTPUTS: usize = 65535;
 
 /// Stands for no literal.
 pub(crate) const NONE: u16 = u16::MAX;
@@ -39,11 +39,11 @@ pub(crate) struct Tables {
     pub fails: Vec<u16>,
     /// The literal that it spells, or `NONE`.
     pub owns: Vec<u16>,
-    /// Where the output of a state begins in `told`, and where it ends.
+    /// Where the output of a state begins in `output`, and where it ends.
     pub lows: Vec<u16>,
     pub highs: Vec<u16>,
     /// The outputs of all states, each in the order of the list.
-    pub told: Vec<u16>,
+    pub output: Vec<u16>,
     /// The state of each literal.
     pub ends: Vec<u16>,
     /// The number of states without output.
@@ -65,7 +65,7 @@ impl Tables {
             owns: Vec::with_capacity(alloc, room)?,
             lows: Vec::with_capacity(alloc, room)?,
             highs: Vec::with_capacity(alloc, room)?,
-            told: Vec::with_capacity(alloc, MOST_TOLD)?,
+            output: Vec::with_capacity(alloc, MOST_OUTPUTS)?,
             ends: Vec::with_capacity(alloc, MAX_LITERALS)?,
             quiet: 0,
         })

@@ -13,7 +13,7 @@ use Rattle.lit_base.specs.Occurrences.{IsFirstEnding, NoneEnds, Occurs, hit_cmp}
 use Rattle.lit_base.specs.Occurrences.{HasEnd}
 use Rattle.lit_base.specs.NextEnds.{NoEndAfter}
 use Rattle.text_ends.specs.HitsAt.{AreHitsAt}
-use Rattle.text_ends.specs.HitsBehind.{AreHitsBehind}
+use Rattle.text_ends.specs.HitsAfter.{AreHitsAfter}
 use Rattle.text_ends.proofs.Occurring.{occurs_in_front, occurs_of_front}
 
 -- two lists in strict order are one where each element of the first is below each of the second
@@ -48,7 +48,7 @@ to_front l text m place e within o =
     occurs_in_front l (take m text) (drop m text) place e within (subst (λ t. Occurs l t place e) (sym (take-append-drop m text)) o)
 
 -- the hits up to a position of a text and those after it are all hits
-pub hits_joined : (l : Literals) (text : List ℕ) (from m at : ℕ) (found rest : List (ℕ × ℕ)) → from ≤ m → m ≤ length text → AreHitsBehind l (take m text) from at found → AreHitsBehind l text m (at + (m - from)) rest → AreHitsBehind l text from at (found ++ rest)
+pub hits_joined : (l : Literals) (text : List ℕ) (from m at : ℕ) (found rest : List (ℕ × ℕ)) → from ≤ m → m ≤ length text → AreHitsAfter l (take m text) from at found → AreHitsAfter l text m (at + (m - from)) rest → AreHitsAfter l text from at (found ++ rest)
 hits_joined l text from m at found rest starts within early late = record {
   rising = sorted_joined hit_cmp found rest early.rising late.rising
       (λ h i inside there.
@@ -71,7 +71,7 @@ hits_joined l text from m at found rest starts within early late = record {
 }
 
 -- where nothing ends there are no hits
-pub hits_none : (l : Literals) (text : List ℕ) (from at : ℕ) → NoEndAfter l text from → AreHitsBehind l text from at []
+pub hits_none : (l : Literals) (text : List ℕ) (from at : ℕ) → NoEndAfter l text from → AreHitsAfter l text from at []
 unfolding IsStrictlySortedBy
 hits_none l text from at none = record {
   rising = tt;
@@ -87,34 +87,34 @@ pub none_in_front : (l : Literals) (text : List ℕ) (from m stop : ℕ) → fro
 none_in_front l text from m stop further none = λ end after here. none end (omega (arith, after, further)) (here.0, from_front l text stop here.0 end here.1)
 
 -- the hits at a position of the text, where nothing ends between another position and it
-pub hits_here : (l : Literals) (text : List ℕ) (m end at : ℕ) (here : List (ℕ × ℕ)) → m < end → end ≤ length text → ((other : ℕ) → m < other → other < end → ¬ HasEnd l text other) → AreHitsAt l text end (at + (end - m)) here → AreHitsBehind l (take end text) m at here
+pub hits_here : (l : Literals) (text : List ℕ) (m end at : ℕ) (here : List (ℕ × ℕ)) → m < end → end ≤ length text → ((other : ℕ) → m < other → other < end → ¬ HasEnd l text other) → AreHitsAt l text end (at + (end - m)) here → AreHitsAfter l (take end text) m at here
 hits_here l text m end at here after within first hits = record {
   rising = hits.rising;
-  members = λ place told. (
-    λ inside. let w = (hits.members place told).0 inside in
-        (omega (arith, w.0, after), to_front l text end place (m + (told - at)) (omega (arith, w.0, after, length-take end text)) (at_end l text place end (m + (told - at)) (omega (arith, w.0, after)) w.1)),
-    λ w. let o : Occurs l text place (m + (told - at)) = from_front l text end place (m + (told - at)) w.1 in
-        let most : m + (told - at) ≤ end = omega (arith, w.1.ends, length-take end text) in
-        elim (cases_lt (m + (told - at)) end) [
-          | inl sooner ↦ absurd (first (m + (told - at)) (omega (arith, w.0)) sooner (place, o))
-          | inr there ↦ (hits.members place told).1 (omega (arith, w.0, there, most), at_end l text place (m + (told - at)) end (omega (arith, there, most)) o)
+  members = λ place position. (
+    λ inside. let w = (hits.members place position).0 inside in
+        (omega (arith, w.0, after), to_front l text end place (m + (position - at)) (omega (arith, w.0, after, length-take end text)) (at_end l text place end (m + (position - at)) (omega (arith, w.0, after)) w.1)),
+    λ w. let o : Occurs l text place (m + (position - at)) = from_front l text end place (m + (position - at)) w.1 in
+        let most : m + (position - at) ≤ end = omega (arith, w.1.ends, length-take end text) in
+        elim (cases_lt (m + (position - at)) end) [
+          | inl sooner ↦ absurd (first (m + (position - at)) (omega (arith, w.0)) sooner (place, o))
+          | inr there ↦ (hits.members place position).1 (omega (arith, w.0, there, most), at_end l text place (m + (position - at)) end (omega (arith, there, most)) o)
         ],
   );
 }
 
 -- the hits up to a position, and those at the next end, are the hits up to there
-pub hits_further : (l : Literals) (text : List ℕ) (from m end at : ℕ) (found here : List (ℕ × ℕ)) → from ≤ m → m < end → end ≤ length text → ((other : ℕ) → m < other → other < end → ¬ HasEnd l text other) → AreHitsBehind l (take m text) from at found → AreHitsAt l text end (at + (end - from)) here → AreHitsBehind l (take end text) from at (found ++ here)
+pub hits_further : (l : Literals) (text : List ℕ) (from m end at : ℕ) (found here : List (ℕ × ℕ)) → from ≤ m → m < end → end ≤ length text → ((other : ℕ) → m < other → other < end → ¬ HasEnd l text other) → AreHitsAfter l (take m text) from at found → AreHitsAt l text end (at + (end - from)) here → AreHitsAfter l (take end text) from at (found ++ here)
 hits_further l text from m end at found here starts after within first early hits =
     let same : at + (end - from) ≡ at + (m - from) + (end - m) = omega (arith, starts, after) in
     let front : take m (take end text) ≡ take m text = take-take m end text (omega (arith, after)) in
     hits_joined l (take end text) from m at found here starts (omega (arith, length-take end text, after, within))
-    (subst (λ t. AreHitsBehind l t from at found) (sym front) early)
+    (subst (λ t. AreHitsAfter l t from at found) (sym front) early)
     (hits_here l text m end (at + (m - from)) here after within first (subst (λ x. AreHitsAt l text end x here) same hits))
 
 -- the hits up to a position after which nothing ends are all hits
-pub hits_ended : (l : Literals) (text : List ℕ) (from m at : ℕ) (found : List (ℕ × ℕ)) → from ≤ m → m ≤ length text → NoEndAfter l text m → AreHitsBehind l (take m text) from at found → AreHitsBehind l text from at found
+pub hits_ended : (l : Literals) (text : List ℕ) (from m at : ℕ) (found : List (ℕ × ℕ)) → from ≤ m → m ≤ length text → NoEndAfter l text m → AreHitsAfter l (take m text) from at found → AreHitsAfter l text from at found
 hits_ended l text from m at found starts within none early =
-    subst (AreHitsBehind l text from at) (append-nil found) (hits_joined l text from m at found [] starts within early (hits_none l text m (at + (m - from)) none))
+    subst (AreHitsAfter l text from at) (append-nil found) (hits_joined l text from m at found [] starts within early (hits_none l text m (at + (m - from)) none))
 
 -- of two hits that end together, the hit of the earlier literal is below the other
 second_decides : (b c d : Bool) (o : Ordering) → c ≡ true → d ≡ true → ordering_then (cond b Less (cond c Equal Greater)) (cond d Less o) ≡ Less
@@ -140,13 +140,13 @@ only_one h i inside = elim (Contains-push_cases [] h i inside) [ inl none ↦ ab
 -- the hits at one position of the text, which counts as `at`, of the literals before a place of the list
 pub record AreHitsAtBefore (l : Literals) (text : List ℕ) (end at limit : ℕ) (found : List (ℕ × ℕ)) : Type 0 where
   pub rising : IsStrictlySortedBy hit_cmp found
-  pub members : (place told : ℕ) → Contains found (place, told) ↔ ((told ≡ at) × (place < limit) × Occurs l text place end)
+  pub members : (place position : ℕ) → Contains found (place, position) ↔ ((position ≡ at) × (place < limit) × Occurs l text place end)
 
 pub hits_at_none : (l : Literals) (text : List ℕ) (end at : ℕ) → AreHitsAtBefore l text end at 0 []
 unfolding IsStrictlySortedBy
 hits_at_none l text end at = record {
   rising = tt;
-  members = λ place told. (λ inside. absurd (omega (arith, inside.1)), λ w. absurd (omega (arith, w.1)));
+  members = λ place position. (λ inside. absurd (omega (arith, inside.1)), λ w. absurd (omega (arith, w.1)));
 }
 
 -- the next literal that ends there gives one more
@@ -158,18 +158,18 @@ hits_at_more l text end at from place found early next = record {
       let before = (early.members h.0 h.1).0 inside in
       let same : (place, at) ≡ i = only_one (place, at) i there in
       subst (λ x. hit_cmp h x ≡ Less) same (lower_below h (place, at) before.0 (omega (arith, before.1, next.counted))));
-  members = λ other told. (
-    λ inside. elim (Contains-push_cases found (place, at) (other, told) inside) [
-      | inl here ↦ let w = (early.members other told).0 here in (w.0, omega (arith, w.1, next.counted), w.2)
+  members = λ other position. (
+    λ inside. elim (Contains-push_cases found (place, at) (other, position) inside) [
+      | inl here ↦ let w = (early.members other position).0 here in (w.0, omega (arith, w.1, next.counted), w.2)
       | inr same ↦ let p : place ≡ other = ap (λ h. h.0) same in
           (sym (ap (λ h. h.1) same), omega (arith, p), subst (λ k. Occurs l text k end) p next.occurs)
     ],
     λ w. elim (cases_lt other from) [
-      | inl sooner ↦ Contains-append_left found ((place, at) ∷ []) (other, told) ((early.members other told).1 (w.0, sooner, w.2))
+      | inl sooner ↦ Contains-append_left found ((place, at) ∷ []) (other, position) ((early.members other position).1 (w.0, sooner, w.2))
       | inr later ↦ elim (cases_lt other place) [
         | inl between ↦ absurd (next.first other later between w.2)
         | inr there ↦ let p : place ≡ other = omega (arith, w.1, there) in
-            subst (Contains (found ++ (place, at) ∷ [])) (same_pair (place, at) (other, told) p (sym w.0)) (Contains-push found (place, at))
+            subst (Contains (found ++ (place, at) ∷ [])) (same_pair (place, at) (other, position) p (sym w.0)) (Contains-push found (place, at))
       ]
     ],
   );
@@ -179,10 +179,10 @@ hits_at_more l text end at from place found early next = record {
 pub hits_at_ended : (l : Literals) (text : List ℕ) (end at limit : ℕ) (found : List (ℕ × ℕ)) → AreHitsAtBefore l text end at limit found → NoneEnds l text limit end → AreHitsAt l text end at found
 hits_at_ended l text end at limit found early none = record {
   rising = early.rising;
-  members = λ place told. (
-    λ inside. let w = (early.members place told).0 inside in (w.0, w.2),
+  members = λ place position. (
+    λ inside. let w = (early.members place position).0 inside in (w.0, w.2),
     λ w. elim (cases_lt place limit) [
-      | inl sooner ↦ (early.members place told).1 (w.0, sooner, w.1)
+      | inl sooner ↦ (early.members place position).1 (w.0, sooner, w.1)
       | inr later ↦ absurd (none place later w.1)
     ],
   );
@@ -193,8 +193,8 @@ pub gained_both : (old middle new found more : List (ℕ × ℕ)) → middle ≡
 gained_both old middle new found more first second = second ∙ ap (λ hs. hs ++ more) first ∙ append_assoc old found more
 
 -- a list that gained a hit in another form gained the hit
-pub gained_one : (old new : List (ℕ × ℕ)) (told hit : ℕ × ℕ) → new ≡ old ++ told ∷ [] → told ≡ hit → new ≡ old ++ hit ∷ []
-gained_one old new told hit gained same = subst (λ h. new ≡ old ++ h ∷ []) same gained
+pub gained_one : (old new : List (ℕ × ℕ)) (position hit : ℕ × ℕ) → new ≡ old ++ position ∷ [] → position ≡ hit → new ≡ old ++ hit ∷ []
+gained_one old new position hit gained same = subst (λ h. new ≡ old ++ h ∷ []) same gained
 
 -- and it has not become shorter
 pub gained_more : (old new found : List (ℕ × ℕ)) → new ≡ old ++ found → length old ≤ length new

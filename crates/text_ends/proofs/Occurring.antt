@@ -7,8 +7,8 @@ use Rattle.lit_base.specs.Literals.{Literals}
 use Rattle.lit_base.specs.Occurrences.{Occurs}
 
 -- the last m of the bytes up to an end in the second text are the same in both
-range_behind : (a b : List ℕ) (m e : ℕ) → m ≤ e → slice_range (a ++ b) (length a + e - m) (length a + e) ≡ slice_range b (e - m) e
-range_behind a b m e fits =
+range_after : (a b : List ℕ) (m e : ℕ) → m ≤ e → slice_range (a ++ b) (length a + e - m) (length a + e) ≡ slice_range b (e - m) e
+range_after a b m e fits =
     let at : length a + e - m ≡ length a + (e - m) = omega arith in
     let count : length a + e - (length a + (e - m)) ≡ e - (e - m) = omega arith in
     rw (at, count) (ap (take (e - (e - m))) (drop-append-add a b (e - m)))
@@ -21,13 +21,13 @@ range_before a b i e fits within =
     rw drop-append-le (take-append-le (e - i) (drop i a) b room)
 
 -- an occurrence in a text is one in a longer text that ends with it
-pub occurs_behind : (l : Literals) (a b : List ℕ) (place e : ℕ) → Occurs l b place e → Occurs l (a ++ b) place (length a + e)
-occurs_behind l a b place e o = record {
+pub occurs_after : (l : Literals) (a b : List ℕ) (place e : ℕ) → Occurs l b place e → Occurs l (a ++ b) place (length a + e)
+occurs_after l a b place e o = record {
   literal = o.literal;
   stands = o.stands;
   begins = omega (arith, o.begins);
   ends = omega (arith, o.ends, length-append a b);
-  bytes = ap (folded_text l.folding) (range_behind a b (length o.literal) e o.begins) ∙ o.bytes;
+  bytes = ap (folded_text l.folding) (range_after a b (length o.literal) e o.begins) ∙ o.bytes;
 }
 
 -- and the other way round, where the literal is no longer than the text in which it ends
@@ -37,7 +37,7 @@ occurs_in_rest l a b place e o fits = record {
   stands = o.stands;
   begins = fits;
   ends = omega (arith, o.ends, length-append a b);
-  bytes = ap (folded_text l.folding) (sym (range_behind a b (length o.literal) e fits)) ∙ o.bytes;
+  bytes = ap (folded_text l.folding) (sym (range_after a b (length o.literal) e fits)) ∙ o.bytes;
 }
 
 -- an occurrence that ends within a prefix is one in the prefix

@@ -7,7 +7,7 @@ use Rattle.std.proofs.lemmas.List.Elements.{Contains-append_right}
 use Rattle.lit_base.specs.Literals.{Literals}
 use Rattle.lit_base.specs.NextEnds.{IsNextEnd, NoEndAfter}
 use Rattle.text_ends.specs.HitsAt.{GainsHitsAt}
-use Rattle.text_ends.specs.HitsBehind.{AreHitsBehind, GainsHitsBehind, StopsAt}
+use Rattle.text_ends.specs.HitsAfter.{AreHitsAfter, GainsHitsAfter, StopsAt}
 use Rattle.text_ends.proofs.HitLists.{gained_both, gained_more, hits_ended, hits_further, hits_joined, hits_none, none_past}
 
 -- a search that gained fewer hits than it asked for reached the text's end
@@ -18,14 +18,14 @@ to_end l text from at most stop old new search few = elim (cases_lt stop (length
 ]
 
 -- where a search wants more hits than a list can hold, it covers the whole text
-pub all_searched : (l : Literals) (text : List ℕ) (from at most stop : ℕ) (old new : List (ℕ × ℕ)) → length new < most → StopsAt l text from at most stop old new → GainsHitsBehind l text from at old new
+pub all_searched : (l : Literals) (text : List ℕ) (from at most stop : ℕ) (old new : List (ℕ × ℕ)) → length new < most → StopsAt l text from at most stop old new → GainsHitsAfter l text from at old new
 all_searched l text from at most stop old new small search =
     let there : stop ≡ length text = to_end l text from at most stop old new search (omega (arith, small)) in
-    subst (λ t. GainsHitsBehind l t from at old new) (take_all stop text (omega (arith, there))) search.gained
+    subst (λ t. GainsHitsAfter l t from at old new) (take_all stop text (omega (arith, there))) search.gained
 
 -- a list that gained the hits up to a position of a text, and then those after it, gained the text's
 pub gained_joined : (l : Literals) (text : List ℕ) (from m at : ℕ) (old middle new : List (ℕ × ℕ)) → from ≤ m → m ≤ length text
-    → GainsHitsBehind l (take m text) from at old middle → GainsHitsBehind l text m (at + (m - from)) middle new → GainsHitsBehind l text from at old new
+    → GainsHitsAfter l (take m text) from at old middle → GainsHitsAfter l text m (at + (m - from)) middle new → GainsHitsAfter l text from at old new
 gained_joined l text from m at old middle new starts within early late = record {
   found = early.found ++ late.found;
   grown = gained_both old middle new early.found late.found early.grown late.grown;
@@ -34,21 +34,21 @@ gained_joined l text from m at old middle new starts within early late = record 
 
 -- so too where it stops before the text's end each time
 pub gained_further : (l : Literals) (text : List ℕ) (from m stop : ℕ) (old middle new : List (ℕ × ℕ)) → from ≤ m → m ≤ stop → stop ≤ length text
-    → GainsHitsBehind l (take m text) from from old middle → GainsHitsBehind l (take stop text) m m middle new → GainsHitsBehind l (take stop text) from from old new
+    → GainsHitsAfter l (take m text) from from old middle → GainsHitsAfter l (take stop text) m m middle new → GainsHitsAfter l (take stop text) from from old new
 gained_further l text from m stop old middle new starts further within early late =
     let front : take m (take stop text) ≡ take m text = take-take m stop text further in
-    let told : m ≡ from + (m - from) = omega (arith, starts) in
+    let position : m ≡ from + (m - from) = omega (arith, starts) in
     gained_joined l (take stop text) from m from old middle new starts (omega (arith, further, within, length-take stop text))
-    (subst (λ t. GainsHitsBehind l t from from old middle) (sym front) early)
-    (subst (λ x. GainsHitsBehind l (take stop text) m x middle new) told late)
+    (subst (λ t. GainsHitsAfter l t from from old middle) (sym front) early)
+    (subst (λ x. GainsHitsAfter l (take stop text) m x middle new) position late)
 
 -- so too where the later search covers a span of the text
 pub span_gained : (l : Literals) (text : List ℕ) (from m span most stop : ℕ) (old middle new : List (ℕ × ℕ)) → from ≤ m → span ≤ length text
-    → GainsHitsBehind l (take m text) from from old middle → StopsAt l (take span text) m m most stop middle new → GainsHitsBehind l (take stop text) from from old new
+    → GainsHitsAfter l (take m text) from from old middle → StopsAt l (take span text) m m most stop middle new → GainsHitsAfter l (take stop text) from from old new
 span_gained l text from m span most stop old middle new starts within early late =
     let inside : stop ≤ span = omega (arith, late.within, length-take span text) in
     let front : take stop (take span text) ≡ take stop text = take-take stop span text inside in
-    gained_further l text from m stop old middle new starts late.after (omega (arith, inside, within)) early (subst (λ t. GainsHitsBehind l t m m middle new) front late.gained)
+    gained_further l text from m stop old middle new starts late.after (omega (arith, inside, within)) early (subst (λ t. GainsHitsAfter l t m m middle new) front late.gained)
 
 -- from the end of a list on there are no hits
 pub none_late : (n : ℕ) (new : List (ℕ × ℕ)) (hit : ℕ × ℕ) → length new ≤ n → ¬ Contains (drop n new) hit
@@ -69,7 +69,7 @@ same_number most old middle more room = omega (arith, more, room)
 
 -- and it stops at the end of the text or after enough hits
 pub stopped_further : (l : Literals) (text : List ℕ) (from m span most stop : ℕ) (old middle new : List (ℕ × ℕ)) → from ≤ m → span ≤ length text → length middle ≤ length old + (most - 1)
-    → GainsHitsBehind l (take m text) from from old middle → StopsAt l (take span text) m m (most - (length middle - length old)) stop middle new
+    → GainsHitsAfter l (take m text) from from old middle → StopsAt l (take span text) m m (most - (length middle - length old)) stop middle new
     → (stop < length text → length old + most ≤ length new) → StopsAt l text from from most stop old new
 stopped_further l text from m span most stop old middle new starts within room early late enough =
     let more = gained_more old middle early.found early.grown in
@@ -91,7 +91,7 @@ span_end l text m span most stop old middle new within more room late few =
     to_end l (take span text) m m (most - (length middle - length old)) stop middle new late (omega (arith, few, more, room)) ∙ length-take span text ∙ omega (arith, within)
 
 -- nothing is gained where a search begins
-pub gained_nothing : (l : Literals) (text : List ℕ) (from at : ℕ) (old : List (ℕ × ℕ)) → GainsHitsBehind l (take from text) from at old old
+pub gained_nothing : (l : Literals) (text : List ℕ) (from at : ℕ) (old : List (ℕ × ℕ)) → GainsHitsAfter l (take from text) from at old old
 gained_nothing l text from at old = record {
   found = [];
   grown = sym (append-nil old);
@@ -100,7 +100,7 @@ gained_nothing l text from at old = record {
 
 -- the hits up to a position and those at the next one are the hits up to there
 pub gained_here : (l : Literals) (text : List ℕ) (from m end at : ℕ) (old middle new : List (ℕ × ℕ)) → from ≤ m → IsNextEnd l text m end
-    → GainsHitsBehind l (take m text) from at old middle → GainsHitsAt l text end (at + (end - from)) middle new → GainsHitsBehind l (take end text) from at old new
+    → GainsHitsAfter l (take m text) from at old middle → GainsHitsAt l text end (at + (end - from)) middle new → GainsHitsAfter l (take end text) from at old new
 gained_here l text from m end at old middle new starts next early late = record {
   found = early.found ++ late.found;
   grown = gained_both old middle new early.found late.found early.grown late.grown;
@@ -109,7 +109,7 @@ gained_here l text from m end at old middle new starts next early late = record 
 
 -- the hits up to a position after which nothing ends are all hits
 pub gained_ended : (l : Literals) (text : List ℕ) (from m at : ℕ) (old new : List (ℕ × ℕ)) → from ≤ m → m ≤ length text → NoEndAfter l text m
-    → GainsHitsBehind l (take m text) from at old new → GainsHitsBehind l text from at old new
+    → GainsHitsAfter l (take m text) from at old new → GainsHitsAfter l text from at old new
 gained_ended l text from m at old new starts within none early = record {
   found = early.found;
   grown = early.grown;
@@ -117,7 +117,7 @@ gained_ended l text from m at old new starts within none early = record {
 }
 
 -- from no hits on, they are all that a list gained
-pub gained_all : (l : Literals) (text : List ℕ) (from at : ℕ) (old new : List (ℕ × ℕ)) → old ≡ [] → GainsHitsBehind l text from at old new → AreHitsBehind l text from at new
+pub gained_all : (l : Literals) (text : List ℕ) (from at : ℕ) (old new : List (ℕ × ℕ)) → old ≡ [] → GainsHitsAfter l text from at old new → AreHitsAfter l text from at new
 gained_all l text from at old new none gains =
     let same : gains.found ≡ new = sym (gains.grown ∙ ap (λ hs. hs ++ gains.found) none) in
-    subst (AreHitsBehind l text from at) same gains.added
+    subst (AreHitsAfter l text from at) same gains.added

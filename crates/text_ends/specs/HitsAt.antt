@@ -7,7 +7,7 @@ use Rattle.lit_base.specs.Occurrences.{Occurs, hit_cmp}
 -- the hits at one position of the text, which counts as `at`
 pub record AreHitsAt (l : Literals) (text : List ℕ) (end at : ℕ) (found : List (ℕ × ℕ)) : Type 0 where
   pub rising : IsStrictlySortedBy hit_cmp found
-  pub members : (place told : ℕ) → Contains found (place, told) ↔ ((told ≡ at) × Occurs l text place end)
+  pub members : (place position : ℕ) → Contains found (place, position) ↔ ((position ≡ at) × Occurs l text place end)
 
 -- a list of hits has gained them, at its end
 pub record GainsHitsAt (l : Literals) (text : List ℕ) (end at : ℕ) (old new : List (ℕ × ℕ)) : Type 0 where

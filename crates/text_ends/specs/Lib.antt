@@ -1,3 +1,3 @@
 pub mod HitsAt
-pub mod HitsBehind
+pub mod HitsAfter
 pub mod Walks

@@ -3,7 +3,7 @@ ghost use Rattle.std.specs.Prelude.{◌≡◌, ℕ, ◌+◌, ◌-◌, ◌^◌, �
 ghost use Rattle.std.specs.Option.{IfNone};
 ghost use Rattle.lit_base.specs.NextEnds.{IsNextEnd, NoEndAfter};
 ghost use Rattle.text_ends.specs.HitsAt.{Extends, GainsHitsAt};
-ghost use Rattle.text_ends.specs.HitsBehind.{StopsAt};
+ghost use Rattle.text_ends.specs.HitsAfter.{StopsAt};
 ghost use Rattle.text_ends.specs.Walks.{HasGoneOn, Walk};
 
 use crate::hit::Hit;
@@ -15,7 +15,7 @@ pub trait Ends {
 
     /// The number that comes with an end identifies the literals there: it is the first of them, or a state of an
     /// automaton.
-    ghost tells: { Self → ℕ → ℕ → Type 0 };
+    ghost identifies: { Self → ℕ → ℕ → Type 0 };
 
     /// The next position at which some literal ends, with the number that identifies the literals there. The walk moves
     /// to this position. It takes no memory.
@@ -23,7 +23,7 @@ pub trait Ends {
         ensures next { let before = walk self.old in MatchOption result
             (NoEndAfter before.literals before.text before.from)
             (λ found. IsNextEnd before.literals before.text before.from found.0) }
-        ensures tells { IfSome result (λ found. tells self.new found.0 found.1) }
+        ensures identifies { IfSome result (λ found. identifies self.new found.0 found.1) }
         ensures moved { IfSome result (λ found. walk self.new ≡ record (walk self.old) { from = found.0 }) }
         ensures over { IfNone result (HasGoneOn (walk self.old) (walk self.new)) };
 
@@ -31,11 +31,11 @@ pub trait Ends {
     fn add_hits_at(
         &self,
         end: usize,
-        told: usize,
+        number: usize,
         at: u64,
         out: &mut Vec<Hit>,
     ) -> Result<(), AllocError>
-        requires { tells self.now end told }
+        requires { identifies self.now end number }
         ensures ok { OnOk result (GainsHitsAt (walk self.now).literals (walk self.now).text end at out.old.items out.new.items) }
         ensures few { OnOk result (length out.new.items ≤ length out.old.items + length (walk self.now).literals.texts) }
         ensures kept { Extends out.old.items out.new.items };
@@ -61,8 +61,8 @@ pub fn add_hits_of<E: Ends>(
     ensures quiet { NoEndAfter (E.walk ends.old).literals text.now from → IsOk result }
 {
     let before = out.len();
-    while let Some((end, told)) = ends.next_end() {
-        if let Err(refused) = ends.add_hits_at(end, told, at + (end - from) as u64, out) {
+    while let Some((end, number)) = ends.next_end() {
+        if let Err(refused) = ends.add_hits_at(end, number, at + (end - from) as u64, out) {
             out.truncate(before);
             return Err(refused);
         }

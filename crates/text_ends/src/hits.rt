@@ -48,7 +48,7 @@ fn add_all_at(
     ensures kept { Extends out.old.items out.new.items }
 {
     out.push(hit_of(list, first, at))?;
-    let mut endings = list.endings_behind(text, end, first);
+    let mut endings = list.endings_after(text, end, first);
     while let Some(place) = endings.next() {
         out.push(hit_of(list, place, at))?;
     }

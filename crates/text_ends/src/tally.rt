@@ -42,7 +42,7 @@ impl Tally {
 
     /// Counts a pending end for each bit of `marks`.
     #[inline(always)]
-    pub fn claim(&mut self, marks: u64)
+    pub fn pending(&mut self, marks: u64)
         ensures { self.new ≡ record self.old { marked = min (self.old.marked + count_ones marks) (2 ^ 64 - 1) } }
     {
         self.marked = self.marked.saturating_add(marks.count_ones() as usize);

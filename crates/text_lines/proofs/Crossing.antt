@@ -16,10 +16,10 @@ crossing [] v (x ∷ a) t b one e = inr (omega arith)
 crossing (y ∷ u) v [] [] b one e = inl (omega arith)
 crossing (y ∷ u) v [] (c ∷ t) b one e =
     let rest : u ++ 10 ∷ v ≡ [] ++ (t ++ b) = (cc) in
-    elim (crossing u v [] t b (All-tail (λ x. x ≢ 10) c t one) rest) [ inl before ↦ inl (omega (arith, before)) | inr behind ↦ absurd (omega (arith, behind)) ]
+    elim (crossing u v [] t b (All-tail (λ x. x ≢ 10) c t one) rest) [ inl before ↦ inl (omega (arith, before)) | inr after ↦ absurd (omega (arith, after)) ]
 crossing (y ∷ u) v (x ∷ a) t b one e =
     let rest : u ++ 10 ∷ v ≡ a ++ (t ++ b) = (cc) in
-    elim (crossing u v a t b one rest) [ inl before ↦ inl (omega (arith, before)) | inr behind ↦ inr (omega (arith, behind)) ]
+    elim (crossing u v a t b one rest) [ inl before ↦ inl (omega (arith, before)) | inr after ↦ inr (omega (arith, after)) ]
 
 -- the front of a text
 front_slice : (ys zs t b : List ℕ) → ys ++ zs ≡ t ++ b → length t ≤ length ys → (rest : List ℕ) × (ys ≡ t ++ rest)
@@ -48,13 +48,13 @@ closed_byte b bs [] e closed = (cc)
 closed_byte b bs (p ∷ []) e closed = absurd (cc)
 closed_byte b bs (p ∷ q ∷ more) e closed = closed
 
-closed_behind : (b : ℕ) (bs : List ℕ) (here : Bool) → eqb b 10 ≡ here → 0 < length bs → last_piece (cond here ([] ∷ pieces bs) (onto_first b (pieces bs))) ≡ [] → last_piece (pieces bs) ≡ []
-closed_behind b bs true e some closed = by (pieces bs) (some_piece bs) closed
+closed_after : (b : ℕ) (bs : List ℕ) (here : Bool) → eqb b 10 ≡ here → 0 < length bs → last_piece (cond here ([] ∷ pieces bs) (onto_first b (pieces bs))) ≡ [] → last_piece (pieces bs) ≡ []
+closed_after b bs true e some closed = by (pieces bs) (some_piece bs) closed
   where
     by : (ps : List (List ℕ)) → 0 < length ps → last_piece ([] ∷ ps) ≡ [] → last_piece ps ≡ []
     by [] none h = absurd (omega arith)
     by (p ∷ ps) none h = h
-closed_behind b bs false e some closed = closed_byte b bs (pieces bs) refl closed
+closed_after b bs false e some closed = closed_byte b bs (pieces bs) refl closed
 
 closed_one : (b : ℕ) (here : Bool) → eqb b 10 ≡ here → last_piece (cond here ([] ∷ [] ∷ []) ((b ∷ []) ∷ [])) ≡ [] → b ≡ 10
 closed_one b true e closed = eqb-true b 10 e
@@ -65,7 +65,7 @@ unfolding open_rest
 ends_in_newline [] closed = inl refl
 ends_in_newline (b ∷ []) closed = inr ([], ap (λ x. x ∷ []) (closed_one b (eqb b 10) refl closed))
 ends_in_newline (b ∷ c ∷ cs) closed =
-    elim (ends_in_newline (c ∷ cs) (closed_behind b (c ∷ cs) (eqb b 10) refl (omega arith) closed)) [
+    elim (ends_in_newline (c ∷ cs) (closed_after b (c ∷ cs) (eqb b 10) refl (omega arith) closed)) [
       | inl none ↦ absurd (cc)
       | inr w ↦ inr (b ∷ w.0, ap (λ l. b ∷ l) w.1)
     ]

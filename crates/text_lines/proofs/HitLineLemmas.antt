@@ -35,20 +35,20 @@ split_front text front tail missed head end is_front is_tail cut =
     sym (take-append-drop (end - 1) text) ∙ ap (λ u. u ++ drop (end - 1) text) (sym is_front ∙ cut.whole) ∙ ap (λ u. (missed ++ head) ++ u) (sym is_tail) ∙ append_assoc missed head tail
 
 -- the two parts of the line, before the end of a literal and from there on, lie in the text
-pub line-room : (text front tail missed head ending behind : List ℕ) (at : ℕ) → front ≡ take at text → tail ≡ drop at text → IsLastCut front missed head → IsFirstLine tail ending behind
+pub line-room : (text front tail missed head ending after : List ℕ) (at : ℕ) → front ≡ take at text → tail ≡ drop at text → IsLastCut front missed head → IsFirstLine tail ending after
     → length missed + (length head + length ending) ≤ length text
-line-room text front tail missed head ending behind at is_front is_tail cut last =
-    omega (arith, ap length is_front, length-take at text, ap length is_tail, length-drop at text, ap length cut.whole, length-append missed head, ap length last.whole, length-append ending (10 ∷ behind))
+line-room text front tail missed head ending after at is_front is_tail cut last =
+    omega (arith, ap length is_front, length-take at text, ap length is_tail, length-drop at text, ap length cut.whole, length-append missed head, ap length last.whole, length-append ending (10 ∷ after))
 
 -- a line of two parts, where the newline stands after the second
-joined_line : (head tail ending behind rest line : List ℕ) → IsOnePiece head → IsFirstLine tail ending behind → rest ≡ head ++ tail → line ≡ take (length head + length ending) rest → IsFirstLine rest line behind
-joined_line head tail ending behind rest line one last is_rest is_line =
-    let whole : rest ≡ (head ++ ending) ++ 10 ∷ behind = is_rest ∙ ap (λ t. head ++ t) last.whole ∙ sym (append_assoc head ending (10 ∷ behind)) in
+joined_line : (head tail ending after rest line : List ℕ) → IsOnePiece head → IsFirstLine tail ending after → rest ≡ head ++ tail → line ≡ take (length head + length ending) rest → IsFirstLine rest line after
+joined_line head tail ending after rest line one last is_rest is_line =
+    let whole : rest ≡ (head ++ ending) ++ 10 ∷ after = is_rest ∙ ap (λ t. head ++ t) last.whole ∙ sym (append_assoc head ending (10 ∷ after)) in
     let same : line ≡ head ++ ending =
-    is_line ∙ ap (λ n. take n rest) (sym (length-append head ending)) ∙ ap (take (length (head ++ ending))) whole ∙ take-append_seam (head ++ ending) (10 ∷ behind) in
+    is_line ∙ ap (λ n. take n rest) (sym (length-append head ending)) ∙ ap (take (length (head ++ ending))) whole ∙ take-append_seam (head ++ ending) (10 ∷ after) in
     record {
       one = subst IsOnePiece (sym same) (All-append (λ b. b ≢ 10) head ending one last.one);
-      whole = whole ∙ ap (λ t. t ++ 10 ∷ behind) (sym same);
+      whole = whole ∙ ap (λ t. t ++ 10 ∷ after) (sym same);
     }
 
 module _ (l : Literals) (normal : IsNormal l) where
@@ -92,7 +92,7 @@ module _ (l : Literals) (normal : IsNormal l) where
     line_end : length head ≤ length line
     line_end = elim (crossing line rest [] head tail one (sym (append_cancel_left missed (head ++ tail) (line ++ 10 ∷ rest) (sym front ∙ whole)))) [
       | inl before ↦ omega (arith, before)
-      | inr behind ↦ absurd (omega (arith, behind))
+      | inr after ↦ absurd (omega (arith, after))
     ]
 
     -- and the line before begins before the literal
@@ -107,7 +107,7 @@ module _ (l : Literals) (normal : IsNormal l) where
           let short : length (map f w.0) ≡ length w.0 = length-map w.0 f in
           elim (crossing (map f w.0) (map f (line ++ 10 ∷ rest)) a t b single same) [
             | inl before ↦ absurd (omega (arith, before, long, short, at, size))
-            | inr behind ↦ omega (arith, behind, long, short)
+            | inr after ↦ omega (arith, after, long, short)
           ]
     ]
 
@@ -121,50 +121,50 @@ module _ (l : Literals) (normal : IsNormal l) where
         let inside = slice_get_within l.texts h.0 t o.stands in
         let here = get_or_from_slice_get l.texts h.0 t t o.stands in
         let single : IsOnePiece t = subst IsOnePiece here (apart h.0 t inside) in
-        let low : length missed ≤ length p.before = low_end p.before t p.behind single p.at p.whole in
-        let cut : map f missed ++ (map f line ++ (10 ∷ map f rest)) ≡ p.before ++ (t ++ p.behind) =
+        let low : length missed ≤ length p.before = low_end p.before t p.after single p.at p.whole in
+        let cut : map f missed ++ (map f line ++ (10 ∷ map f rest)) ≡ p.before ++ (t ++ p.after) =
         ap (λ u. map f missed ++ u) (sym (map-newline l.folding line rest)) ∙ sym (map-append f missed (line ++ 10 ∷ rest)) ∙ sym (ap (map f) whole) ∙ p.whole in
         let high : length p.before + length t ≤ length missed + length line =
-        elim (crossing (map f missed ++ map f line) (map f rest) p.before t p.behind single (append_assoc (map f missed) (map f line) (10 ∷ map f rest) ∙ cut)) [
+        elim (crossing (map f missed ++ map f line) (map f rest) p.before t p.after single (append_assoc (map f missed) (map f line) (10 ∷ map f rest) ∙ cut)) [
           | inl before ↦ omega (arith, before, length-append (map f missed) (map f line), length-map missed f, length-map line f)
-          | inr behind ↦ absurd (omega (arith, behind, length-append (map f missed) (map f line), length-map missed f, length-map line f, p.at, size, line_end, own_some l normal line h.0 t inside here))
+          | inr after ↦ absurd (omega (arith, after, length-append (map f missed) (map f line), length-map missed f, length-map line f, p.at, size, line_end, own_some l normal line h.0 t inside here))
         ] in
-        let slice : HasSubslice (map f line) t = middle_slice (map f missed) (map f line) (10 ∷ map f rest) p.before t p.behind cut
+        let slice : HasSubslice (map f line) t = middle_slice (map f missed) (map f line) (10 ∷ map f rest) p.before t p.after cut
         (omega (arith, low, length-map missed f)) (omega (arith, high, length-map missed f, length-map line f)) in
         let same = own_folded l normal line h.0 t inside here in
         (matching.matches l.folding false l.texts line).1 (h.0, t, inside, here, (slice.0, slice.1, slice.2 ∙ ap (λ u. slice.0 ++ (u ++ slice.1)) (sym same)))
 
   -- the line that holds the first end is the first that holds a literal: the bytes before that end, and up to the next
   -- newline
-  pub first-hit : (apart : All IsOnePiece l.texts) (text front tail missed head ending rest line behind : List ℕ) (end : ℕ) → IsNextEnd l text 0 end → front ≡ take (end - 1) text → tail ≡ drop (end - 1) text
-      → IsLastCut front missed head → IsFirstLine tail ending behind → rest ≡ drop (length missed) text → line ≡ take (length head + length ending) rest → IsFirstHitLine l text missed line behind
-  first-hit apart text front tail missed head ending rest line behind end n is_front is_tail cut last is_rest is_line =
+  pub first-hit : (apart : All IsOnePiece l.texts) (text front tail missed head ending rest line after : List ℕ) (end : ℕ) → IsNextEnd l text 0 end → front ≡ take (end - 1) text → tail ≡ drop (end - 1) text
+      → IsLastCut front missed head → IsFirstLine tail ending after → rest ≡ drop (length missed) text → line ≡ take (length head + length ending) rest → IsFirstHitLine l text missed line after
+  first-hit apart text front tail missed head ending rest line after end n is_front is_tail cut last is_rest is_line =
       let parts = split_front text front tail missed head end is_front is_tail cut in
       let later : rest ≡ head ++ tail = is_rest ∙ ap (drop (length missed)) parts ∙ drop-append_seam missed (head ++ tail) in
-      let first = joined_line head tail ending behind rest line cut.one last later is_line in
-      let whole : text ≡ missed ++ (line ++ 10 ∷ behind) = parts ∙ ap (λ u. missed ++ u) (sym later ∙ first.whole) in
+      let first = joined_line head tail ending after rest line cut.one last later is_line in
+      let whole : text ≡ missed ++ (line ++ 10 ∷ after) = parts ∙ ap (λ u. missed ++ u) (sym later ∙ first.whole) in
       let size : length missed + length head + 1 ≡ end = omega (arith, n.after, n.within, length-append missed head, ap length cut.whole, ap length is_front, length-take (end - 1) text) in
       record {
         whole = whole;
         closed = cut.closed;
         one = first.one;
         misses = misses-front text missed (head ++ tail) parts (λ e some within. n.first e some (omega (arith, within, size)));
-        hit = hit-line apart text missed line behind head tail end whole cut.closed parts cut.one size n.here;
+        hit = hit-line apart text missed line after head tail end whole cut.closed parts cut.one size n.here;
       }
 
   -- the first line is that line, where some literal ends in it
-  pub first-line-hit : (apart : All IsOnePiece l.texts) (text missed line behind : List ℕ) (end : ℕ) → 0 < end → HasEnd l text end → missed ≡ [] → IsFirstLine text line behind → end ≤ length line → IsFirstHitLine l text missed line behind
-  first-line-hit apart text missed line behind end some here none cut low =
-      let same : line ≡ take (length line) text = sym (ap (take (length line)) cut.whole ∙ take-append_seam line (10 ∷ behind)) in
+  pub first-line-hit : (apart : All IsOnePiece l.texts) (text missed line after : List ℕ) (end : ℕ) → 0 < end → HasEnd l text end → missed ≡ [] → IsFirstLine text line after → end ≤ length line → IsFirstHitLine l text missed line after
+  first-line-hit apart text missed line after end some here none cut low =
+      let same : line ≡ take (length line) text = sym (ap (take (length line)) cut.whole ∙ take-append_seam line (10 ∷ after)) in
       let one : IsOnePiece (take (end - 1) text) = one-shorter text (end - 1) (length line) (omega arith) (subst IsOnePiece same cut.one) in
-      let long : length text ≡ length line + length (10 ∷ behind) = ap length cut.whole ∙ length-append line (10 ∷ behind) in
+      let long : length text ≡ length line + length (10 ∷ after) = ap length cut.whole ∙ length-append line (10 ∷ after) in
       let size : 0 + length (take (end - 1) text) + 1 ≡ end = omega (arith, some, low, long, length-take (end - 1) text) in
-      subst (λ m. IsFirstHitLine l text m line behind) (sym none) (record {
+      subst (λ m. IsFirstHitLine l text m line after) (sym none) (record {
         whole = cut.whole;
         closed = open_rest-nil;
         one = cut.one;
         misses = misses-front text [] text refl (λ e more within. absurd (omega (arith, more, within)));
-        hit = hit-line apart text [] line behind (take (end - 1) text) (drop (end - 1) text) end cut.whole open_rest-nil (sym (take-append-drop (end - 1) text)) one size here;
+        hit = hit-line apart text [] line after (take (end - 1) text) (drop (end - 1) text) end cut.whole open_rest-nil (sym (take-append-drop (end - 1) text)) one size here;
       })
 
   -- in a text of ended lines it has a newline

@@ -1,4 +1,4 @@
-pub mod BehindLines
+pub mod AfterLines
 pub mod Counts
 pub mod Crossing
 pub mod HitLineLemmas

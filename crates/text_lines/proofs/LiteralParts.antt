@@ -12,9 +12,9 @@ use Rattle.lit_base.specs.Occurrences.{Occurs}
 -- a text, folded, round a literal that ends in it
 pub record Parts (folding : Fold) (text t : List ℕ) (end : ℕ) : Type 0 where
   pub before : List ℕ
-  pub behind : List ℕ
+  pub after : List ℕ
   pub at : length before + length t ≡ end
-  pub whole : folded_text folding text ≡ before ++ (t ++ behind)
+  pub whole : folded_text folding text ≡ before ++ (t ++ after)
 
 pub occurs-parts : (l : Literals) (text : List ℕ) (place end : ℕ) (o : Occurs l text place end) → Parts l.folding text o.literal end
 occurs-parts l text place end o =
@@ -26,7 +26,7 @@ occurs-parts l text place end o =
     sym (take-append-drop start text) ∙ ap (λ t. take start text ++ t) (sym (take-append-drop size rest)) in
     record {
       before = map f (take start text);
-      behind = map f (drop size rest);
+      after = map f (drop size rest);
       at = omega (arith, length-map (take start text) f, length-take start text, o.begins, o.ends);
       whole = ap (map f) parts ∙ map-append f (take start text) (take size rest ++ drop size rest)
           ∙ ap (λ t. map f (take start text) ++ t) (map-append f (take size rest) (drop size rest) ∙ ap (λ t. t ++ map f (drop size rest)) o.bytes);

@@ -54,8 +54,8 @@ module _ (text : List ℕ) (mask : ℕ) (n : AreNewlines text mask) where
         eqb-false (get_or text k d) 10 (sym (lane k d (omega (arith, below, first-seen))) ∙ none) (sym (get_or-take (trailing_zeros w64 mask) text k d below) ∙ e)
 
     -- and what remains above it is the mask of the text after it
-    pub rest-newlines : (end : ℕ) (behind : List ℕ) → end ≡ trailing_zeros w64 mask → behind ≡ drop (end + 1) text → AreNewlines behind (mask / 2 ^ end / 2 ^ 1)
-    rest-newlines end behind is cut =
+    pub rest-newlines : (end : ℕ) (after : List ℕ) → end ≡ trailing_zeros w64 mask → after ≡ drop (end + 1) text → AreNewlines after (mask / 2 ^ end / 2 ^ 1)
+    rest-newlines end after is cut =
         let at : end < n.seen = omega (arith, is, first-seen) in
         let parts : n.seen ≡ (end + 1) + (n.seen - (end + 1)) = omega (arith, at) in
         record {

@@ -26,8 +26,8 @@ last-closed text at h =
     ap open_rest (take_more text at 0 h.0.high ∙ ap (λ b. take at text ++ b ∷ []) here) ∙ open_rest-closed (take at text)
 
 -- after the last newline there is none
-pub behind-one : (text : List ℕ) (at : ℕ) → IsLastByte (is_byte 10) text (Some at) → IsOnePiece (drop (at + 1) text)
-behind-one text at h k d inside e =
+pub after-one : (text : List ℕ) (at : ℕ) → IsLastByte (is_byte 10) text (Some at) → IsOnePiece (drop (at + 1) text)
+after-one text at h k d inside e =
     let room : (at + 1) + k < length text = omega (arith, length-drop (at + 1) text) in
     h.0.after ((at + 1) + k) (omega arith) room (is_newline text ((at + 1) + k) d room (sym (get_or-drop (at + 1) text k d) ∙ e))
 
@@ -51,17 +51,17 @@ pub last-cut : (text ended rest : List ℕ) (at : ℕ) → IsLastByte (is_byte 1
 last-cut text ended rest at h front back = record {
   whole = sym (take-append-drop (at + 1) text) ∙ ap (λ b. b ++ drop (at + 1) text) (sym front) ∙ ap (λ r. ended ++ r) (sym back);
   closed = ap open_rest front ∙ last-closed text at h;
-  one = subst IsOnePiece (sym back) (behind-one text at h);
+  one = subst IsOnePiece (sym back) (after-one text at h);
 }
 
 -- it is cut so by the number of bytes after it
-pub last-cut-behind : (text ended rest : List ℕ) (behind : ℕ) → behind < length text → IsOnePiece (drop (length text - behind) text) → get_or text (length text - behind - 1) 0 ≡ 10
-    → ended ≡ take (length text - behind) text → rest ≡ drop (length text - behind) text → IsLastCut text ended rest
-last-cut-behind text ended rest behind few one newline front back =
-    let at = length text - behind - 1 in
-    let cut : length text - behind ≡ at + 1 = omega (arith, few) in
+pub last-cut-after : (text ended rest : List ℕ) (after : ℕ) → after < length text → IsOnePiece (drop (length text - after) text) → get_or text (length text - after - 1) 0 ≡ 10
+    → ended ≡ take (length text - after) text → rest ≡ drop (length text - after) text → IsLastCut text ended rest
+last-cut-after text ended rest after few one newline front back =
+    let at = length text - after - 1 in
+    let cut : length text - after ≡ at + 1 = omega (arith, few) in
     record {
-      whole = sym (take-append-drop (length text - behind) text) ∙ ap (λ b. b ++ drop (length text - behind) text) (sym front) ∙ ap (λ r. ended ++ r) (sym back);
+      whole = sym (take-append-drop (length text - after) text) ∙ ap (λ b. b ++ drop (length text - after) text) (sym front) ∙ ap (λ r. ended ++ r) (sym back);
       closed = ap open_rest (front ∙ ap (λ n. take n text) cut ∙ take_more text at 0 (omega (arith, few)) ∙ ap (λ b. take at text ++ b ∷ []) newline) ∙ open_rest-closed (take at text);
       one = subst IsOnePiece (sym back) one;
     }

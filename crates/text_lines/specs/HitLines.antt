@@ -7,7 +7,7 @@ use Rattle.lit_plan.specs.Plans.{Plan}
 use Rattle.text_search.specs.Searched.{Searched}
 
 -- a text stands in another after lines that newlines end, or after nothing
-pub record IsBehindLines (whole text : List ℕ) : Type 0 where
+pub record IsAfterLines (whole text : List ℕ) : Type 0 where
   pub front : List ℕ
   pub cut : whole ≡ front ++ text
   pub closed : open_rest front ≡ []
@@ -34,7 +34,7 @@ pub record HitSearch : Type 0 where
 pub record IsHitSearch (plan : Plan) (finder : Option Literals) (search : Searched) (text rest : List ℕ) : Type 0 where
   pub learner : IfSome finder (λ list. list ≡ plan.literals)
   pub by_plan : search ≡ record { plan = plan; text = text }
-  pub behind : IsBehindLines text rest
+  pub after : IsAfterLines text rest
   pub closed : open_rest rest ≡ []
   pub apart : All IsOnePiece plan.literals.texts
   pub normal : IsNormal plan.literals

@@ -4,7 +4,7 @@ ghost use Rattle.lit_base.specs.Lines.{IsOnePiece};
 ghost use Rattle.text_lines.specs.Cutting.{AreNewlines, IsFirstLine, IsLastCut};
 
 use crate::counting::{
-    LANES, bytes_behind_newline, count_newlines, first_newline, first_newline_of_two, newline_mask,
+    LANES, bytes_after_newline, count_newlines, first_newline, first_newline_of_two, newline_mask,
 };
 use crate::tuning::{MOSTLY_EMPTY, SAMPLE, SHORT_LINE};
 use memchr::{memchr, memrchr};
@@ -49,10 +49,10 @@ fn split_at_newline(text: &[u8], end: usize) -> (&[u8], &[u8])
     requires apart { IsOnePiece (take end text.now) }
     ensures line { IsFirstLine text.now result.0.now result.1.now }
     ensures len { length result.0.now ≡ end }
-    ensures behind { result.1.now ≡ drop (end + 1) text.now }
+    ensures after { result.1.now ≡ drop (end + 1) text.now }
 {
-    let (line, behind) = text.split_at(end);
-    (line, &behind[1..])
+    let (line, after) = text.split_at(end);
+    (line, &after[1..])
 }
 
 /// The text before and after the first newline, if there is one. A newline among the first 128 bytes is found by one
@@ -63,9 +63,9 @@ pub(crate) fn split_near_line(text: &[u8]) -> Option<(&[u8], &[u8])>
         (IsOnePiece text.now)
         (λ parts. IsFirstLine text.now parts.0.now parts.1.now) }
 {
-    if let [b'\n', behind @ ..] = text {
+    if let [b'\n', after @ ..] = text {
         let (line, _) = text.split_at(0);
-        return Some((line, behind));
+        return Some((line, after));
     }
     if text.len() >= 2 * LANES {
         let end = first_newline_of_two(text);
@@ -80,7 +80,7 @@ pub(crate) fn split_near_line(text: &[u8]) -> Option<(&[u8], &[u8])>
 #[derive(Drop)]
 pub struct CutLine<'t> {
     pub line: &'t [u8],
-    pub behind: &'t [u8],
+    pub after: &'t [u8],
     pub newlines: u64,
 }
 
@@ -92,8 +92,8 @@ pub fn split_next_line(text: &[u8], newlines: u64, by_masks: bool) -> Option<Cut
     requires { AreNewlines text.now newlines }
     ensures line { MatchOption result
         (IsOnePiece text.now)
-        (λ cut. IsFirstLine text.now cut.line.now cut.behind.now) }
-    ensures newlines { IfSome result (λ cut. AreNewlines cut.behind.now cut.newlines) }
+        (λ cut. IsFirstLine text.now cut.line.now cut.after.now) }
+    ensures newlines { IfSome result (λ cut. AreNewlines cut.after.now cut.newlines) }
 {
     if !by_masks {
         return split_alone(text);
@@ -123,13 +123,13 @@ fn mask_or_next(text: &[u8], newlines: u64) -> u64
 fn split_alone(text: &[u8]) -> Option<CutLine<'_>>
     ensures line { MatchOption result
         (IsOnePiece text.now)
-        (λ cut. IsFirstLine text.now cut.line.now cut.behind.now) }
-    ensures newlines { IfSome result (λ cut. AreNewlines cut.behind.now cut.newlines) }
+        (λ cut. IsFirstLine text.now cut.line.now cut.after.now) }
+    ensures newlines { IfSome result (λ cut. AreNewlines cut.after.now cut.newlines) }
 {
-    let (line, behind) = split_near_line(text)?;
+    let (line, after) = split_near_line(text)?;
     Some(CutLine {
         line,
-        behind,
+        after,
         newlines: 0,
     })
 }
@@ -139,14 +139,14 @@ fn split_alone(text: &[u8]) -> Option<CutLine<'_>>
 fn split_by_mask(text: &[u8], newlines: u64) -> CutLine<'_>
     requires mask { AreNewlines text.now newlines }
     requires some { 0 < newlines }
-    ensures line { IsFirstLine text.now result.line.now result.behind.now }
-    ensures newlines { AreNewlines result.behind.now result.newlines }
+    ensures line { IsFirstLine text.now result.line.now result.after.now }
+    ensures newlines { AreNewlines result.after.now result.newlines }
 {
     let end = newlines.trailing_zeros() as usize;
-    let (line, behind) = split_at_newline(text, end);
+    let (line, after) = split_at_newline(text, end);
     CutLine {
         line,
-        behind,
+        after,
         newlines: newlines >> end >> 1,
     }
 }
@@ -154,9 +154,9 @@ fn split_by_mask(text: &[u8], newlines: u64) -> CutLine<'_>
 /// The first line of a text and the text after its newline, if the newline stands at `place` or later, among the first
 /// 128 bytes. One comparison cuts the line of a hit that ends at `place`. `None` says nothing about the text.
 #[inline(always)]
-pub(crate) fn split_line_behind(text: &[u8], place: usize) -> Option<(&[u8], &[u8])>
+pub(crate) fn split_line_after(text: &[u8], place: usize) -> Option<(&[u8], &[u8])>
     ensures line { IfSome result (λ parts. IsFirstLine text.now parts.0.now parts.1.now) }
-    ensures behind { IfSome result (λ parts. place ≤ length parts.0.now) }
+    ensures after { IfSome result (λ parts. place ≤ length parts.0.now) }
 {
     if place >= 2 * LANES || text.len() < 2 * LANES {
         return None;
@@ -200,9 +200,9 @@ fn split_near_end(text: &[u8]) -> (&[u8], &[u8])
     requires { 64 ≤ length text.now }
     ensures { IsLastCut text.now result.0.now result.1.now }
 {
-    let behind = bytes_behind_newline(text);
-    if behind < LANES {
-        return text.split_at(text.len() - behind);
+    let after = bytes_after_newline(text);
+    if after < LANES {
+        return text.split_at(text.len() - after);
     }
     split_ended(text)
 }

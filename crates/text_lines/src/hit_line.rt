@@ -7,7 +7,7 @@ ghost use Rattle.lit_base.specs.NextEnds.{IsNextEnd, NoEndAfter};
 ghost use Rattle.text_lines.specs.HitLines.{AllMiss, IsFirstHitLine};
 
 use crate::column::Column;
-use crate::cutting::{split_front, split_line_behind, split_near_line};
+use crate::cutting::{split_front, split_line_after, split_near_line};
 use flow_scan::{Compiled, EndFinder, TextSearch};
 use std::marker::Model;
 
@@ -18,22 +18,22 @@ pub struct HitLine<'t> {
     pub missed: &'t [u8],
     pub line: &'t [u8],
     /// What stands after its newline.
-    pub behind: &'t [u8],
+    pub after: &'t [u8],
 }
 
 impl<'t> HitLine<'t> {
     /// The first line of a text, with what stands after its newline.
     #[inline(always)]
-    fn in_front(text: &'t [u8], line: &'t [u8], behind: &'t [u8]) -> HitLine<'t>
+    fn in_front(text: &'t [u8], line: &'t [u8], after: &'t [u8]) -> HitLine<'t>
         ensures missed { result.missed.now ≡ [] }
         ensures line { result.line.now ≡ line.now }
-        ensures behind { result.behind.now ≡ behind.now }
+        ensures after { result.after.now ≡ after.now }
     {
         let (missed, _) = text.split_at(0);
         HitLine {
             missed,
             line,
-            behind,
+            after,
         }
     }
 }
@@ -106,13 +106,13 @@ impl<'a> HitLines<'a> {
     pub fn next_line(&mut self) -> Option<HitLine<'a>>
         ensures hit { MatchOption result
             (AllMiss self.old.plan.literals self.old.rest)
-            (λ hit. IsFirstHitLine self.old.plan.literals self.old.rest hit.missed.now hit.line.now hit.behind.now) }
+            (λ hit. IsFirstHitLine self.old.plan.literals self.old.rest hit.missed.now hit.line.now hit.after.now) }
         ensures moved { MatchOption result
             (self.new ≡ self.old)
-            (λ hit. self.new ≡ record self.old { rest = hit.behind.now }) }
+            (λ hit. self.new ≡ record self.old { rest = hit.after.now }) }
     {
         let hit = self.first()?;
-        self.rest = hit.behind;
+        self.rest = hit.after;
         Some(hit)
     }
 
@@ -123,7 +123,7 @@ impl<'a> HitLines<'a> {
         ensures same { self.new ≡ self.old }
         ensures hit { MatchOption result
             (AllMiss self.old.plan.literals self.old.rest)
-            (λ hit. IsFirstHitLine self.old.plan.literals self.old.rest hit.missed.now hit.line.now hit.behind.now) }
+            (λ hit. IsFirstHitLine self.old.plan.literals self.old.rest hit.missed.now hit.line.now hit.after.now) }
     {
         let text = self.rest;
         let compiled = self.compiled;
@@ -131,9 +131,9 @@ impl<'a> HitLines<'a> {
             return Some(hit);
         }
         let end = self.first_end()?;
-        if let Some((line, behind)) = split_line_behind(text, end) {
+        if let Some((line, after)) = split_line_after(text, end) {
             self.column.note(end);
-            return Some(HitLine::in_front(text, line, behind));
+            return Some(HitLine::in_front(text, line, after));
         }
         line_round(compiled, &mut self.column, text, end)
     }
@@ -143,7 +143,7 @@ impl<'a> HitLines<'a> {
     fn likely(&mut self) -> Option<HitLine<'a>>
         ensures same { self.new ≡ self.old }
         ensures hit { IfSome result
-            (λ hit. IsFirstHitLine self.old.plan.literals self.old.rest hit.missed.now hit.line.now hit.behind.now) }
+            (λ hit. IsFirstHitLine self.old.plan.literals self.old.rest hit.missed.now hit.line.now hit.after.now) }
     {
         let at = self.column.likely_end()?;
         let found = self.line_with_end(at);
@@ -159,7 +159,7 @@ impl<'a> HitLines<'a> {
     fn line_with_end(&mut self, at: usize) -> Option<HitLine<'a>>
         ensures same { self.new ≡ self.old }
         ensures hit { IfSome result
-            (λ hit. IsFirstHitLine self.old.plan.literals self.old.rest hit.missed.now hit.line.now hit.behind.now) }
+            (λ hit. IsFirstHitLine self.old.plan.literals self.old.rest hit.missed.now hit.line.now hit.after.now) }
     {
         let text = self.rest;
         if at == 0 || text.len() < at {
@@ -168,11 +168,11 @@ impl<'a> HitLines<'a> {
         if !self.has_end(at) {
             return None;
         }
-        let (line, behind) = split_near_line(text)?;
+        let (line, after) = split_near_line(text)?;
         if line.len() < at {
             return None;
         }
-        Some(HitLine::in_front(text, line, behind))
+        Some(HitLine::in_front(text, line, after))
     }
 
     /// Whether some literal ends after the first `at` bytes of the rest: the literal found last in this way, or another.
@@ -249,17 +249,17 @@ fn line_round<'t>(
     requires normal { IsNormal compiled.now.literals }
     ensures { MatchOption result
         (AllMiss compiled.now.literals text.now)
-        (λ hit. IsFirstHitLine compiled.now.literals text.now hit.missed.now hit.line.now hit.behind.now) }
+        (λ hit. IsFirstHitLine compiled.now.literals text.now hit.missed.now hit.line.now hit.after.now) }
 {
     let (front, tail) = text.split_at(end - 1);
     let (missed, head) = split_front(front, text);
-    let (ending, behind) = split_near_line(tail)?;
+    let (ending, after) = split_near_line(tail)?;
     let (_, rest) = text.split_at(missed.len());
     let (line, _) = rest.split_at(head.len() + ending.len());
     column.note(head.len().saturating_add(1));
     Some(HitLine {
         missed,
         line,
-        behind,
+        after,
     })
 }

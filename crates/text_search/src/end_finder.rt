@@ -3,23 +3,23 @@ ghost use Rattle.std.specs.Prelude.{◌≡◌, ◌+◌, ◌-◌, ◌^◌, ◌<�
 ghost use Rattle.std.specs.Option.{IfNone};
 ghost use Rattle.lit_plan.specs.declared.fault.Fault.TheVariants.{OutOfMemory};
 ghost use Rattle.lit_base.specs.NextEnds.{IsNextEnd, NoEndAfter};
-ghost use Rattle.text_ends.specs.HitsBehind.{AreHitsBehind, Continues, StopsAt};
+ghost use Rattle.text_ends.specs.HitsAfter.{AreHitsAfter, Continues, StopsAt};
 
 use crate::hit_search::HitSearch;
 use crate::prices::{cost_by_automaton, cost_by_plan, cost_of_dense_ends};
 use crate::sampling::Sample;
 use crate::strategy::{
-    Engine, Step, Strategy, Wanted, has_factors, has_use, least_gathered, sample_len, span_behind,
+    Engine, Step, Strategy, Wanted, has_factors, has_use, least_gathered, sample_len, span_after,
     wants_automaton, wants_automaton_first, wants_shift_or,
 };
 use crate::text_search::TextSearch;
+use factor_search::{FactorEnds, Factors};
 use lit_plan::{Compiled, Fault};
 use shift_search::{ShiftOr, ShiftedEnds};
 use std::alloc::{AllocError, Global};
 use std::marker::Model;
-use text_automaton::{Automaton, ToldEnds};
+use text_automaton::{Automaton, AutomatonEnds};
 use text_ends::{EndRate, Ends, Hit, add_hits_of};
-use window_search::{WindowedEnds, Windows};
 
 /// A search through the texts of one run for the literals of a plan. It begins as `next_end` does. When false positives
 /// and ends have cost too much, it tunes itself to a sample of the text. It then compares the estimates of factors,
@@ -28,7 +28,7 @@ use window_search::{WindowedEnds, Windows};
 #[derive(Debug, Drop)]
 pub struct EndFinder {
     /// Factors, unless the list is too long for them.
-    windows: Option<Windows>,
+    factors: Option<Factors>,
     shift_or: ShiftOr,
     automaton: Automaton,
     /// Bytes gathered from short pieces of a stream. The finder takes the sample out while it tunes.
@@ -44,7 +44,7 @@ impl Model for EndFinder {
 
     ghost view = { λ s. s.shift_or.literals };
 
-    ghost invariant = { λ s. IfSome s.windows (λ windows. windows.literals ≡ s.shift_or.literals) × (s.automaton.literals ≡ s.shift_or.literals) };
+    ghost invariant = { λ s. IfSome s.factors (λ factors. factors.literals ≡ s.shift_or.literals) × (s.automaton.literals ≡ s.shift_or.literals) };
 }
 
 impl EndFinder {
@@ -52,12 +52,12 @@ impl EndFinder {
     pub fn new(alloc: Global, compiled: &Compiled) -> Result<EndFinder, AllocError>
         ensures { IfOk result (λ finder. finder ≡ compiled.now.literals) }
     {
-        let windows = windows_of(alloc, compiled)?;
+        let factors = factors_of(alloc, compiled)?;
         let shift_or = ShiftOr::new(alloc, compiled.shared_index()?)?;
         let automaton = Automaton::new(alloc, compiled.shared_index()?)?;
         let sample = Sample::new(alloc)?;
         Ok(EndFinder {
-            windows,
+            factors,
             shift_or,
             automaton,
             sample: Some(sample),
@@ -116,14 +116,18 @@ impl EndFinder {
             return None;
         }
         self.learn_if_due(compiled, text, start, Wanted::Ends);
-        match self.next_behind(search, start) {
+        match self.next_after_start(search, start) {
             Some((end, _)) => Some(end),
             None => None,
         }
     }
 
     /// As `next_end_of`, by the engine in use.
-    fn next_behind(&mut self, search: &mut TextSearch<'_>, from: usize) -> Option<(usize, usize)>
+    fn next_after_start(
+        &mut self,
+        search: &mut TextSearch<'_>,
+        from: usize,
+    ) -> Option<(usize, usize)>
         requires plan { self.old ≡ search.old.plan.literals }
         requires inside { from < length search.old.text }
         ensures same { self.new ≡ self.old }
@@ -133,8 +137,8 @@ impl EndFinder {
             (λ found. IsNextEnd search.old.plan.literals search.old.text from found.0) }
     {
         match self.engine() {
-            Engine::Windows => self.next_windowed(search, from),
-            Engine::ShiftOr => self.next_shifted(search.compiled(), search.text(), from),
+            Engine::Factors => self.next_by_factors(search, from),
+            Engine::ShiftOr => self.next_by_shift_or(search.compiled(), search.text(), from),
             Engine::Automaton | Engine::Plan => self.next_by_plan(search, from),
         }
     }
@@ -158,9 +162,9 @@ impl EndFinder {
         found
     }
 
-    /// The hits of a text that end after `from`, as `scan_behind` gives them. It may tune itself before each span of
+    /// The hits of a text that end after `from`, as `scan_after` gives them. It may tune itself before each span of
     /// the text. The only refusal is `OutOfMemory`.
-    pub fn scan_behind(
+    pub fn scan_after(
         &mut self,
         alloc: Global,
         compiled: &Compiled,
@@ -170,7 +174,7 @@ impl EndFinder {
         requires plan { self.old ≡ compiled.now.literals }
         requires inside { from ≤ length text.now }
         ensures same { self.new ≡ self.old }
-        ensures ok { IfOk result (λ hits. AreHitsBehind compiled.now.literals text.now from from hits.items) }
+        ensures ok { IfOk result (λ hits. AreHitsAfter compiled.now.literals text.now from from hits.items) }
         ensures continues { IfOk result (λ hits. Continues compiled.now.literals text.now from hits.items) }
         ensures refused { IsOkUnless result OutOfMemory }
 
@@ -207,7 +211,7 @@ impl EndFinder {
             self.learn_if_sure(compiled, text, place);
             let stop = text
                 .len()
-                .min(place.saturating_add(span_behind(place - from)));
+                .min(place.saturating_add(span_after(place - from)));
             let (front, _) = text.split_at(stop);
             let left = most - (out.len() - before);
             match self.add_hits(compiled, front, place, place as u64, left, out) {
@@ -225,7 +229,7 @@ impl EndFinder {
     }
 
     /// Adds hits by the plan, as `add_hits` does.
-    fn add_hits_plainly(
+    fn add_hits_by_plan(
         &mut self,
         compiled: &Compiled,
         text: &[u8],
@@ -242,7 +246,7 @@ impl EndFinder {
         ensures same_hits { OnErr result (out.new.items ≡ out.old.items) }
         ensures quiet { NoEndAfter compiled.now.literals text.now from → IsOk result }
     {
-        let mut ends = compiled.ends_behind(text, from);
+        let mut ends = compiled.ends_after(text, from);
         let stop = add_hits_of(&mut ends, text, from, at, most, out)?;
         let tally = ends.tally();
         let spent = cost_by_plan(tally.passed, tally.ends);
@@ -252,7 +256,7 @@ impl EndFinder {
     }
 
     /// Adds hits by factors, as `add_hits` does, or by the plan if there are none.
-    fn add_hits_windowed(
+    fn add_hits_by_factors(
         &mut self,
         compiled: &Compiled,
         text: &[u8],
@@ -269,20 +273,24 @@ impl EndFinder {
         ensures same_hits { OnErr result (out.new.items ≡ out.old.items) }
         ensures quiet { NoEndAfter compiled.now.literals text.now from → IsOk result }
     {
-        let Some(windows) = &self.windows else {
-            return self.add_hits_plainly(compiled, text, from, at, most, out);
+        let Some(factors) = &self.factors else {
+            return self.add_hits_by_plan(compiled, text, from, at, most, out);
         };
-        let mut ends = WindowedEnds::behind(windows, text, from);
+        let mut ends = FactorEnds::after(factors, text, from);
         let stop = add_hits_of(&mut ends, text, from, at, most, out)?;
         let tally = ends.tally();
         let found = EndRate::of_scan(tally.ends);
-        let spent = windows.cost_of(stop - from, tally, found);
+        let spent = factors.cost_of(stop - from, tally, found);
         self.strategy.note(stop - from, spent, found);
         Ok(stop)
     }
 
     /// As `next_end_of`, by factors, or by the plan if there are none.
-    fn next_windowed(&mut self, search: &mut TextSearch<'_>, from: usize) -> Option<(usize, usize)>
+    fn next_by_factors(
+        &mut self,
+        search: &mut TextSearch<'_>,
+        from: usize,
+    ) -> Option<(usize, usize)>
         requires plan { self.old ≡ search.old.plan.literals }
         requires inside { from ≤ length search.old.text }
         ensures same { self.new ≡ self.old }
@@ -291,21 +299,21 @@ impl EndFinder {
             (NoEndAfter search.old.plan.literals search.old.text from)
             (λ found. IsNextEnd search.old.plan.literals search.old.text from found.0) }
     {
-        let Some(windows) = &self.windows else {
+        let Some(factors) = &self.factors else {
             return self.next_by_plan(search, from);
         };
         let text = search.text();
-        let mut ends = WindowedEnds::behind(windows, text, from);
+        let mut ends = FactorEnds::after(factors, text, from);
         let found = ends.next_end();
         let tally = ends.tally();
         let count = passed(text, from, found);
-        let spent = windows.cost_of(count, tally, rate_of(found));
+        let spent = factors.cost_of(count, tally, rate_of(found));
         self.strategy.note(count, spent, rate_of(found));
         found
     }
 
     /// Adds hits by shift-or, as `add_hits` does.
-    fn add_hits_shifted(
+    fn add_hits_by_shift_or(
         &mut self,
         compiled: &Compiled,
         text: &[u8],
@@ -322,7 +330,7 @@ impl EndFinder {
         ensures same_hits { OnErr result (out.new.items ≡ out.old.items) }
         ensures quiet { NoEndAfter compiled.now.literals text.now from → IsOk result }
     {
-        let mut ends = ShiftedEnds::behind(&self.shift_or, text, from);
+        let mut ends = ShiftedEnds::after(&self.shift_or, text, from);
         let stop = add_hits_of(&mut ends, text, from, at, most, out)?;
         let tally = ends.tally();
         let found = EndRate::of_scan(tally.ends);
@@ -332,7 +340,7 @@ impl EndFinder {
     }
 
     /// As `next_end`, by shift-or.
-    fn next_shifted(
+    fn next_by_shift_or(
         &mut self,
         compiled: &Compiled,
         text: &[u8],
@@ -345,7 +353,7 @@ impl EndFinder {
             (NoEndAfter compiled.now.literals text.now from)
             (λ found. IsNextEnd compiled.now.literals text.now from found.0) }
     {
-        let mut ends = ShiftedEnds::behind(&self.shift_or, text, from);
+        let mut ends = ShiftedEnds::after(&self.shift_or, text, from);
         let found = ends.next_end();
         let count = passed(text, from, found);
         let marked = ends.tally().marked;
@@ -355,7 +363,7 @@ impl EndFinder {
     }
 
     /// Adds hits by the automaton, as `add_hits` does, or by the plan if the automaton is not made.
-    fn add_hits_told(
+    fn add_hits_by_automaton(
         &mut self,
         compiled: &Compiled,
         text: &[u8],
@@ -372,13 +380,13 @@ impl EndFinder {
         ensures same_hits { OnErr result (out.new.items ≡ out.old.items) }
         ensures quiet { NoEndAfter compiled.now.literals text.now from → IsOk result }
     {
-        let Some(reading) = self.automaton.reading_behind(text, from) else {
-            return self.add_hits_plainly(compiled, text, from, at, most, out);
+        let Some(reading) = self.automaton.reading_after(text, from) else {
+            return self.add_hits_by_plan(compiled, text, from, at, most, out);
         };
-        let mut ends = ToldEnds::of(&self.automaton, text, reading);
+        let mut ends = AutomatonEnds::of(&self.automaton, text, reading);
         let stop = add_hits_of(&mut ends, text, from, at, most, out)?;
         let found = ends.ends();
-        let spent = self.cost_to_tell(compiled, stop - from, found);
+        let spent = self.price_of_automaton(compiled, stop - from, found);
         self.strategy
             .note(stop - from, spent, EndRate::of_scan(found));
         Ok(stop)
@@ -434,34 +442,34 @@ impl EndFinder {
         requires { from ≤ length text.now }
         ensures { self.new ≡ self.old }
     {
-        let (_, behind) = text.split_at(from);
+        let (_, after) = text.split_at(from);
         let most = sample_len(compiled.index().len());
-        let (sample, _) = behind.split_at(behind.len().min(most));
+        let (sample, _) = after.split_at(after.len().min(most));
         let rate = self.strategy.rate();
         let dense = cost_of_dense_ends(rate);
-        let by_windows = self.cost_of_windows(sample, rate).saturating_add(dense);
-        let told = self.cost_if_told(compiled, wanted, rate);
-        let is_told = self.makes_automaton(wants_automaton_first(told, by_windows));
-        let by_shift_or = if !is_told && wants_shift_or(by_windows) {
+        let by_factors = self.cost_of_factors(sample, rate).saturating_add(dense);
+        let automaton_cost = self.cost_of_automaton(compiled, wanted, rate);
+        let is_made_first = self.makes_automaton(wants_automaton_first(automaton_cost, by_factors));
+        let by_shift_or = if !is_made_first && wants_shift_or(by_factors) {
             self.shift_or.learn(sample, rate).saturating_add(dense)
         } else {
             usize::MAX
         };
-        let is_best = wants_automaton(told, by_windows, by_shift_or);
+        let is_best = wants_automaton(automaton_cost, by_factors, by_shift_or);
         let by_automaton = if self.makes_automaton(is_best) {
-            told
+            automaton_cost
         } else {
             usize::MAX
         };
-        self.strategy.choose(by_windows, by_shift_or, by_automaton);
+        self.strategy.choose(by_factors, by_shift_or, by_automaton);
     }
 
     /// Chooses factors by a sample. Returns the estimate of a search by them; `usize::MAX` if there are none.
-    fn cost_of_windows(&mut self, sample: &[u8], rate: EndRate) -> usize
+    fn cost_of_factors(&mut self, sample: &[u8], rate: EndRate) -> usize
         ensures { self.new ≡ self.old }
     {
-        match &mut self.windows {
-            Some(windows) => windows.learn(sample, rate),
+        match &mut self.factors {
+            Some(factors) => factors.learn(sample, rate),
             None => usize::MAX,
         }
     }
@@ -478,15 +486,15 @@ impl EndFinder {
 
     /// The estimate of a scan by the automaton for 1,024 bytes with ends at this rate; `usize::MAX` for single ends,
     /// which the automaton does not search for.
-    fn cost_if_told(&self, compiled: &Compiled, wanted: Wanted, rate: EndRate) -> usize {
+    fn cost_of_automaton(&self, compiled: &Compiled, wanted: Wanted, rate: EndRate) -> usize {
         match wanted {
-            Wanted::Hits => self.cost_to_tell(compiled, 1024, rate.ends),
+            Wanted::Hits => self.price_of_automaton(compiled, 1024, rate.ends),
             Wanted::Ends => usize::MAX,
         }
     }
 
     /// The cost of a scan by the automaton for `count` bytes with `ends` ends.
-    fn cost_to_tell(&self, compiled: &Compiled, count: usize, ends: usize) -> usize {
+    fn price_of_automaton(&self, compiled: &Compiled, count: usize, ends: usize) -> usize {
         cost_by_automaton(self.automaton.room(), compiled.carry(), count, ends)
     }
 }
@@ -505,22 +513,22 @@ impl HitSearch for EndFinder {
     ) -> Result<usize, AllocError> {
         self.learn_if_due(compiled, text, from, Wanted::Hits);
         match self.strategy.engine_for(text.len() - from) {
-            Engine::Windows => self.add_hits_windowed(compiled, text, from, at, most, out),
-            Engine::ShiftOr => self.add_hits_shifted(compiled, text, from, at, most, out),
-            Engine::Automaton => self.add_hits_told(compiled, text, from, at, most, out),
-            Engine::Plan => self.add_hits_plainly(compiled, text, from, at, most, out),
+            Engine::Factors => self.add_hits_by_factors(compiled, text, from, at, most, out),
+            Engine::ShiftOr => self.add_hits_by_shift_or(compiled, text, from, at, most, out),
+            Engine::Automaton => self.add_hits_by_automaton(compiled, text, from, at, most, out),
+            Engine::Plan => self.add_hits_by_plan(compiled, text, from, at, most, out),
         }
     }
 }
 
 /// The factors of a plan's literals, or `None` if these are too many.
-fn windows_of(alloc: Global, compiled: &Compiled) -> Result<Option<Windows>, AllocError>
-    ensures { IfOk result (λ windows. IfSome windows (λ some. some.literals ≡ compiled.now.literals)) }
+fn factors_of(alloc: Global, compiled: &Compiled) -> Result<Option<Factors>, AllocError>
+    ensures { IfOk result (λ factors. IfSome factors (λ some. some.literals ≡ compiled.now.literals)) }
 {
     if !has_factors(compiled.list().len()) {
         return Ok(None);
     }
-    Ok(Some(Windows::new(alloc, compiled.shared_index()?)?))
+    Ok(Some(Factors::new(alloc, compiled.shared_index()?)?))
 }
 
 /// The rate that a search for one end adds.

@@ -2,7 +2,7 @@
 ghost use Rattle.std.specs.Prelude.{◌≡◌, ◌+◌, ◌-◌, ◌^◌, ◌<◌, ◌≤◌, IfOk, IsOk, OnErr, length};
 ghost use Rattle.lit_base.specs.NextEnds.{NoEndAfter};
 ghost use Rattle.lit_base.specs.Literals.{Literals};
-ghost use Rattle.text_ends.specs.HitsBehind.{StopsAt};
+ghost use Rattle.text_ends.specs.HitsAfter.{StopsAt};
 
 use lit_plan::Compiled;
 use std::alloc::AllocError;
@@ -50,7 +50,7 @@ impl HitSearch for PlainSearch {
         most: usize,
         out: &mut Vec<Hit>,
     ) -> Result<usize, AllocError> {
-        let mut ends = compiled.ends_behind(text, from);
+        let mut ends = compiled.ends_after(text, from);
         add_hits_of(&mut ends, text, from, at, most, out)
     }
 }

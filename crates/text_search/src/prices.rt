@@ -1,7 +1,7 @@
 //! Measured and estimated costs of searches by the plan and by the automaton, in tenths of a nanosecond.
 
 use crate::tuning::{
-    AUTOMATON_COST, CANDIDATE_COST, DENSE, LANE_COST, NEAR_STATES, PLAIN_END_COST, TOLD_GAIN,
+    AUTOMATON_COST, AUTOMATON_GAIN, CANDIDATE_COST, DENSE, LANE_COST, NEAR_STATES, PLAIN_END_COST,
 };
 use text_ends::EndRate;
 
@@ -28,5 +28,5 @@ pub(crate) fn cost_by_automaton(room: usize, before: usize, count: usize, ends: 
         .saturating_add(room.saturating_sub(NEAR_STATES) / 2)
         .saturating_add(before.saturating_mul(LANE_COST));
     let steps = count.saturating_mul(step) / 1024;
-    steps.saturating_sub(ends.saturating_mul(TOLD_GAIN))
+    steps.saturating_sub(ends.saturating_mul(AUTOMATON_GAIN))
 }

@@ -11,13 +11,13 @@
 ghost use Rattle.std.specs.Prelude.{◌<◌, ◌↔◌, IsTrue};
 
 use crate::tuning::{
-    FEW, FEW_BY_MASKS, FIRST_SPANS, LEARNED_COST, LEAST_CHOSEN, LEAST_GATHERED,
-    LEAST_GATHERED_OF_FEW, LEAST_LOSS, LEAST_SAMPLE, LEAST_TOLD, MOST_BY_FACTORS, MOST_WAIT,
+    FEW, FEW_BY_MASKS, FIRST_SPANS, LEARNED_COST, LEAST_BY_AUTOMATON, LEAST_CHOSEN, LEAST_GATHERED,
+    LEAST_GATHERED_OF_FEW, LEAST_LOSS, LEAST_SAMPLE, MOST_BY_FACTORS, MOST_WAIT,
     MOST_WITHOUT_FINDER, PLAIN_COST, SAMPLE, SAMPLE_OF_FEW, SPAN, SURE,
 };
+use factor_search::MASKS_COST;
 use shift_search::SHIFT_OR_COST;
 use text_ends::EndRate;
-use window_search::SIEVE_COST;
 
 /// What searches a text.
 #[derive(Clone, Copy, Debug, PartialEq, Eq)]
@@ -25,7 +25,7 @@ pub enum Engine {
     /// The plan alone.
     Plan,
     /// Factors of the literals, chosen from a sample.
-    Windows,
+    Factors,
     /// Shift-or over buckets of the literals.
     ShiftOr,
     /// The automaton of the literals: for scans alone.
@@ -80,7 +80,7 @@ pub(crate) fn least_gathered(len: usize) -> usize {
 }
 
 /// How many bytes of a text in memory one engine scans next, after `passed` bytes.
-pub(crate) fn span_behind(passed: usize) -> usize
+pub(crate) fn span_after(passed: usize) -> usize
     ensures { 0 < result }
 {
     if passed < SPAN {
@@ -92,18 +92,18 @@ pub(crate) fn span_behind(passed: usize) -> usize
 
 /// Whether to build the automaton before shift-or is tried: its estimate is below the estimate of factors and the least
 /// cost of shift-or.
-pub(crate) fn wants_automaton_first(by_automaton: usize, by_windows: usize) -> bool {
-    wants_automaton(by_automaton, by_windows, SHIFT_OR_COST)
+pub(crate) fn wants_automaton_first(by_automaton: usize, by_factors: usize) -> bool {
+    wants_automaton(by_automaton, by_factors, SHIFT_OR_COST)
 }
 
 /// Whether to try shift-or on the sample: the estimate of factors is above its least cost.
-pub(crate) fn wants_shift_or(by_windows: usize) -> bool {
-    SHIFT_OR_COST < by_windows
+pub(crate) fn wants_shift_or(by_factors: usize) -> bool {
+    SHIFT_OR_COST < by_factors
 }
 
 /// Whether to build the automaton: its estimate is below both others.
-pub(crate) fn wants_automaton(by_automaton: usize, by_windows: usize, by_shift_or: usize) -> bool {
-    by_automaton < by_windows.min(by_shift_or)
+pub(crate) fn wants_automaton(by_automaton: usize, by_factors: usize, by_shift_or: usize) -> bool {
+    by_automaton < by_factors.min(by_shift_or)
 }
 
 /// What an engine may take for 1,024 bytes, given its estimate.
@@ -112,14 +112,14 @@ fn allowed_for(cost: usize) -> usize {
 }
 
 /// The engine with the lowest of three estimates, and this estimate.
-fn best_of(by_windows: usize, by_shift_or: usize, by_automaton: usize) -> (Engine, usize) {
-    let least = by_windows.min(by_shift_or);
+fn best_of(by_factors: usize, by_shift_or: usize, by_automaton: usize) -> (Engine, usize) {
+    let least = by_factors.min(by_shift_or);
     if by_automaton < least {
         (Engine::Automaton, by_automaton)
-    } else if by_shift_or < by_windows {
+    } else if by_shift_or < by_factors {
         (Engine::ShiftOr, by_shift_or)
     } else {
-        (Engine::Windows, by_windows)
+        (Engine::Factors, by_factors)
     }
 }
 
@@ -164,7 +164,7 @@ impl Strategy {
     #[inline(always)]
     pub fn engine_for(&self, rest: usize) -> Engine {
         match self.engine {
-            Engine::Automaton if rest < LEAST_TOLD => Engine::Plan,
+            Engine::Automaton if rest < LEAST_BY_AUTOMATON => Engine::Plan,
             _ if rest < LEAST_CHOSEN => Engine::Plan,
             engine => engine,
         }
@@ -192,7 +192,7 @@ impl Strategy {
     fn has_learned(&self) -> bool {
         match self.engine {
             Engine::Plan => false,
-            Engine::Windows | Engine::ShiftOr | Engine::Automaton => true,
+            Engine::Factors | Engine::ShiftOr | Engine::Automaton => true,
         }
     }
 
@@ -222,8 +222,8 @@ impl Strategy {
     /// Takes the three estimates for 1,024 bytes, and changes to the engine with the lowest, unless the plan is in use
     /// and this is not clearly better. An engine that was not prepared has the estimate `usize::MAX`. The counters begin
     /// at 0 again.
-    pub fn choose(&mut self, by_windows: usize, by_shift_or: usize, by_automaton: usize) {
-        let (engine, cost) = best_of(by_windows, by_shift_or, by_automaton);
+    pub fn choose(&mut self, by_factors: usize, by_shift_or: usize, by_automaton: usize) {
+        let (engine, cost) = best_of(by_factors, by_shift_or, by_automaton);
         let allowed = allowed_for(cost);
         let is_better = self.is_better(cost, allowed);
         self.most_lost = if is_better {
@@ -269,7 +269,7 @@ impl Strategy {
         if self.has_learned() {
             taken
         } else {
-            taken.saturating_add(SIEVE_COST)
+            taken.saturating_add(MASKS_COST)
         }
     }
 }

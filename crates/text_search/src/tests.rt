@@ -7,20 +7,20 @@ use text_ends::EndRate;
 const BYTES: usize = 65536;
 
 /// A tuned search with these estimates for factors and shift-or, after the plan took far more.
-fn promised(by_windows: usize, by_shift_or: usize) -> Strategy {
-    promised_three(by_windows, by_shift_or, usize::MAX)
+fn promised(by_factors: usize, by_shift_or: usize) -> Strategy {
+    promised_three(by_factors, by_shift_or, usize::MAX)
 }
 
 /// The same with an estimate for the automaton too.
-fn promised_three(by_windows: usize, by_shift_or: usize, by_automaton: usize) -> Strategy {
+fn promised_three(by_factors: usize, by_shift_or: usize, by_automaton: usize) -> Strategy {
     let mut strategy = Strategy::new();
     strategy.note(BYTES, 1 << 30, EndRate::nothing());
-    strategy.choose(by_windows, by_shift_or, by_automaton);
+    strategy.choose(by_factors, by_shift_or, by_automaton);
     strategy
 }
 
 /// A search after `BYTES` more bytes, which cost this much for 1,024.
-fn behind(mut strategy: Strategy, cost: usize) -> Strategy {
+fn after(mut strategy: Strategy, cost: usize) -> Strategy {
     let taken = cost.saturating_mul(BYTES / 1024);
     strategy.note(BYTES, taken, EndRate::nothing());
     strategy
@@ -28,9 +28,9 @@ fn behind(mut strategy: Strategy, cost: usize) -> Strategy {
 
 #[test]
 fn goes_by_what_promises_less(rt: HostRuntime) {
-    assert_eq!(rt; promised(8_000, 9_000).engine(), Engine::Windows);
+    assert_eq!(rt; promised(8_000, 9_000).engine(), Engine::Factors);
     assert_eq!(rt; promised(9_000, 8_000).engine(), Engine::ShiftOr);
-    assert_eq!(rt; promised(8_000, usize::MAX).engine(), Engine::Windows);
+    assert_eq!(rt; promised(8_000, usize::MAX).engine(), Engine::Factors);
     assert_eq!(rt; promised(usize::MAX, 8_000).engine(), Engine::ShiftOr);
     assert_eq!(rt;
         promised_three(8_000, 9_000, 7_000).engine(),
@@ -38,7 +38,7 @@ fn goes_by_what_promises_less(rt: HostRuntime) {
     );
     assert_eq!(rt;
         promised_three(8_000, 9_000, 8_500).engine(),
-        Engine::Windows
+        Engine::Factors
     );
     assert_eq!(rt;
         promised_three(usize::MAX, usize::MAX, 8_500).engine(),
@@ -48,14 +48,14 @@ fn goes_by_what_promises_less(rt: HostRuntime) {
 
 #[test]
 fn keeps_its_engine_until_it_tunes_again(rt: HostRuntime) {
-    let mut strategy = behind(promised(8_000, 9_000), 240_000);
-    assert_eq!(rt; strategy.engine(), Engine::Windows);
+    let mut strategy = after(promised(8_000, 9_000), 240_000);
+    assert_eq!(rt; strategy.engine(), Engine::Factors);
     strategy.choose(100_000, 9_000, usize::MAX);
     assert_eq!(rt; strategy.engine(), Engine::ShiftOr);
 }
 
 #[test]
-fn takes_ends_that_stand_close_together_for_as_much_by_windows(rt: HostRuntime) {
+fn takes_ends_that_stand_close_together_for_as_much_by_factors(rt: HostRuntime) {
     assert_eq!(rt; cost_by_plan(0, 100), 50_000);
     assert_eq!(rt; cost_by_plan(3, 1), 1_700);
     assert_eq!(rt; cost_of_dense_ends(EndRate::of_scan(340)), 0);

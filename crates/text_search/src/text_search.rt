@@ -4,7 +4,7 @@ ghost use Rattle.lit_base.specs.NextEnds.{IsNextEnd, NoEndAfter};
 
 use lane_filter::Candidates;
 use lit_plan::Compiled;
-use sieve_search::next_verified;
+use prefilter_search::next_verified;
 use std::marker::Model;
 use text_ends::Tally;
 
@@ -25,11 +25,11 @@ impl<'a> Model for TextSearch<'a> {
 
     ghost use Rattle.std.specs.Prelude.{◌≡◌};
     ghost use Rattle.nib_mask.specs.Candidates.{CoversBy};
-    ghost use Rattle.lane_filter.specs.Sieves.{Passes};
+    ghost use Rattle.lane_filter.specs.Prefilters.{Passes};
 
     ghost view = { λ s. record { plan = s.compiled.now; text = s.text.now } };
 
-    ghost invariant = { λ s. CoversBy s.compiled.now.literals (Passes s.candidates.sieve)
+    ghost invariant = { λ s. CoversBy s.compiled.now.literals (Passes s.candidates.prefilter)
         × (s.candidates.text ≡ s.text.now) };
 }
 
@@ -38,7 +38,7 @@ impl<'a> TextSearch<'a> {
     pub fn new(compiled: &'a Compiled, text: &'a [u8]) -> TextSearch<'a>
         ensures { result ≡ record { plan = compiled.now; text = text.now } }
     {
-        let candidates = Candidates::new(compiled.sieve(), text, 0);
+        let candidates = Candidates::new(compiled.prefilter(), text, 0);
         TextSearch {
             compiled,
             text,

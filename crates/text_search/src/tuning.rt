@@ -1,6 +1,6 @@
 //! The prices and thresholds by which `strategy` chooses an engine. They change the time of a search, never its result.
 //!
-//! Prices are in tenths of a nanosecond. `window_search` and `shift_search` estimate by prices of their own, each in its
+//! Prices are in tenths of a nanosecond. `factor_search` and `shift_search` estimate by prices of their own, each in its
 //! `tuning.rt`.
 
 // Literals.
@@ -43,7 +43,7 @@ pub(crate) const LEAST_CHOSEN: usize = 64;
 
 /// Bytes. The plan searches shorter texts instead of the automaton, which starts slowly. Measured: with 512, frequent
 /// lists in short pieces took twice as long.
-pub(crate) const LEAST_TOLD: usize = 128;
+pub(crate) const LEAST_BY_AUTOMATON: usize = 128;
 
 /// Bytes. A shorter piece, without the bytes at its boundary, is not gathered: it gains less than tuned searches of it
 /// cost. Measured, not varied.
@@ -82,7 +82,7 @@ pub(crate) const LANE_COST: usize = 24;
 
 /// The gain of the automaton at an end of a scan, since its states list all literals there. Measured on ten lists: 390
 /// to 970.
-pub(crate) const TOLD_GAIN: usize = 500;
+pub(crate) const AUTOMATON_GAIN: usize = 500;
 
 // Losses, in tenths of a nanosecond.
 

@@ -45,16 +45,12 @@ fn given(
 }
 
 /// Those after the first, if one ends there.
-fn given_behind(alloc: Global, list: &ListIndex, text: &[u8], end: usize) -> Option<Vec<usize>> {
+fn given_after(alloc: Global, list: &ListIndex, text: &[u8], end: usize) -> Option<Vec<usize>> {
     if end > text.len() {
         return None;
     }
     match list.first_ending(text, end) {
-        Some(first) => rest_of(
-            alloc,
-            &mut list.endings_behind(text, end, first),
-            list.len(),
-        ),
+        Some(first) => rest_of(alloc, &mut list.endings_after(text, end, first), list.len()),
         None => Some(Vec::new(alloc)),
     }
 }
@@ -89,7 +85,7 @@ fn differences(alloc: Global, fold: Fold, patterns: &[&[u8]], text: &[u8]) -> Op
         }
         let all = compared(alloc, &list, text, end, 0)?;
         let wanted = all.get(1..).unwrap_or_default();
-        if given_behind(alloc, &list, text, end)?.as_slice() != wanted {
+        if given_after(alloc, &list, text, end)?.as_slice() != wanted {
             count = count.wrapping_add(1);
         }
     }

@@ -3,9 +3,11 @@
 ghost use Rattle.std.specs.Prelude.{◌≡◌};
 
 use crate::tests::finding::{
-    CAPITALS, Draws, FIGURES, Told, WORDS, pieces_of, plain_in, plan_of_pieces, text_of, with_end,
+    CAPITALS, Draws, FIGURES, Summary, WORDS, pieces_of, plain_in, plan_of_pieces, text_of,
+    with_end,
 };
 use crate::tests::owning::{How, agrees};
+use factor_search::{FactorEnds, Factors};
 use lit_base::Fold;
 use lit_plan::Compiled;
 use shift_search::{ShiftOr, ShiftedEnds};
@@ -13,25 +15,24 @@ use std::alloc::Global;
 use text_automaton::Automaton;
 use text_ends::{EndRate, Ends};
 use text_search::{EndFinder, next_end};
-use window_search::{WindowedEnds, Windows};
 
 /// The position that a search has reached, and its ends so far.
-type Progress = (usize, Told);
+type Progress = (usize, Summary);
 
 /// The length in bytes of the samples.
 const SAMPLE: usize = 20_000;
 
 /// At most `count` more ends, by the plan alone.
 fn by_plan(compiled: &Compiled, text: &[u8], progress: Progress, count: usize) -> Progress {
-    let (mut from, mut told) = progress;
+    let (mut from, mut summary) = progress;
     for _ in 0..count {
         let Some(end) = next_end(compiled, text, from) else {
-            return (text.len(), told);
+            return (text.len(), summary);
         };
-        told = with_end(told, end);
+        summary = with_end(summary, end);
         from = end;
     }
-    (from, told)
+    (from, summary)
 }
 
 /// At most `count` more ends, by a finder.
@@ -45,19 +46,19 @@ fn by_learning(
     requires { finder.old ≡ compiled.now.literals }
     ensures { finder.new ≡ compiled.now.literals }
 {
-    let (mut from, mut told) = progress;
+    let (mut from, mut summary) = progress;
     'ends: for _ in 0..count {
         let Some(end) = finder.next_end(compiled, text, from) else {
-            return (text.len(), told);
+            return (text.len(), summary);
         };
-        told = with_end(told, end);
+        summary = with_end(summary, end);
         from = end;
     }
-    (from, told)
+    (from, summary)
 }
 
 /// At most `count` more ends, by factors that a sample chooses.
-fn by_windows(
+fn by_factors(
     alloc: Global,
     compiled: &Compiled,
     text: &[u8],
@@ -65,26 +66,26 @@ fn by_windows(
     progress: Progress,
     count: usize,
 ) -> Option<Progress> {
-    let mut windows = Windows::new(alloc, compiled.shared_index().ok()?).ok()?;
-    windows.learn(sample, EndRate::nothing());
-    Some(ends_by_windows(&windows, text, progress, count))
+    let mut factors = Factors::new(alloc, compiled.shared_index().ok()?).ok()?;
+    factors.learn(sample, EndRate::nothing());
+    Some(ends_by_factors(&factors, text, progress, count))
 }
 
 /// The ends that these factors find.
-fn ends_by_windows(windows: &Windows, text: &[u8], progress: Progress, count: usize) -> Progress {
-    let (mut from, mut told) = progress;
+fn ends_by_factors(factors: &Factors, text: &[u8], progress: Progress, count: usize) -> Progress {
+    let (mut from, mut summary) = progress;
     for _ in 0..count {
         if from > text.len() {
-            return (from, told);
+            return (from, summary);
         }
-        let mut ends = WindowedEnds::behind(windows, text, from);
+        let mut ends = FactorEnds::after(factors, text, from);
         let Some((end, _)) = ends.next_end() else {
-            return (text.len(), told);
+            return (text.len(), summary);
         };
-        told = with_end(told, end);
+        summary = with_end(summary, end);
         from = end;
     }
-    (from, told)
+    (from, summary)
 }
 
 /// At most `count` more ends, by shift-or with a stride that a sample chooses.
@@ -103,16 +104,16 @@ fn by_shift_or(
 
 /// The ends that this shift-or finds.
 fn ends_by_shift_or(shift_or: &ShiftOr, text: &[u8], progress: Progress, count: usize) -> Progress {
-    let (mut from, mut told) = progress;
+    let (mut from, mut summary) = progress;
     for _ in 0..count {
-        let mut ends = ShiftedEnds::behind(shift_or, text, from);
+        let mut ends = ShiftedEnds::after(shift_or, text, from);
         let Some((end, _)) = ends.next_end() else {
-            return (text.len(), told);
+            return (text.len(), summary);
         };
-        told = with_end(told, end);
+        summary = with_end(summary, end);
         from = end;
     }
-    (from, told)
+    (from, summary)
 }
 
 /// At most `count` more ends, by the automaton, which reads the text anew after each.
@@ -138,25 +139,25 @@ fn ends_by_automaton(
     progress: Progress,
     count: usize,
 ) -> Option<Progress> {
-    let (mut from, mut told) = progress;
+    let (mut from, mut summary) = progress;
     for _ in 0..count {
         if from > text.len() {
             return None;
         }
-        let mut reading = automaton.reading_behind(text, from)?;
+        let mut reading = automaton.reading_after(text, from)?;
         let Some((end, _)) = automaton.next_end(text, &mut reading) else {
-            return Some((text.len(), told));
+            return Some((text.len(), summary));
         };
-        told = with_end(told, end);
+        summary = with_end(summary, end);
         from = end;
     }
-    Some((from, told))
+    Some((from, summary))
 }
 
 /// A sample of a text from a random offset on.
 fn sample_of<'t>(draws: &mut Draws, text: &'t [u8]) -> Option<&'t [u8]> {
-    let (_, behind) = text.split_at_checked(draws.below(text.len()))?;
-    let (sample, _) = behind.split_at_checked(SAMPLE.min(behind.len()))?;
+    let (_, after) = text.split_at_checked(draws.below(text.len()))?;
+    let (sample, _) = after.split_at_checked(SAMPLE.min(after.len()))?;
     Some(sample)
 }
 
@@ -167,14 +168,14 @@ fn changing_in(
     finder: &mut EndFinder,
     draws: &mut Draws,
     text: &[u8],
-) -> Option<Told>
+) -> Option<Summary>
     requires { finder.old ≡ compiled.now.literals }
 {
     let mut progress = (0, (0, 0));
     'changes: for _ in 0..text.len() {
-        let (from, told) = progress;
+        let (from, summary) = progress;
         if from >= text.len() {
-            return Some(told);
+            return Some(summary);
         }
         let count = draws.below(100).saturating_add(1);
         progress = match draws.below(5) {
@@ -187,7 +188,7 @@ fn changing_in(
             }
             _ => {
                 let sample = sample_of(draws, text)?;
-                by_windows(alloc, compiled, text, sample, progress, count)?
+                by_factors(alloc, compiled, text, sample, progress, count)?
             }
         };
     }

@@ -78,8 +78,8 @@ fn piece_of(
     len: usize,
     spoilt: u8,
 ) -> Option<Vec<u8>> {
-    let (_, behind) = text.split_at_checked(draws.below(text.len()))?;
-    let (piece, _) = behind.split_at_checked(len.min(behind.len()))?;
+    let (_, after) = text.split_at_checked(draws.below(text.len()))?;
+    let (piece, _) = after.split_at_checked(len.min(after.len()))?;
     let mut copy = Vec::from_slice(alloc, piece).ok()?;
     if let Some(byte) = copy.get_mut(draws.below(len)) {
         *byte ^= spoilt;
@@ -124,11 +124,11 @@ pub(super) fn plan_of(alloc: Global, literals: &[&[u8]]) -> Option<Compiled> {
 }
 
 /// The number of ends, and a sum that depends on their positions.
-pub(super) type Told = (usize, u64);
+pub(super) type Summary = (usize, u64);
 
 /// With one end more.
-pub(super) fn with_end(told: Told, end: usize) -> Told {
-    let (count, sum) = told;
+pub(super) fn with_end(summary: Summary, end: usize) -> Summary {
+    let (count, sum) = summary;
     (
         count.saturating_add(1),
         sum.wrapping_mul(31).wrapping_add(end as u64),
@@ -136,55 +136,60 @@ pub(super) fn with_end(told: Told, end: usize) -> Told {
 }
 
 /// The ends that a finder finds in a text, one after another.
-fn add_learned(told: Told, compiled: &Compiled, finder: &mut EndFinder, text: &[u8]) -> Told
+fn add_learned(
+    summary: Summary,
+    compiled: &Compiled,
+    finder: &mut EndFinder,
+    text: &[u8],
+) -> Summary
     requires { finder.old ≡ compiled.now.literals }
     ensures { finder.new ≡ compiled.now.literals }
 {
-    let mut told = told;
+    let mut summary = summary;
     let mut from = 0;
     'ends: for _ in 0..=text.len() {
         let Some(end) = finder.next_end(compiled, text, from) else {
-            return told;
+            return summary;
         };
-        told = with_end(told, end);
+        summary = with_end(summary, end);
         from = end;
     }
-    told
+    summary
 }
 
 /// The ends that the plan alone finds in a text, one after another.
-fn add_plain(told: Told, compiled: &Compiled, text: &[u8]) -> Told {
-    let mut told = told;
+fn add_plain(summary: Summary, compiled: &Compiled, text: &[u8]) -> Summary {
+    let mut summary = summary;
     let mut from = 0;
     for _ in 0..=text.len() {
         let Some(end) = next_end(compiled, text, from) else {
-            return told;
+            return summary;
         };
-        told = with_end(told, end);
+        summary = with_end(summary, end);
         from = end;
     }
-    told
+    summary
 }
 
 /// The ends that a finder finds in the pieces of a text, each a text of its own.
-fn learned_in(compiled: &Compiled, finder: &mut EndFinder, text: &[u8], size: usize) -> Told
+fn learned_in(compiled: &Compiled, finder: &mut EndFinder, text: &[u8], size: usize) -> Summary
     requires { finder.old ≡ compiled.now.literals }
     ensures { finder.new ≡ compiled.now.literals }
 {
-    let mut told = (0, 0);
+    let mut summary = (0, 0);
     'pieces: for piece in text.chunks(size.max(1)) {
-        told = add_learned(told, compiled, finder, piece);
+        summary = add_learned(summary, compiled, finder, piece);
     }
-    told
+    summary
 }
 
 /// The ends that the plan alone finds in the pieces of a text.
-pub(super) fn plain_in(compiled: &Compiled, text: &[u8], size: usize) -> Told {
-    let mut told = (0, 0);
+pub(super) fn plain_in(compiled: &Compiled, text: &[u8], size: usize) -> Summary {
+    let mut summary = (0, 0);
     for piece in text.chunks(size.max(1)) {
-        told = add_plain(told, compiled, piece);
+        summary = add_plain(summary, compiled, piece);
     }
-    told
+    summary
 }
 
 /// Whether both find the same in a whole text, four times, and then in pieces of this length.
@@ -283,7 +288,7 @@ pub(super) fn goes_over_to_factors(compiled: &Compiled, finder: &mut EndFinder, 
 {
     let first = finder.next_end(compiled, text, 0);
     let second = finder.next_end(compiled, text, 0);
-    first.is_none() && second.is_none() && finder.engine() == Engine::Windows
+    first.is_none() && second.is_none() && finder.engine() == Engine::Factors
 }
 
 /// Literals whose last bytes do not show which of them a text has.

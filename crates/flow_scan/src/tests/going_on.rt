@@ -1,7 +1,9 @@
 //! Searches of one text that continue after each end, compared with searches that begin anew.
 ghost use Rattle.std.specs.Prelude.{◌≡◌};
 
-use super::finding::{CAPITALS, Draws, Told, WORDS, pieces_of, plan_of_pieces, text_of, with_end};
+use super::finding::{
+    CAPITALS, Draws, Summary, WORDS, pieces_of, plan_of_pieces, text_of, with_end,
+};
 use crate::tests::owning::{How, agrees};
 use lit_base::Fold;
 use lit_plan::Compiled;
@@ -9,47 +11,47 @@ use std::alloc::Global;
 use text_search::{EndFinder, TextSearch, next_end};
 
 /// The ends that one search of a text by a finder finds, each more than `skip` bytes after the one before.
-fn by_finder(compiled: &Compiled, finder: &mut EndFinder, text: &[u8], skip: usize) -> Told
+fn by_finder(compiled: &Compiled, finder: &mut EndFinder, text: &[u8], skip: usize) -> Summary
     requires { finder.old ≡ compiled.now.literals }
     ensures { finder.new ≡ compiled.now.literals }
 {
-    let (mut told, mut from) = ((0, 0), 0);
+    let (mut summary, mut from) = ((0, 0), 0);
     let mut search = TextSearch::new(compiled, text);
     'ends: for _ in 0..=text.len() {
         let Some(end) = finder.next_end_of(&mut search, from) else {
-            return told;
+            return summary;
         };
-        told = with_end(told, end);
+        summary = with_end(summary, end);
         from = end.saturating_add(skip);
     }
-    told
+    summary
 }
 
 /// The ends that one search by the plan alone finds.
-fn by_plan(compiled: &Compiled, text: &[u8], skip: usize) -> Told {
-    let (mut told, mut from) = ((0, 0), 0);
+fn by_plan(compiled: &Compiled, text: &[u8], skip: usize) -> Summary {
+    let (mut summary, mut from) = ((0, 0), 0);
     let mut search = TextSearch::new(compiled, text);
     'ends: for _ in 0..=text.len() {
         let Some(end) = search.next_end(from) else {
-            return told;
+            return summary;
         };
-        told = with_end(told, end);
+        summary = with_end(summary, end);
         from = end.saturating_add(skip);
     }
-    told
+    summary
 }
 
 /// The ends that a new search after each end finds.
-fn anew(compiled: &Compiled, text: &[u8], skip: usize) -> Told {
-    let (mut told, mut from) = ((0, 0), 0);
+fn anew(compiled: &Compiled, text: &[u8], skip: usize) -> Summary {
+    let (mut summary, mut from) = ((0, 0), 0);
     for _ in 0..=text.len() {
         let Some(end) = next_end(compiled, text, from) else {
-            return told;
+            return summary;
         };
-        told = with_end(told, end);
+        summary = with_end(summary, end);
         from = end.saturating_add(skip);
     }
-    told
+    summary
 }
 
 /// Whether all three find the same at each distance.
@@ -77,7 +79,7 @@ fn agree(alloc: Global, fold: Fold, halves: [&[&[u8]]; 2], least: usize) -> Opti
 }
 
 #[test]
-fn goes_on_behind_each_end(rt: HostRuntime) {
+fn goes_on_after_each_end(rt: HostRuntime) {
     assert_eq!(rt;
         agree(rt.alloc(), Fold::No, [&WORDS, &WORDS], 4),
         Some(true)
@@ -85,7 +87,7 @@ fn goes_on_behind_each_end(rt: HostRuntime) {
 }
 
 #[test]
-fn goes_on_behind_each_end_of_longer_ones(rt: HostRuntime) {
+fn goes_on_after_each_end_of_longer_ones(rt: HostRuntime) {
     assert_eq!(rt;
         agree(rt.alloc(), Fold::No, [&WORDS, &WORDS], 9),
         Some(true)
@@ -93,7 +95,7 @@ fn goes_on_behind_each_end_of_longer_ones(rt: HostRuntime) {
 }
 
 #[test]
-fn goes_on_behind_short_ends_in_either_case(rt: HostRuntime) {
+fn goes_on_after_short_ends_in_either_case(rt: HostRuntime) {
     assert_eq!(rt;
         agree(rt.alloc(), Fold::Ascii, [&CAPITALS, &CAPITALS], 2),
         Some(true)

@@ -13,7 +13,7 @@ use text_ends::Hit;
 use text_search::EndFinder;
 
 /// How many of the text's hits end after a position.
-fn count_behind(hits: &[Hit], from: usize) -> usize {
+fn count_after(hits: &[Hit], from: usize) -> usize {
     hits.iter().filter(|hit| hit.end_at > from as u64).count()
 }
 
@@ -30,9 +30,9 @@ fn are_found(
     ensures { finder.new ≡ compiled.now.literals }
 {
     let start = from.min(text.len());
-    let hits = finder.scan_behind(alloc, compiled, text, start).ok()?;
-    let (_, behind) = wanted.split_at_checked(wanted.len().checked_sub(hits.len())?)?;
-    Some(hits.as_slice() == behind && hits.len() == count_behind(wanted, from))
+    let hits = finder.scan_after(alloc, compiled, text, start).ok()?;
+    let (_, after) = wanted.split_at_checked(wanted.len().checked_sub(hits.len())?)?;
+    Some(hits.as_slice() == after && hits.len() == count_after(wanted, from))
 }
 
 /// Whether a finder gives the hits of a text four times, and then the hits after a position. There have to be more than
@@ -51,8 +51,8 @@ pub(super) fn scans_the_same(
             return Some(false);
         }
     }
-    let are_behind = are_found(alloc, compiled, finder, text, 70_001, &wanted)?;
-    Some(wanted.len() > 100 && are_behind)
+    let are_after = are_found(alloc, compiled, finder, text, 70_001, &wanted)?;
+    Some(wanted.len() > 100 && are_after)
 }
 
 /// Whether a list of this length has a finder, unless it is short.

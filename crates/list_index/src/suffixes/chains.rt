@@ -1,11 +1,11 @@
 //! All literals, chained by the hash of their keys.
 ghost use Rattle.std.specs.Prelude.{◌≡◌, ℕ, ◌^◌, ◌<◌, ◌≤◌, ◌↔◌, length, slice_index, IfOk, IsTrue, MatchOption};
-ghost use Rattle.list_index.specs.Chains.{AreChainsOf, IsChained, IsFirstTold, NoneToldEnds, hash_at, told_at, told_key};
+ghost use Rattle.list_index.specs.Chains.{AreChainsOf, IsChained, IsFirstKeyed, NoneKeyedEnds, hash_at, key_width_at, key_at};
 ghost use Rattle.lit_base.specs.Occurrences.{Occurs};
 ghost use Rattle.list_index.specs.Suffixes.{hash_of, suffix_key};
 ghost use Rattle.lit_base.specs.declared.limits.TheConstants.{MAX_LITERALS};
 
-use crate::suffixes::key::{hash_of, suffix_key, told_width};
+use crate::suffixes::key::{hash_of, key_width, suffix_key};
 use lit_base::{Fold, LitList};
 use std::alloc::{AllocError, Global};
 
@@ -42,7 +42,7 @@ impl SuffixChains {
     /// The first of the literals from place `from` on that have a key of `width` bytes and end at `end` in the text, if
     /// there is one.
     #[inline]
-    pub fn next_told(
+    pub fn next_keyed(
         &self,
         literals: &LitList,
         text: &[u8],
@@ -57,8 +57,8 @@ impl SuffixChains {
         requires room { width ≤ end }
         requires inside { end ≤ length text.now }
         ensures { MatchOption result
-            (NoneToldEnds literals.now text.now from end width)
-            (λ place. IsFirstTold literals.now text.now from end width place) }
+            (NoneKeyedEnds literals.now text.now from end width)
+            (λ place. IsFirstKeyed literals.now text.now from end width place) }
     {
         if self.keys.len() <= from {
             return None;
@@ -91,13 +91,13 @@ impl SuffixChains {
         requires inside { end ≤ length text.now }
         requires key { key ≡ suffix_key literals.now.folding text.now end width }
         requires within { place < length literals.now.texts }
-        ensures { IsTrue result ↔ ((told_at literals.now place ≡ width) × Occurs literals.now text.now place end) }
+        ensures { IsTrue result ↔ ((key_width_at literals.now place ≡ width) × Occurs literals.now text.now place end) }
     {
         if self.keys[place] != key {
             return false;
         }
         let literal = literals.get(place);
-        if told_width(literal.len()) != width {
+        if key_width(literal.len()) != width {
             return false;
         }
         if literal.len() == width && literals.fold() == Fold::No {
@@ -129,12 +129,12 @@ impl SuffixChains {
 /// The keys of the literals.
 fn keys_of(alloc: Global, list: &LitList) -> Result<Vec<u64>, AllocError>
     ensures len { IfOk result (λ keys. length keys.items ≡ length list.now.texts) }
-    ensures keyed { IfOk result (λ keys. (place : ℕ) → place < length keys.items → slice_index keys.items place ≡ told_key list.now place) }
+    ensures keyed { IfOk result (λ keys. (place : ℕ) → place < length keys.items → slice_index keys.items place ≡ key_at list.now place) }
 {
     let mut keys = Vec::with_capacity(alloc, list.len())?;
     for place in 0..list.len() {
         let literal = list.get(place);
-        let width = told_width(literal.len());
+        let width = key_width(literal.len());
         keys.push(suffix_key(list.fold(), literal, literal.len(), width))?;
     }
     Ok(keys)

@@ -2,15 +2,15 @@
 ghost use Rattle.std.specs.Prelude.{◌≡◌, ℕ, ◌-◌, ◌^◌, ◌<◌, ◌≤◌, ◌⊎◌, length, min, slice_index, vec_len, IfOk};
 ghost use Rattle.std.specs.Int.{bit_at};
 ghost use Rattle.std.specs.Int.RustNames.{bit_and, bit_or};
-ghost use Rattle.list_index.specs.Chains.{told_at};
+ghost use Rattle.list_index.specs.Chains.{key_width_at};
 ghost use Rattle.list_index.specs.Checks.{AreChecksOf, IsCheckOf, IsChecked};
 ghost use Rattle.lit_base.specs.Literals.{Literals};
 ghost use Rattle.list_index.specs.Marks.{IsMarked};
 ghost use Rattle.lit_base.specs.Occurrences.{Occurs};
-ghost use Rattle.list_index.specs.Suffixes.{hash_of, last_bits, suffix_key, told_width};
+ghost use Rattle.list_index.specs.Suffixes.{hash_of, last_bits, suffix_key, key_width};
 ghost use Rattle.list_index.specs.declared.suffixes.checks.TheConstants.{CHECK_BITS};
 
-use crate::suffixes::key::{case_bits, hash_of, last_bits, last_word, suffix_key, told_width};
+use crate::suffixes::key::{case_bits, hash_of, key_width, last_bits, last_word, suffix_key};
 use crate::suffixes::marks::{mark, marked_len};
 use lit_base::{Fold, LitList};
 use std::alloc::{AllocError, Global};
@@ -71,7 +71,7 @@ impl SuffixChecks {
         requires room { length self.now.widths.items ≡ 2 ^ CHECK_BITS }
         requires eight { 8 ≤ end }
         requires inside { end ≤ length text.now }
-        ensures { (l : Literals) (place : ℕ) → AreChecksOf l self.now → Occurs l text.now place end → bit_at result (told_at l place - 1) ≡ 1 }
+        ensures { (l : Literals) (place : ℕ) → AreChecksOf l self.now → Occurs l text.now place end → bit_at result (key_width_at l place - 1) ≡ 1 }
     {
         let word = last_word(text, end);
         let widest = self.widths_of(word, 8) & 0x80;
@@ -96,16 +96,16 @@ impl SuffixChecks {
     }
 }
 
-/// The number of bytes by which a key of `told` bytes is checked: keys shorter than eight by at most `most`.
-fn checked_width(told: usize, most: usize) -> usize
-    requires some { 0 < told }
+/// The number of bytes by which a key of `keyed` bytes is checked: keys shorter than eight by at most `most`.
+fn checked_width(keyed: usize, most: usize) -> usize
+    requires some { 0 < keyed }
     requires checked { 0 < most }
     ensures some { 0 < result }
-    ensures within { result ≤ told }
-    ensures short { told < 8 → result ≡ min told most }
-    ensures long { told ≡ 8 → result ≡ min told 8 }
+    ensures within { result ≤ keyed }
+    ensures short { keyed < 8 → result ≡ min keyed most }
+    ensures long { keyed ≡ 8 → result ≡ min keyed 8 }
 {
-    if told < 8 { told.min(most) } else { told }
+    if keyed < 8 { keyed.min(most) } else { keyed }
 }
 
 /// Sets the bit of a literal; keys shorter than eight bytes are checked by at most `most`.
@@ -114,12 +114,12 @@ fn check_literal(widths: &mut Vec<u8>, fold: Fold, literal: &[u8], most: usize)
     requires checked { 0 < most }
     requires room { vec_len widths.old ≡ 2 ^ CHECK_BITS }
     ensures len { vec_len widths.new ≡ vec_len widths.old }
-    ensures short { told_width (length literal.now) < 8 → IsChecked widths.new.items (told_width (length literal.now)) (suffix_key fold literal.now (length literal.now) (min (told_width (length literal.now)) most)) }
-    ensures long { told_width (length literal.now) ≡ 8 → IsChecked widths.new.items (told_width (length literal.now)) (suffix_key fold literal.now (length literal.now) (min (told_width (length literal.now)) 8)) }
+    ensures short { key_width (length literal.now) < 8 → IsChecked widths.new.items (key_width (length literal.now)) (suffix_key fold literal.now (length literal.now) (min (key_width (length literal.now)) most)) }
+    ensures long { key_width (length literal.now) ≡ 8 → IsChecked widths.new.items (key_width (length literal.now)) (suffix_key fold literal.now (length literal.now) (min (key_width (length literal.now)) 8)) }
     ensures kept { (hash back : ℕ) → IsMarked widths.old.items hash back → IsMarked widths.new.items hash back }
     ensures only { (hash back : ℕ) → IsMarked widths.new.items hash back → (IsMarked widths.old.items hash back) ⊎ IsCheckOf fold literal.now most hash back }
 {
-    let width = told_width(literal.len());
+    let width = key_width(literal.len());
     let key = suffix_key(fold, literal, literal.len(), checked_width(width, most));
     mark(widths, hash_of(CHECK_BITS, key), width - 1);
 }

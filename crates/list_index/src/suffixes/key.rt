@@ -1,13 +1,13 @@
 //! Keys of the last bytes of a text, and their hashes.
 ghost use Rattle.std.specs.Prelude.{◌≡◌, ◌+◌, ◌-◌, ◌^◌, ◌<◌, ◌≤◌, ◌++◌, length, replicate, slice_range};
-ghost use Rattle.list_index.specs.Suffixes.{case_bits, hash_of, last_bits, spelled, suffix_key, told_width};
+ghost use Rattle.list_index.specs.Suffixes.{case_bits, hash_of, last_bits, spelled, suffix_key, key_width};
 
 use lit_base::Fold;
 
 /// The key width of a literal of `len` bytes: all of them, up to eight.
 #[inline]
-pub(crate) fn told_width(len: usize) -> usize
-    ensures { result ≡ told_width len }
+pub(crate) fn key_width(len: usize) -> usize
+    ensures { result ≡ key_width len }
 {
     len.min(8)
 }

@@ -85,13 +85,7 @@ pub(crate) fn marked_len(list: &LitList) -> usize
 }
 
 /// Sets the hash bit of a literal by the `width` bytes that stand `offset` before its end.
-pub fn mark_literal(
-    marks: &mut Vec<u8>,
-    fold: Fold,
-    literal: &[u8],
-    width: usize,
-    offset: usize,
-)
+pub fn mark_literal(marks: &mut Vec<u8>, fold: Fold, literal: &[u8], width: usize, offset: usize)
     requires some { 0 < width }
     requires narrow { width ≤ 8 }
     requires near { offset < 8 }

@@ -26,8 +26,8 @@ fn long_text(alloc: Global) -> Option<Vec<u8>> {
     Some(text)
 }
 
-/// What a picker lends of a text whose last seven bytes are a piece of their own.
-fn lent_by(alloc: Global, picker: &mut Picker<'_>, text: &[u8]) -> Option<Vec<u8>> {
+/// What a picker emits of a text whose last seven bytes are a piece of their own.
+fn emitted_by(alloc: Global, picker: &mut Picker<'_>, text: &[u8]) -> Option<Vec<u8>> {
     let (front, rest) = text.split_at(text.len().saturating_sub(7));
     let mut sink = Kept::new(alloc, Mood::Takes);
     picker.feed(front, &mut sink).ok()?;
@@ -36,8 +36,8 @@ fn lent_by(alloc: Global, picker: &mut Picker<'_>, text: &[u8]) -> Option<Vec<u8
     Some(sink.text)
 }
 
-/// What one by the plan alone lends.
-fn lent_plainly(
+/// What one by the plan alone emits.
+fn emitted_by_plan(
     alloc: Global,
     compiled: &Compiled,
     rule: LineRule,
@@ -47,7 +47,7 @@ fn lent_plainly(
         return None;
     }
     let mut picker = Picker::new(alloc, Some(compiled), false, rule);
-    lent_by(alloc, &mut picker, text)
+    emitted_by(alloc, &mut picker, text)
 }
 
 /// What learns from texts for a plan.
@@ -57,8 +57,8 @@ fn finder_by(alloc: Global, compiled: &Compiled) -> Option<EndFinder>
     EndFinder::new(alloc, compiled).ok()
 }
 
-/// What one by a search that learns lends.
-fn lent_by_finder(
+/// What one by a search that learns emits.
+fn emitted_by_finder(
     alloc: Global,
     compiled: &Compiled,
     rule: LineRule,
@@ -69,11 +69,11 @@ fn lent_by_finder(
     }
     let finder = finder_by(alloc, compiled)?;
     let mut picker = Picker::new(alloc, Some(compiled), false, rule).learning_by(finder);
-    lent_by(alloc, &mut picker, text)
+    emitted_by(alloc, &mut picker, text)
 }
 
-/// What one lends that learns from the middle of the text on.
-fn lent_by_late_finder(
+/// What one emits that learns from the middle of the text on.
+fn emitted_by_late_finder(
     alloc: Global,
     compiled: &Compiled,
     rule: LineRule,
@@ -96,25 +96,25 @@ fn lent_by_late_finder(
     }
 }
 
-/// Whether all lend the same, and some lines.
-fn lend_the_same(alloc: Global, rule: LineRule) -> Option<bool> {
+/// Whether all emit the same, and some lines.
+fn emit_the_same(alloc: Global, rule: LineRule) -> Option<bool> {
     let compiled = plan_of_words(alloc)?;
     let text = long_text(alloc)?;
-    let plain = lent_plainly(alloc, &compiled, rule, &text)?;
-    let learned = lent_by_finder(alloc, &compiled, rule, &text)?;
-    let late = lent_by_late_finder(alloc, &compiled, rule, &text)?;
+    let plain = emitted_by_plan(alloc, &compiled, rule, &text)?;
+    let learned = emitted_by_finder(alloc, &compiled, rule, &text)?;
+    let late = emitted_by_late_finder(alloc, &compiled, rule, &text)?;
     let are_alike = plain.as_slice() == learned.as_slice() && plain.as_slice() == late.as_slice();
     Some(!plain.is_empty() && are_alike)
 }
 
 #[test]
-fn lends_the_same_lines_as_it_learns(rt: HostRuntime) {
-    assert_eq!(rt; lend_the_same(rt.alloc(), PARTS), Some(true));
+fn emits_the_same_lines_as_it_learns(rt: HostRuntime) {
+    assert_eq!(rt; emit_the_same(rt.alloc(), PARTS), Some(true));
 }
 
 #[test]
-fn lends_the_same_whole_lines_as_it_learns(rt: HostRuntime) {
-    assert_eq!(rt; lend_the_same(rt.alloc(), WHOLE), Some(true));
+fn emits_the_same_whole_lines_as_it_learns(rt: HostRuntime) {
+    assert_eq!(rt; emit_the_same(rt.alloc(), WHOLE), Some(true));
 }
 
 /// Whether a picker by a plan that was made with what learns hands it back.

@@ -27,8 +27,8 @@ impl Sink for Bare {
 /// The pieces of a text of six lines.
 const PIECES: [&[u8]; 3] = [b"dog\nconc", b"at\ncow\ncat\nbe", b"e\ncatfish"];
 
-/// What a picker lends of them.
-fn lent_by(alloc: Global, mut picker: Picker<'_>) -> Option<Vec<u8>> {
+/// What a picker emits of them.
+fn emitted_by(alloc: Global, mut picker: Picker<'_>) -> Option<Vec<u8>> {
     let mut sink = Bare {
         text: Vec::new(alloc),
     };
@@ -39,32 +39,32 @@ fn lent_by(alloc: Global, mut picker: Picker<'_>) -> Option<Vec<u8>> {
     Some(sink.text)
 }
 
-/// Whether pickers with and without numbers lend these lines.
-fn lend(alloc: Global, rule: LineRule, wanted: &[u8]) -> Option<bool> {
+/// Whether pickers with and without numbers emit these lines.
+fn emit(alloc: Global, rule: LineRule, wanted: &[u8]) -> Option<bool> {
     let compiled = plan_of_one(alloc, b"cat")?;
     if !is_in_lines(&compiled) {
         return None;
     }
     let picker = Picker::new(alloc, Some(&compiled), false, rule);
-    let numbered = lent_by(alloc, picker)?;
+    let numbered = emitted_by(alloc, picker)?;
     let picker = Picker::new(alloc, Some(&compiled), false, rule);
-    let bare = lent_by(alloc, picker.without_numbers())?;
+    let bare = emitted_by(alloc, picker.without_numbers())?;
     Some(numbered.as_slice() == wanted && bare.as_slice() == wanted)
 }
 
 #[test]
-fn lends_the_same_lines_without_numbers(rt: HostRuntime) {
-    let parts = lend(rt.alloc(), PARTS, b"concat\ncat\ncatfish\n");
+fn emits_the_same_lines_without_numbers(rt: HostRuntime) {
+    let parts = emit(rt.alloc(), PARTS, b"concat\ncat\ncatfish\n");
     assert_eq!(rt; parts, Some(true));
-    assert_eq!(rt; lend(rt.alloc(), WHOLE, b"cat\n"), Some(true));
+    assert_eq!(rt; emit(rt.alloc(), WHOLE, b"cat\n"), Some(true));
 }
 
 #[test]
-fn lends_the_same_other_lines_without_numbers(rt: HostRuntime) {
+fn emits_the_same_other_lines_without_numbers(rt: HostRuntime) {
     let inverted = LineRule {
         invert: true,
         ..PARTS
     };
-    let others = lend(rt.alloc(), inverted, b"dog\ncow\nbee\n");
+    let others = emit(rt.alloc(), inverted, b"dog\ncow\nbee\n");
     assert_eq!(rt; others, Some(true));
 }

@@ -2,7 +2,7 @@ use Rattle.std.proofs.Common.{◌≡◌, ◌≢◌, ◌↔◌, ℕ, ◌+◌, ◌
 use Rattle.std.specs.Bool.{IsTrue}
 use Rattle.std.specs.List.{Any}
 use Rattle.std.proofs.lemmas.Bool.{cases_lt}
-use Rattle.byte_lanes.proofs.AnyLemmas.{any_at, some_set, none_set, any_behind}
+use Rattle.byte_lanes.proofs.AnyLemmas.{any_at, some_set, none_set, any_after}
 use Rattle.byte_lanes.proofs.kernels.any_set.Goals as goal
 
 pub returns-then-nonzero_wide-ne0 : goal.returns-then-nonzero_wide-ne0
@@ -29,7 +29,7 @@ loop-at-preserved c =
 pub returns : goal.returns
 returns c =
     let numbers = c.args.numbers.now in
-    let behind = any_behind numbers c.loop-at.at c.loop-at.invariant.0 c.loop-at.invariant.1 in
+    let after = any_after numbers c.loop-at.at c.loop-at.invariant.0 c.loop-at.invariant.1 in
     let same : IsTrue c.any_set_in.result ↔ Any (λ number. number ≢ 0) (drop c.loop-at.at numbers) =
     subst (λ xs. IsTrue c.any_set_in.result ↔ Any (λ number. number ≢ 0) xs) c.split_at.ensures.back c.any_set_in.ensures in
-    (λ h. behind.0 (same.0 h), λ h. same.1 (behind.1 h))
+    (λ h. after.0 (same.0 h), λ h. same.1 (after.1 h))

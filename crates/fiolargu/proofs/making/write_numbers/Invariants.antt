@@ -7,6 +7,6 @@ abbrev pub invariant-loop-place : goal.invariant-loop-place
 invariant-loop-place l = record {
   count : l.count ≡ l.place-index;
   len : length l.numbers ≡ length l.fn.numbers;
-  behind : drop l.count l.numbers ≡ drop l.count l.fn.numbers;
+  after : drop l.count l.numbers ≡ drop l.count l.fn.numbers;
   written : take l.count l.numbers ≡ map number_at (take l.place-index l.places);
 }

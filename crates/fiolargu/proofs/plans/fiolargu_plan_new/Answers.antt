@@ -23,12 +23,12 @@ returns-in-Ok-plan_of-clause-numbers c = λ _ room.
     (λ long. wrote (omega (arith, long, room)))
 
 -- After the numbers of the patterns the buffer is as it was.
-pub returns-in-Ok-plan_of-clause-behind : goal.returns-in-Ok-plan_of-clause-behind
-returns-in-Ok-plan_of-clause-behind c = λ _.
+pub returns-in-Ok-plan_of-clause-after : goal.returns-in-Ok-plan_of-clause-after
+returns-in-Ok-plan_of-clause-after c = λ _.
     let made = c.in-Ok-plan_of.made in
     let places = c.in-Ok-plan_of.places.items in
     let raw : c.in-Ok.raw ≡ bytes_of c.args.patterns.now = c.in-Ok.ensures.ok in
-    let kept : drop (length places) c.write_numbers.new.numbers ≡ drop (length places) c.args.literal_of.now = rw c.deref.ensures.value at c.write_numbers.ensures.behind in
+    let kept : drop (length places) c.write_numbers.new.numbers ≡ drop (length places) c.args.literal_of.now = rw c.deref.ensures.value at c.write_numbers.ensures.after in
     subst (λ (n : ℕ). drop n c.write_numbers.new.numbers ≡ drop n c.args.literal_of.now)
     (AllZip-long (IsPlaceOf (fold_of c.args.flags) made.literals.texts) c.in-Ok.raw places c.in-Ok-plan_of.ensures.places ∙ ap (λ (list : List (List ℕ)). length list) raw ∙ length-map c.args.patterns.now (λ (p : Bytes). p.bytes.now))
     kept

@@ -7,6 +7,6 @@ abbrev pub invariant-loop-hit : goal.invariant-loop-hit
 invariant-loop-hit l = record {
   count : l.count ≡ l.hit-index;
   written : map hit_of (take l.count l.buffer) ≡ take l.hit-index l.hits;
-  behind : drop l.count l.buffer ≡ drop l.count l.fn.buffer;
+  after : drop l.count l.buffer ≡ drop l.count l.fn.buffer;
   lengths : HaveLengths l.plan.literals (take l.count l.buffer);
 }

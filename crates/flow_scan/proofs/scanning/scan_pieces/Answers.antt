@@ -9,7 +9,7 @@ use Rattle.std.proofs.lemmas.Result.{err_from_is_err_and}
 use Rattle.lit_plan.specs.declared.fault.Fault.TheVariants.{StreamTooLong}
 use Rattle.lit_plan.specs.Plans.{Plan}
 use Rattle.flow_scan.specs.Scanners.{Scanning, fed}
-use Rattle.text_ends.specs.HitsBehind.{AreHitsBehind}
+use Rattle.text_ends.specs.HitsAfter.{AreHitsAfter}
 use Rattle.flow_scan.specs.Tails.{GainsHits, bytes_of, last_bytes}
 use Rattle.lit_plan.specs.Bounds.{HasBounds, carry_of}
 use Rattle.text_ends.proofs.HitLists.{hits_none, none_past}
@@ -42,7 +42,7 @@ tail_more s plan text piece p t =
     ∙ last_of_last (carry_of plan.literals) text piece
 
 -- the hits after one more piece
-hits_more : (s : Scanning) (plan : Plan) (text piece : List ℕ) (old new : List (ℕ × ℕ)) → HasBounds plan.literals → s.plan ≡ plan → s.place ≡ length text → s.tail ≡ last_bytes (carry_of plan.literals) text → AreHitsBehind plan.literals text 0 0 old → GainsHits s.plan.literals s.tail piece s.place old new → AreHitsBehind plan.literals (text ++ piece) 0 0 new
+hits_more : (s : Scanning) (plan : Plan) (text piece : List ℕ) (old new : List (ℕ × ℕ)) → HasBounds plan.literals → s.plan ≡ plan → s.place ≡ length text → s.tail ≡ last_bytes (carry_of plan.literals) text → AreHitsAfter plan.literals text 0 0 old → GainsHits s.plan.literals s.tail piece s.place old new → AreHitsAfter plan.literals (text ++ piece) 0 0 new
 hits_more s plan text piece old new b p at t before gains =
     hits_fed plan.literals text piece s.place old new b at before
     (subst (λ ts. GainsHits plan.literals ts piece s.place old new) t (subst (λ (q : Plan). GainsHits q.literals s.tail piece s.place old new) p gains))
@@ -60,7 +60,7 @@ loop-piece-init c =
       small = omega arith;
       place = ap (λ (s : Scanning). s.place) start;
       tail = ap (λ (s : Scanning). s.tail) start ∙ sym (last_of_short (carry_of l) [] (omega arith));
-      found = subst (AreHitsBehind l [] 0 0) (sym c.new-hits.ensures.items) (hits_none l [] 0 0 (none_past l [] 0 (omega arith)));
+      found = subst (AreHitsAfter l [] 0 0) (sym c.new-hits.ensures.items) (hits_none l [] 0 0 (none_past l [] 0 (omega arith)));
     }
 
 pub loop-piece-preserved : goal.loop-piece-preserved
@@ -83,7 +83,7 @@ loop-piece-preserved c =
           (cc));
       place = omega (arith, ap (λ (t : Scanning). t.place) ok, before.place, ap length joined, length-append text piece);
       tail = ap (λ (t : Scanning). t.tail) ok ∙ tail_more s plan text piece before.plan before.tail ∙ ap (last_bytes (carry_of plan.literals)) joined;
-      found = subst (λ ts. AreHitsBehind plan.literals ts 0 0 c.feed.new.out.items) joined
+      found = subst (λ ts. AreHitsAfter plan.literals ts 0 0 c.feed.new.out.items) joined
           (hits_more s plan text piece c.loop-piece.hits.items c.feed.new.out.items c.carry-carry.ensures.bounds before.plan before.place before.tail before.found c.in_ok-feed.ensures.hits);
     }
 
@@ -113,4 +113,4 @@ returns-clause-hits c =
     let pieces = c.args.pieces.now in
     let all : take c.loop-piece.piece-index pieces ≡ pieces = take_all c.loop-piece.piece-index pieces (omega (arith, c.loop-piece-test.false)) in
     hits_from_start l (concat (bytes_of pieces)) c.loop-piece.hits.items c.carry-carry.ensures.bounds
-    (subst (λ (ps : List (Vec ℕ)). AreHitsBehind l (concat (bytes_of ps)) 0 0 c.loop-piece.hits.items) all c.loop-piece.invariant.found)
+    (subst (λ (ps : List (Vec ℕ)). AreHitsAfter l (concat (bytes_of ps)) 0 0 c.loop-piece.hits.items) all c.loop-piece.invariant.found)

@@ -1,6 +1,6 @@
 use Rattle.std.proofs.Common.{◌≡◌, ◌<◌, ◌^◌, length, take}
 use Rattle.std.specs.List.{concat}
-use Rattle.text_ends.specs.HitsBehind.{AreHitsBehind}
+use Rattle.text_ends.specs.HitsAfter.{AreHitsAfter}
 use Rattle.flow_scan.specs.Tails.{bytes_of, last_bytes}
 use Rattle.lit_plan.specs.Bounds.{carry_of}
 use Rattle.flow_scan.proofs.scanning.scan_pieces.Given as goal
@@ -12,5 +12,5 @@ invariant-loop-piece l = record {
   small : length (concat (bytes_of (take l.piece-index l.pieces))) < 2 ^ 64;
   place : l.scanner.place ≡ length (concat (bytes_of (take l.piece-index l.pieces)));
   tail : l.scanner.tail ≡ last_bytes (carry_of l.compiled.literals) (concat (bytes_of (take l.piece-index l.pieces)));
-  found : AreHitsBehind l.compiled.literals (concat (bytes_of (take l.piece-index l.pieces))) 0 0 l.hits.items;
+  found : AreHitsAfter l.compiled.literals (concat (bytes_of (take l.piece-index l.pieces))) 0 0 l.hits.items;
 }

@@ -6,4 +6,4 @@ use Rattle.flow_scan.proofs.until.scan_until.Goals as goal
 
 pub returns-in_err-stop-clause-quiet : goal.returns-in_err-stop-clause-quiet
 returns-in_err-stop-clause-quiet c = λ none.
-    absurd (false≢true ((rw (ap (λ (w : Walk). w.literals) c.ends_behind-ends.ensures) at c.in_err-stop.ensures.quiet) none))
+    absurd (false≢true ((rw (ap (λ (w : Walk). w.literals) c.ends_after-ends.ensures) at c.in_err-stop.ensures.quiet) none))

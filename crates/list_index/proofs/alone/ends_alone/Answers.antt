@@ -1,5 +1,5 @@
 -- Each literal takes the flag of its shortest suffix.
-use Rattle.std.proofs.Common.{◌≡◌, ◌<◌, ◌≤◌, [], length, subst, arith}
+use Rattle.std.proofs.Common.{◌≡◌, ◌<◌, [], length, subst, arith}
 use Rattle.std.proofs.lemmas.List.{get_or_read}
 use Rattle.lit_base.specs.Literals.{literal_at}
 use Rattle.lit_base.specs.Occurrences.{IsFirstEnding, NoneEnds}
@@ -21,8 +21,8 @@ loop-place-preserved c =
       | in-Some+else-first-place w ↦
           let first = subst (λ t. IsFirstEnding l t 0 (length t) w.in-Some.first) here w.in-Some.ensures in
           rw (w.flags-is) (same_cleared l place flags
-              (λ other is. omega (arith, first_is_one l (literal_at l place) (length (literal_at l place)) other w.in-Some.first is.1 first, is.0, w.if-first-place.false))
-              c.loop-place.invariant)
+          (λ other is. omega (arith, first_is_one l (literal_at l place) (length (literal_at l place)) other w.in-Some.first is.1 first, is.0, w.if-first-place.false))
+          c.loop-place.invariant)
       | in_default w ↦
           let none = subst (λ t. NoneEnds l t 0 (length t)) here w.in_default.ensures in
           rw (w.flags-is) (same_cleared l place flags (λ other is. none other (omega arith) is.1.occurs) c.loop-place.invariant)

@@ -1,7 +1,7 @@
 -- A cheapest run from the middle place bounds the ends of both halves.
 use Rattle.std.proofs.Common.{◌+◌, ◌-◌, ◌/◌, ◌≤◌, length, subst, arith}
 use Rattle.lit_cert.specs.Steps.{IsLeastRun}
-use Rattle.lit_cert.proofs.LeastRuns.{suffice_before, suffice_behind}
+use Rattle.lit_cert.proofs.LeastRuns.{suffice_before, suffice_after}
 use Rattle.lit_cert.proofs.dividing.+places_hold.Goals as goal
 use Rattle.lit_cert.proofs.dividing.+places_hold.Goals.{then-here-p, else-here-p}
 
@@ -26,5 +26,5 @@ places_hold-requires-then-places_hold t c =
     let q = c.least_run-q.result.0 in
     let within : c.args.end ≤ length l.texts = omega (arith, c.requires.within, c.requires.before) in
     let least = subst (λ first. IsLeastRun l before m first c.args.end q c.least_run-q.result.1) c.max.ensures c.least_run-q.ensures in
-    let suffice = suffice_behind l here before c.args.low c.args.high c.args.first c.args.end m q c.least_run-q.result.1 c.requires.quadrangle c.requires.suffice within (omega arith) (omega arith) least in
-    (omega arith, (c.requires.quadrangle, (c.requires.small, (omega (arith, c.requires.behind), (c.requires.within, (c.requires.before, (c.requires.here, (omega (arith, least.high), suffice))))))))
+    let suffice = suffice_after l here before c.args.low c.args.high c.args.first c.args.end m q c.least_run-q.result.1 c.requires.quadrangle c.requires.suffice within (omega arith) (omega arith) least in
+    (omega arith, (c.requires.quadrangle, (c.requires.small, (omega (arith, c.requires.after), (c.requires.within, (c.requires.before, (c.requires.here, (omega (arith, least.high), suffice))))))))

@@ -5,7 +5,7 @@ use Rattle.std.proofs.lemmas.List.{length-append}
 use Rattle.lit_base.specs.Literals.{IsNormal}
 use Rattle.lit_base.specs.Occurrences.{IsHits}
 use Rattle.lit_base.specs.NextEnds.{NoEndAfter}
-use Rattle.text_ends.specs.HitsBehind.{Continues}
+use Rattle.text_ends.specs.HitsAfter.{Continues}
 use Rattle.par_scan.proofs.PartLemmas.{fine_or_err, hits_of_nothing, no_hits, none_in_front}
 use Rattle.par_scan.proofs.parts.+fn-scan_parts-join+arg3+scan_parts.Goals as goal
 

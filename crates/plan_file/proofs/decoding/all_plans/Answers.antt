@@ -1,9 +1,9 @@
 use Rattle.std.proofs.lemmas.Result.{IfOk-weaker, IfErr-weaker, err_from_is_err_and}
-use Rattle.plan_file.specs.FirstFaults.{AreEntries, IsWrong, IsWrongBehind}
+use Rattle.plan_file.specs.FirstFaults.{AreEntries, IsWrong, IsWrongAfter}
 use Rattle.plan_file.specs.Faults.{IfWrong}
 use Rattle.plan_file.specs.Spelling.{IsFile}
 use Rattle.plan_file.proofs.FieldLemmas.{slice_bytes}
-use Rattle.plan_file.proofs.StreamLemmas.{whole, wrong_behind, wrong_head}
+use Rattle.plan_file.proofs.StreamLemmas.{whole, wrong_after, wrong_head}
 use Rattle.plan_file.proofs.decoding.all_plans.Goals as goal
 
 pub returns-clause-found : goal.returns-clause-found
@@ -13,8 +13,8 @@ returns-clause-found c =
 
 pub returns-clause-wrong : goal.returns-clause-wrong
 returns-clause-wrong c =
-    IfErr-weaker c.plans_of.result (IfWrong (IsWrongBehind c.in_ok-version.version c.in_ok-version.count c.in_ok-version.rest.now)) (IfWrong (IsWrong c.args.bytes.now))
-    (λ e wrong. wrong_behind c.in_ok-version.version c.in_ok-version.count c.args.bytes.now c.in_ok-version.rest.now e (slice_bytes c.args.bytes.now c.type_inv.bytes) c.in_ok-version.ensures wrong) c.plans_of.ensures.wrong
+    IfErr-weaker c.plans_of.result (IfWrong (IsWrongAfter c.in_ok-version.version c.in_ok-version.count c.in_ok-version.rest.now)) (IfWrong (IsWrong c.args.bytes.now))
+    (λ e wrong. wrong_after c.in_ok-version.version c.in_ok-version.count c.args.bytes.now c.in_ok-version.rest.now e (slice_bytes c.args.bytes.now c.type_inv.bytes) c.in_ok-version.ensures wrong) c.plans_of.ensures.wrong
 
 pub returns-in_err-version-clause-wrong : goal.returns-in_err-version-clause-wrong
 returns-in_err-version-clause-wrong c =

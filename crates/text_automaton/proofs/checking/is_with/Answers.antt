@@ -8,10 +8,10 @@ use Rattle.text_automaton.proofs.checking.is_with.Goals as goal
 
 pub returns : goal.returns
 returns c is =
-    let told = c.args.told.now in
+    let output = c.args.output.now in
     let others = c.args.others.now in
     let count = length others in
-    let front : take count told ≡ others = (slice_eq-Decides Decides-eqb (take count told) others c.eq.result c.eq.ensures).0 is in
-    sym (take_all (suc count) told (omega (arith, c.if-told-count-ne1.false, c.if-told-count.false)))
-    ∙ take-suc told count 0 (omega (arith, c.if-told-count.false))
-    ∙ ap (λ xs. xs ++ get_or told count 0 ∷ []) front ∙ ap (λ x. others ++ x ∷ []) c.if-told-count-2.false
+    let front : take count output ≡ others = (slice_eq-Decides Decides-eqb (take count output) others c.eq.result c.eq.ensures).0 is in
+    sym (take_all (suc count) output (omega (arith, c.if-output-count-ne1.false, c.if-output-count.false)))
+    ∙ take-suc output count 0 (omega (arith, c.if-output-count.false))
+    ∙ ap (λ xs. xs ++ get_or output count 0 ∷ []) front ∙ ap (λ x. others ++ x ∷ []) c.if-output-count-2.false

@@ -4,7 +4,7 @@ use Rattle.std.proofs.Math.Seq.{take-length}
 use Rattle.lit_base.specs.Literals.{Literals}
 use Rattle.lit_base.specs.NextEnds.{IsNextEnd, NoEndAfter}
 use Rattle.text_ends.specs.HitsAt.{GainsHitsAt}
-use Rattle.text_ends.specs.HitsBehind.{GainsHitsBehind}
+use Rattle.text_ends.specs.HitsAfter.{GainsHitsAfter}
 use Rattle.text_ends.specs.Walks.{Walk}
 use Rattle.text_ends.proofs.HitLists.{gained_more}
 use Rattle.text_ends.proofs.Stops.{gained_ended, gained_here, gained_late, gained_nothing, none_late}
@@ -38,7 +38,7 @@ gained : (g : Over) (c : In_default-add_hits_at g) → GainsHitsAt (first g c).l
 gained g c = rw (same_literals g c, same_text g c) at c.in_default-add_hits_at.ensures.ok
 
 -- the hits up to the end reached
-further : (g : Over) (c : In_default-add_hits_at g) → GainsHitsBehind (first g c).literals (take c.in-Some.end c.args.text.now) c.args.from c.args.at c.args.out.now.items c.add_hits_at.new.out.items
+further : (g : Over) (c : In_default-add_hits_at g) → GainsHitsAfter (first g c).literals (take c.in-Some.end c.args.text.now) c.args.from c.args.at c.args.out.now.items c.add_hits_at.new.out.items
 further g c =
     let before = c.loop-end.invariant in
     gained_here (first g c).literals c.args.text.now c.args.from (here g c).from c.in-Some.end c.args.at c.args.out.now.items c.loop-end.out.items c.add_hits_at.new.out.items
@@ -54,7 +54,7 @@ loop-end-init g c =
       ahead = omega (arith, start);
       within = omega (arith, start, c.requires.inside);
       few = omega arith;
-      gained = subst (λ (m : ℕ). GainsHitsBehind w.literals (take m c.args.text.now) c.args.from c.args.at c.args.out.now.items c.args.out.now.items) (sym start)
+      gained = subst (λ (m : ℕ). GainsHitsAfter w.literals (take m c.args.text.now) c.args.from c.args.at c.args.out.now.items c.args.out.now.items) (sym start)
           (gained_nothing w.literals c.args.text.now c.args.from c.args.at c.args.out.now.items);
     }
 
@@ -69,7 +69,7 @@ loop-end-preserved g c =
       ahead = omega (arith, there, next.after, c.loop-end.invariant.ahead);
       within = omega (arith, there, next.within);
       few = omega (arith, c.len-before.ensures);
-      gained = subst (λ (m : ℕ). GainsHitsBehind (first g at).literals (take m c.args.text.now) c.args.from c.args.at c.args.out.now.items c.add_hits_at.new.out.items) (sym there) (further g at);
+      gained = subst (λ (m : ℕ). GainsHitsAfter (first g at).literals (take m c.args.text.now) c.args.from c.args.at c.args.out.now.items c.add_hits_at.new.out.items) (sym there) (further g at);
     }
 
 -- enough was gained

@@ -1,5 +1,5 @@
 use Rattle.std.proofs.Common.{◌≡◌, ◌+◌, ◌-◌, ◌≤◌, length, take}
-use Rattle.text_ends.specs.HitsBehind.{GainsHitsBehind}
+use Rattle.text_ends.specs.HitsAfter.{GainsHitsAfter}
 use Rattle.text_ends.proofs.ends.add_hits_of.Given as goal
 
 -- the hits added are those up to the place that the walk has come to
@@ -10,7 +10,7 @@ invariant-loop-end g l = record {
   ahead : l.from ≤ (g.E.Ends.walk l.ends).from;
   within : (g.E.Ends.walk l.ends).from ≤ length l.text;
   few : length l.out.items ≤ length l.fn.out.items + (l.most - 1);
-  gained : GainsHitsBehind (g.E.Ends.walk l.fn.ends).literals (take (g.E.Ends.walk l.ends).from l.text) l.from l.at l.fn.out.items l.out.items;
+  gained : GainsHitsAfter (g.E.Ends.walk l.fn.ends).literals (take (g.E.Ends.walk l.ends).from l.text) l.from l.at l.fn.out.items l.out.items;
 }
 
 abbrev pub decreases-loop-end : goal.decreases-loop-end

@@ -10,11 +10,11 @@ pub loop-place-init : goal.loop-place-init
 loop-place-init c =
     let first = c.requires.first in
     let one : List (ℕ × ℕ) = (c.args.first, c.args.at) ∷ [] in
-    let start : c.endings_behind-endings.result.from ≡ c.args.first + 1 = c.endings_behind-endings.ensures.from in
+    let start : c.endings_after-endings.result.from ≡ c.args.first + 1 = c.endings_after-endings.ensures.from in
     record {
-      literals = c.endings_behind-endings.ensures.literals;
-      text = c.endings_behind-endings.ensures.text;
-      end = c.endings_behind-endings.ensures.end;
+      literals = c.endings_after-endings.ensures.literals;
+      text = c.endings_after-endings.ensures.text;
+      end = c.endings_after-endings.ensures.end;
       found = one;
       grown = gained_one c.args.out.now.items c.push.new.self.items c.hit_of.result (c.args.first, c.args.at) c.in_ok-push.ensures.items c.hit_of.ensures;
       added = rw start (hits_at_more c.args.list.now c.args.text.now c.args.end c.args.at 0 c.args.first []

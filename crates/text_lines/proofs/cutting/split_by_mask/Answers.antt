@@ -16,4 +16,4 @@ split_at_newline-requires-clause-apart c = first-apart c.args.text.now c.args.ne
 
 pub returns-clause-newlines : goal.returns-clause-newlines
 returns-clause-newlines c =
-    rest-newlines c.args.text.now c.args.newlines c.requires.mask c.requires.some c.ranges.newlines.fits _ c.split_at_newline.result.1.now refl c.split_at_newline.ensures.behind
+    rest-newlines c.args.text.now c.args.newlines c.requires.mask c.requires.some c.ranges.newlines.fits _ c.split_at_newline.result.1.now refl c.split_at_newline.ensures.after

@@ -15,17 +15,17 @@ returns-in_err-ending c =
 
 pub overflow_add-head : goal.overflow_add-head
 overflow_add-head c =
-    let room = line-room c.args.text.now c.split_at.result.0.now c.split_at.result.1.now c.split_front.result.0.now c.split_front.result.1.now c.in_ok-ending.ending.now c.in_ok-ending.behind.now (c.args.end - 1)
+    let room = line-room c.args.text.now c.split_at.result.0.now c.split_at.result.1.now c.split_front.result.0.now c.split_front.result.1.now c.in_ok-ending.ending.now c.in_ok-ending.after.now (c.args.end - 1)
     c.split_at.ensures.front c.split_at.ensures.back c.split_front.ensures c.in_ok-ending.ensures in
     grind (arith, room)
 
 pub split_at-requires-3 : goal.split_at-requires-3
 split_at-requires-3 c =
-    let room = line-room c.args.text.now c.split_at.result.0.now c.split_at.result.1.now c.split_front.result.0.now c.split_front.result.1.now c.in_ok-ending.ending.now c.in_ok-ending.behind.now (c.args.end - 1)
+    let room = line-room c.args.text.now c.split_at.result.0.now c.split_at.result.1.now c.split_front.result.0.now c.split_front.result.1.now c.in_ok-ending.ending.now c.in_ok-ending.after.now (c.args.end - 1)
     c.split_at.ensures.front c.split_at.ensures.back c.split_front.ensures c.in_ok-ending.ensures in
     omega (arith, room, ap length c.split_at-2.ensures.back, length-drop (length c.split_front.result.0.now) c.args.text.now)
 
 pub returns : goal.returns
 returns c =
-    first-hit c.args.compiled.now.literals c.requires.normal c.requires.apart c.args.text.now c.split_at.result.0.now c.split_at.result.1.now c.split_front.result.0.now c.split_front.result.1.now c.in_ok-ending.ending.now c.split_at-2.result.1.now c.split_at-3.result.0.now c.in_ok-ending.behind.now c.args.end
+    first-hit c.args.compiled.now.literals c.requires.normal c.requires.apart c.args.text.now c.split_at.result.0.now c.split_at.result.1.now c.split_front.result.0.now c.split_front.result.1.now c.in_ok-ending.ending.now c.split_at-2.result.1.now c.split_at-3.result.0.now c.in_ok-ending.after.now c.args.end
     c.requires.end c.split_at.ensures.front c.split_at.ensures.back c.split_front.ensures c.in_ok-ending.ensures c.split_at-2.ensures.back c.split_at-3.ensures.front

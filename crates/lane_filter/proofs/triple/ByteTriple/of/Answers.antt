@@ -12,7 +12,7 @@ returns-clause-triple c =
       stands = slice_get_read c.args.list.now.texts _ c.args.place c.get-literal.result.now refl c.requires c.get-literal.ensures.value;
       third_place = c.rarest_beside-third.result;
       third = rw c.fold-fold.ensures at c.at.ensures;
-      apart = λ three taken. c.rarest_beside-third.ensures.apart three (subst (λ behind. IsOneOf c.of-pair.result behind) (omega (arith, c.at.ensures.behind)) taken);
+      apart = λ three taken. c.rarest_beside-third.ensures.apart three (subst (λ after. IsOneOf c.of-pair.result after) (omega (arith, c.at.ensures.after)) taken);
     }
 
 pub returns-clause-stands : goal.returns-clause-stands

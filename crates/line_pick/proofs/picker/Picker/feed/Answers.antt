@@ -9,11 +9,11 @@ use Rattle.line_pick.specs.declared.line_rule.LineRule.{LineRule}
 use Rattle.line_pick.specs.declared.line_search.LineSearch.{LineSearch}
 use Rattle.line_pick.specs.declared.sink.Next.TheVariants.{More}
 use Rattle.line_pick.specs.declared.state.State.{State}
-use Rattle.line_pick.specs.Lending.{answer_of}
+use Rattle.line_pick.specs.Emitting.{answer_of}
 use Rattle.line_pick.specs.Matching.{picks}
 use Rattle.line_pick.specs.Picking.{Picking, fed_state}
-use Rattle.line_pick.proofs.LentLemmas.{answer_of-IsOk, answer_to-More}
-use Rattle.line_pick.proofs.NumberLemmas.{Lends-moved, shown-more, shown-same}
+use Rattle.line_pick.proofs.EmittedLemmas.{answer_of-IsOk, answer_to-More}
+use Rattle.line_pick.proofs.NumberLemmas.{Emits-moved, shown-more, shown-same}
 use Rattle.line_pick.proofs.picker.Picker.feed.Goals as goal
 
 -- where the sink wants more, all was taken
@@ -40,7 +40,7 @@ returns-clause-running g c = rw (← c.self.view_is) (λ running.
     let new = c.take.new.self in
     let count = length (ended_lines (old.held.items ++ c.args.piece.now)) in
     record {
-      lent = rw c.answered-answer.ensures (Lends-moved g.S.Sink.takes (picks m) old.lines (cond old.is_numbered old.lines 0) (ended_lines (old.held.items ++ c.args.piece.now)) old.is_numbered (shown-same old.is_numbered old.lines) c.take.ensures.lent);
+      emitted = rw c.answered-answer.ensures (Emits-moved g.S.Sink.takes (picks m) old.lines (cond old.is_numbered old.lines 0) (ended_lines (old.held.items ++ c.args.piece.now)) old.is_numbered (shown-same old.is_numbered old.lines) c.take.ensures.emitted);
       more = λ e.
           let all : answer_of c.take.result ≡ Ok More = sym c.answered-answer.ensures ∙ e in
           record {

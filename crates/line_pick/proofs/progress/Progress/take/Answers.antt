@@ -5,11 +5,11 @@ use Rattle.std.proofs.lemmas.Result.{err_from_is_err_and, on_ok_weaker}
 use Rattle.lit_base.specs.Lines.{ended_lines, open_rest}
 use Rattle.lit_base.proofs.EndedLemmas.{ended_lines-none, open_rest-none}
 use Rattle.line_pick.specs.declared.halt.Halt.{Halt}
-use Rattle.line_pick.specs.Lending.{NoneLeft, numbered}
+use Rattle.line_pick.specs.Emitting.{NoneLeft, numbered}
 use Rattle.line_pick.specs.Matching.{picks}
 use Rattle.line_pick.specs.OpenLines.{Keeps, most_kept}
-use Rattle.line_pick.proofs.LentLemmas.{Lends-halted, Lends-held, Lends-join, Lends-lines, Lends-refused, Lent-from_Lends, Lent-lines, OnOk-any, answer_of-StreamTooLong, answer_to-More, count-first, count-none, numbered-first}
-use Rattle.line_pick.proofs.NumberLemmas.{Lends-same, Lends-taken, Lent-taken}
+use Rattle.line_pick.proofs.EmittedLemmas.{Emits-halted, Emits-held, Emits-join, Emits-lines, Emits-refused, Emitted-from_Emits, Emitted-lines, OnOk-any, answer_of-StreamTooLong, answer_to-More, count-first, count-none, numbered-first}
+use Rattle.line_pick.proofs.NumberLemmas.{Emits-same, Emits-taken, Emitted-taken}
 use Rattle.line_pick.proofs.CutLemmas.{first-held, open_rest-first}
 use Rattle.text_lines.proofs.Newlines.{one-append}
 use Rattle.line_pick.proofs.progress.Progress.take.Goals as goal
@@ -18,27 +18,27 @@ use Rattle.line_pick.proofs.progress.Progress.take.Goals as goal
 same_fault : {T : Type 0} {h k : Halt} → ◌≡◌ {A = Result T Halt} (Err h) (Err k) → h ≡ k
 same_fault e = (cc)
 
-pub returns-in_err-self-clause-lent : goal.returns-in_err-self-clause-lent
-returns-in_err-self-clause-lent g c =
+pub returns-in_err-self-clause-emitted : goal.returns-in_err-self-clause-emitted
+returns-in_err-self-clause-emitted g c =
     let p = err_from_is_err_and c.from_residual.result c.from_residual.ensures.1 in
-    Lends-refused (numbered (picks c.args.search.now.matcher) c.args.self.now.lines (ended_lines (c.args.self.now.held.items ++ c.args.piece.now))) c.from_residual.result
+    Emits-refused (numbered (picks c.args.search.now.matcher) c.args.self.now.lines (ended_lines (c.args.self.now.held.items ++ c.args.piece.now))) c.from_residual.result
     (p.1 ∙ ap (λ h. Err h) (p.2 ∙ same_fault c.in_err-self.ensures.err))
 
-pub returns-in_err-end_line-in-Some-clause-lent : goal.returns-in_err-end_line-in-Some-clause-lent
-returns-in_err-end_line-in-Some-clause-lent g c =
+pub returns-in_err-end_line-in-Some-clause-emitted : goal.returns-in_err-end_line-in-Some-clause-emitted
+returns-in_err-end_line-in-Some-clause-emitted g c =
     let p = err_from_is_err_and c.from_residual-in_err-end_line-in-Some.result c.from_residual-in_err-end_line-in-Some.ensures.1 in
     let test = picks c.args.search.now.matcher in
     let lines = c.args.self.now.lines in
     let held = c.args.self.now.held.items in
     let cut = first-held held c.requires.sound.one c.in-Some.ensures in
-    rw (p.1, p.2) (Lends-lines (sym (numbered-first test lines (held ++ c.args.piece.now) (held ++ c.in-Some.front.now) c.in-Some.behind.now cut))
-    (Lends-halted (numbered test (lines + 1) (ended_lines c.in-Some.behind.now)) (Lends-taken g.S.Sink.takes c.args.self.now.is_numbered c.in_err-end_line-in-Some.ensures.lent) (answer_to-More c.in_err-end_line-in-Some.field-0.0)))
+    rw (p.1, p.2) (Emits-lines (sym (numbered-first test lines (held ++ c.args.piece.now) (held ++ c.in-Some.front.now) c.in-Some.after.now cut))
+    (Emits-halted (numbered test (lines + 1) (ended_lines c.in-Some.after.now)) (Emits-taken g.S.Sink.takes c.args.self.now.is_numbered c.in_err-end_line-in-Some.ensures.emitted) (answer_to-More c.in_err-end_line-in-Some.field-0.0)))
 
-pub returns-in-None-clause-lent : goal.returns-in-None-clause-lent
-returns-in-None-clause-lent g c =
+pub returns-in-None-clause-emitted : goal.returns-in-None-clause-emitted
+returns-in-None-clause-emitted g c =
     let held = c.args.self.now.held.items in
     let none = ended_lines-none (held ++ c.args.piece.now) (one-append held c.args.piece.now c.requires.sound.one c.in-None.ensures) in
-    Lends-held c.hold_open.result (Lent-lines (ap (numbered (picks c.args.search.now.matcher) c.args.self.now.lines) (sym none)) NoneLeft) c.hold_open.ensures.starved
+    Emits-held c.hold_open.result (Emitted-lines (ap (numbered (picks c.args.search.now.matcher) c.args.self.now.lines) (sym none)) NoneLeft) c.hold_open.ensures.starved
 
 pub returns-in-None-clause-held : goal.returns-in-None-clause-held
 returns-in-None-clause-held g c =
@@ -52,15 +52,15 @@ returns-in-None-clause-lines g c =
     let none = count-none (held ++ c.args.piece.now) (one-append held c.args.piece.now c.requires.sound.one c.in-None.ensures) in
     OnOk-any c.hold_open.result (λ _. omega (arith, none, c.hold_open.ensures.lines))
 
-pub returns-in_ok-end_line-in-Some-clause-lent : goal.returns-in_ok-end_line-in-Some-clause-lent
-returns-in_ok-end_line-in-Some-clause-lent g c =
+pub returns-in_ok-end_line-in-Some-clause-emitted : goal.returns-in_ok-end_line-in-Some-clause-emitted
+returns-in_ok-end_line-in-Some-clause-emitted g c =
     let test = picks c.args.search.now.matcher in
     let lines = c.args.self.now.lines in
     let held = c.args.self.now.held.items in
     let cut = first-held held c.requires.sound.one c.in-Some.ensures in
-    Lends-lines (sym (numbered-first test lines (held ++ c.args.piece.now) (held ++ c.in-Some.front.now) c.in-Some.behind.now cut))
-    (Lends-join (Lent-taken g.S.Sink.takes c.args.self.now.is_numbered (Lent-from_Lends c.in_ok-end_line-in-Some.ensures.lent))
-    (Lends-lines (ap (λ n. numbered test n (ended_lines c.in-Some.behind.now)) c.in_ok-end_line-in-Some.ensures.lines) (Lends-same g.S.Sink.takes c.in_ok-end_line-in-Some.ensures.numbered c.take_lines-in-Some.ensures.lent))
+    Emits-lines (sym (numbered-first test lines (held ++ c.args.piece.now) (held ++ c.in-Some.front.now) c.in-Some.after.now cut))
+    (Emits-join (Emitted-taken g.S.Sink.takes c.args.self.now.is_numbered (Emitted-from_Emits c.in_ok-end_line-in-Some.ensures.emitted))
+    (Emits-lines (ap (λ n. numbered test n (ended_lines c.in-Some.after.now)) c.in_ok-end_line-in-Some.ensures.lines) (Emits-same g.S.Sink.takes c.in_ok-end_line-in-Some.ensures.numbered c.take_lines-in-Some.ensures.emitted))
     (answer_of-StreamTooLong c.take_lines-in-Some.result c.take_lines-in-Some.ensures.faults))
 
 pub returns-in_ok-end_line-in-Some-clause-held : goal.returns-in_ok-end_line-in-Some-clause-held
@@ -75,5 +75,5 @@ returns-in_ok-end_line-in-Some-clause-lines g c =
     let test = picks c.args.search.now.matcher in
     let held = c.args.self.now.held.items in
     let cut = first-held held c.requires.sound.one c.in-Some.ensures in
-    let count = count-first test 0 (held ++ c.args.piece.now) (held ++ c.in-Some.front.now) c.in-Some.behind.now cut in
+    let count = count-first test 0 (held ++ c.args.piece.now) (held ++ c.in-Some.front.now) c.in-Some.after.now cut in
     on_ok_weaker c.take_lines-in-Some.result (λ e is. omega (arith, e (c.in_ok-end_line-in-Some.ensures.numbered ∙ is), count, c.in_ok-end_line-in-Some.ensures.lines)) c.take_lines-in-Some.ensures.lines

@@ -3,27 +3,27 @@ use Rattle.std.proofs.Common.{◌+◌, ◌++◌, length, arith, sym, ap, ◌∙�
 use Rattle.std.specs.Option.{option_copied}
 use Rattle.lit_base.specs.Lines.{ended_lines}
 use Rattle.std.proofs.lemmas.Result.{err_from_is_err_and, on_ok_weaker}
-use Rattle.line_pick.specs.Lending.{Whole, numbered}
+use Rattle.line_pick.specs.Emitting.{Whole, numbered}
 use Rattle.line_pick.specs.Matching.{picks}
 use Rattle.line_pick.specs.OpenLines.{Keeps, most_kept}
 use Rattle.line_pick.specs.declared.line_search.LineSearch.{LineSearch}
-use Rattle.line_pick.proofs.LentLemmas.{Lent-lines, Lent-nothing, Lends-held, OnOk-any, answer_to-More}
+use Rattle.line_pick.proofs.EmittedLemmas.{Emitted-lines, Emitted-nothing, Emits-held, OnOk-any, answer_to-More}
 use Rattle.line_pick.proofs.CutLemmas.{ended_lines-cut, open_rest-cut, length-cut}
 use Rattle.line_pick.proofs.progress.Progress.take_lines.Goals as goal
 
-pub lend_text-requires-clause-fits : goal.lend_text-requires-clause-fits
-lend_text-requires-clause-fits g c = omega (arith, c.requires.counted, length-cut c.split_ended.ensures)
+pub emit_text-requires-clause-fits : goal.emit_text-requires-clause-fits
+emit_text-requires-clause-fits g c = omega (arith, c.requires.counted, length-cut c.split_ended.ensures)
 
-pub returns-in_err-self-clause-lent : goal.returns-in_err-self-clause-lent
-returns-in_err-self-clause-lent g c =
+pub returns-in_err-self-clause-emitted : goal.returns-in_err-self-clause-emitted
+returns-in_err-self-clause-emitted g c =
     let p = err_from_is_err_and c.from_residual.result c.from_residual.ensures.1 in
     let same = ap (numbered (picks c.args.search.now.matcher) c.args.self.now.lines) (sym (ended_lines-cut c.split_ended.ensures)) in
-    rw (p.1, p.2) (Whole (Lent-lines same c.in_err-self.ensures.lent))
+    rw (p.1, p.2) (Whole (Emitted-lines same c.in_err-self.ensures.emitted))
 
-pub returns-clause-lent : goal.returns-clause-lent
-returns-clause-lent g c =
+pub returns-clause-emitted : goal.returns-clause-emitted
+returns-clause-emitted g c =
     let same = ap (numbered (picks c.args.search.now.matcher) c.args.self.now.lines) (sym (ended_lines-cut c.split_ended.ensures)) in
-    Lends-held c.hold_open.result (Lent-lines same c.in_ok-self.ensures.lent) c.hold_open.ensures.starved
+    Emits-held c.hold_open.result (Emitted-lines same c.in_ok-self.ensures.emitted) c.hold_open.ensures.starved
 
 pub returns-clause-held : goal.returns-clause-held
 returns-clause-held g c =
@@ -39,4 +39,4 @@ pub returns-in_err-self-clause-idle : goal.returns-in_err-self-clause-idle
 unfolding ended_lines
 returns-in_err-self-clause-idle g c = λ none.
     let nothing = sym (ended_lines-cut c.split_ended.ensures) ∙ ap ended_lines none in
-    absurd (answer_to-More c.in_err-self.field-0.0 (Lent-nothing (ap (numbered (picks c.args.search.now.matcher) c.args.self.now.lines) nothing) c.in_err-self.ensures.lent))
+    absurd (answer_to-More c.in_err-self.field-0.0 (Emitted-nothing (ap (numbered (picks c.args.search.now.matcher) c.args.self.now.lines) nothing) c.in_err-self.ensures.emitted))

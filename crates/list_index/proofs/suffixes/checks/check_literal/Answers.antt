@@ -11,8 +11,8 @@ returns-clause-only c = λ hash back now. elim (c.mark.ensures.only hash back no
       let literal = c.args.literal.now in
       let hashed = set.0 ∙ c.hash_of.ensures.value ∙ ap (hash_of CHECK_BITS) c.suffix_key-key.ensures in
       inr (record {
-        width = omega (arith, set.1, c.told_width-width.ensures);
-        short = λ narrow. hashed ∙ ap (λ width. hash_of CHECK_BITS (suffix_key c.args.fold literal (length literal) width)) (omega (arith, narrow, c.told_width-width.ensures, c.checked_width.ensures.short));
-        long = λ wide. hashed ∙ ap (λ width. hash_of CHECK_BITS (suffix_key c.args.fold literal (length literal) width)) (omega (arith, wide, c.told_width-width.ensures, c.checked_width.ensures.long));
+        width = omega (arith, set.1, c.key_width-width.ensures);
+        short = λ narrow. hashed ∙ ap (λ width. hash_of CHECK_BITS (suffix_key c.args.fold literal (length literal) width)) (omega (arith, narrow, c.key_width-width.ensures, c.checked_width.ensures.short));
+        long = λ wide. hashed ∙ ap (λ width. hash_of CHECK_BITS (suffix_key c.args.fold literal (length literal) width)) (omega (arith, wide, c.key_width-width.ensures, c.checked_width.ensures.long));
       })
 ]

@@ -5,4 +5,4 @@ use Rattle.shift_search.proofs.joining.FourRuled.with_those_before.Goals as goal
 pub returns : goal.returns
 returns c = λ b text at ruled before.
     words_joined b text at c.args.self.here c.next_of.result c.joined.result c.joined.ensures ruled.here
-    (words_next b text at c.args.before c.args.self.behind c.next_of.result c.next_of.ensures.first c.next_of.ensures.others before ruled.behind)
+    (words_next b text at c.args.before c.args.self.after c.next_of.result c.next_of.ensures.first c.next_of.ensures.others before ruled.after)

@@ -1,6 +1,6 @@
 -- The entry is shifted by as many positions, and combined with the earlier words.
 use Rattle.std.proofs.Common.{◌+◌, ◌-◌, ◌*◌, ◌/◌, ◌%◌, ◌^◌, arith}
-use Rattle.shift_search.proofs.ShiftOrLemmas.{ruled_behind, ruled_here, ruled_joined}
+use Rattle.shift_search.proofs.ShiftOrLemmas.{ruled_after, ruled_here, ruled_joined}
 use Rattle.shift_search.proofs.joining.Ruled.and_by.Goals as goal
 
 pub returns : goal.returns
@@ -9,5 +9,5 @@ returns c = λ b text at ruled rules.
     let entry = c.args.entry in
     record {
       here = ruled_joined b text at c.args.self.here (entry * 2 ^ (8 * ahead) % 2 ^ 64) ruled.here (ruled_here b text at ahead entry c.requires.near rules);
-      behind = ruled_joined b text (at + 8) c.args.self.behind (entry / 2 ^ (64 - 8 * ahead)) ruled.behind (ruled_behind b text at ahead entry c.requires.near (omega (arith, c.ranges.entry.fits)) rules);
+      after = ruled_joined b text (at + 8) c.args.self.after (entry / 2 ^ (64 - 8 * ahead)) ruled.after (ruled_after b text at ahead entry c.requires.near (omega (arith, c.ranges.entry.fits)) rules);
     }

@@ -6,7 +6,7 @@ use Rattle.std.proofs.lemmas.Nat.Bits.{bit_at-zero}
 use Rattle.lit_base.specs.NextEnds.{NoEndUpTo}
 use Rattle.shift_search.specs.ShiftOr.{bucket_at}
 use Rattle.shift_search.proofs.BlockLemmas.{none_of_block}
-use Rattle.shift_search.proofs.ShiftOrLemmas.{looks_here}
+use Rattle.shift_search.proofs.ShiftOrLemmas.{probes_here}
 use Rattle.shift_search.proofs.shift_or.ShiftOr.has_end.Goals as goal
 
 pub loop-slot-preserved : goal.loop-slot-preserved
@@ -18,9 +18,9 @@ loop-slot-preserved c = λ slot below. elim (cases_lt slot c.loop-slot.slot) [
       let word : ℕ = slice_index c.args.numbers.now c.loop-slot.slot in
       let at : ℕ = c.args.at + 8 * word in
       let inside : word < 128 = c.requires.noted.inside c.loop-slot.slot c.loop-slot-test.true in
-      let looks = looks_here b text (at - 1) (at - 1) at (slice_index c.args.words.now word) 0 (omega arith) (omega (arith, c.requires.eight)) (omega (arith, c.requires.eight)) (omega (arith, c.requires.inside, inside))
+      let probes = probes_here b text (at - 1) (at - 1) at (slice_index c.args.words.now word) 0 (omega arith) (omega (arith, c.requires.eight)) (omega (arith, c.requires.eight)) (omega (arith, c.requires.inside, inside))
       (Fits-lt-pow (c.type_inv.words word)) (λ end after upto. absurd (omega (arith, after, upto))) (c.requires.noted.rules word inside) (λ place ahead near occurs. bit_at-zero (8 * ahead + bucket_at b.buckets place)) in
-      let own : NoEndUpTo b.literals text (at - 1) (at + 7) = c.in_default.ensures (at - 1) looks in
+      let own : NoEndUpTo b.literals text (at - 1) (at + 7) = c.in_default.ensures (at - 1) probes in
       let here : c.loop-slot.slot ≡ slot = omega (arith, past, below) in
       subst (λ s. NoEndUpTo b.literals text (c.args.at + 8 * slice_index c.args.numbers.now s - 1) (c.args.at + 8 * slice_index c.args.numbers.now s + 7)) here own
 ]

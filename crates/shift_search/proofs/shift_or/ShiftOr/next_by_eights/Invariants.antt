@@ -12,7 +12,7 @@ invariant-eights l = record {
   within : l.at + 7 ≤ max (max l.from FRONT) (length l.text);
   none : NoEndUpTo l.self.literals l.text l.from (l.at + 7);
   carried : RulesOut l.self l.text (l.at + 8) l.carried;
-  looks : l.looks ≡ l.fn.looks;
+  probes : l.probes ≡ l.fn.probes;
 }
 
 abbrev pub decreases-eights : goal.decreases-eights

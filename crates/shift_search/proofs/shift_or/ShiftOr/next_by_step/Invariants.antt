@@ -12,7 +12,7 @@ invariant-fours g l = record {
   within : l.at + 7 ≤ max (max l.from FRONT) (length l.text);
   none : NoEndUpTo l.self.literals l.text l.from (l.at + 7);
   before : RulesOut l.self l.text (l.at + 8) (slice_index l.before 3);
-  looks : l.looks ≡ l.fn.looks;
+  probes : l.probes ≡ l.fn.probes;
 }
 
 abbrev pub decreases-fours : goal.decreases-fours

@@ -4,7 +4,7 @@ use Rattle.std.specs.Int.{bit_at}
 use Rattle.std.proofs.lemmas.Bool.{cases_lt}
 use Rattle.std.proofs.lemmas.Nat.Bits.{bit_at-lt, bit_at-zero}
 use Rattle.lit_base.specs.NextEnds.{NoEndUpTo}
-use Rattle.shift_search.proofs.ShiftOrLemmas.{looks_of_word, low_of_four, none_of_word, none_of_words}
+use Rattle.shift_search.proofs.ShiftOrLemmas.{probes_of_word, low_of_four, none_of_word, none_of_words}
 use Rattle.shift_search.proofs.shift_or.ShiftOr.verify_four.Goals as goal
 
 pub words-init : goal.words-init
@@ -32,8 +32,8 @@ returns-in-Some c = λ start before none.
     let unseen = c.words.unseen in
     let four : word < 4 = low_of_four unseen word c.words.invariant.few split.set in
     let passed : NoEndUpTo b.literals text start (at + 8 * word - 1) = none_of_words b.literals text start at word c.requires.eight none (λ i below. c.words.invariant.none i (omega (arith, below, four)) (split.lowest i below)) in
-    let looks = looks_of_word b text start at c.args.behind c.args.ruled word (omega (arith, before)) c.requires.eight c.requires.inside c.fits-ruled.0 c.fits-ruled.1 four c.requires.ruled c.requires.behind passed in
-    c.in-Some.ensures start looks
+    let probes = probes_of_word b text start at c.args.after c.args.ruled word (omega (arith, before)) c.requires.eight c.requires.inside c.fits-ruled.0 c.fits-ruled.1 four c.requires.ruled c.requires.after passed in
+    c.in-Some.ensures start probes
 
 pub words-preserved : goal.words-preserved
 words-preserved c =
@@ -46,8 +46,8 @@ words-preserved c =
     let four : word < 4 = low_of_four unseen word c.words.invariant.few split.set in
     let here : ℕ = at + 8 * word in
     let rest = c.split_lowest-word.result.1 in
-    let looks = looks_of_word b text (here - 1) at c.args.behind c.args.ruled word (omega (arith, c.requires.eight)) c.requires.eight c.requires.inside c.fits-ruled.0 c.fits-ruled.1 four c.requires.ruled c.requires.behind (λ end after within. absurd (omega (arith, after, within))) in
-    let own : NoEndUpTo b.literals text (here - 1) (here + 7) = c.in_default.ensures (here - 1) looks in
+    let probes = probes_of_word b text (here - 1) at c.args.after c.args.ruled word (omega (arith, c.requires.eight)) c.requires.eight c.requires.inside c.fits-ruled.0 c.fits-ruled.1 four c.requires.ruled c.requires.after (λ end further within. absurd (omega (arith, further, within))) in
+    let own : NoEndUpTo b.literals text (here - 1) (here + 7) = c.in_default.ensures (here - 1) probes in
     record {
       few = omega (arith, split.less, c.words.invariant.few);
       none = λ i below unset. elim (cases_lt i word) [
@@ -63,6 +63,6 @@ words-preserved c =
     }
 
 pub returns : goal.returns
-returns c = λ start before none end after within.
+returns c = λ start before none end further within.
     let gone : c.words.unseen ≡ 0 = omega (arith, c.words-test.false) in
-    none_of_words c.args.self.now.literals c.args.text.now start c.args.at 4 c.requires.eight none (λ i below. c.words.invariant.none i below (ap (λ w. bit_at w i) gone ∙ bit_at-zero i)) end after (omega (arith, within))
+    none_of_words c.args.self.now.literals c.args.text.now start c.args.at 4 c.requires.eight none (λ i below. c.words.invariant.none i below (ap (λ w. bit_at w i) gone ∙ bit_at-zero i)) end further (omega (arith, within))

@@ -1,7 +1,7 @@
 -- The first state with output belongs to the next end.
 use Rattle.std.proofs.Common.{◌≡◌, ◌+◌, slice_index, sym, ap, subst, arith}
-use Rattle.text_automaton.specs.Automata.{IsStateAt, Telling}
-use Rattle.text_automaton.proofs.TellingLemmas.{ends_where_told, none_further}
+use Rattle.text_automaton.specs.Automata.{IsStateAt, Outputs}
+use Rattle.text_automaton.proofs.OutputLemmas.{ends_where_reported, none_further}
 use Rattle.text_automaton.proofs.automaton.Automaton.next_end.Goals as goal
 
 pub returns-then-at-reading-clause-next : goal.returns-then-at-reading-clause-next
@@ -9,9 +9,9 @@ returns-then-at-reading-clause-next c =
     let before = c.reads.invariant in
     let a = c.args.self.now in
     let r = c.reads.reading in
-    let at = c.first_telling-at.result in
-    let found = c.first_telling-at.ensures in
-    let quiet : c.self.inside.tables.quiet ≡ a.quiet = ap (λ (x : Telling). x.quiet) c.self.view_is in
+    let at = c.first_reporting-at.result in
+    let found = c.first_reporting-at.ensures in
+    let quiet : c.self.inside.tables.quiet ≡ a.quiet = ap (λ (x : Outputs). x.quiet) c.self.view_is in
     let here : IsStateAt a c.args.text.now (r.start + at + 1) (slice_index r.states at) = before.reading.states at c.if-at-reading.true in
     let there : IsStateAt a c.args.text.now (r.start + at + 1) c.from.result = subst (IsStateAt a c.args.text.now (r.start + at + 1)) (sym c.from.ensures) here in
     let none = none_further a c.args.text.now r _ at before.reading found.within before.none (λ k low high. omega (arith, quiet, found.none k low high)) in
@@ -19,7 +19,7 @@ returns-then-at-reading-clause-next c =
       next = record {
         after = omega (arith, before.after, found.after);
         within = omega (arith, before.reading.inside, c.if-at-reading.true);
-        here = ends_where_told a c.args.text.now (r.start + at + 1) c.from.result there (there.telling (omega (arith, quiet, c.from.ensures, found.telling c.if-at-reading.true)));
+        here = ends_where_reported a c.args.text.now (r.start + at + 1) c.from.result there (there.reporting (omega (arith, quiet, c.from.ensures, found.reporting c.if-at-reading.true)));
         first = λ other after low. none other after (omega (arith, low));
       };
       state = there;
@@ -29,18 +29,18 @@ pub returns-then-text-reading-clause-next : goal.returns-then-text-reading-claus
 returns-then-text-reading-clause-next c end after here =
     let before = c.reads.invariant in
     let r = c.reads.reading in
-    let found = c.first_telling-at.ensures in
-    let quiet : c.self.inside.tables.quiet ≡ c.args.self.now.quiet = ap (λ (x : Telling). x.quiet) c.self.view_is in
-    none_further c.args.self.now c.args.text.now r _ c.first_telling-at.result before.reading found.within before.none (λ k low high. omega (arith, quiet, found.none k low high))
+    let found = c.first_reporting-at.ensures in
+    let quiet : c.self.inside.tables.quiet ≡ c.args.self.now.quiet = ap (λ (x : Outputs). x.quiet) c.self.view_is in
+    none_further c.args.self.now c.args.text.now r _ c.first_reporting-at.result before.reading found.within before.none (λ k low high. omega (arith, quiet, found.none k low high))
     end after (omega (arith, here.1.ends, c.if-text-reading.true, c.if-at-reading.false, before.reading.inside)) here
 
 pub reads-preserved : goal.reads-preserved
 reads-preserved c =
     let before = c.reads.invariant in
     let r = c.reads.reading in
-    let found = c.first_telling-at.ensures in
-    let quiet : c.self.inside.tables.quiet ≡ c.args.self.now.quiet = ap (λ (x : Telling). x.quiet) c.self.view_is in
-    let none = none_further c.args.self.now c.args.text.now r _ c.first_telling-at.result before.reading found.within before.none (λ k low high. omega (arith, quiet, found.none k low high)) in
+    let found = c.first_reporting-at.ensures in
+    let quiet : c.self.inside.tables.quiet ≡ c.args.self.now.quiet = ap (λ (x : Outputs). x.quiet) c.self.view_is in
+    let none = none_further c.args.self.now c.args.text.now r _ c.first_reporting-at.result before.reading found.within before.none (λ k low high. omega (arith, quiet, found.none k low high)) in
     record {
       reading = c.read_on.ensures.reading;
       after = omega (arith, before.after, before.reading.passed, c.read_on.ensures.start, c.read_on.ensures.next);

@@ -1,9 +1,9 @@
 -- The states that were read belong to their positions.
 use Rattle.std.proofs.Common.{◌≡◌, ℕ, ◌+◌, ◌<◌, ◌≤◌, length, ap, ◌∙◌, subst, slice_index, arith}
 use Rattle.lit_base.specs.Literals.{IsNormal, Literals, literal_at}
-use Rattle.text_automaton.specs.Automata.{IsStateAt, Telling}
+use Rattle.text_automaton.specs.Automata.{IsStateAt, Outputs}
 use Rattle.text_automaton.specs.Stages.{is_made}
-use Rattle.text_automaton.proofs.TellingLemmas.{stage_made, state_there}
+use Rattle.text_automaton.proofs.OutputLemmas.{stage_made, state_there}
 use Rattle.text_automaton.proofs.automaton.Automaton.read_on.Goals as goal
 
 pub returns-clause-reading : goal.returns-clause-reading
@@ -11,17 +11,17 @@ returns-clause-reading c =
     let a = c.self.inside in
     let text = c.args.text.now in
     let start = c.args.reading.now.start + c.args.reading.now.count in
-    let states = c.read_behind-count.new.states in
+    let states = c.read_after-count.new.states in
     let same : c.list-list.result.now ≡ a.index.value = c.list-list.ensures ∙ c.deref.ensures in
     let normal : IsNormal a.index.value = subst IsNormal same c.normal_law.ensures in
     let longest = subst (λ (l : Literals). (place : ℕ) → place < length l.texts → length (literal_at l place) ≤ c.longest_of-longest.result) same c.longest_of-longest.ensures in
-    let right = c.self.invariant.0 (stage_made a.stage (ap (λ (x : Telling). x.is_made) c.self.view_is ∙ c.requires.reading.made)) in
+    let right = c.self.invariant.0 (stage_made a.stage (ap (λ (x : Outputs). x.is_made) c.self.view_is ∙ c.requires.reading.made)) in
     record {
       made = c.requires.reading.made;
-      states = λ at low. subst (λ (x : Telling). IsStateAt x text (start + at + 1) (slice_index states at)) c.self.view_is
+      states = λ at low. subst (λ (x : Outputs). IsStateAt x text (start + at + 1) (slice_index states at)) c.self.view_is
           (state_there a.tables a.index.value text c.longest_of-longest.result (start + at + 1) (slice_index states at) (is_made a.stage) right normal.nonempty longest
-          (λ i. omega (arith, c.type_inv.text i)) (omega (arith, low, c.read_behind-count.ensures.count, c.requires.more)) (c.read_behind-count.ensures.states at low));
+          (λ i. omega (arith, c.type_inv.text i)) (omega (arith, low, c.read_after-count.ensures.count, c.requires.more)) (c.read_after-count.ensures.states at low));
       passed = omega arith;
-      room = omega (arith, c.read_behind-count.ensures.count);
-      inside = omega (arith, c.read_behind-count.ensures.count, c.requires.more);
+      room = omega (arith, c.read_after-count.ensures.count);
+      inside = omega (arith, c.read_after-count.ensures.count, c.requires.more);
     }

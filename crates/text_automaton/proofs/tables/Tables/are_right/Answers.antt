@@ -8,6 +8,6 @@ returns c passed = record {
   classes = rw c.fold.ensures at (c.if-not-are_classes.ensures refl);
   steps = c.if-not-are_steps.ensures refl;
   fails = c.if-not-are_fails.ensures refl;
-  telling = rw c.len.ensures.value at (c.if-not-are_telling.ensures refl);
+  reporting = rw c.len.ensures.value at (c.if-not-are_outputs_right.ensures refl);
   spelled = c.are_spelled.ensures passed;
 }

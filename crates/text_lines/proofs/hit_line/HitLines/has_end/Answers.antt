@@ -1,7 +1,7 @@
 -- The literal that ends in the whole ends in the text.
 use Rattle.std.proofs.Common.{◌≡◌, ◌+◌, ◌-◌, length, subst, arith}
 use Rattle.lit_base.specs.Occurrences.{Occurs}
-use Rattle.text_lines.proofs.BehindLines.{behind-len, rest-end}
+use Rattle.text_lines.proofs.AfterLines.{after-len, rest-end}
 use Rattle.text_lines.proofs.hit_line.HitLines.has_end.Goals as goal
 
 pub returns-then-ends_at-clause-end : goal.returns-then-ends_at-clause-end
@@ -14,6 +14,6 @@ returns-in-Some-clause-end c = λ _.
     let text = c.self.inside.text.now in
     let rest = c.self.inside.rest.now in
     let from = length text - length rest in
-    let place : from + length rest ≡ length text = omega (arith, behind-len text rest c.self.invariant.behind) in
-    rw (← c.self.view_is) (rest-end c.self.inside.compiled.now.literals c.self.invariant.apart text rest from c.args.at c.self.invariant.behind place c.requires.some
+    let place : from + length rest ≡ length text = omega (arith, after-len text rest c.self.invariant.after) in
+    rw (← c.self.view_is) (rest-end c.self.inside.compiled.now.literals c.self.invariant.apart text rest from c.args.at c.self.invariant.after place c.requires.some
     (c.in-Some.first, subst (λ list. Occurs list text c.in-Some.first (from + c.args.at)) c.index-list.ensures c.in-Some.ensures.first.occurs))

@@ -1,7 +1,7 @@
 -- Span by span the hits up to where its search stopped are added.
 use Rattle.std.proofs.Common.{◌≡◌, ◌-◌, ◌≤◌, ℕ, length, take, subst, arith}
 use Rattle.std.proofs.lemmas.Bool.{false≢true}
-use Rattle.text_ends.specs.HitsBehind.{GainsHitsBehind, StopsAt}
+use Rattle.text_ends.specs.HitsAfter.{GainsHitsAfter, StopsAt}
 use Rattle.text_ends.proofs.HitLists.{gained_more, none_in_front}
 use Rattle.text_ends.proofs.Stops.{gained_nothing, none_late, span_end, span_gained, stopped_further}
 use Rattle.text_search.proofs.end_finder.EndFinder.add_spans.Goals as goal
@@ -68,7 +68,7 @@ spans-preserved c =
     }
 
 pub spans-smaller : goal.spans-smaller
-spans-smaller c = omega (arith, to_end c, c.spans-test.true, c.min-stop.ensures, c.saturating_add.ensures, c.span_behind.ensures)
+spans-smaller c = omega (arith, to_end c, c.spans-test.true, c.min-stop.ensures, c.saturating_add.ensures, c.span_after.ensures)
 
 pub returns-clause-ok : goal.returns-clause-ok
 returns-clause-ok c =
@@ -78,7 +78,7 @@ returns-clause-ok c =
     record {
       after = c.requires.inside;
       within = omega arith;
-      gained = subst (λ (p : ℕ). GainsHitsBehind c.args.compiled.now.literals (take p text) c.args.from c.args.from c.args.out.now.items c.spans.out.items) there all.gained;
+      gained = subst (λ (p : ℕ). GainsHitsAfter c.args.compiled.now.literals (take p text) c.args.from c.args.from c.args.out.now.items c.spans.out.items) there all.gained;
       enough = λ more. absurd (omega (arith, more));
       least = λ hit inside. absurd (none_late _ c.spans.out.items hit all.few inside);
       few = omega (arith, all.few);

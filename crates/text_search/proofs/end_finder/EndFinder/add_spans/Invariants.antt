@@ -1,5 +1,5 @@
 use Rattle.std.proofs.Common.{◌≡◌, ◌+◌, ◌-◌, ◌≤◌, length, take}
-use Rattle.text_ends.specs.HitsBehind.{GainsHitsBehind}
+use Rattle.text_ends.specs.HitsAfter.{GainsHitsAfter}
 use Rattle.text_search.proofs.end_finder.EndFinder.add_spans.Given as goal
 
 -- the hits added are those up to the place reached
@@ -9,7 +9,7 @@ invariant-spans l = record {
   ahead : l.from ≤ l.place;
   within : l.place ≤ length l.text;
   few : length l.out.items ≤ length l.fn.out.items + (l.most - 1);
-  gained : GainsHitsBehind l.compiled.literals (take l.place l.text) l.from l.from l.fn.out.items l.out.items;
+  gained : GainsHitsAfter l.compiled.literals (take l.place l.text) l.from l.from l.fn.out.items l.out.items;
 }
 
 abbrev pub decreases-spans : goal.decreases-spans

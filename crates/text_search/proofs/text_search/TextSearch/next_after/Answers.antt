@@ -4,14 +4,14 @@ use Rattle.text_search.specs.Searched.{Searched}
 use Rattle.text_search.proofs.text_search.TextSearch.next_after.Goals as goal
 
 pub next_verified-requires-clause-covers : goal.next_verified-requires-clause-covers
-next_verified-requires-clause-covers c = rw (c.index.ensures, c.skip_to.ensures.sieve) c.self.invariant.0
+next_verified-requires-clause-covers c = rw (c.index.ensures, c.skip_to.ensures.prefilter) c.self.invariant.0
 
 pub next_verified-requires-clause-text : goal.next_verified-requires-clause-text
 next_verified-requires-clause-text c = c.skip_to.ensures.text ∙ c.self.invariant.1
 
 pub invariant_of-self : goal.invariant_of-self
 invariant_of-self c = (
-  rw (c.next_verified.ensures.sieve ∙ c.skip_to.ensures.sieve) c.self.invariant.0,
+  rw (c.next_verified.ensures.prefilter ∙ c.skip_to.ensures.prefilter) c.self.invariant.0,
   c.next_verified.ensures.text ∙ c.skip_to.ensures.text ∙ c.self.invariant.1,
 )
 

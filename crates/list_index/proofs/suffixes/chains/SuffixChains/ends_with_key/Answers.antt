@@ -4,7 +4,7 @@ use Rattle.std.proofs.Common.{rules, ◌≡◌, ◌<◌, ℕ, Fits, w8, [], leng
 use Rattle.std.proofs.lemmas.List.{get_or_read}
 use Rattle.lit_base.specs.declared.fold.Fold.TheVariants.{No}
 use Rattle.lit_base.specs.Literals.{literal_at}
-use Rattle.list_index.specs.Chains.{told_at}
+use Rattle.list_index.specs.Chains.{key_width_at}
 use Rattle.list_index.specs.Suffixes.{suffix_key}
 use Rattle.list_index.proofs.ChainLemmas.{kept_key}
 use Rattle.list_index.proofs.SuffixLemmas.{AreBytes, are_bytes, occurs-key}
@@ -31,10 +31,10 @@ returns-then-eq c =
     let literal : c.get-literal.result.now ≡ literal_at l place = get_or_read l.texts place c.get-literal.result.now c.requires.within c.get-literal.ensures.value [] in
     let bytes : AreBytes (literal_at l place) = subst AreBytes literal (are_bytes c.get-literal.result.now fits) in
     let len : length (literal_at l place) ≡ c.args.width = ap length (sym literal) ∙ c.if-literal-width.true in
-    let told : told_at l place ≡ c.args.width = omega (arith, len, c.requires.narrow) in
+    let keyed : key_width_at l place ≡ c.args.width = omega (arith, len, c.requires.narrow) in
     let inside : place < length c.args.self.now.keys.items = omega (arith, c.requires.within, c.requires.of.keys_len) in
     let read : c.index.result.now ≡ get_or c.args.self.now.keys.items place 0 = get_or_read c.args.self.now.keys.items place c.index.result.now inside c.index.ensures 0 in
     let key : suffix_key l.folding c.args.text.now c.args.end c.args.width ≡ suffix_key l.folding (literal_at l place) (length (literal_at l place)) c.args.width =
-    sym c.requires.key ∙ sym c.if-index-key.false ∙ read ∙ c.requires.of.keyed place c.requires.within ∙ ap (suffix_key l.folding (literal_at l place) (length (literal_at l place))) told in
+    sym c.requires.key ∙ sym c.if-index-key.false ∙ read ∙ c.requires.of.keyed place c.requires.within ∙ ap (suffix_key l.folding (literal_at l place) (length (literal_at l place))) keyed in
     let occurs = occurs-key l c.args.text.now place c.args.end c.args.width (are_bytes c.args.text.now c.type_inv.text) bytes case c.requires.within len c.requires.narrow c.requires.room c.requires.inside key in
-    (λ yes. (told, occurs), λ both. refl)
+    (λ yes. (keyed, occurs), λ both. refl)

@@ -3,7 +3,7 @@ use Rattle.std.proofs.Common.{◌≡◌, ◌<◌, ◌^◌, [], length, min, inl,
 use Rattle.std.proofs.lemmas.List.{get_or_read}
 use Rattle.lit_base.specs.Literals.{literal_at}
 use Rattle.list_index.specs.Checks.{IsCheckOf, IsChecked}
-use Rattle.list_index.specs.Suffixes.{case_bits, suffix_key, told_width}
+use Rattle.list_index.specs.Suffixes.{case_bits, suffix_key, key_width}
 use Rattle.list_index.specs.declared.suffixes.checks.TheConstants.{CHECK_BITS}
 use Rattle.list_index.proofs.MarkLemmas.{none_marked}
 use Rattle.list_index.proofs.suffixes.checks.SuffixChecks.new.Goals as goal
@@ -24,10 +24,10 @@ loop-place-preserved c =
       len = c.check_literal.ensures.len ∙ c.loop-place.invariant.len;
       short = below_more _ _
           (λ place low narrow. c.check_literal.ensures.kept _ _ (c.loop-place.invariant.short place low narrow))
-          (subst (λ t. told_width (length t) < 8 → IsChecked c.check_literal.new.widths.items (told_width (length t)) (suffix_key c.fold-fold.result t (length t) (min (told_width (length t)) c.max-most.result))) here c.check_literal.ensures.short);
+          (subst (λ t. key_width (length t) < 8 → IsChecked c.check_literal.new.widths.items (key_width (length t)) (suffix_key c.fold-fold.result t (length t) (min (key_width (length t)) c.max-most.result))) here c.check_literal.ensures.short);
       long = below_more _ _
           (λ place low wide. c.check_literal.ensures.kept _ _ (c.loop-place.invariant.long place low wide))
-          (subst (λ t. told_width (length t) ≡ 8 → IsChecked c.check_literal.new.widths.items (told_width (length t)) (suffix_key c.fold-fold.result t (length t) (min (told_width (length t)) 8))) here c.check_literal.ensures.long);
+          (subst (λ t. key_width (length t) ≡ 8 → IsChecked c.check_literal.new.widths.items (key_width (length t)) (suffix_key c.fold-fold.result t (length t) (min (key_width (length t)) 8))) here c.check_literal.ensures.long);
       only = λ hash back now. elim (c.check_literal.ensures.only hash back now) [
         | inl old ↦
             let is = c.loop-place.invariant.only hash back old in
@@ -49,10 +49,10 @@ returns c = record {
   room = omega (arith, c.loop-place.invariant.len);
   wide = λ place inside. omega (arith, c.marked_len.ensures.shared place inside, c.min-least.ensures);
   short = λ place inside. let t = literal_at c.args.list.now place in
-      subst (λ fold. told_width (length t) < 8 → IsChecked c.loop-place.widths.items (told_width (length t)) (suffix_key fold t (length t) (min (told_width (length t)) c.max-most.result))) c.fold-fold.ensures
+      subst (λ fold. key_width (length t) < 8 → IsChecked c.loop-place.widths.items (key_width (length t)) (suffix_key fold t (length t) (min (key_width (length t)) c.max-most.result))) c.fold-fold.ensures
       (c.loop-place.invariant.short place (omega (arith, inside, c.loop-place-test.false)));
   long = λ place inside. let t = literal_at c.args.list.now place in
-      subst (λ fold. told_width (length t) ≡ 8 → IsChecked c.loop-place.widths.items (told_width (length t)) (suffix_key fold t (length t) (min (told_width (length t)) 8))) c.fold-fold.ensures
+      subst (λ fold. key_width (length t) ≡ 8 → IsChecked c.loop-place.widths.items (key_width (length t)) (suffix_key fold t (length t) (min (key_width (length t)) 8))) c.fold-fold.ensures
       (c.loop-place.invariant.long place (omega (arith, inside, c.loop-place-test.false)));
   only = λ hash back now. let is = c.loop-place.invariant.only hash back now in
       record { place = is.place; within = omega (arith, is.within, c.loop-place.auto.place-end, c.len-place-end.ensures.value); is = is.is };

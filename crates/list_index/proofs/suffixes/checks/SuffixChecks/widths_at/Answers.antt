@@ -4,7 +4,7 @@ use Rattle.std.specs.Int.{bit_at}
 use Rattle.std.specs.Int.RustNames.{bit_and, bit_or}
 use Rattle.std.proofs.lemmas.Bool.{cases_lt}
 use Rattle.std.proofs.lemmas.Option.{slice_get_within}
-use Rattle.list_index.specs.Chains.{told_at}
+use Rattle.list_index.specs.Chains.{key_width_at}
 use Rattle.list_index.specs.Checks.{IsChecked, last_key}
 use Rattle.list_index.specs.Suffixes.{last_bits}
 use Rattle.list_index.proofs.CheckLemmas.{bit_below, bit_highest, checked-occurs, more_stays, width_added, width_stays}
@@ -18,8 +18,8 @@ loop-width-preserved c = record {
       let byte = c.widths_of.result in
       elim (cases_lt width now) [
         | inl before ↦ width_stays c.loop-width.widths _ (width - 1) (c.loop-width.invariant.passed width least before checked)
-        | inr behind ↦
-            let here : width ≡ now = omega (arith, near, behind) in
+        | inr after ↦
+            let here : width ≡ now = omega (arith, near, after) in
             let there : IsChecked c.args.self.now.widths.items now (bit_or (bit_and c.last_word-word.result (last_bits now)) c.args.self.now.case_bits) =
             subst (λ k. IsChecked c.args.self.now.widths.items k (bit_or (bit_and c.last_word-word.result (last_bits k)) c.args.self.now.case_bits)) here checked in
             let has : bit_at byte (now - 1) ≡ 1 = ap (λ b. bit_at b (now - 1)) c.widths_of.ensures ∙ there in
@@ -33,7 +33,7 @@ pub returns : goal.returns
 returns c = λ l place is occurs.
     let text = c.args.text.now in
     let there = slice_get_within l.texts place occurs.literal occurs.stands in
-    let width : ℕ = told_at l place in
+    let width : ℕ = key_width_at l place in
     let most = c.args.self.now.most in
     let widths = c.args.self.now.widths.items in
     let least : c.args.self.now.least ≤ width = omega (arith, is.ordered, is.narrow, is.wide place there) in

@@ -1,0 +1,3 @@
+pub mod PendingSteps
+pub mod MarkSteps
+pub mod FactorLemmas

@@ -1,0 +1,6 @@
+use Rattle.std.proofs.Common.{◌<◌}
+use Rattle.factor_search.proofs.choosing.rarest.Given as goal
+
+-- the best so far is an offset
+abbrev pub invariant-loop-offset : goal.invariant-loop-offset
+invariant-loop-offset l = l.best < 8

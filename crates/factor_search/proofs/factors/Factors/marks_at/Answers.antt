@@ -1,0 +1,20 @@
+-- The probe has the hash bits of the bytes before the position.
+use Rattle.std.proofs.Common.{sym, ap, ◌∙◌, subst}
+use Rattle.lit_base.specs.Literals.{Literals}
+use Rattle.list_index.specs.Marks.{IsMarked}
+use Rattle.list_index.specs.Suffixes.{hash_of, suffix_key}
+use Rattle.lit_base.specs.declared.fold.Fold.{Fold}
+use Rattle.list_index.specs.declared.suffixes.marks.TheConstants.{HASH_BITS}
+use Rattle.list_index.proofs.SuffixLemmas.{are_bytes}
+use Rattle.factor_search.specs.Factors.{AreMarks, Factored}
+use Rattle.factor_search.proofs.FactorLemmas.{marks_are}
+use Rattle.factor_search.proofs.factors.Factors.marks_at.Goals as goal
+
+pub returns-then-at-lt-WIDTH : goal.returns-then-at-lt-WIDTH
+returns-then-at-lt-WIDTH c =
+    let w : Factored = record { literals = c.self.inside.index.value; offsets = c.self.inside.offsets.items } in
+    let marks = c.self.inside.marks.items in
+    subst (λ (v : Factored). AreMarks v c.args.text.now c.args.at c.marks_near_front.result) c.self.view_is
+    (marks_are w c.self.inside.least marks c.args.text.now c.args.at c.marks_near_front.result c.self.invariant.0 c.self.invariant.1 (are_bytes c.args.text.now c.type_inv.text)
+    (λ width back enough most begins marked. c.marks_near_front.ensures width back enough begins
+    (subst (λ (f : Fold). IsMarked marks (hash_of HASH_BITS (suffix_key f c.args.text.now c.args.at width)) back) (sym (c.fold.ensures ∙ ap (λ (l : Literals). l.folding) c.deref.ensures)) marked)))

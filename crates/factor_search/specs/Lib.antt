@@ -1,0 +1,3 @@
+pub mod Widths
+pub mod PendingEnds
+pub mod Factors

@@ -1,0 +1,85 @@
+//! Counts how often the last three bytes of factors occur in texts, by their hashes.
+ghost use Rattle.std.specs.Prelude.{◌≡◌, ◌^◌, ◌<◌, ◌≤◌, IfOk, length, vec_capacity, vec_len};
+ghost use Rattle.list_index.specs.declared.suffixes.marks.TheConstants.{HASH_BITS};
+
+use crate::widths::WIDTH;
+use list_index::{HASH_BITS, case_bits, hash_of, last_bits, last_word, suffix_key};
+use lit_base::LitList;
+use std::alloc::{AllocError, Global};
+
+/// The factors of a literal to choose from: the last of them ends at the literal's end, each other a byte before the
+/// next.
+pub(crate) const OFFSETS: usize = 8;
+
+/// The count of a factor that a literal does not have.
+pub(crate) const NEVER: u32 = 1 << 28;
+
+/// The masks see this many bytes of a factor.
+const MASKED: usize = 3;
+
+/// How often three bytes in a row occurred in samples of texts. Each new sample halves the older counts. There is room for
+/// all counts from the start, but they are written only with the first sample.
+#[derive(Debug, Drop)]
+pub(crate) struct Counts {
+    pub threes: Vec<u16>,
+}
+
+impl Counts {
+    /// The counts of no text.
+    pub fn new(alloc: Global) -> Result<Counts, AllocError>
+        ensures { IfOk result (λ counts. 2 ^ HASH_BITS ≤ vec_capacity counts.threes) }
+    {
+        let threes = Vec::with_capacity(alloc, 1 << HASH_BITS)?;
+        Ok(Counts { threes })
+    }
+
+    /// Halves the counts, and counts a sample.
+    pub fn count(&mut self, list: &LitList, sample: &[u8])
+        requires { 2 ^ HASH_BITS ≤ vec_capacity self.old.threes }
+        ensures { vec_len self.new.threes ≡ 2 ^ HASH_BITS }
+    {
+        halve(&mut self.threes);
+        count_sample(&mut self.threes, case_bits(list.fold()), sample);
+    }
+
+    /// How often the last three bytes of each of a literal's last factors occurred.
+    pub fn of_literal(&self, list: &LitList, place: usize) -> [u32; 8]
+        requires threes { vec_len self.now.threes ≡ 2 ^ HASH_BITS }
+        requires within { place < length list.now.texts }
+    {
+        let literal = list.get(place);
+        let mut found = [NEVER; 8];
+        for back in 0..OFFSETS {
+            if WIDTH + back <= literal.len() {
+                let end = literal.len() - back;
+                let number = hash_of(HASH_BITS, suffix_key(list.fold(), literal, end, MASKED));
+                found[back] = u32::from(self.threes[number]);
+            }
+        }
+        found
+    }
+}
+
+/// Halves each count. Unwritten counts become 0.
+fn halve(counts: &mut Vec<u16>)
+    requires { 2 ^ HASH_BITS ≤ vec_capacity counts.old }
+    ensures { vec_len counts.new ≡ 2 ^ HASH_BITS }
+{
+    // It takes no memory, and so is not refused.
+    let _is_done = counts.resize(1 << HASH_BITS, 0);
+    for number in 0..counts.len() {
+        counts[number] /= 2;
+    }
+}
+
+/// Counts each three bytes of a sample that have at least eight bytes up to their end.
+fn count_sample(counts: &mut Vec<u16>, case_bits: u64, sample: &[u8])
+    requires { vec_len counts.old ≡ 2 ^ HASH_BITS }
+    ensures { vec_len counts.new ≡ vec_len counts.old }
+{
+    for end in 8..sample.len() {
+        let key = (last_word(sample, end) & last_bits(MASKED)) | case_bits;
+        let number = hash_of(HASH_BITS, key);
+        counts[number] = counts[number].saturating_add(1);
+    }
+}

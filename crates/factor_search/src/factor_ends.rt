@@ -1,0 +1,254 @@
+//! Searches for ends by factors that were chosen from a sample.
+ghost use Rattle.std.specs.Prelude.{◌≡◌, ℕ, ◌+◌, ◌-◌, ◌^◌, ◌<◌, ◌≤◌, IfSome, MatchOption, length, min};
+ghost use Rattle.std.specs.Int.{bit_at};
+ghost use Rattle.lit_base.specs.Occurrences.{HasEnd, IsFirstEnding};
+ghost use Rattle.lit_base.specs.NextEnds.{IsNextEnd, NoEndAfter, NoEndUpTo};
+ghost use Rattle.factor_search.specs.PendingEnds.{ArePendingEnds};
+ghost use Rattle.factor_search.specs.declared.probing.TheConstants.{BLOCK};
+
+use crate::factors::Factors;
+use crate::probing::{BLOCK, next_pending, pending_after};
+use list_index::ListIndex;
+use std::alloc::AllocError;
+use std::marker::Model;
+use text_ends::{Ends, Hit, Tally, add_hits_at};
+
+/// Positions from a probe to the last end that its hash bits mark.
+const REACH: usize = 7;
+
+/// The pending ends after a position. A search continues with them after each end that it finds.
+#[derive(Clone, Copy)]
+pub(crate) struct Pending {
+    /// The search has passed the ends up to this position.
+    pub seen: usize,
+    /// How many positions after it are covered: a literal ends at one of them only if its bit is set.
+    pub count: usize,
+    /// Bit k stands for the end k + 1 positions after `seen`.
+    pub marks: u64,
+}
+
+impl Pending {
+    /// The pending ends of a search after `from`. It takes no memory.
+    pub fn after(factors: &Factors, text: &[u8], from: usize, tally: &mut Tally) -> Pending
+        requires { from ≤ length text.now }
+        ensures state { ArePendingEnds factors.now text.now result }
+        ensures seen { result.seen ≡ from }
+    {
+        factors.within_law();
+        let start = from.saturating_sub(REACH);
+        let marks = pending_after(factors, text, start, 0, tally);
+        let block = Pending {
+            seen: start,
+            count: BLOCK.min(text.len() - start),
+            marks,
+        };
+        let rest = block.but_first(from - start);
+        tally.pending(rest.marks);
+        rest
+    }
+
+    /// The pending ends without the first `count` positions.
+    #[inline(always)]
+    fn but_first(self, count: usize) -> Pending
+        requires within { count ≤ self.count }
+        requires few { count < 64 }
+        requires room { self.seen + count < 2 ^ 64 }
+        ensures seen { result.seen ≡ self.seen + count }
+        ensures count { result.count ≡ self.count - count }
+        ensures marks { (back : ℕ) → bit_at result.marks back ≡ bit_at self.marks (count + back) }
+    {
+        Pending {
+            seen: self.seen + count,
+            count: self.count - count,
+            marks: self.marks >> count,
+        }
+    }
+
+    /// Returns the next end after `seen`, with the first literal that ends there, or `None`. Moves `seen` to this end.
+    /// Adds the pending ends of each new block to `tally`. It takes no memory.
+    #[inline(never)]
+    pub fn next_end(
+        &mut self,
+        factors: &Factors,
+        list: &ListIndex,
+        text: &[u8],
+        tally: &mut Tally,
+    ) -> Option<(usize, usize)>
+        requires list { factors.now.literals ≡ list.now }
+        requires state { ArePendingEnds factors.now text.now self.old }
+        ensures state { ArePendingEnds factors.now text.now self.new }
+        ensures next { MatchOption result
+            (NoEndAfter list.now text.now self.old.seen)
+            (λ found. IsNextEnd list.now text.now self.old.seen found.0) }
+        ensures first { IfSome result (λ found. IsFirstEnding list.now text.now 0 found.0 found.1) }
+        ensures seen { IfSome result (λ found. self.new.seen ≡ found.0) }
+        ensures ahead { self.old.seen ≤ self.new.seen }
+    {
+        let mut state = *self;
+        'blocks: loop {
+            if let Some(found) = state.first_end(factors, list, text) {
+                *self = state.but_first(found.0 - state.seen);
+                tally.hit();
+                return Some(found);
+            }
+            if text.len() - state.seen == state.count {
+                *self = state;
+                return None;
+            }
+            state = state.next_block(factors, text, tally);
+        }
+    }
+
+    /// The first pending end at which some literal ends, with the first such literal.
+    #[inline(always)]
+    fn first_end(self, factors: &Factors, list: &ListIndex, text: &[u8]) -> Option<(usize, usize)>
+        requires list { factors.now.literals ≡ list.now }
+        requires state { ArePendingEnds factors.now text.now self }
+        ensures next { MatchOption result
+            (NoEndUpTo list.now text.now self.seen (self.seen + self.count))
+            (λ found. IsNextEnd list.now text.now self.seen found.0) }
+        ensures within { IfSome result (λ found. found.0 ≤ self.seen + self.count) }
+        ensures first { IfSome result (λ found. IsFirstEnding list.now text.now 0 found.0 found.1) }
+    {
+        if self.marks == 0 || self.count == 0 {
+            return None;
+        }
+        first_marked(list, text, self.seen, self.count, self.marks)
+    }
+
+    /// The pending ends of the next block, after a block in which nothing ends.
+    #[inline(always)]
+    fn next_block(self, factors: &Factors, text: &[u8], tally: &mut Tally) -> Pending
+        requires state { ArePendingEnds factors.now text.now self }
+        requires left { self.seen + self.count < length text.now }
+        ensures state { ArePendingEnds factors.now text.now result }
+        ensures ahead { self.seen + self.count ≤ result.seen }
+        ensures some { self.seen + self.count < result.seen + result.count }
+        ensures none { NoEndUpTo factors.now.literals text.now (self.seen + self.count) result.seen }
+    {
+        let rest = self.but_first(self.count);
+        let (seen, marks) = next_pending(factors, text, rest.seen, rest.marks, tally);
+        tally.pending(marks);
+        Pending {
+            seen,
+            count: BLOCK.min(text.len() - seen),
+            marks,
+        }
+    }
+}
+
+/// The ends in a text, found by factors.
+#[derive(Drop)]
+pub struct FactorEnds<'a> {
+    factors: &'a Factors,
+    text: &'a [u8],
+    /// The last end found, or where the search began. Nothing ends after it before the pending ends.
+    from: usize,
+    state: Pending,
+    tally: Tally,
+}
+
+impl<'a> Model for FactorEnds<'a> {
+    ghost use Rattle.std.specs.Prelude.{◌≡◌, ◌≤◌};
+    ghost use Rattle.lit_base.specs.NextEnds.{NoEndUpTo};
+    ghost use Rattle.text_ends.specs.Walks.{Walk};
+    ghost use Rattle.factor_search.specs.PendingEnds.{ArePendingEnds};
+
+    ghost Value = { Walk };
+
+    ghost view = { λ w. record { literals = w.factors.now.literals; text = w.text.now; from = w.from } };
+
+    ghost invariant = { λ w. ArePendingEnds w.factors.now w.text.now w.state
+        × (w.from ≤ w.state.seen)
+        × NoEndUpTo w.factors.now.literals w.text.now w.from w.state.seen };
+}
+
+impl<'a> FactorEnds<'a> {
+    /// The ends after a position. Positions at which no literal can end yet are passed over.
+    #[inline]
+    pub fn after(factors: &'a Factors, text: &'a [u8], from: usize) -> FactorEnds<'a>
+        requires { from ≤ length text.now }
+        ensures { result ≡ record { literals = factors.now.literals; text = text.now; from = from } }
+    {
+        let mut tally = Tally::nothing();
+        let start = factors.list().skip_short_ends(from).min(text.len());
+        let state = Pending::after(factors, text, start, &mut tally);
+        FactorEnds {
+            factors,
+            text,
+            from,
+            state,
+            tally,
+        }
+    }
+
+    /// The counters so far.
+    pub fn tally(&self) -> Tally {
+        self.tally
+    }
+}
+
+impl<'a> Ends for FactorEnds<'a> {
+    ghost walk = { λ w. w };
+
+    ghost identifies = { λ w end first. IsFirstEnding w.literals w.text 0 end first };
+
+    #[inline(always)]
+    fn next_end(&mut self) -> Option<(usize, usize)> {
+        let list = self.factors.list();
+        let found = self
+            .state
+            .next_end(self.factors, list, self.text, &mut self.tally);
+        self.from = self.state.seen;
+        found
+    }
+
+    #[inline(always)]
+    fn add_hits_at(
+        &self,
+        end: usize,
+        first: usize,
+        at: u64,
+        out: &mut Vec<Hit>,
+    ) -> Result<(), AllocError> {
+        add_hits_at(self.factors.list(), self.text, end, first, at, out)
+    }
+}
+
+/// The first of the `count` positions after `seen` at which some literal ends, with the first such literal. Only
+/// positions with a bit in `marks` are tried.
+#[inline(never)]
+fn first_marked(
+    list: &ListIndex,
+    text: &[u8],
+    seen: usize,
+    count: usize,
+    marks: u64,
+) -> Option<(usize, usize)>
+    requires few { count ≤ 64 }
+    requires inside { seen < length text.now }
+    requires marked { (back : ℕ) → back < count → HasEnd list.now text.now (seen + 1 + back) → bit_at marks back ≡ 1 }
+    ensures next { MatchOption result
+        ((back : ℕ) → back < count → ¬ HasEnd list.now text.now (seen + 1 + back))
+        (λ found. IsNextEnd list.now text.now seen found.0) }
+    ensures within { IfSome result (λ found. found.0 ≤ seen + count) }
+    ensures first { IfSome result (λ found. IsFirstEnding list.now text.now 0 found.0 found.1) }
+{
+    let room = count.min(text.len() - seen);
+    let mut back = 0;
+    let mut rest = marks;
+    while rest != 0 {
+        let unmarked = rest.trailing_zeros() as usize;
+        back += unmarked;
+        if back >= room {
+            return None;
+        }
+        let end = seen + 1 + back;
+        if let Some(first) = list.next_ending(text, end, 0) {
+            return Some((end, first));
+        }
+        back += 1;
+        rest = rest >> unmarked >> 1;
+    }
+    None
+}

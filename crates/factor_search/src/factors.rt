@@ -1,0 +1,270 @@
+//! The factors by which literals are searched for.
+ghost use Rattle.std.specs.Prelude.{◌≡◌, ℕ, ◌+◌, ◌^◌, ◌<◌, ◌≤◌, ◌++◌, ◌-◌, IfOk, length, replicate, slice_index, slice_range, vec_len};
+ghost use Rattle.std.specs.Int.{bit_at};
+ghost use Rattle.std.specs.Int.RustNames.{bit_and, bit_or};
+ghost use Rattle.list_index.specs.Marks.{IsMarked};
+ghost use Rattle.list_index.specs.Suffixes.{hash_of, last_bits, spelled, suffix_key};
+ghost use Rattle.list_index.specs.declared.suffixes.marks.TheConstants.{HASH_BITS};
+ghost use Rattle.nib_mask.specs.Fronts.{CoversFronts};
+ghost use Rattle.nib_mask.specs.Halves.{widened};
+ghost use Rattle.factor_search.specs.declared.widths.TheConstants.{WIDTH};
+ghost use Rattle.factor_search.specs.Factors.{AreMarks, AreWithin};
+
+use crate::choosing::{choose_offsets, estimate_of};
+use crate::counts::Counts;
+use crate::grouping::group;
+use crate::marking::mark_all;
+use crate::prices::cost_of_masks;
+use crate::tuning::{MARK_COST, START_COST};
+use crate::widths::{WIDTH, least_width, widths_from};
+use list_index::{HASH_BITS, ListIndex, case_bits, hash_of, last_bits, suffix_key};
+use lit_base::{Fold, LitList};
+use nib_mask::ByteMasks;
+use std::alloc::{AllocError, Global};
+use std::marker::Model;
+use std::sync::Arc;
+use text_ends::{EndRate, Tally};
+
+/// The literals of a list, with a hash bit for a factor of each, and masks for its last bytes: a factor that is rare in
+/// a given text.
+///
+/// Probes at each position that the masks pass miss no end. It takes all its memory when it is made.
+#[derive(Debug, Drop)]
+pub struct Factors {
+    index: Arc<ListIndex>,
+    /// The least width of a factor.
+    least: usize,
+    /// The distance from the end of each literal to the end of its factor.
+    offsets: Vec<u8>,
+    /// The bucket of each literal in the masks.
+    buckets: Vec<u8>,
+    /// A byte for each hash. Bit `back` says that some literal has a factor with this hash `back` bytes before its end.
+    marks: Vec<u8>,
+    masks: ByteMasks,
+    counts: Counts,
+}
+
+impl Model for Factors {
+    ghost use Rattle.std.specs.Prelude.{◌≡◌, ◌^◌, ◌≤◌, length, vec_capacity, vec_len};
+    ghost use Rattle.list_index.specs.declared.suffixes.marks.TheConstants.{HASH_BITS};
+    ghost use Rattle.nib_mask.specs.Fronts.{CoversFronts};
+    ghost use Rattle.nib_mask.specs.Halves.{widened};
+    ghost use Rattle.factor_search.specs.Widths.{IsLeastWidth};
+    ghost use Rattle.factor_search.specs.Factors.{AreMarkedByFactors, Factored};
+
+    ghost Value = { Factored };
+
+    ghost view = { λ w. record { literals = w.index.value; offsets = w.offsets.items } };
+
+    ghost invariant = { λ w. IsLeastWidth w.index.value w.least
+        × AreMarkedByFactors w.index.value w.offsets.items w.marks.items (length w.index.value.texts)
+        × CoversFronts w.index.value (length w.index.value.texts) w.offsets.items (widened w.masks)
+        × (vec_len w.buckets ≡ length w.index.value.texts)
+        × (2 ^ HASH_BITS ≤ vec_capacity w.counts.threes) };
+}
+
+impl Factors {
+    /// The literals of a list, each with its last bytes as its factor.
+    pub fn new(alloc: Global, index: Arc<ListIndex>) -> Result<Factors, AllocError>
+        ensures { IfOk result (λ factors. factors.literals ≡ index.value) }
+    {
+        let list = index.list();
+        let least = least_width(list);
+        let mut offsets = Vec::from_elem(alloc, 0, list.len())?;
+        let mut buckets = Vec::from_elem(alloc, 0, list.len())?;
+        let mut marks = Vec::from_elem(alloc, 0, 1 << HASH_BITS)?;
+        let counts = Counts::new(alloc)?;
+        mark_all(list, &mut offsets, &mut marks);
+        let masks = masks_of(list, &offsets, &mut buckets);
+        Ok(Factors {
+            index,
+            least,
+            offsets,
+            buckets,
+            marks,
+            masks,
+            counts,
+        })
+    }
+
+    /// The list.
+    #[inline(always)]
+    pub(crate) fn list(&self) -> &ListIndex
+        ensures { result.now ≡ self.now.literals }
+    {
+        &self.index
+    }
+
+    /// Chooses factors that are rare in a sample of the coming text. Returns the estimate of a search by them, in
+    /// tenths of a nanosecond for 1,024 bytes with ends at this rate, without the work at the ends themselves. Earlier
+    /// samples count half as much.
+    pub fn learn(&mut self, sample: &[u8], rate: EndRate) -> usize
+        ensures { self.new.literals ≡ self.old.literals }
+    {
+        let list = self.index.list();
+        self.counts.count(list, sample);
+        choose_offsets(list, &self.counts, &mut self.offsets);
+        mark_all(list, &mut self.offsets, &mut self.marks);
+        self.masks = masks_of(list, &self.offsets, &mut self.buckets);
+        estimate_of(&self.masks, widths_from(self.least), sample, rate)
+    }
+
+    /// The masks. Where a literal ends in a text, a candidate stands as far before as its offset says.
+    #[inline(always)]
+    pub fn masks(&self) -> &ByteMasks
+        ensures { CoversFronts self.now.literals (length self.now.literals.texts) self.now.offsets (widened result.now) }
+    {
+        &self.masks
+    }
+
+    /// The law that the factors lie within their literals.
+    #[inline(always)]
+    pub(crate) fn within_law(&self)
+        ensures { AreWithin self.now }
+    {
+        let _marks = &self.marks;
+    }
+
+    /// The hash bits at a position: bit `back` is set if a literal ends at `at + back` whose factor ends at `at`, and
+    /// rarely otherwise.
+    #[inline(always)]
+    pub fn marks_at(&self, text: &[u8], at: usize) -> u8
+        requires { at ≤ length text.now }
+        ensures { AreMarks self.now text.now at result }
+    {
+        if at < WIDTH {
+            return marks_near_front(&self.marks, self.index.fold(), self.least, text, at);
+        }
+        self.hash_bits_after_front(text, at)
+    }
+
+    /// As `marks_at`, for a position with at least four bytes before it.
+    #[inline(always)]
+    pub(crate) fn hash_bits_after_front(&self, text: &[u8], at: usize) -> u8
+        requires four { 4 ≤ at }
+        requires inside { at ≤ length text.now }
+        ensures { AreMarks self.now text.now at result }
+    {
+        marks_of_widths(&self.marks, self.index.fold(), self.least, text, at)
+    }
+
+    /// The cost of a search of `count` bytes with the counters `tally` and the ends `found`, in tenths of a nanosecond,
+    /// without the work at the ends themselves.
+    pub fn cost_of(&self, count: usize, tally: Tally, found: EndRate) -> usize {
+        cost_of_masks(count, tally.passed, widths_from(self.least))
+            .saturating_add(tally.marked.saturating_mul(MARK_COST))
+            .saturating_add(found.starts.saturating_mul(START_COST))
+    }
+}
+
+/// The masks for the factors at the offsets. Gives each literal a bucket.
+fn masks_of(list: &LitList, offsets: &Vec<u8>, buckets: &mut Vec<u8>) -> ByteMasks
+    requires offsets { vec_len offsets.now ≡ length list.now.texts }
+    requires buckets { vec_len buckets.old ≡ length list.now.texts }
+    ensures masks { CoversFronts list.now (length list.now.texts) offsets.now.items (widened result) }
+    ensures buckets { vec_len buckets.new ≡ vec_len buckets.old }
+{
+    group(list, offsets, buckets);
+    let count = list.len();
+    ByteMasks::of_fronts(list, count, offsets, buckets)
+}
+
+/// The hash bits of a position with at least four bytes before it, by all widths from the least on.
+#[inline(always)]
+fn marks_of_widths(marks: &Vec<u8>, fold: Fold, least: usize, text: &[u8], at: usize) -> u8
+    requires room { vec_len marks.now ≡ 2 ^ HASH_BITS }
+    requires some { 0 < least }
+    requires four { 4 ≤ at }
+    requires inside { at ≤ length text.now }
+    ensures { (width back : ℕ) → least ≤ width → width ≤ WIDTH
+        → IsMarked marks.now.items (hash_of HASH_BITS (suffix_key fold text.now at width)) back → bit_at result back ≡ 1 }
+{
+    let word = last_four(text, at);
+    let case_bits = case_bits(fold);
+    let long = marks_of(marks, word, WIDTH, case_bits);
+    if least >= WIDTH {
+        return long;
+    }
+    let short = short_marks(marks, word, least, case_bits);
+    long | short
+}
+
+/// What the four bytes before a position spell, after four zeros.
+#[inline(always)]
+fn last_four(text: &[u8], at: usize) -> u64
+    requires four { 4 ≤ at }
+    requires inside { at ≤ length text.now }
+    ensures { result ≡ spelled (replicate 4 0 ++ slice_range text.now (at - 4) at) }
+{
+    let four = u32::from_le_bytes([text[at - 4], text[at - 3], text[at - 2], text[at - 1]]);
+    u64::from(four) << 32
+}
+
+/// The hash bits of the last `width` of eight bytes.
+#[inline(always)]
+fn marks_of(marks: &Vec<u8>, word: u64, width: usize, case_bits: u64) -> u8
+    requires room { vec_len marks.now ≡ 2 ^ HASH_BITS }
+    requires some { 0 < width }
+    requires narrow { width ≤ 8 }
+    ensures { result ≡ slice_index marks.now.items (hash_of HASH_BITS (bit_or (bit_and word (last_bits width)) case_bits)) }
+{
+    marks[hash_of(HASH_BITS, (word & last_bits(width)) | case_bits)]
+}
+
+/// The hash bits of the last of eight bytes. Few lists need it.
+#[inline(never)]
+fn marks_of_one(marks: &Vec<u8>, word: u64, case_bits: u64) -> u8
+    requires { vec_len marks.now ≡ 2 ^ HASH_BITS }
+    ensures { result ≡ slice_index marks.now.items (hash_of HASH_BITS (bit_or (bit_and word (last_bits 1)) case_bits)) }
+{
+    marks_of(marks, word, 1, case_bits)
+}
+
+/// The hash bits of the last bytes of a word, by all widths from the least to three.
+#[inline(always)]
+fn short_marks(marks: &Vec<u8>, word: u64, least: usize, case_bits: u64) -> u8
+    requires room { vec_len marks.now ≡ 2 ^ HASH_BITS }
+    requires some { 0 < least }
+    ensures { (width back : ℕ) → least ≤ width → width < WIDTH
+        → IsMarked marks.now.items (hash_of HASH_BITS (bit_or (bit_and word (last_bits width)) case_bits)) back → bit_at result back ≡ 1 }
+{
+    let three = marks_of(marks, word, 3, case_bits);
+    if least > 2 {
+        return three;
+    }
+    let two = marks_of(marks, word, 2, case_bits);
+    if least > 1 {
+        return two | three;
+    }
+    let one = marks_of_one(marks, word, case_bits);
+    one | (two | three)
+}
+
+/// The hash bits of a position with fewer bytes before it than a factor has: those of short literals.
+#[inline(never)]
+fn marks_near_front(marks: &Vec<u8>, fold: Fold, least: usize, text: &[u8], at: usize) -> u8
+    requires room { vec_len marks.now ≡ 2 ^ HASH_BITS }
+    requires some { 0 < least }
+    requires inside { at ≤ length text.now }
+    requires near { at < WIDTH }
+    ensures { (width back : ℕ) → least ≤ width → width ≤ at
+        → IsMarked marks.now.items (hash_of HASH_BITS (suffix_key fold text.now at width)) back → bit_at result back ≡ 1 }
+{
+    let mut found = 0;
+    for width in least..at + 1 {
+        found |= marks_before(marks, fold, text, at, width);
+    }
+    found
+}
+
+/// The hash bits of the `width` bytes before a position.
+fn marks_before(marks: &Vec<u8>, fold: Fold, text: &[u8], at: usize, width: usize) -> u8
+    requires room { vec_len marks.now ≡ 2 ^ HASH_BITS }
+    requires some { 0 < width }
+    requires narrow { width ≤ 8 }
+    requires begins { width ≤ at }
+    requires inside { at ≤ length text.now }
+    ensures { result ≡ slice_index marks.now.items (hash_of HASH_BITS (suffix_key fold text.now at width)) }
+{
+    marks[hash_of(HASH_BITS, suffix_key(fold, text, at, width))]
+}

@@ -1,0 +1,193 @@
+-- Lines that are emitted one after another.
+use Rattle.std.proofs.Common.{◌≡◌, ◌≢◌, ℕ, suc, ◌+◌, Bool, true, false, cond, List, [], ◌∷◌, ◌++◌, length, Result, Ok, Err, IsOk, OnOk, OnErr, ◌⊎◌, inl, inr, refl, sym, ap, ◌∙◌, subst, append_assoc, append-nil, arith, All}
+use Rattle.std.proofs.lemmas.Bool.{false≢true}
+use Rattle.std.proofs.lemmas.List.{length-append}
+use Rattle.std.proofs.lemmas.List.Elements.{All-head, All-tail}
+use Rattle.lit_base.specs.Lines.{IsOnePiece, ended_lines}
+use Rattle.lit_base.proofs.EndedLemmas.{ended_lines-newline, ended_lines-none}
+use Rattle.text_lines.specs.Cutting.{IsFirstLine}
+use Rattle.line_pick.specs.declared.fault.Fault.{Fault}
+use Rattle.line_pick.specs.declared.fault.Fault.TheVariants.{OutOfMemory, StreamTooLong}
+use Rattle.line_pick.specs.declared.halt.Halt.{Halt}
+use Rattle.line_pick.specs.declared.halt.Halt.TheVariants.{Stopped, Failed}
+use Rattle.line_pick.specs.declared.sink.Next.{Next}
+use Rattle.line_pick.specs.declared.sink.Next.TheVariants.{More, Stop}
+use Rattle.line_pick.specs.Emitting.{Emits, Emitted, NoneLeft, OneMore, LastOne, Whole, Starved, Refused, answer_of, answer_to, numbered}
+
+-- lines that pass come in their order, numbered on
+pub numbered-cons : (test : List ℕ → Bool) (before : ℕ) (line : List ℕ) (lines : List (List ℕ)) → numbered test before (line ∷ lines) ≡ numbered test before (line ∷ []) ++ numbered test (before + 1) lines
+numbered-cons test before line lines = elim (test line) as (λ b. cond b ((before + 1, line) ∷ numbered test (before + 1) lines) (numbered test (before + 1) lines) ≡ cond b ((before + 1, line) ∷ []) [] ++ numbered test (before + 1) lines) [
+  | true ↦ refl
+  | false ↦ refl
+]
+
+pub numbered-yes : (test : List ℕ → Bool) (before : ℕ) (line : List ℕ) → test line ≡ true → numbered test before (line ∷ []) ≡ (before + 1, line) ∷ []
+numbered-yes test before line passes = ap (λ b. cond b ((before + 1, line) ∷ []) []) passes
+
+pub numbered-no : (test : List ℕ → Bool) (before : ℕ) (line : List ℕ) → test line ≡ false → numbered test before (line ∷ []) ≡ []
+numbered-no test before line fails = ap (λ b. cond b ((before + 1, line) ∷ []) []) fails
+
+-- one line is numbered by what a test says of it
+pub numbered-one : (test : List ℕ → Bool) (before : ℕ) (line : List ℕ) {selected : Bool} → selected ≡ test line → numbered (λ _. selected) before (line ∷ []) ≡ numbered test before (line ∷ [])
+numbered-one test before line is = ap (λ b. cond b ((before + 1, line) ∷ []) []) is
+
+-- tests that agree on the lines number the same lines
+pub numbered-same : (test other : List ℕ → Bool) (before : ℕ) (lines : List (List ℕ)) → All (λ line. test line ≡ other line) lines → numbered test before lines ≡ numbered other before lines
+numbered-same test other before [] agree = refl
+numbered-same test other before (line ∷ lines) agree =
+    let rest = numbered-same test other (before + 1) lines (All-tail (λ l. test l ≡ other l) line lines agree) in
+    ap (λ b. cond b ((before + 1, line) ∷ numbered test (before + 1) lines) (numbered test (before + 1) lines)) (All-head (λ l. test l ≡ other l) line lines agree)
+    ∙ ap (λ ls. cond (other line) ((before + 1, line) ∷ ls) ls) rest
+
+-- where none passes, none is numbered
+pub numbered-none : (before : ℕ) (lines : List (List ℕ)) → numbered (λ _. false) before lines ≡ []
+numbered-none before [] = refl
+numbered-none before (line ∷ lines) = numbered-none (before + 1) lines
+
+-- the numbers go on after lines
+pub numbered-append : (test : List ℕ → Bool) (before : ℕ) (lines more : List (List ℕ)) → numbered test before (lines ++ more) ≡ numbered test before lines ++ numbered test (before + length lines) more
+numbered-append test before [] more = ap (λ n. numbered test n more) (omega arith)
+numbered-append test before (line ∷ lines) more =
+    let on : (before + 1) + length lines ≡ before + length (line ∷ lines) = omega arith in
+    numbered-cons test before line (lines ++ more)
+    ∙ ap (λ ls. numbered test before (line ∷ []) ++ ls) (numbered-append test (before + 1) lines more ∙ ap (λ n. numbered test (before + 1) lines ++ numbered test n more) on)
+    ∙ sym (append_assoc (numbered test before (line ∷ [])) (numbered test (before + 1) lines) (numbered test (before + length (line ∷ lines)) more))
+    ∙ ap (λ ls. ls ++ numbered test (before + length (line ∷ lines)) more) (sym (numbered-cons test before line lines))
+
+module _ {S : Type 0} {takes : S → ℕ → List ℕ → Result Next Fault → S → Type 0} where
+  -- one line is emitted
+  pub Emitted-one : {s t : S} {number : ℕ} {line : List ℕ} (answer : Result Next Fault) → takes s number line answer t → Emitted takes s ((number, line) ∷ []) answer t
+  Emitted-one (Ok More) h = OneMore h NoneLeft
+  Emitted-one (Ok Stop) h = LastOne h (λ e. (cc))
+  Emitted-one (Err fault) h = LastOne h (λ e. (cc))
+
+  -- after the last line emitted, others may follow that are not
+  pub Emitted-halted : {s t : S} {lines : List (ℕ × List ℕ)} {answer : Result Next Fault} (more : List (ℕ × List ℕ)) → Emitted takes s lines answer t → answer ≢ Ok More → Emitted takes s (lines ++ more) answer t
+  Emitted-halted more NoneLeft halted = absurd (halted refl)
+  Emitted-halted more (OneMore h rest) halted = OneMore h (Emitted-halted more rest halted)
+  Emitted-halted more (LastOne h last) halted = LastOne h last
+
+  -- lines after lines that were all taken
+  pub Emitted-join : {s t u : S} {lines more : List (ℕ × List ℕ)} {answer : Result Next Fault} → Emitted takes s lines (Ok More) t → Emitted takes t more answer u → Emitted takes s (lines ++ more) answer u
+  Emitted-join NoneLeft later = later
+  Emitted-join (OneMore h rest) later = OneMore h (Emitted-join rest later)
+  Emitted-join (LastOne h last) later = absurd (last refl)
+
+  pub Emits-halted : {s t : S} {lines : List (ℕ × List ℕ)} {answer : Result Next Fault} (more : List (ℕ × List ℕ)) → Emits takes s lines answer t → answer ≢ Ok More → Emits takes s (lines ++ more) answer t
+  Emits-halted more (Whole h) halted = Whole (Emitted-halted more h halted)
+  Emits-halted more (Starved front rest parts h) halted = Starved front (rest ++ more) (ap (λ ls. ls ++ more) parts ∙ append_assoc front rest more) h
+  Emits-halted more Refused halted = Refused
+
+  pub Emits-join : {s t u : S} {lines more : List (ℕ × List ℕ)} {answer : Result Next Fault} → Emitted takes s lines (Ok More) t → Emits takes t more answer u → answer ≢ Err StreamTooLong → Emits takes s (lines ++ more) answer u
+  Emits-join h (Whole later) short = Whole (Emitted-join h later)
+  Emits-join {lines = lines} h (Starved front rest parts later) short = Starved (lines ++ front) rest (ap (λ ls. lines ++ ls) parts ∙ sym (append_assoc lines front rest)) (Emitted-join h later)
+  Emits-join h Refused short = absurd (short refl)
+
+  -- where the sink wants more, all lines were emitted
+  pub Emitted-from_Emits : {s t : S} {lines : List (ℕ × List ℕ)} → Emits takes s lines (Ok More) t → Emitted takes s lines (Ok More) t
+  Emitted-from_Emits (Whole h) = h
+
+-- a halt is no call for more
+pub answer_to-More : (halt : Halt) → answer_to halt ≢ Ok More
+answer_to-More Stopped = λ e. (cc)
+answer_to-More (Failed fault) = λ e. (cc)
+
+-- where no line is emitted, the answer is More
+pub Emitted-nothing : {S : Type 0} {takes : S → ℕ → List ℕ → Result Next Fault → S → Type 0} {s t : S} {lines : List (ℕ × List ℕ)} {answer : Result Next Fault} → lines ≡ [] → Emitted takes s lines answer t → answer ≡ Ok More
+Emitted-nothing nothing NoneLeft = refl
+Emitted-nothing nothing (OneMore taken rest) = absurd (cc)
+Emitted-nothing nothing (LastOne taken other) = absurd (cc)
+
+-- emitting that did not end is answered by More
+pub answer_of-IsOk : {T : Type 0} (r : Result T Halt) → IsOk r → answer_of r ≡ Ok More
+answer_of-IsOk (Ok x) ok = refl
+answer_of-IsOk (Err halt) ok = absurd (false≢true ok)
+
+-- an answer is a stream too long only where the halt is
+pub answer_of-StreamTooLong : {T : Type 0} (r : Result T Halt) → r ≢ Err (Failed StreamTooLong) → answer_of r ≢ Err StreamTooLong
+answer_of-StreamTooLong (Ok x) other = λ e. (cc)
+answer_of-StreamTooLong (Err Stopped) other = λ e. (cc)
+answer_of-StreamTooLong (Err (Failed fault)) other = λ e. other (cc)
+
+-- where a growth was refused, nothing more is emitted
+pub Emits-starved : {S T : Type 0} {takes : S → ℕ → List ℕ → Result Next Fault → S → Type 0} {s : S} (lines : List (ℕ × List ℕ)) (r : Result T Halt) → r ≡ Err (Failed OutOfMemory) → Emits takes s lines (answer_of r) s
+Emits-starved {takes = takes} {s = s} lines r e = subst (λ q. Emits takes s lines (answer_of q) s) (sym e) (Starved [] lines refl NoneLeft)
+
+-- nor where it was refused after all lines
+pub Emits-held : {S T : Type 0} {takes : S → ℕ → List ℕ → Result Next Fault → S → Type 0} {s t : S} {lines : List (ℕ × List ℕ)} (r : Result T Halt) → Emitted takes s lines (Ok More) t → OnErr r (r ≡ Err (Failed OutOfMemory)) → Emits takes s lines (answer_of r) t
+Emits-held (Ok x) h starved = Whole h
+Emits-held {takes = takes} {s = s} {t = t} {lines = lines} (Err halt) h starved = subst (λ q. Emits takes s lines (answer_of q) t) (sym starved) (Starved lines [] (sym (append-nil lines)) h)
+
+-- nor where the stream would become too long
+pub Emits-refused : {S T : Type 0} {takes : S → ℕ → List ℕ → Result Next Fault → S → Type 0} {s : S} (lines : List (ℕ × List ℕ)) (r : Result T Halt) → r ≡ Err (Failed StreamTooLong) → Emits takes s lines (answer_of r) s
+Emits-refused {takes = takes} {s = s} lines r e = subst (λ q. Emits takes s lines (answer_of q) s) (sym e) Refused
+
+-- lines that are the same are emitted alike
+pub Emitted-lines : {S : Type 0} {takes : S → ℕ → List ℕ → Result Next Fault → S → Type 0} {s t : S} {lines others : List (ℕ × List ℕ)} {answer : Result Next Fault} → lines ≡ others → Emitted takes s lines answer t → Emitted takes s others answer t
+Emitted-lines {takes = takes} {s = s} {t = t} {answer = answer} e h = subst (λ ls. Emitted takes s ls answer t) e h
+
+pub Emits-lines : {S : Type 0} {takes : S → ℕ → List ℕ → Result Next Fault → S → Type 0} {s t : S} {lines others : List (ℕ × List ℕ)} {answer : Result Next Fault} → lines ≡ others → Emits takes s lines answer t → Emits takes s others answer t
+Emits-lines {takes = takes} {s = s} {t = t} {answer = answer} e h = subst (λ ls. Emits takes s ls answer t) e h
+
+-- what holds in any case, holds where the answer is so
+pub OnOk-any : {T E P : Type 0} (r : Result T E) → P → OnOk r P
+OnOk-any (Ok x) p = p
+OnOk-any (Err e) p = tt
+
+-- one of the two was answered
+pub either : {T E P Q : Type 0} (r : Result T E) → OnOk r P → OnErr r Q → P ⊎ Q
+either (Ok x) p q = inl p
+either (Err e) p q = inr q
+
+-- a line that is selected, and a line that is not
+module _ {S : Type 0} {takes : S → ℕ → List ℕ → Result Next Fault → S → Type 0} (test : List ℕ → Bool) (before : ℕ) (line : List ℕ) where
+  pub Emitted-selected : {s t : S} (answer : Result Next Fault) → test line ≡ true → takes s (before + 1) line answer t → Emitted takes s (numbered test before (line ∷ [])) answer t
+  Emitted-selected {s} {t} answer passes h = subst (λ ls. Emitted takes s ls answer t) (sym (numbered-yes test before line passes)) (Emitted-one answer h)
+
+  pub Emitted-skipped : {s : S} → test line ≡ false → Emitted takes s (numbered test before (line ∷ [])) (Ok More) s
+  Emitted-skipped {s} fails = subst (λ ls. Emitted takes s ls (Ok More) s) (sym (numbered-no test before line fails)) NoneLeft
+
+-- lines that are emitted from one state on are emitted from an earlier one
+pub record EmittedOn {S : Type 0} (takes : S → ℕ → List ℕ → Result Next Fault → S → Type 0) (s : S) (lines : List (ℕ × List ℕ)) (t : S) (rest : List (ℕ × List ℕ)) : Type 0 where
+  pub go : (answer : Result Next Fault) (u : S) → Emitted takes t rest answer u → Emitted takes s lines answer u
+
+module _ (test : List ℕ → Bool) (before : ℕ) (text line rest : List ℕ) (cut : IsFirstLine text line rest) where
+  -- the lines of a text are its first one and those after it
+  pub numbered-first : numbered test before (ended_lines text) ≡ numbered test before (line ∷ []) ++ numbered test (before + 1) (ended_lines rest)
+  numbered-first = ap (λ t. numbered test before (ended_lines t)) cut.whole ∙ ap (numbered test before) (ended_lines-newline line rest cut.one) ∙ numbered-cons test before line (ended_lines rest)
+
+  -- how long it is, and how many lines it has
+  pub length-first : length text ≡ length line + suc (length rest)
+  length-first = ap length cut.whole ∙ length-append line (10 ∷ rest)
+
+  pub count-first : length (ended_lines text) ≡ suc (length (ended_lines rest))
+  count-first = ap (λ t. length (ended_lines t)) cut.whole ∙ ap length (ended_lines-newline line rest cut.one)
+
+module _ {S : Type 0} {takes : S → ℕ → List ℕ → Result Next Fault → S → Type 0} (test : List ℕ → Bool) (before : ℕ) (text line rest : List ℕ) (cut : IsFirstLine text line rest) where
+  -- after a line that was taken
+  pub EmittedOn-more : {s t u : S} {whole : List (ℕ × List ℕ)} → EmittedOn takes s whole t (numbered test before (ended_lines text)) → Emitted takes t (numbered test before (line ∷ [])) (Ok More) u → EmittedOn takes s whole u (numbered test (before + 1) (ended_lines rest))
+  EmittedOn-more {t = t} p h = record { go = λ answer v later. p.go answer v (subst (λ ls. Emitted takes t ls answer v) (sym (numbered-first test before text line rest cut)) (Emitted-join h later)) }
+
+  -- at a line that was the last
+  pub EmittedOn-halted : {s t u : S} {whole : List (ℕ × List ℕ)} {answer : Result Next Fault} → EmittedOn takes s whole t (numbered test before (ended_lines text)) → Emitted takes t (numbered test before (line ∷ [])) answer u → answer ≢ Ok More → Emitted takes s whole answer u
+  EmittedOn-halted {t = t} {u = u} {answer = answer} p h halted = p.go answer u (subst (λ ls. Emitted takes t ls answer u) (sym (numbered-first test before text line rest cut)) (Emitted-halted (numbered test (before + 1) (ended_lines rest)) h halted))
+
+-- a front of the remaining lines was taken
+pub EmittedOn-front : {S : Type 0} {takes : S → ℕ → List ℕ → Result Next Fault → S → Type 0} {s t u : S} {whole all front rest : List (ℕ × List ℕ)} → EmittedOn takes s whole t all → all ≡ front ++ rest → Emitted takes t front (Ok More) u → EmittedOn takes s whole u rest
+EmittedOn-front {takes = takes} {t = t} p parts h = record { go = λ answer v later. p.go answer v (subst (λ ls. Emitted takes t ls answer v) (sym parts) (Emitted-join h later)) }
+
+-- one of its lines was the last
+pub EmittedOn-last : {S : Type 0} {takes : S → ℕ → List ℕ → Result Next Fault → S → Type 0} {s t u : S} {whole all front : List (ℕ × List ℕ)} {answer : Result Next Fault} (rest : List (ℕ × List ℕ)) → EmittedOn takes s whole t all → all ≡ front ++ rest → Emitted takes t front answer u → answer ≢ Ok More → Emitted takes s whole answer u
+EmittedOn-last {takes = takes} {t = t} {u = u} {answer = answer} rest p parts h halted = p.go answer u (subst (λ ls. Emitted takes t ls answer u) (sym parts) (Emitted-halted rest h halted))
+
+-- with no newline left, all lines were taken
+pub EmittedOn-end : {S : Type 0} {takes : S → ℕ → List ℕ → Result Next Fault → S → Type 0} {s t : S} {whole : List (ℕ × List ℕ)} (test : List ℕ → Bool) (before : ℕ) (text : List ℕ) → IsOnePiece text
+    → EmittedOn takes s whole t (numbered test before (ended_lines text)) → Emitted takes s whole (Ok More) t
+EmittedOn-end {takes = takes} {t = t} test before text one p = p.go (Ok More) t (subst (λ ls. Emitted takes t (numbered test before ls) (Ok More) t) (sym (ended_lines-none text one)) NoneLeft)
+
+pub count-none : (text : List ℕ) → IsOnePiece text → length (ended_lines text) ≡ 0
+count-none text one = ap length (ended_lines-none text one)
+
+-- at first nothing was
+pub EmittedOn-none : {S : Type 0} (takes : S → ℕ → List ℕ → Result Next Fault → S → Type 0) (s : S) (lines : List (ℕ × List ℕ)) → EmittedOn takes s lines s lines
+EmittedOn-none takes s lines = record { go = λ answer u h. h }

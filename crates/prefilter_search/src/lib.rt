@@ -1,0 +1,6 @@
+//! The search by a prefilter alone: each position that it passes is compared with the literals.
+#![tactic(auto)]
+
+mod prefiltered;
+
+pub use prefiltered::{PrefilteredEnds, next_verified};

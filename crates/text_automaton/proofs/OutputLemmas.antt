@@ -1,0 +1,276 @@
+-- The outputs of right tables: the literals that end at a position of a text.
+use Rattle.std.proofs.Common.{◌≡◌, ℕ, zero, suc, ◌+◌, ◌-◌, ◌<◌, ◌≤◌, ◌⊎◌, ◌++◌, List, [], ◌∷◌, Contains, Bool, true, All, inl, inr, length, get_or, slice_index, slice_range, drop, refl, sym, ap, ◌∙◌, subst, arith}
+use Rattle.std.proofs.lemmas.Bool.{cases_lt}
+use Rattle.std.proofs.lemmas.List.{ext_get_or, get_or-drop, get_or-map, get_or-take, length-drop, length-map, length-take}
+use Rattle.std.proofs.lemmas.List.Elements.{Contains-append_left, Contains-get_or, Contains-push, Contains-push_cases}
+use Rattle.std.proofs.lemmas.Option.{get_or_from_slice_get, slice_get-get_or, slice_get_within}
+use Rattle.lit_base.specs.Folding.{folded, folded_text}
+use Rattle.lit_base.specs.Literals.{Literals, literal_at}
+use Rattle.lit_base.specs.Occurrences.{HasEnd, Occurs}
+use Rattle.lit_base.specs.declared.fold.Fold.{Fold}
+use Rattle.text_automaton.specs.Automata.{AreEnding, IsReading, IsStateAt, Outputs, place_of, output_of}
+use Rattle.text_automaton.specs.declared.reading.Reading.{Reading}
+use Rattle.text_automaton.specs.Fronts.{Begins, IsNextShorter, IsPath, IsRead, Leads, read_of, state_after}
+use Rattle.text_automaton.specs.Stages.{is_made}
+use Rattle.text_automaton.specs.declared.automaton.Stage.{Stage}
+use Rattle.text_automaton.specs.declared.automaton.Stage.TheVariants.{Made, Refused, Unmade}
+use Rattle.text_automaton.specs.Tables.{AreRight, IsKnown, front_of, state_of, step, output_at}
+use Rattle.text_automaton.specs.declared.tables.Tables.{Tables}
+use Rattle.text_automaton.proofs.FrontLemmas.{begins_refl, begins_short, begins_trans, begins_whole, falls_to, goes_on, leads_none, leads_on, one_path, state_small}
+
+-- a literal's prefix of `count` bytes has this length
+front_length : (text : List ℕ) (count : ℕ) → length (front_of text count) ≡ count
+front_length text zero = refl
+front_length text (suc count) = let rest = front_length text count in omega (arith, rest)
+
+module _ (t : Tables) (l : Literals) (right : AreRight t l) where
+  -- a byte of a text, folded, is the byte of its class
+  known_byte : (byte : ℕ) → byte < 256 → IsKnown t (folded l.folding byte)
+  known_byte byte small =
+      let is = right.classes byte small in
+      record {
+        class = subst (λ k. k < 128) is.1 is.0;
+        own = λ some. ap (slice_index t.bytes) (sym is.1) ∙ is.2 (subst (λ k. 0 < k) (sym is.1) some);
+      }
+
+  -- the bytes read lead to the state of the longest prefix that ends there
+  pub read_leads : (text : List ℕ) → ((i : ℕ) → slice_index text i < 256) → (from count : ℕ)
+      → (s : List ℕ) × (state_of t s ≡ state_after t text from count) × Leads t (read_of l.folding text from count) s
+  read_leads text small from zero = ([], refl, leads_none t)
+  read_leads text small from (suc count) =
+      let before = read_leads text small from count in
+      let raw = slice_index text (from + count) in
+      let byte = folded l.folding raw in
+      let to = goes_on t right.sized right.steps right.fails before.0 byte before.2.path (known_byte raw (small (from + count))) in (
+        to.0,
+        to.1 ∙ ap (λ k. step t (state_of t before.0) k) (sym (right.classes raw (small (from + count))).1) ∙ ap (λ x. step t x (slice_index t.classes raw)) before.1,
+        leads_on t byte (read_of l.folding text from count) before.0 to.0 before.2 to.2,
+      )
+
+  -- a literal's prefixes are paths
+  literal_path : (place : ℕ) → place < length l.texts → (count : ℕ) → count ≤ length (literal_at l place) → IsPath t (front_of (literal_at l place) count)
+  literal_path place within zero few = tt
+  literal_path place within (suc count) few =
+      let longer = (right.spelled place within).fronts count (omega (arith, few)) in
+      (literal_path place within count (omega (arith, few)), longer.0, longer.1)
+
+  -- the whole literal
+  abbrev whole : ℕ → List ℕ
+  whole place = front_of (literal_at l place) (length (literal_at l place))
+
+  whole_path : (place : ℕ) → place < length l.texts → IsPath t (whole place)
+  whole_path place within = literal_path place within (length (literal_at l place)) (omega arith)
+
+  -- the output of a path's state, given the output of the next shorter path: each direction
+  abbrev Reports : List ℕ → Type 0
+  Reports s = (place : ℕ) → (Contains (output_at t (state_of t s)) place → (place < length l.texts) × Begins (whole place) s)
+      × (place < length l.texts → Begins (whole place) s → Contains (output_at t (state_of t s)) place)
+
+  module _ (nonempty : All (λ x. 0 < length x) l.texts) where
+    some_bytes : (place : ℕ) → place < length l.texts → 0 < length (literal_at l place)
+    some_bytes place within = nonempty place [] within
+
+    reports_none : Reports []
+    reports_none place =
+        let none = (right.reporting 0 right.sized.some).first refl in (
+          λ inside. let out : Contains [] place = subst (λ xs. Contains xs place) none inside in absurd (omega (arith, out.1)),
+          λ within begins. let short = begins_short (whole place) [] begins in absurd (omega (arith, short, front_length (literal_at l place) (length (literal_at l place)), some_bytes place within)),
+        )
+
+    reports_more : (s f : List ℕ) → 0 < length s → IsPath t s → state_of t f ≡ slice_index t.fails.items (state_of t s) → IsNextShorter t s f → 0 < state_of t s → Reports f → Reports s
+    reports_more s f some path same falls positive reports place =
+        let state = state_of t s in
+        let own = slice_index t.owns.items state in
+        let reporting = right.reporting state (state_small t s right.sized path) in
+        let others : output_at t (state_of t f) ≡ output_at t (slice_index t.fails.items state) = ap (output_at t) same in
+        elim (reporting.others positive) [
+          | inl has ↦
+              let is : output_at t state ≡ output_at t (slice_index t.fails.items state) ++ own ∷ [] = has.1 in
+              let there : state_of t (whole own) ≡ state = (right.spelled own has.0).end ∙ reporting.own has.0 in
+              let same_path : whole own ≡ s = one_path t (whole own) s (whole_path own has.0) path there in (
+                λ inside. elim (Contains-push_cases (output_at t (slice_index t.fails.items state)) own place (subst (λ xs. Contains xs place) is inside)) [
+                  | inl old ↦
+                      let w = (reports place).0 (subst (λ xs. Contains xs place) (sym others) old) in
+                      (w.0, begins_trans (whole place) f s w.1 falls.ends)
+                  | inr here ↦ (subst (λ x. x < length l.texts) here has.0, subst (λ x. Begins (whole x) s) here (subst (λ x. Begins (whole own) x) same_path (begins_refl (whole own))))
+                ],
+                λ within begins. elim (cases_lt (length (whole place)) (length s)) [
+                  | inl short ↦ subst (λ xs. Contains xs place) (sym is) (Contains-append_left (output_at t (slice_index t.fails.items state)) (own ∷ []) place
+                      (subst (λ xs. Contains xs place) others ((reports place).1 within (falls.longest (whole place) (whole_path place within) begins short))))
+                  | inr long ↦
+                      let all : whole place ≡ s = begins_whole (whole place) s begins long in
+                      let ends : slice_index t.ends.items place ≡ state = sym (right.spelled place within).end ∙ ap (state_of t) all in
+                      let mine : own ≡ place = ap (slice_index t.owns.items) (sym ends) ∙ (right.spelled place within).own in
+                      subst (λ xs. Contains xs place) (sym is) (subst (λ x. Contains (output_at t (slice_index t.fails.items state) ++ own ∷ []) x) mine (Contains-push (output_at t (slice_index t.fails.items state)) own))
+                ],
+              )
+          | inr has ↦
+              let is : output_at t state ≡ output_at t (state_of t f) = has.1 ∙ sym others in (
+                λ inside. let w = (reports place).0 (subst (λ xs. Contains xs place) is inside) in (w.0, begins_trans (whole place) f s w.1 falls.ends),
+                λ within begins. elim (cases_lt (length (whole place)) (length s)) [
+                  | inl short ↦ subst (λ xs. Contains xs place) (sym is) ((reports place).1 within (falls.longest (whole place) (whole_path place within) begins short))
+                  | inr long ↦
+                      let all : whole place ≡ s = begins_whole (whole place) s begins long in
+                      let ends : slice_index t.ends.items place ≡ state = sym (right.spelled place within).end ∙ ap (state_of t) all in
+                      let mine : own ≡ place = ap (slice_index t.owns.items) (sym ends) ∙ (right.spelled place within).own in
+                      absurd (omega (arith, has.0, mine, within))
+                ],
+              )
+        ]
+
+    -- each path of bounded length has as output the literals that end it
+    reports_all : (n : ℕ) (s : List ℕ) → length s ≤ n → IsPath t s → Reports s
+    reports_all n [] short path = reports_none
+    reports_all zero (b ∷ s) short path = absurd (omega (arith, short))
+    reports_all (suc n) (b ∷ s) short path =
+        let down = falls_to t right.sized right.steps right.fails (b ∷ s) (omega arith) path in
+        reports_more (b ∷ s) down.0 (omega arith) path down.1 down.2 path.2.1 (reports_all n down.0 (omega (arith, short, down.2.shorter)) down.2.path)
+
+    -- the output of a path's state is the literals that end it
+    pub reports : (s : List ℕ) → IsPath t s → Reports s
+    reports s path = reports_all (length s) s (omega arith) path
+
+-- the last bytes that were read, from a prefix that ends them
+bytes_of_begins : (fold : Fold) (literal text : List ℕ) (from : ℕ) (len count : ℕ) → Begins (front_of literal len) (read_of fold text from count)
+    → (len ≤ count) × ((i : ℕ) → i < len → slice_index literal i ≡ folded fold (slice_index text (from + (count - len) + i)))
+bytes_of_begins fold literal text from zero count begins = (omega arith, λ i low. absurd (omega (arith, low)))
+bytes_of_begins fold literal text from (suc len) zero begins = elim begins [ ]
+bytes_of_begins fold literal text from (suc len) (suc count) begins =
+    let rest = bytes_of_begins fold literal text from len count begins.1 in (
+      omega (arith, rest.0),
+      λ i low. elim (cases_lt i len) [
+        | inl sooner ↦
+            let same : from + (count - len) + i ≡ from + (suc count - suc len) + i = omega arith in
+            rest.1 i sooner ∙ ap (λ p. folded fold (slice_index text p)) same
+        | inr there ↦
+            let here : len ≡ i = omega (arith, low, there) in
+            let same : from + count ≡ from + (suc count - suc len) + i = omega (arith, here, rest.0) in
+            ap (slice_index literal) (sym here) ∙ begins.0 ∙ ap (λ p. folded fold (slice_index text p)) same
+      ],
+    )
+
+-- and the other way round
+begins_of_bytes : (fold : Fold) (literal text : List ℕ) (from : ℕ) (len count : ℕ) → len ≤ count → ((i : ℕ) → i < len → slice_index literal i ≡ folded fold (slice_index text (from + (count - len) + i)))
+    → Begins (front_of literal len) (read_of fold text from count)
+begins_of_bytes fold literal text from zero count fits same = tt
+begins_of_bytes fold literal text from (suc len) zero fits same = absurd (omega (arith, fits))
+begins_of_bytes fold literal text from (suc len) (suc count) fits same =
+    let last : from + (suc count - suc len) + len ≡ from + count = omega (arith, fits) in (
+      same len (omega arith) ∙ ap (λ p. folded fold (slice_index text p)) last,
+      begins_of_bytes fold literal text from len count (omega (arith, fits)) (λ i low.
+          let there : from + (suc count - suc len) + i ≡ from + (count - len) + i = omega arith in
+          same i (omega (arith, low)) ∙ ap (λ p. folded fold (slice_index text p)) there),
+    )
+
+-- a byte of a folded part of a text
+folded_at : (fold : Fold) (text : List ℕ) (low high i : ℕ) → high ≤ length text → low + i < high → get_or (folded_text fold (slice_range text low high)) i 0 ≡ folded fold (slice_index text (low + i))
+folded_at fold text low high i inside within =
+    get_or-map (folded fold) (slice_range text low high) i 0 0 (omega (arith, within, inside, length-take (high - low) (drop low text), length-drop low text))
+    ∙ ap (folded fold) (get_or-take (high - low) (drop low text) i 0 (omega (arith, within)) ∙ get_or-drop low text i 0)
+
+folded_length : (fold : Fold) (text : List ℕ) (low high : ℕ) → low ≤ high → high ≤ length text → length (folded_text fold (slice_range text low high)) ≡ high - low
+folded_length fold text low high ordered inside = omega (arith, ordered, inside, length-map (slice_range text low high) (folded fold), length-take (high - low) (drop low text), length-drop low text)
+
+-- the literals that end the bytes read are those that end at the position, if reading began far enough before it
+ends_of_begins : (l : Literals) (text : List ℕ) (from count place end : ℕ) → from + count ≡ end → end ≤ length text → place < length l.texts
+    → Begins (front_of (literal_at l place) (length (literal_at l place))) (read_of l.folding text from count) → Occurs l text place end
+ends_of_begins l text from count place end here inside within begins =
+    let literal = literal_at l place in
+    let len = length literal in
+    let bytes = bytes_of_begins l.folding literal text from len count begins in
+    let begins_at : len ≤ end = omega (arith, bytes.0, here) in
+    let long : length (folded_text l.folding (slice_range text (end - len) end)) ≡ len = folded_length l.folding text (end - len) end (omega arith) inside ∙ omega (arith, begins_at) in
+    record {
+      literal = literal;
+      stands = slice_get-get_or l.texts place [] within;
+      begins = begins_at;
+      ends = inside;
+      bytes = ext_get_or 0 (folded_text l.folding (slice_range text (end - len) end)) literal long (λ i low.
+          let small : i < len = omega (arith, low, long) in
+          let same : from + (count - len) + i ≡ end - len + i = omega (arith, here, bytes.0) in
+          folded_at l.folding text (end - len) end i inside (omega (arith, small, begins_at))
+          ∙ ap (λ p. folded l.folding (slice_index text p)) (sym same) ∙ sym (bytes.1 i small));
+    }
+
+begins_of_ends : (l : Literals) (text : List ℕ) (from count place end : ℕ) → from + count ≡ end → (from ≡ 0) ⊎ (from + length (literal_at l place) ≤ end) → (o : Occurs l text place end)
+    → Begins (front_of (literal_at l place) (length (literal_at l place))) (read_of l.folding text from count)
+begins_of_ends l text from count place end here front o =
+    let literal = literal_at l place in
+    let len = length literal in
+    let is : literal ≡ o.literal = get_or_from_slice_get l.texts place o.literal [] o.stands in
+    let lens : len ≡ length o.literal = ap length is in
+    let fits : len ≤ count = elim front [
+      | inl none ↦ omega (arith, none, here, o.begins, lens)
+      | inr far ↦ omega (arith, far, here)
+    ] in
+    begins_of_bytes l.folding literal text from len count fits (λ i low.
+    let same : end - len + i ≡ from + (count - len) + i = omega (arith, here, fits) in
+    let whole : folded_text l.folding (slice_range text (end - len) end) ≡ literal = ap (λ k. folded_text l.folding (slice_range text (end - k) end)) lens ∙ o.bytes ∙ sym is in
+    sym (ap (λ xs. get_or xs i 0) whole) ∙ folded_at l.folding text (end - len) end i o.ends (omega (arith, low, o.begins, lens))
+    ∙ ap (λ p. folded l.folding (slice_index text p)) same)
+
+-- the output of a position's state is the literals that end there
+pub output_there : (t : Tables) (l : Literals) (text : List ℕ) (longest end to : ℕ) → AreRight t l → All (λ x. 0 < length x) l.texts → ((place : ℕ) → place < length l.texts → length (literal_at l place) ≤ longest)
+    → ((i : ℕ) → slice_index text i < 256) → end ≤ length text → IsRead t text longest end to → AreEnding l text end (output_at t to)
+output_there t l text longest end to right nonempty fits small inside is =
+    let leads = read_leads t l right text small is.from is.count in
+    let same : state_of t leads.0 ≡ to = leads.1 ∙ sym is.state in
+    let report = reports t l right nonempty leads.0 leads.2.path in
+    record {
+      rising = (right.reporting to is.known).rising;
+      members = λ place. (
+        λ found.
+            let w = (report place).0 (subst (λ s. Contains (output_at t s) place) (sym same) found) in
+            ends_of_begins l text is.from is.count place end is.here inside w.0 (begins_trans (front_of (literal_at l place) (length (literal_at l place))) leads.0 (read_of l.folding text is.from is.count) w.1 leads.2.ends),
+        λ o.
+            let within = slice_get_within l.texts place o.literal o.stands in
+            let front : (is.from ≡ 0) ⊎ (is.from + length (literal_at l place) ≤ end) = elim is.front [
+              | inl none ↦ inl none
+              | inr far ↦ inr (omega (arith, far, fits place within))
+            ] in
+            subst (λ s. Contains (output_at t s) place) same ((report place).1 within
+            (leads.2.longest (front_of (literal_at l place) (length (literal_at l place))) (literal_path t l right place within (length (literal_at l place)) (omega arith))
+            (begins_of_ends l text is.from is.count place end is.here front o))),
+      );
+    }
+
+-- it is the state of the position, where only the outputs of the tables are seen
+pub state_there : (t : Tables) (l : Literals) (text : List ℕ) (longest end to : ℕ) (made : Bool) → AreRight t l → All (λ x. 0 < length x) l.texts → ((place : ℕ) → place < length l.texts → length (literal_at l place) ≤ longest)
+    → ((i : ℕ) → slice_index text i < 256) → end ≤ length text → IsRead t text longest end to
+    → IsStateAt (record { literals = l; output = t.output.items; lows = t.lows.items; highs = t.highs.items; quiet = t.quiet; is_made = made }) text end to
+state_there t l text longest end to made right nonempty fits small inside is =
+    let reporting = right.reporting to is.known in
+    record {
+      known = omega (arith, is.known, right.sized.lows);
+      ending = output_there t l text longest end to right nonempty fits small inside is;
+      quiet = reporting.quiet;
+      reporting = reporting.reporting;
+    }
+
+-- tables that are made are right
+pub stage_made : (stage : Stage) → is_made stage ≡ true → stage ≡ Made
+stage_made Unmade other = (cc)
+stage_made Refused other = (cc)
+stage_made Made is = refl
+
+-- at a position with a quiet state nothing ends
+no_end : (a : Outputs) (text : List ℕ) (end state : ℕ) → IsStateAt a text end state → state < a.quiet → ¬ HasEnd a.literals text end
+no_end a text end state is low here =
+    let inside : Contains [] here.0 = subst (λ xs. Contains xs here.0) (is.quiet low) ((is.ending.members here.0).1 here.1) in
+    omega (arith, inside.1)
+
+-- nothing ends up to a position if nothing did before and the states from there on are quiet
+pub none_further : (a : Outputs) (text : List ℕ) (r : Reading) (from at : ℕ) → IsReading a text r → at ≤ r.count → ((end : ℕ) → from < end → end ≤ place_of r → ¬ HasEnd a.literals text end)
+    → ((k : ℕ) → r.next ≤ k → k < at → slice_index r.states k < a.quiet) → (end : ℕ) → from < end → end ≤ r.start + at → ¬ HasEnd a.literals text end
+none_further a text r from at reading within none quiet end after low = elim (cases_lt (place_of r) end) [
+  | inl further ↦
+      let k = end - r.start - 1 in
+      let there : r.start + k + 1 ≡ end = omega (arith, further) in
+      subst (λ p. ¬ HasEnd a.literals text p) there
+      (no_end a text (r.start + k + 1) (slice_index r.states k) (reading.states k (omega (arith, low, further, within))) (quiet k (omega (arith, further)) (omega (arith, low, further))))
+  | inr not ↦ none end after not
+]
+
+-- where a state has an output, a literal ends
+pub ends_where_reported : (a : Outputs) (text : List ℕ) (end state : ℕ) → IsStateAt a text end state → 0 < length (output_of a state) → HasEnd a.literals text end
+ends_where_reported a text end state is some = (slice_index (output_of a state) 0, (is.ending.members (slice_index (output_of a state) 0)).0 (Contains-get_or (output_of a state) 0 0 some))

@@ -1,3 +1,0 @@
-pub mod ClaimSteps
-pub mod MarkSteps
-pub mod WindowLemmas

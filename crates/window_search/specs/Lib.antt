@@ -1,3 +1,0 @@
-pub mod Widths
-pub mod Windowed
-pub mod Windows
